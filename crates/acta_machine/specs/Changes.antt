@@ -1,0 +1,40 @@
+-- What an admitted event changes.
+use Rattle.std.specs.Prelude.{List, [], ◌∷◌, Some}
+use Rattle.acta_table.specs.declared.event.TxnId.{TxnId}
+use Rattle.acta_table.specs.declared.event.ClassId.{ClassId}
+use Rattle.acta_table.specs.declared.event.Event.{Event}
+use Rattle.acta_table.specs.declared.event.Event.TheVariants.{Begin, Operate, Commit, Abort}
+use Rattle.acta_table.specs.declared.event.Kept.{Kept}
+use Rattle.acta_table.specs.declared.answer.Status.{Status}
+use Rattle.acta_table.specs.declared.answer.Status.TheVariants.{InProgress, Committed as has_committed, Aborted as has_aborted}
+use Rattle.acta_table.specs.declared.answer.Fate.{Fate}
+use Rattle.acta_table.specs.declared.answer.Fate.TheVariants.{Committed, Aborted}
+use Rattle.acta_machine.specs.Summary.{Summary, nothing_yet, stood, entered, operated, fated, counted}
+
+-- t is in progress, with this class
+abbrev pub begun : Summary → TxnId → ClassId → Summary
+begun s t class = entered (stood s t InProgress) t (Some class)
+
+-- t ends so, and so does all that it holds in progress
+abbrev pub closed : Summary → TxnId → Status → Fate → Summary
+closed s t status fate = fated (stood s t status) t fate
+
+-- what the event does to transactions and operations
+abbrev pub changed : Summary → Event → Summary
+changed s (Begin t class) = begun s t class
+changed s (Operate t ob op) = operated s t ob op
+changed s (Commit t) = closed s t has_committed Committed
+changed s (Abort t) = closed s t has_aborted Aborted
+
+-- the change, and one more event
+abbrev pub effect : Summary → Event → Summary
+effect s event = counted (changed s event)
+
+-- after a history, from a summary
+abbrev pub summary_from : Summary → List Kept → Summary
+summary_from s [] = s
+summary_from s (k ∷ ks) = summary_from (effect s k.event) ks
+
+-- after a history, from nothing
+unfoldable pub summary_of : List Kept → Summary
+summary_of history = summary_from nothing_yet history

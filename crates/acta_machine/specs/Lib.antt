@@ -1,0 +1,7 @@
+pub mod Changes
+pub mod Operations
+pub mod Rules
+pub mod Shown
+pub mod Summary
+pub mod Table
+pub mod Values

@@ -1,0 +1,56 @@
+-- What the written table knows of a history: no places, only how things stand now.
+use Rattle.std.specs.Prelude.{ℕ, ◌+◌, ◌==◌, Bool, true, false, List, [], if◌then◌else◌, Option, None}
+use Rattle.acta_table.specs.declared.event.TxnId.{TxnId}
+use Rattle.acta_table.specs.declared.event.ClassId.{ClassId}
+use Rattle.acta_table.specs.declared.event.ObjId.{ObjId}
+use Rattle.acta_table.specs.declared.event.Op.{Op}
+use Rattle.acta_table.specs.declared.answer.Status.{Status}
+use Rattle.acta_table.specs.declared.answer.Status.TheVariants.{NotBegun, InProgress}
+use Rattle.acta_table.specs.declared.answer.Fate.{Fate}
+use Rattle.acta_machine.specs.declared.item.Item.{Item}
+use Rattle.acta_machine.specs.Operations.{added, ended}
+
+-- kept: how many events; status and class: of each transaction; operations: by number
+pub record Summary : Type 0 where
+  pub kept : ℕ
+  pub status : ℕ → Status
+  pub class : ℕ → Option ClassId
+  pub operations : List Item
+
+-- before any event
+abbrev pub nothing_yet : Summary
+nothing_yet = record { kept = 0; status = λ _. NotBegun; class = λ _. None; operations = [] }
+
+-- not yet begun
+abbrev pub is_new : Status → Bool
+is_new NotBegun = true
+is_new _ = false
+
+-- begun and not ended
+abbrev pub is_in_progress : Status → Bool
+is_in_progress InProgress = true
+is_in_progress _ = false
+
+-- what each transaction has, with t's changed
+abbrev pub with_entry : {X : Type 0} → (ℕ → X) → ℕ → X → ℕ → X
+with_entry f t x u = if u == t then x else f u
+
+-- t's status is this
+unfoldable pub stood : Summary → TxnId → Status → Summary
+stood s t status = record s { status = with_entry s.status t.0 status }
+
+-- t's class is this
+unfoldable pub entered : Summary → TxnId → Option ClassId → Summary
+entered s t class = record s { class = with_entry s.class t.0 class }
+
+-- one more operation, in progress, held by t
+unfoldable pub operated : Summary → TxnId → ObjId → Op → Summary
+operated s t ob op = record s { operations = added s.operations t ob op }
+
+-- all that t holds in progress has this fate
+unfoldable pub fated : Summary → TxnId → Fate → Summary
+fated s t fate = record s { operations = ended t.0 fate s.operations }
+
+-- one more event is kept
+unfoldable pub counted : Summary → Summary
+counted s = record s { kept = s.kept + 1 }

@@ -1,0 +1,148 @@
+ghost use Rattle.std.specs.Prelude.{◌≡◌, ◌≤◌, length, None, OnOk, OnErr, IfOk, replicate};
+ghost use Rattle.acta_table.specs.declared.answer.Status.{Status};
+ghost use Rattle.acta_machine.specs.Table.{fresh, answer_to, after, run_answers, run_state, status_in, value_in, view_set_in};
+
+use crate::board::{Board, TABLE_SIZE};
+use crate::item::live_numbers;
+use acta_objects::ObjectState;
+use acta_table::{Answer, ClassId, Event, Items, Kept, Model, ObjId, OpNo, Status, TxnId};
+use std::alloc::{AllocError, Allocator};
+
+/// A machine: it admits events of transactions by its model, or refuses them. Contracts see the model and
+/// the history that was kept.
+#[derive(Drop)]
+pub struct Machine<A: Allocator> {
+    board: Board<A>,
+}
+
+impl<A: Allocator> std::marker::Model for Machine<A> {
+    ghost use Rattle.std.specs.Prelude.{◌≡◌, ◌≤◌, length};
+    ghost use Rattle.acta_machine.specs.Table.{State};
+
+    ghost Value = { State A };
+
+    ghost use Rattle.acta_machine.specs.Changes.{summary_of};
+    ghost use Rattle.acta_machine.specs.Shown.{shown};
+
+    ghost view = { λ m. record { model = m.board.model; kept = m.board.kept.items } };
+
+    ghost invariant = { λ m. record {
+      agrees : shown m.board ≡ summary_of m.board.kept.items;
+      statuses : length m.board.statuses.items ≡ 4096;
+      classes : length m.board.classes.items ≡ 4096;
+      within : length m.board.kept.items ≤ 65536;
+    } };
+}
+
+// The statuses of transactions that have not begun.
+fn new_statuses<A: Allocator>(alloc: A) -> Result<Vec<Status, A>, AllocError>
+    ensures { IfOk result (λ table. table.items ≡ replicate 4096 Status.NotBegun) }
+{
+    vec![in alloc; Status::NotBegun; TABLE_SIZE]
+}
+
+// The classes of transactions that have not begun.
+fn no_classes<A: Allocator>(alloc: A) -> Result<Vec<Option<ClassId>, A>, AllocError>
+    ensures { IfOk result (λ table. table.items ≡ replicate 4096 None) }
+{
+    let mut table = Vec::with_capacity(alloc, TABLE_SIZE)?;
+    for _ in 0..TABLE_SIZE {
+        table.push(None)?;
+    }
+    Ok(table)
+}
+
+impl<A: Allocator + Copy> Machine<A> {
+    /// A machine on the model, which has kept nothing. `Err` where there is no memory.
+    pub fn new(alloc: A, model: Model<A>) -> Result<Machine<A>, AllocError>
+        ensures { IfOk result (λ machine. machine ≡ fresh model) }
+    {
+        Ok(Machine {
+            board: Board {
+                model,
+                statuses: new_statuses(alloc)?,
+                classes: no_classes(alloc)?,
+                operations: Vec::new(alloc),
+                kept: Vec::new(alloc),
+            },
+        })
+    }
+
+    /// Takes one event: it is admitted and kept, or refused with the lowest rule that it breaks. A refusal
+    /// leaves the machine as it was, and so does `Err`, which comes where there is no memory.
+    #[tactic(auto, unfolding(crate::specs::Table::answer_to, crate::specs::Table::after))]
+    pub fn take(&mut self, event: &Event) -> Result<Answer, AllocError>
+        ensures answer { IfOk result (λ answer. answer ≡ answer_to self.old event.now) }
+        ensures ok { OnOk result (self.new ≡ after self.old event.now) }
+        ensures err { OnErr result (self.new ≡ self.old) }
+    {
+        if let Some(refusal) = self.board.refusal(event) {
+            return Ok(Answer::Refused {
+                rule: refusal.rule,
+                by: refusal.by,
+            });
+        }
+        let place = self.board.next_place(event);
+        let ret = self.board.return_of(event)?;
+        self.board.make_room()?;
+        self.board.admit(*event, ret);
+        Ok(Answer::Admitted { place, ret })
+    }
+
+    /// A run: takes the events, in order, on a new machine on the model. `Err` where there is no memory.
+    pub fn run(alloc: A, model: Model<A>, events: &[Event]) -> Result<Run<A>, AllocError>
+        ensures answers { IfOk result (λ run. run.answers ≡ run_answers model events.now) }
+        ensures machine { IfOk result (λ run. run.machine ≡ run_state model events.now) }
+    {
+        let mut machine = Machine::new(alloc, model)?;
+        let mut answers = Vec::new(alloc);
+        for event in events {
+            answers.push(machine.take(event)?)?;
+        }
+        Ok(Run {
+            answers: Items::of(answers),
+            machine,
+        })
+    }
+
+    /// The numbers of the operations that are not aborted, ascending (ACTA's view). `Err` where there is no
+    /// memory.
+    pub fn view_set(&self) -> Result<Vec<OpNo, A>, AllocError>
+        ensures { IfOk result (λ numbers. numbers.items ≡ view_set_in self.now) }
+    {
+        live_numbers(*self.board.kept.allocator(), &self.board.operations)
+    }
+}
+
+impl<A: Allocator> Machine<A> {
+    /// How the transaction stands. A number that no transaction can have has not begun.
+    pub fn status(&self, t: TxnId) -> Status
+        ensures { result ≡ status_in self.now t.0 }
+    {
+        self.board.status(t)
+    }
+
+    /// The value of an object: what its operations that are not aborted leave, replayed in order from the
+    /// first value. Nothing for an object that is not in the model. `Err` where there is no memory.
+    pub fn value(&self, ob: ObjId) -> Result<Option<ObjectState>, AllocError>
+        ensures { IfOk result (λ value. value ≡ value_in self.now ob.0) }
+    {
+        self.board.value(ob)
+    }
+
+    /// The history: the events that were admitted, in order, with what they returned; at
+    /// most 65,536.
+    pub fn history(&self) -> &[Kept]
+        ensures history { result.now ≡ self.now.kept }
+        ensures within { length self.now.kept ≤ 65536 }
+    {
+        self.board.kept.as_slice()
+    }
+}
+
+/// What a run leaves: the answer to each event, and the machine after the last.
+#[derive(Drop)]
+pub struct Run<A: Allocator> {
+    pub answers: Items<Answer, A>,
+    pub machine: Machine<A>,
+}

@@ -1,0 +1,27 @@
+-- What a model says of its classes and objects. A class that is not there allows nothing.
+use Rattle.std.specs.Prelude.{ℕ, Bool, false, Option, slice_get, option_map}
+use Rattle.acta_table.specs.declared.event.EventKind.{EventKind}
+use Rattle.acta_table.specs.declared.event.EventKind.TheVariants.{Begin, Spawn, Split}
+use Rattle.acta_table.specs.declared.model.Class.{Class}
+use Rattle.acta_table.specs.declared.model.Kind.{Kind}
+use Rattle.acta_table.specs.declared.model.Parts.{Parts}
+use Rattle.acta_table.specs.Kinds.{has_kind}
+
+-- the class of this number
+abbrev pub class_at : {A : Type 0} → Parts A → ℕ → Option (Class A)
+class_at m class = slice_get m.classes class
+
+-- the kind of the object of this number
+abbrev pub kind_at : {A : Type 0} → Parts A → ℕ → Option Kind
+kind_at m object = option_map (λ o. o.kind) (slice_get m.objects object)
+
+-- whether the class may start by an event of this kind
+abbrev pub can_start : {A : Type 0} → EventKind → Class A → Bool
+can_start Begin class = class.starts.begin
+can_start Spawn class = class.starts.spawned
+can_start Split class = class.starts.split
+can_start _ class = false
+
+-- whether the class may do an event of this kind
+abbrev pub can_do : {A : Type 0} → EventKind → Class A → Bool
+can_do kind class = has_kind class.may kind

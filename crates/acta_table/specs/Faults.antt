@@ -1,0 +1,42 @@
+-- What is wrong with the parts of a model, the lowest first.
+use Rattle.std.specs.Prelude.{ℕ, Bool, false, not, ◌&&◌, ◌||◌, ◌==◌, nat_lt, nat_le, List, [], ◌∷◌, ◌++◌, map, length, Option, Some, None, fold, if◌then◌else◌, slice_index}
+use Rattle.std.specs.List.{list_any, list_all}
+use Rattle.std.specs.Option.{option_or}
+use Rattle.std.specs.Str.{bytes_eq}
+use Rattle.std.specs.Char.{is_ascii_alphabetic, is_ascii_alphanumeric}
+use Rattle.acta_table.specs.declared.model.Parts.{Parts}
+use Rattle.acta_table.specs.declared.model.ModelFault.{ModelFault}
+use Rattle.acta_table.specs.declared.model.ModelFault.TheVariants.{NoClass, TooManyClasses, TooManyObjects, DuplicateName, BadName}
+
+-- a name has 1 to 32 bytes: an ASCII letter first, then letters, digits or underscores
+abbrev pub is_name : List ℕ → Bool
+is_name name =
+    nat_lt 0 (length name) && nat_le (length name) 32
+    && is_ascii_alphabetic (slice_index name 0)
+    && list_all (λ b. is_ascii_alphanumeric b || (b == 95)) name
+
+-- whether some name stands twice
+abbrev pub has_twice : List (List ℕ) → Bool
+has_twice [] = false
+has_twice (name ∷ names) = list_any (bytes_eq name) names || has_twice names
+
+-- the names of the objects, and of the classes
+abbrev pub object_names : {A : Type 0} → Parts A → List (List ℕ)
+object_names m = map (λ o. o.name) m.objects
+
+abbrev pub class_names : {A : Type 0} → Parts A → List (List ℕ)
+class_names m = map (λ c. c.name) m.classes
+
+-- the fault, where the test is true
+abbrev pub fault_if : Bool → ModelFault → Option ModelFault
+fault_if test fault = if test then Some fault else None
+
+-- the lowest fault of the parts
+abbrev pub lowest_fault : {A : Type 0} → Parts A → Option ModelFault
+lowest_fault m = fold option_or None (
+    fault_if (length m.classes == 0) NoClass
+    ∷ fault_if (nat_lt 16 (length m.classes)) TooManyClasses
+    ∷ fault_if (nat_lt 256 (length m.objects)) TooManyObjects
+    ∷ fault_if (has_twice (object_names m) || has_twice (class_names m)) DuplicateName
+    ∷ fault_if (not (list_all is_name (object_names m) && list_all is_name (class_names m))) BadName
+    ∷ [])

@@ -1,0 +1,18 @@
+-- Lists whose items are numbered from 1 on, and lists of numbers.
+use Rattle.std.specs.Prelude.{ℕ, ◌+◌, Bool, List, [], ◌∷◌, min, if◌then◌else◌, Option, Some, None}
+use Rattle.std.specs.Option.{option_map_or}
+
+-- the numbers, ascending, of the items that pass, where the first item has the number n
+abbrev pub numbers_from : {X : Type 0} → (X → Bool) → ℕ → List X → List ℕ
+numbers_from test n [] = []
+numbers_from test n (x ∷ xs) =
+    if test x then n ∷ numbers_from test (n + 1) xs else numbers_from test (n + 1) xs
+
+-- the numbers, ascending, of the items that pass
+abbrev pub numbers_where : {X : Type 0} → (X → Bool) → List X → List ℕ
+numbers_where test xs = numbers_from test 1 xs
+
+-- the smallest of some numbers
+abbrev pub smallest : List ℕ → Option ℕ
+smallest [] = None
+smallest (n ∷ ns) = Some (option_map_or (min n) (smallest ns) n)

@@ -1,0 +1,34 @@
+-- The number of each rule: the rules are read in this order.
+use Rattle.std.specs.Prelude.{ℕ}
+use Rattle.acta_table.specs.declared.answer.Rule.{Rule}
+use Rattle.acta_table.specs.declared.answer.Rule.TheVariants.{Full, BadNumber, BadClass, BadObject, BadOperation, SameTransaction, NotInProgress, AlreadyBegun, NotInModel, PartnerNotInProgress, NotResponsible, PartialDelegation, BadSet, Conflict, FormTooLate, EdgesFull, BeginDep, SerialDep, BeginOnCommit, BeginOnAbort, TerminationDep, OwesAbort, OwesCommit, CommitOrder, WeakBegin, Unpayable, Clash, NoHeir}
+
+abbrev pub rule_number : Rule → ℕ
+rule_number Full = 1
+rule_number BadNumber = 2
+rule_number BadClass = 3
+rule_number BadObject = 4
+rule_number BadOperation = 5
+rule_number SameTransaction = 6
+rule_number NotInProgress = 7
+rule_number AlreadyBegun = 8
+rule_number NotInModel = 9
+rule_number PartnerNotInProgress = 10
+rule_number NotResponsible = 11
+rule_number PartialDelegation = 12
+rule_number BadSet = 13
+rule_number Conflict = 14
+rule_number FormTooLate = 15
+rule_number EdgesFull = 16
+rule_number BeginDep = 17
+rule_number SerialDep = 18
+rule_number BeginOnCommit = 19
+rule_number BeginOnAbort = 20
+rule_number TerminationDep = 21
+rule_number OwesAbort = 22
+rule_number OwesCommit = 23
+rule_number CommitOrder = 24
+rule_number WeakBegin = 25
+rule_number Unpayable = 26
+rule_number Clash = 27
+rule_number NoHeir = 28

@@ -1,0 +1,26 @@
+-- The rules on the form of an event, which look at the model alone.
+use Rattle.std.specs.Prelude.{ℕ, Bool, false, ◌||◌, ◌==◌, nat_lt, nat_le, filter, length, Option}
+use Rattle.std.specs.Option.{option_map_or}
+use Rattle.acta_table.specs.declared.event.Event.{Event}
+use Rattle.acta_table.specs.declared.answer.Rule.TheVariants.{BadNumber, BadClass, BadObject}
+use Rattle.acta_table.specs.declared.answer.Refusal.{Refusal}
+use Rattle.acta_table.specs.declared.model.Parts.{Parts}
+use Rattle.acta_table.specs.Events.{named, class_named, object_named}
+use Rattle.acta_table.specs.Numbered.{smallest}
+use Rattle.acta_table.specs.Refusals.{broken_if, broken_by}
+
+-- a transaction's number is not from 1 to 4,095
+abbrev pub is_bad_number : ℕ → Bool
+is_bad_number t = (t == 0) || nat_lt 4095 t
+
+-- a number named is bad
+unfoldable pub bad_number : Event → Option Refusal
+bad_number e = broken_by BadNumber (smallest (filter is_bad_number (named e)))
+
+-- the class named is not in the model
+unfoldable pub bad_class : {A : Type 0} → Parts A → Event → Option Refusal
+bad_class m e = broken_if (option_map_or (nat_le (length m.classes)) (class_named e) false) BadClass
+
+-- the object named is not in the model
+unfoldable pub bad_object : {A : Type 0} → Parts A → Event → Option Refusal
+bad_object m e = broken_if (option_map_or (nat_le (length m.objects)) (object_named e) false) BadObject

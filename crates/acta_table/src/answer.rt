@@ -1,0 +1,100 @@
+ghost use Rattle.std.specs.Prelude.{◌≡◌, Some, None};
+ghost use Rattle.acta_table.specs.Numbers.{rule_number};
+
+use crate::event::Ret;
+
+/// How a transaction stands (ACTA's significant events, read as a state).
+#[derive(Clone, Copy, PartialEq, Eq, Debug)]
+pub enum Status {
+    NotBegun,
+    InProgress,
+    Committed,
+    Aborted,
+    /// It joined another transaction, which holds what it held.
+    Joined,
+}
+
+/// What became of an operation (ACTA's commit and abort of operations).
+#[derive(Clone, Copy, PartialEq, Eq, Debug)]
+pub enum Fate {
+    InProgress,
+    Committed,
+    Aborted,
+}
+
+/// The rules by which an event is refused, in the order in which they are read (our numbering).
+#[derive(Clone, Copy, PartialEq, Eq, Debug)]
+pub enum Rule {
+    Full = 1,
+    BadNumber = 2,
+    BadClass = 3,
+    BadObject = 4,
+    BadOperation = 5,
+    SameTransaction = 6,
+    NotInProgress = 7,
+    AlreadyBegun = 8,
+    NotInModel = 9,
+    PartnerNotInProgress = 10,
+    NotResponsible = 11,
+    PartialDelegation = 12,
+    BadSet = 13,
+    Conflict = 14,
+    FormTooLate = 15,
+    EdgesFull = 16,
+    BeginDep = 17,
+    SerialDep = 18,
+    BeginOnCommit = 19,
+    BeginOnAbort = 20,
+    TerminationDep = 21,
+    OwesAbort = 22,
+    OwesCommit = 23,
+    CommitOrder = 24,
+    WeakBegin = 25,
+    Unpayable = 26,
+    Clash = 27,
+    NoHeir = 28,
+}
+
+impl Rule {
+    /// The number of the rule, from 1 to 28, as answers print it.
+    pub fn number(self) -> u8
+        ensures { result ≡ rule_number self }
+    {
+        self as u8
+    }
+}
+
+/// A broken rule, with the smallest number that breaks it where the rule names one.
+#[derive(Clone, Copy, PartialEq, Eq, Debug)]
+pub struct Refusal {
+    pub rule: Rule,
+    pub by: Option<u32>,
+}
+
+impl Refusal {
+    /// The rule is broken, and names no number.
+    pub fn of(rule: Rule) -> Refusal
+        ensures { result ≡ record { rule = rule; by = None } }
+    {
+        Refusal { rule, by: None }
+    }
+
+    /// The rule is broken by this number.
+    pub fn by(rule: Rule, number: u32) -> Refusal
+        ensures { result ≡ record { rule = rule; by = Some number } }
+    {
+        Refusal {
+            rule,
+            by: Some(number),
+        }
+    }
+}
+
+/// What a machine says of an event.
+#[derive(Clone, Copy, PartialEq, Eq, Debug)]
+pub enum Answer {
+    /// It has this place in the history, from 1; an operation has its return.
+    Admitted { place: u32, ret: Option<Ret> },
+    /// It breaks this rule and no lower one.
+    Refused { rule: Rule, by: Option<u32> },
+}

@@ -1,0 +1,91 @@
+ghost use Rattle.std.specs.Prelude.{◌≡◌};
+ghost use Rattle.acta_table.specs.Events.{kind_of};
+
+/// The number of a transaction: from 1 to `TxnId::LAST` where it is one of a history.
+#[derive(Clone, Copy, PartialEq, Eq, Debug)]
+pub struct TxnId(pub u16);
+
+impl TxnId {
+    /// The largest number of a transaction (our limit).
+    pub const LAST: TxnId = TxnId(4095);
+}
+
+/// The position of a class in its model's list, from 0.
+#[derive(Clone, Copy, PartialEq, Eq, Debug)]
+pub struct ClassId(pub u8);
+
+/// The position of an object in its model's list, from 0.
+#[derive(Clone, Copy, PartialEq, Eq, Debug)]
+pub struct ObjId(pub u16);
+
+/// The number of an operation among the operations of a history, from 1.
+#[derive(Clone, Copy, PartialEq, Eq, Debug)]
+pub struct OpNo(pub u32);
+
+/// An operation on an object (ACTA's object event; the kinds of object are ours).
+#[derive(Clone, Copy, PartialEq, Eq, Debug)]
+pub enum Op {
+    /// Returns the value of a register.
+    Read,
+    /// Sets the value of a register.
+    Write(i32),
+}
+
+/// What an operation returns.
+#[derive(Clone, Copy, PartialEq, Eq, Debug)]
+pub enum Ret {
+    /// It was done, and there is nothing to tell.
+    Done,
+    /// A number that was read.
+    Value(i64),
+    /// Yes or no.
+    Flag(bool),
+}
+
+/// The kinds of event. All but `Operate` are ACTA's significant events and their like.
+#[derive(Clone, Copy, PartialEq, Eq, Debug)]
+pub enum EventKind {
+    Begin,
+    Spawn,
+    Split,
+    Join,
+    Delegate,
+    Form,
+    Operate,
+    Commit,
+    Abort,
+}
+
+/// What happens in a history (ACTA's event).
+#[derive(Clone, Copy, PartialEq, Eq, Debug)]
+pub enum Event {
+    /// The transaction begins, with the class.
+    Begin(TxnId, ClassId),
+    /// The transaction does an operation on the object.
+    Operate(TxnId, ObjId, Op),
+    /// The transaction commits.
+    Commit(TxnId),
+    /// The transaction aborts.
+    Abort(TxnId),
+}
+
+impl Event {
+    /// The kind of the event.
+    pub fn kind(&self) -> EventKind
+        ensures { result ≡ kind_of self.now }
+    {
+        match self {
+            Event::Begin(_, _) => EventKind::Begin,
+            Event::Operate(_, _, _) => EventKind::Operate,
+            Event::Commit(_) => EventKind::Commit,
+            Event::Abort(_) => EventKind::Abort,
+        }
+    }
+}
+
+/// An admitted event, with what it returned: `Some` for an operation, and `None` otherwise.
+#[derive(Clone, Copy, PartialEq, Eq, Debug)]
+pub struct Kept {
+    pub event: Event,
+    pub ret: Option<Ret>,
+}

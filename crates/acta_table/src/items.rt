@@ -1,0 +1,63 @@
+ghost use Rattle.std.specs.Prelude.{◌≡◌, [], IfOk};
+
+use std::alloc::{AllocError, Allocator};
+
+/// A list that stands in a field, which contracts see as the list of its elements.
+#[derive(Drop)]
+pub struct Items<T, A: Allocator> {
+    items: Vec<T, A>,
+}
+
+impl<T, A: Allocator> std::marker::Model for Items<T, A> {
+    ghost use Rattle.std.specs.Prelude.{List};
+
+    ghost Value = { List T };
+
+    ghost view = { λ s. s.items.items };
+}
+
+impl<T, A: Allocator> Items<T, A> {
+    /// No element. Takes no memory.
+    pub fn new(alloc: A) -> Items<T, A>
+        ensures { result ≡ [] }
+    {
+        Items {
+            items: Vec::new(alloc),
+        }
+    }
+
+    /// The elements of the vector, in its own memory.
+    pub fn of(items: Vec<T, A>) -> Items<T, A>
+        ensures { result ≡ items.items }
+    {
+        Items { items }
+    }
+
+    /// The elements, in order.
+    pub fn as_slice(&self) -> &[T]
+        ensures { result.now ≡ self.now }
+    {
+        self.items.as_slice()
+    }
+
+    /// The vector of the elements, in the same memory.
+    pub fn into_vec(self) -> Vec<T, A>
+        ensures { result.items ≡ self }
+    {
+        self.items
+    }
+}
+
+impl<T: Copy, A: Allocator> Items<T, A> {
+    /// The same list, in memory of its own. `Err` where there is no memory.
+    pub fn copy(&self, alloc: A) -> Result<Items<T, A>, AllocError>
+        ensures { IfOk result (λ items. items ≡ self.now) }
+    {
+        let items = self.as_slice();
+        let mut copied = Vec::with_capacity(alloc, items.len())?;
+        for item in items {
+            copied.push(*item)?;
+        }
+        Ok(Items { items: copied })
+    }
+}

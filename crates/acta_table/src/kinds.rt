@@ -1,0 +1,174 @@
+ghost use Rattle.std.specs.Prelude.{◌≡◌, ◌||◌, ◌<◌, ◌^◌, ◌↔◌, false, IfSome, IsSome, option_map};
+ghost use Rattle.acta_table.specs.declared.event.EventKind.{EventKind};
+ghost use Rattle.acta_table.specs.Kinds.{has_kind, kind_code};
+
+use crate::event::EventKind;
+use bitflags::{Flag, Flags, bitflag_items};
+
+// The bits of a set of kinds. A value of `Kinds` has no other bit.
+#[derive(Clone, Copy, PartialEq, Eq, Debug)]
+struct KindBits(u16);
+
+bitflag_items! {
+    impl KindBits: u16 {
+        const SPAWN = 1;
+        const SPLIT = 2;
+        const JOIN = 4;
+        const DELEGATE = 8;
+        const FORM = 16;
+        const OPERATE = 32;
+        const COMMIT = 64;
+        const ABORT = 128;
+    }
+}
+
+impl Flags for KindBits {
+    ghost use Rattle.std.specs.Prelude.{⊤, ◌∷◌, [], codes};
+
+    type Bits = u16;
+
+    ghost exact = { ⊤ };
+
+    ghost table = { (codes "SPAWN", 1) ∷ (codes "SPLIT", 2) ∷ (codes "JOIN", 4) ∷ (codes "DELEGATE", 8) ∷ (codes "FORM", 16) ∷ (codes "OPERATE", 32) ∷ (codes "COMMIT", 64) ∷ (codes "ABORT", 128) ∷ [] };
+
+    ghost set_of = { λ kinds. kinds.0 };
+
+    fn flags<'a>() -> &'a [Flag<KindBits>] {
+        KindBits::FLAGS
+    }
+
+    fn bits(&self) -> u16 {
+        self.0
+    }
+
+    fn from_bits_retain(bits: u16) -> KindBits {
+        KindBits(bits)
+    }
+}
+
+// The bit of a kind; Begin has none.
+fn bit_of(kind: EventKind) -> Option<KindBits>
+    ensures { option_map (λ bit. bit.0) result ≡ option_map (λ code. 2 ^ code) (kind_code kind) }
+{
+    match kind {
+        EventKind::Begin => None,
+        EventKind::Spawn => Some(KindBits::SPAWN),
+        EventKind::Split => Some(KindBits::SPLIT),
+        EventKind::Join => Some(KindBits::JOIN),
+        EventKind::Delegate => Some(KindBits::DELEGATE),
+        EventKind::Form => Some(KindBits::FORM),
+        EventKind::Operate => Some(KindBits::OPERATE),
+        EventKind::Commit => Some(KindBits::COMMIT),
+        EventKind::Abort => Some(KindBits::ABORT),
+    }
+}
+
+/// A set of the kinds of event that a class may do: of all kinds but Begin, which `Starts` speaks of.
+/// Contracts see the number whose bits name the kinds, `Spawn` the lowest and `Abort` the eighth.
+#[derive(Clone, Copy, PartialEq, Eq, Debug)]
+pub struct Kinds {
+    bits: KindBits,
+}
+
+impl std::marker::Model for Kinds {
+    ghost use Rattle.std.specs.Prelude.{ℕ, ◌<◌, ◌^◌};
+
+    ghost Value = { ℕ };
+
+    ghost view = { λ kinds. kinds.bits.0 };
+
+    ghost invariant = { λ kinds. kinds.bits.0 < 2 ^ 8 };
+
+    ghost inverse = { λ bits. record { bits = record { 0 = bits } } };
+}
+
+impl Kinds {
+    /// The set of `Spawn` alone.
+    pub const SPAWN: Kinds = Kinds {
+        bits: KindBits::SPAWN,
+    };
+
+    /// The set of `Split` alone.
+    pub const SPLIT: Kinds = Kinds {
+        bits: KindBits::SPLIT,
+    };
+
+    /// The set of `Join` alone.
+    pub const JOIN: Kinds = Kinds {
+        bits: KindBits::JOIN,
+    };
+
+    /// The set of `Delegate` alone.
+    pub const DELEGATE: Kinds = Kinds {
+        bits: KindBits::DELEGATE,
+    };
+
+    /// The set of `Form` alone.
+    pub const FORM: Kinds = Kinds {
+        bits: KindBits::FORM,
+    };
+
+    /// The set of `Operate` alone.
+    pub const OPERATE: Kinds = Kinds {
+        bits: KindBits::OPERATE,
+    };
+
+    /// The set of `Commit` alone.
+    pub const COMMIT: Kinds = Kinds {
+        bits: KindBits::COMMIT,
+    };
+
+    /// The set of `Abort` alone.
+    pub const ABORT: Kinds = Kinds {
+        bits: KindBits::ABORT,
+    };
+
+    /// No kind.
+    pub fn none() -> Kinds
+        ensures { (kind : EventKind) → has_kind result kind ≡ false }
+    {
+        Kinds {
+            bits: KindBits::empty(),
+        }
+    }
+
+    /// The kinds that are in one of the two sets.
+    pub fn union(self, other: Kinds) -> Kinds
+        ensures { (kind : EventKind) → has_kind result kind ≡ (has_kind self kind || has_kind other kind) }
+    {
+        Kinds {
+            bits: self.bits.union(other.bits),
+        }
+    }
+
+    /// Whether the kind is in the set. Begin is in none.
+    pub fn has(self, kind: EventKind) -> bool
+        ensures { result ≡ has_kind self kind }
+    {
+        match bit_of(kind) {
+            Some(bit) => self.bits.contains(bit),
+            None => false,
+        }
+    }
+
+    /// The number whose bits name the kinds, below 256.
+    pub fn bits(self) -> u16
+        ensures { result ≡ self }
+    {
+        self.bits.bits()
+    }
+
+    /// The set that has this number, or `None` where a bit is set that no kind has.
+    pub fn from_bits(bits: u16) -> Option<Kinds>
+        ensures known { IsSome result ↔ (bits < 2 ^ 8) }
+        ensures same { IfSome result (λ kinds. kinds ≡ bits) }
+    {
+        if bits < 256 {
+            Some(Kinds {
+                bits: KindBits(bits),
+            })
+        } else {
+            None
+        }
+    }
+}

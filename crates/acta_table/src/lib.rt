@@ -1,0 +1,15 @@
+//! The words of the framework: transactions, operations, events, classes, checked models, rules and
+//! answers. Types and their well-formedness, and nothing that happens to them.
+#![tactic(auto)]
+
+mod answer;
+mod event;
+mod items;
+mod kinds;
+mod model;
+
+pub use answer::{Answer, Fate, Refusal, Rule, Status};
+pub use event::{ClassId, Event, EventKind, Kept, ObjId, Op, OpNo, Ret, TxnId};
+pub use items::Items;
+pub use kinds::Kinds;
+pub use model::{Class, Kind, Model, ModelFault, Object, Parts, Starts};

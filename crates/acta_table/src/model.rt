@@ -1,0 +1,273 @@
+ghost use Rattle.std.specs.Prelude.{◌≡◌, ◌||◌, ◌==◌, ℕ, List, map, None, Some, IfOk, IfErr, OnOk};
+ghost use Rattle.std.specs.List.{list_any, list_all};
+ghost use Rattle.std.specs.Str.{bytes_eq};
+ghost use Rattle.std.specs.Char.{is_ascii_alphanumeric};
+ghost use Rattle.acta_table.specs.Faults.{lowest_fault, is_name, has_twice, fault_if};
+
+use crate::items::Items;
+use crate::kinds::Kinds;
+use std::alloc::{AllocError, Allocator};
+
+/// How transactions of a class may start.
+#[derive(Clone, Copy, PartialEq, Eq, Debug)]
+pub struct Starts {
+    pub begin: bool,
+    pub spawned: bool,
+    pub split: bool,
+}
+
+/// The kind of an object, with its first value.
+#[derive(Clone, Copy, PartialEq, Eq, Debug)]
+pub enum Kind {
+    Register(i32),
+}
+
+/// An object of a model.
+#[derive(Drop)]
+pub struct Object<A: Allocator> {
+    pub name: Items<u8, A>,
+    pub kind: Kind,
+}
+
+/// A class of transactions: what those that start with it may do (our form for ACTA's axioms).
+#[derive(Drop)]
+pub struct Class<A: Allocator> {
+    pub name: Items<u8, A>,
+    pub starts: Starts,
+    pub may: Kinds,
+}
+
+/// The objects and classes of which a model is made.
+#[derive(Drop)]
+pub struct Parts<A: Allocator> {
+    pub objects: Items<Object<A>, A>,
+    pub classes: Items<Class<A>, A>,
+}
+
+/// What is wrong with the parts of a model; the lowest is answered (our list).
+#[derive(Clone, Copy, PartialEq, Eq, Debug)]
+pub enum ModelFault {
+    /// There is no class.
+    NoClass = 1,
+    /// There are more than 16 classes.
+    TooManyClasses = 2,
+    /// There are more than 256 objects.
+    TooManyObjects = 3,
+    /// Two objects have one name, or two classes have.
+    DuplicateName = 4,
+    /// A name isn't 1 to 32 bytes, an ASCII letter first, then letters, digits or underscores.
+    BadName = 5,
+}
+
+/// A checked model: parts that have no fault.
+#[derive(Drop)]
+pub struct Model<A: Allocator> {
+    parts: Parts<A>,
+}
+
+impl<A: Allocator> std::marker::Model for Model<A> {
+    ghost use Rattle.acta_table.specs.declared.model.Parts.{Parts};
+
+    ghost Value = { Parts A };
+
+    ghost use Rattle.std.specs.Prelude.{◌≡◌, None};
+    ghost use Rattle.acta_table.specs.Faults.{lowest_fault};
+
+    ghost view = { λ m. m.parts };
+
+    ghost invariant = { λ m. lowest_fault m.parts ≡ None };
+}
+
+// Whether all bytes are letters, digits or underscores.
+fn has_name_bytes(name: &[u8]) -> bool
+    ensures { result ≡ list_all (λ b. is_ascii_alphanumeric b || (b == 95)) name.now }
+{
+    name.iter().all(|b| b.is_ascii_alphanumeric() || *b == b'_')
+}
+
+// Whether the bytes are a name.
+fn is_named_well(name: &[u8]) -> bool
+    ensures { result ≡ is_name name.now }
+{
+    !name.is_empty() && name.len() <= 32 && name[0].is_ascii_alphabetic() && has_name_bytes(name)
+}
+
+/// What has a name in a model.
+trait Named {
+    ghost name_of: { Self → List ℕ };
+
+    fn name(&self) -> &[u8]
+        ensures { result.now ≡ name_of self.now };
+}
+
+impl<A: Allocator> Named for Object<A> {
+    ghost name_of = { λ object. object.name };
+
+    fn name(&self) -> &[u8] {
+        self.name.as_slice()
+    }
+}
+
+impl<A: Allocator> Named for Class<A> {
+    ghost name_of = { λ class. class.name };
+
+    fn name(&self) -> &[u8] {
+        self.name.as_slice()
+    }
+}
+
+// Whether one of the items has this name.
+fn is_name_of_one<T: Named>(name: &[u8], items: &[T]) -> bool
+    ensures { result ≡ list_any (bytes_eq name.now) (map T.name_of items.now) }
+{
+    for item in items {
+        if name == item.name() {
+            return true;
+        }
+    }
+    false
+}
+
+// Whether two of the items have one name.
+fn have_name_twice<T: Named>(items: &[T]) -> bool
+    ensures { result ≡ has_twice (map T.name_of items.now) }
+{
+    let mut rest = items;
+    while let [first, others @ ..] = rest {
+        if is_name_of_one(first.name(), others) {
+            return true;
+        }
+        rest = others;
+    }
+    false
+}
+
+// Whether all of the items are named as they should.
+fn are_named_well<T: Named>(items: &[T]) -> bool
+    ensures { result ≡ list_all is_name (map T.name_of items.now) }
+{
+    for item in items {
+        if !is_named_well(item.name()) {
+            return false;
+        }
+    }
+    true
+}
+
+fn fault_where(is_there: bool, fault: ModelFault) -> Option<ModelFault>
+    ensures { result ≡ fault_if is_there fault }
+{
+    if is_there { Some(fault) } else { None }
+}
+
+impl<A: Allocator> Parts<A> {
+    // The lowest fault.
+    fn fault(&self) -> Option<ModelFault>
+        ensures { result ≡ lowest_fault self.now }
+    {
+        let objects = self.objects.as_slice();
+        let classes = self.classes.as_slice();
+        let is_doubled = have_name_twice(objects) || have_name_twice(classes);
+        let is_well_named = are_named_well(objects) && are_named_well(classes);
+        fault_where(classes.is_empty(), ModelFault::NoClass)
+            .or(fault_where(classes.len() > 16, ModelFault::TooManyClasses))
+            .or(fault_where(objects.len() > 256, ModelFault::TooManyObjects))
+            .or(fault_where(is_doubled, ModelFault::DuplicateName))
+            .or(fault_where(!is_well_named, ModelFault::BadName))
+    }
+}
+
+impl<A: Allocator> Model<A> {
+    /// The model of these parts, or their lowest fault. Takes no memory.
+    pub fn check(parts: Parts<A>) -> Result<Model<A>, ModelFault>
+        ensures ok { IfOk result (λ model. model ≡ parts) }
+        ensures faultless { OnOk result (lowest_fault parts ≡ None) }
+        ensures fault { IfErr result (λ fault. lowest_fault parts ≡ Some fault) }
+    {
+        match parts.fault() {
+            Some(fault) => Err(fault),
+            None => Ok(Model { parts }),
+        }
+    }
+
+    /// The objects, by number from 0.
+    pub fn objects(&self) -> &[Object<A>]
+        ensures objects { result.now ≡ self.now.objects }
+        ensures faultless { lowest_fault self.now ≡ None }
+    {
+        self.parts.objects.as_slice()
+    }
+
+    /// The classes, by number from 0.
+    pub fn classes(&self) -> &[Class<A>]
+        ensures classes { result.now ≡ self.now.classes }
+        ensures faultless { lowest_fault self.now ≡ None }
+    {
+        self.parts.classes.as_slice()
+    }
+}
+
+impl<A: Allocator + Copy> Object<A> {
+    /// The same object, in memory of its own. `Err` where there is no memory.
+    pub fn copy(&self, alloc: A) -> Result<Object<A>, AllocError>
+        ensures { IfOk result (λ object. object ≡ self.now) }
+    {
+        Ok(Object {
+            name: self.name.copy(alloc)?,
+            kind: self.kind,
+        })
+    }
+}
+
+impl<A: Allocator + Copy> Class<A> {
+    /// The same class, in memory of its own. `Err` where there is no memory.
+    pub fn copy(&self, alloc: A) -> Result<Class<A>, AllocError>
+        ensures { IfOk result (λ class. class ≡ self.now) }
+    {
+        Ok(Class {
+            name: self.name.copy(alloc)?,
+            starts: self.starts,
+            may: self.may,
+        })
+    }
+}
+
+fn copy_objects<A: Allocator + Copy>(
+    alloc: A,
+    objects: &[Object<A>],
+) -> Result<Items<Object<A>, A>, AllocError>
+    ensures { IfOk result (λ copied. copied ≡ objects.now) }
+{
+    let mut copied = Vec::with_capacity(alloc, objects.len())?;
+    for object in objects {
+        copied.push(object.copy(alloc)?)?;
+    }
+    Ok(Items::of(copied))
+}
+
+fn copy_classes<A: Allocator + Copy>(
+    alloc: A,
+    classes: &[Class<A>],
+) -> Result<Items<Class<A>, A>, AllocError>
+    ensures { IfOk result (λ copied. copied ≡ classes.now) }
+{
+    let mut copied = Vec::with_capacity(alloc, classes.len())?;
+    for class in classes {
+        copied.push(class.copy(alloc)?)?;
+    }
+    Ok(Items::of(copied))
+}
+
+impl<A: Allocator + Copy> Model<A> {
+    /// The same model, in memory of its own. `Err` where there is no memory.
+    pub fn copy(&self, alloc: A) -> Result<Model<A>, AllocError>
+        ensures { IfOk result (λ model. model ≡ self.now) }
+    {
+        Ok(Model {
+            parts: Parts {
+                objects: copy_objects(alloc, self.parts.objects.as_slice())?,
+                classes: copy_classes(alloc, self.parts.classes.as_slice())?,
+            },
+        })
+    }
+}
