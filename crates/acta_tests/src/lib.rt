@@ -1,0 +1,12 @@
+//! Tests that cross the crates: worked runs, each refused allocation, and the edges of checked models. The
+//! values that they expect were computed by hand.
+#![tactic(auto)]
+
+#[cfg(test)]
+mod checking;
+#[cfg(test)]
+mod memory;
+#[cfg(test)]
+mod models;
+#[cfg(test)]
+mod runs;
