@@ -44,7 +44,8 @@ impl<T, A: Allocator> Items<T, A> {
     pub fn into_vec(self) -> Vec<T, A>
         ensures { result.items ≡ self }
     {
-        self.items
+        let Items { items } = self;
+        items
     }
 }
 

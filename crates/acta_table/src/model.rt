@@ -265,8 +265,8 @@ impl<A: Allocator + Copy> Model<A> {
     {
         Ok(Model {
             parts: Parts {
-                objects: copy_objects(alloc, self.parts.objects.as_slice())?,
-                classes: copy_classes(alloc, self.parts.classes.as_slice())?,
+                objects: copy_objects(alloc, self.objects())?,
+                classes: copy_classes(alloc, self.classes())?,
             },
         })
     }
