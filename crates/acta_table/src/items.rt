@@ -49,13 +49,20 @@ impl<T, A: Allocator> Items<T, A> {
     }
 }
 
-impl<T: Copy, A: Allocator> Items<T, A> {
+impl<T, A: Allocator + Copy> Items<T, A> {
+    /// The allocator of the list.
+    pub(crate) fn allocator(&self) -> A {
+        *self.items.allocator()
+    }
+}
+
+impl<T: Copy, A: Allocator + Copy> Items<T, A> {
     /// The same list, in memory of its own. `Err` where there is no memory.
-    pub fn copy(&self, alloc: A) -> Result<Items<T, A>, AllocError>
+    pub fn copy(&self) -> Result<Items<T, A>, AllocError>
         ensures { IfOk result (λ items. items ≡ self.now) }
     {
         let items = self.as_slice();
-        let mut copied = Vec::with_capacity(alloc, items.len())?;
+        let mut copied = Vec::with_capacity(self.allocator(), items.len())?;
         for item in items {
             copied.push(*item)?;
         }

@@ -209,11 +209,11 @@ impl<A: Allocator> Model<A> {
 
 impl<A: Allocator + Copy> Object<A> {
     /// The same object, in memory of its own. `Err` where there is no memory.
-    pub fn copy(&self, alloc: A) -> Result<Object<A>, AllocError>
+    pub fn copy(&self) -> Result<Object<A>, AllocError>
         ensures { IfOk result (λ object. object ≡ self.now) }
     {
         Ok(Object {
-            name: self.name.copy(alloc)?,
+            name: self.name.copy()?,
             kind: self.kind,
         })
     }
@@ -221,11 +221,11 @@ impl<A: Allocator + Copy> Object<A> {
 
 impl<A: Allocator + Copy> Class<A> {
     /// The same class, in memory of its own. `Err` where there is no memory.
-    pub fn copy(&self, alloc: A) -> Result<Class<A>, AllocError>
+    pub fn copy(&self) -> Result<Class<A>, AllocError>
         ensures { IfOk result (λ class. class ≡ self.now) }
     {
         Ok(Class {
-            name: self.name.copy(alloc)?,
+            name: self.name.copy()?,
             starts: self.starts,
             may: self.may,
         })
@@ -240,7 +240,7 @@ fn copy_objects<A: Allocator + Copy>(
 {
     let mut copied = Vec::with_capacity(alloc, objects.len())?;
     for object in objects {
-        copied.push(object.copy(alloc)?)?;
+        copied.push(object.copy()?)?;
     }
     Ok(Items::of(copied))
 }
@@ -253,20 +253,20 @@ fn copy_classes<A: Allocator + Copy>(
 {
     let mut copied = Vec::with_capacity(alloc, classes.len())?;
     for class in classes {
-        copied.push(class.copy(alloc)?)?;
+        copied.push(class.copy()?)?;
     }
     Ok(Items::of(copied))
 }
 
 impl<A: Allocator + Copy> Model<A> {
     /// The same model, in memory of its own. `Err` where there is no memory.
-    pub fn copy(&self, alloc: A) -> Result<Model<A>, AllocError>
+    pub fn copy(&self) -> Result<Model<A>, AllocError>
         ensures { IfOk result (λ model. model ≡ self.now) }
     {
         Ok(Model {
             parts: Parts {
-                objects: copy_objects(alloc, self.objects())?,
-                classes: copy_classes(alloc, self.classes())?,
+                objects: copy_objects(self.parts.objects.allocator(), self.objects())?,
+                classes: copy_classes(self.parts.classes.allocator(), self.classes())?,
             },
         })
     }

@@ -56,7 +56,7 @@ fn too_many(rt: HostRuntime) -> Result<(), Fail> {
 // A model shows the parts that were checked, and so does its copy.
 #[test]
 fn a_copy(rt: HostRuntime) -> Result<(), Fail> {
-    let model = small(rt.alloc())?.copy(rt.alloc())?;
+    let model = small(rt.alloc())?.copy()?;
     assert_eq!(rt; model.objects().len(), 1);
     assert_eq!(rt; model.classes().len(), 1);
     for class in model.classes() {

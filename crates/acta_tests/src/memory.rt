@@ -119,7 +119,7 @@ fn of_copies(rt: HostRuntime) -> Result<(), Fail> {
     let mut refusals = 0;
     for nth in 1..MOST {
         heap.refuse(nth);
-        let Ok(copy) = model.copy(&heap) else {
+        let Ok(copy) = model.copy() else {
             assert!(rt; !heap.is_waiting());
             refusals = nth;
             continue;
@@ -134,7 +134,7 @@ fn of_copies(rt: HostRuntime) -> Result<(), Fail> {
     heap.refuse(0);
     let list = Items::of([1u8].to_vec(&heap)?);
     heap.refuse(1);
-    assert!(rt; list.copy(&heap).is_err());
+    assert!(rt; list.copy().is_err());
     Ok(())
 }
 

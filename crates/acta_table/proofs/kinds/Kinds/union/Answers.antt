@@ -1,4 +1,4 @@
-use Rattle.std.proofs.Common.{◌≡◌, ◌<◌, bit_or, subst, sym, rules}
+use Rattle.std.proofs.Common.{◌≡◌, bit_or, rules}
 use Rattle.std.proofs.lemmas.Nat.{or_lt}
 use Rattle.acta_table.specs.Kinds.{kind_code}
 use Rattle.acta_table.proofs.KindSets.{in_either}
