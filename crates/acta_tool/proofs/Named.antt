@@ -1,0 +1,20 @@
+-- What was read of the words, from what `clap` gives of it.
+use Rattle.std.proofs.Common.{◌≡◌, Option, Some, None, sym, ap, ap₂, ◌∙◌, option_map, codes, unwrap_or}
+use Rattle.clap.specs.Words.{Text, first_value, found_of, rows_of, subcommand_name_of, subcommand_rows_of}
+use Rattle.clap.specs.declared.parser.matches.ArgMatches.{ArgMatches}
+use Rattle.clap.proofs.WalkLemmas.{first_value-rows}
+use Rattle.acta_tool.specs.CommandLines.{named_in}
+
+both : {X A B : Type 0} (f : X → A) (g : X → B) (o : Option X) (a : A) (b : B) → Some a ≡ option_map f o → Some b ≡ option_map (λ (p : A × B). p.1) (option_map {U = A × B} (λ x. (f x, g x)) o) → option_map {U = A × B} (λ x. (f x, g x)) o ≡ Some (a, b)
+both f g None a b h k = cc
+both {A = A} {B = B} f g (Some x) a b h k =
+    let first : f x ≡ a = ap (λ o. unwrap_or o a) (sym h) in
+    let second : g x ≡ b = ap (λ o. unwrap_or o b) (sym k) in
+    let pair : A → B → Option (A × B) = λ s t. Some (s, t) in
+    ap₂ pair first second
+
+-- the subcommand that was met, and what was read of its model
+pub named_is : (m inner : ArgMatches) (command : Text) (model : Option Text) → Some command ≡ subcommand_name_of m → Some (rows_of (found_of inner)) ≡ option_map (λ p. p.1) (subcommand_rows_of m) → model ≡ first_value (found_of inner) (codes "MODEL") → option_map (λ t. (command, t)) model ≡ named_in (subcommand_rows_of m)
+named_is m inner command model h k e =
+    ap (λ o. option_map (λ t. (command, t)) o) (e ∙ first_value-rows (found_of inner) (codes "MODEL"))
+    ∙ sym (ap named_in (both _ _ _ command (rows_of (found_of inner)) h k))

@@ -1,0 +1,4 @@
+pub mod CommandLines
+pub mod Lines
+pub mod Outcome
+pub mod Standards
