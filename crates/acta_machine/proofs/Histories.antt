@@ -58,3 +58,10 @@ few_from s (k ∷ ks) = omega (arith, changed_few s k, few_from (effect s k.even
 pub operations_few : (history : List Kept) → length (summary_of history).operations ≤ length history
 unfolding summary_of
 operations_few history = let h = few_from nothing_yet history in omega (arith, h)
+
+-- the lists that show the summary of a history have room for a number of each operation
+pub operations_within : (s : Summary) (history : List Kept) → s ≡ summary_of history → length history ≤ 65536 → length s.operations ≤ 65536
+operations_within s history same within =
+    let few = operations_few history in
+    let count = ap (λ (x : Summary). length x.operations) same in
+    omega (arith, few, count, within)

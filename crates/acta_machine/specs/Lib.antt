@@ -1,6 +1,7 @@
 pub mod Changes
 pub mod Operations
 pub mod Rules
+pub mod Selections
 pub mod Shown
 pub mod Summary
 pub mod Table

@@ -23,9 +23,21 @@ is_aborted _ = false
 abbrev pub is_held : ℕ → Item → Bool
 is_held t i = (i.holder.0 == t) && is_open i.fate
 
+-- whether the operation is in progress, and another than t holds it
+abbrev pub is_of_others : ℕ → Item → Bool
+is_of_others t i = is_open i.fate && not (i.holder.0 == t)
+
 -- the operations that pass, by number, ascending
 abbrev pub operations_where : (Item → Bool) → List Item → List OpNo
 operations_where test items = map (λ n. record { 0 = n }) (numbers_where test items)
+
+-- the access set: the operations that t holds in progress
+abbrev pub access_set : ℕ → List Item → List OpNo
+access_set t items = operations_where (is_held t) items
+
+-- the conflict set: the operations in progress that others hold
+abbrev pub conflict_set : ℕ → List Item → List OpNo
+conflict_set t items = operations_where (is_of_others t) items
 
 -- whether the operation counts: whether it is not aborted
 abbrev pub is_live : Item → Bool

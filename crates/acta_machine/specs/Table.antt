@@ -9,7 +9,7 @@ use Rattle.acta_table.specs.declared.answer.Answer.TheVariants.{Admitted, Refuse
 use Rattle.acta_table.specs.declared.answer.Refusal.{Refusal}
 use Rattle.acta_table.specs.declared.model.Parts.{Parts}
 use Rattle.acta_objects.specs.declared.state.ObjectState.{ObjectState}
-use Rattle.acta_machine.specs.Operations.{view_set}
+use Rattle.acta_machine.specs.Operations.{access_set, conflict_set, view_set}
 use Rattle.acta_machine.specs.Values.{value_of, return_due}
 use Rattle.acta_machine.specs.Rules.{lowest_broken}
 use Rattle.acta_machine.specs.Changes.{summary_of}
@@ -69,8 +69,16 @@ abbrev pub status_in : {A : Type 0} → State A → ℕ → Status
 status_in state t = (summary_of state.kept).status t
 
 -- the value of an object
-abbrev pub value_in : {A : Type 0} → State A → ℕ → Option ObjectState
+abbrev pub value_in : {A : Type 0} → State A → ℕ → Option (ObjectState A)
 value_in state object = value_of state.model (summary_of state.kept) object
+
+-- the operations in progress that t holds
+abbrev pub access_set_in : {A : Type 0} → State A → ℕ → List OpNo
+access_set_in state t = access_set t (summary_of state.kept).operations
+
+-- the operations in progress that others hold
+abbrev pub conflict_set_in : {A : Type 0} → State A → ℕ → List OpNo
+conflict_set_in state t = conflict_set t (summary_of state.kept).operations
 
 -- the operations that are not aborted
 abbrev pub view_set_in : {A : Type 0} → State A → List OpNo

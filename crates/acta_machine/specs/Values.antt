@@ -4,26 +4,27 @@ use Rattle.acta_table.specs.declared.event.Op.{Op}
 use Rattle.acta_table.specs.declared.event.Ret.{Ret}
 use Rattle.acta_table.specs.declared.event.Event.{Event}
 use Rattle.acta_table.specs.declared.event.Event.TheVariants.{Operate}
+use Rattle.acta_table.specs.declared.model.Kind.{Kind}
 use Rattle.acta_table.specs.declared.model.Parts.{Parts}
 use Rattle.acta_table.specs.Classes.{kind_at}
 use Rattle.acta_objects.specs.declared.state.ObjectState.{ObjectState}
-use Rattle.acta_objects.specs.Objects.{first_state, state_after, returned}
+use Rattle.acta_objects.specs.Objects.{suits, first_state, state_after, returned}
 use Rattle.acta_machine.specs.declared.item.Item.{Item}
 use Rattle.acta_machine.specs.Operations.{is_live}
 use Rattle.acta_machine.specs.Summary.{Summary}
 
--- the operation, if it is on this object and is not aborted
-abbrev pub live_on : ℕ → Item → Option Op
-live_on object i = if (i.ob.0 == object) && is_live i then Some i.op else None
+-- the operation, if it is on this object, of its kind, and not aborted
+abbrev pub live_on : Kind → ℕ → Item → Option Op
+live_on kind object i = if (i.ob.0 == object) && is_live i && suits kind i.op then Some i.op else None
 
--- the operations on an object that are not aborted
-abbrev pub live_ops : List Item → ℕ → List Op
-live_ops items object = filter_map (live_on object) items
+-- the operations on an object of this kind that count for its value
+abbrev pub live_ops : Kind → List Item → ℕ → List Op
+live_ops kind items object = filter_map (live_on kind object) items
 
 -- the value of an object: the first value, with what is not aborted on it replayed
-abbrev pub value_of : {A : Type 0} → Parts A → Summary → ℕ → Option ObjectState
+abbrev pub value_of : {A : Type 0} → Parts A → Summary → ℕ → Option (ObjectState A)
 value_of m s object =
-    option_map (λ kind. state_after (first_state kind) (live_ops s.operations object)) (kind_at m object)
+    option_map (λ kind. state_after (first_state kind) (live_ops kind s.operations object)) (kind_at m object)
 
 -- what the event returns
 abbrev pub return_due : {A : Type 0} → Parts A → Summary → Event → Option Ret

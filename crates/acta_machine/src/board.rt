@@ -1,6 +1,7 @@
-ghost use Rattle.std.specs.Prelude.{◌≡◌, ◌<◌, ◌++◌, ◌∷◌, [], length, OnOk, IfOk, vec_capacity, None, Some};
+ghost use Rattle.std.specs.Prelude.{◌≡◌, ◌+◌, ◌<◌, ◌≤◌, ◌++◌, ◌∷◌, [], length, OnOk, IfOk, IfSome, vec_capacity, None, Some};
 ghost use Rattle.acta_table.specs.declared.answer.Status.TheVariants.{InProgress};
 ghost use Rattle.acta_table.specs.WellFormed.{bad_number};
+ghost use Rattle.acta_objects.specs.Limits.{IsSmall};
 ghost use Rattle.acta_machine.specs.Summary.{stood, entered, operated, fated, counted};
 ghost use Rattle.acta_machine.specs.Changes.{begun, closed, effect};
 ghost use Rattle.acta_machine.specs.Values.{value_of, return_due};
@@ -24,6 +25,53 @@ pub(crate) struct Board<A: Allocator> {
     pub(crate) kept: Vec<Kept, A>,
 }
 
+impl<A: Allocator + Copy> Board<A> {
+    /// The value of an object; nothing for one that is not in the model.
+    pub(crate) fn value(&self, ob: ObjId) -> Result<Option<ObjectState<A>>, AllocError>
+        requires { length self.now.operations.items ≤ 65536 }
+        ensures value { IfOk result (λ value. value ≡ value_of self.now.model (shown self.now) ob.0) }
+        ensures small { IfOk result (λ value. IfSome value (IsSmall (length self.now.operations.items + 1))) }
+    {
+        let alloc = *self.operations.allocator();
+        match self.model.objects().get(ob.0 as usize) {
+            Some(object) => Ok(Some(value_after(alloc, &object.kind, &self.operations, ob)?)),
+            None => Ok(None),
+        }
+    }
+
+    /// What the event returns.
+    pub(crate) fn return_of(&self, event: &Event) -> Result<Option<Ret>, AllocError>
+        requires { length self.now.operations.items ≤ 65536 }
+        ensures { IfOk result (λ ret. ret ≡ return_due self.now.model (shown self.now) event.now) }
+    {
+        match event {
+            Event::Operate(_, ob, op) => match self.value(*ob)? {
+                Some(mut value) => Ok(Some(value.apply(op)?)),
+                None => Ok(None),
+            },
+            Event::Begin(_, _) | Event::Commit(_) | Event::Abort(_) => Ok(None),
+        }
+    }
+
+    /// The same lists, in memory of their own. `Err` where there is no memory.
+    pub(crate) fn copy(&self) -> Result<Board<A>, AllocError>
+        ensures model { IfOk result (λ board. board.model ≡ self.now.model) }
+        ensures kept { IfOk result (λ board. board.kept.items ≡ self.now.kept.items) }
+        ensures statuses { IfOk result (λ board. board.statuses.items ≡ self.now.statuses.items) }
+        ensures classes { IfOk result (λ board. board.classes.items ≡ self.now.classes.items) }
+        ensures operations { IfOk result (λ board. board.operations.items ≡ self.now.operations.items) }
+    {
+        let alloc = *self.kept.allocator();
+        Ok(Board {
+            model: self.model.copy()?,
+            statuses: Vec::from_slice(alloc, &self.statuses)?,
+            classes: Vec::from_slice(alloc, &self.classes)?,
+            operations: Vec::from_slice(alloc, &self.operations)?,
+            kept: Vec::from_slice(alloc, &self.kept)?,
+        })
+    }
+}
+
 impl<A: Allocator> Board<A> {
     /// How the transaction stands.
     pub(crate) fn status(&self, t: TxnId) -> Status
@@ -42,29 +90,6 @@ impl<A: Allocator> Board<A> {
         match self.classes.get(t.0 as usize) {
             Some(class) => *class,
             None => None,
-        }
-    }
-
-    /// The value of an object; nothing for one that is not in the model.
-    pub(crate) fn value(&self, ob: ObjId) -> Result<Option<ObjectState>, AllocError>
-        ensures { IfOk result (λ value. value ≡ value_of self.now.model (shown self.now) ob.0) }
-    {
-        match self.model.objects().get(ob.0 as usize) {
-            Some(object) => Ok(Some(value_after(&object.kind, &self.operations, ob)?)),
-            None => Ok(None),
-        }
-    }
-
-    /// What the event returns.
-    pub(crate) fn return_of(&self, event: &Event) -> Result<Option<Ret>, AllocError>
-        ensures { IfOk result (λ ret. ret ≡ return_due self.now.model (shown self.now) event.now) }
-    {
-        match event {
-            Event::Operate(_, ob, op) => match self.value(*ob)? {
-                Some(mut value) => Ok(Some(value.apply(op)?)),
-                None => Ok(None),
-            },
-            Event::Begin(_, _) | Event::Commit(_) | Event::Abort(_) => Ok(None),
         }
     }
 

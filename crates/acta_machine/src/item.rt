@@ -1,9 +1,11 @@
-ghost use Rattle.std.specs.Prelude.{◌≡◌, ◌≤◌, length, IfOk};
+ghost use Rattle.std.specs.Prelude.{◌≡◌, ◌+◌, ◌≤◌, length, IfOk, Some, None, if◌then◌else◌};
 ghost use Rattle.acta_objects.specs.Objects.{state_after, first_state};
-ghost use Rattle.acta_machine.specs.Operations.{is_held, is_live, ended_item, ended, view_set};
-ghost use Rattle.acta_machine.specs.Values.{live_ops};
+ghost use Rattle.acta_objects.specs.Limits.{IsSmall};
+ghost use Rattle.acta_machine.specs.Operations.{is_held, is_of_others, is_live, ended_item, ended, operations_where};
+ghost use Rattle.acta_machine.specs.Selections.{is_selected};
+ghost use Rattle.acta_machine.specs.Values.{live_on, live_ops};
 
-use acta_objects::ObjectState;
+use acta_objects::{ObjectState, is_of_kind};
 use acta_table::{Fate, Kind, ObjId, Op, OpNo, TxnId};
 use std::alloc::{AllocError, Allocator};
 
@@ -24,11 +26,25 @@ impl Item {
         self.holder.0 == t.0 && self.fate == Fate::InProgress
     }
 
+    /// Whether the operation is in progress, and another than the transaction holds it.
+    pub(crate) fn is_of_others(self, t: TxnId) -> bool
+        ensures { result ≡ is_of_others t.0 self }
+    {
+        self.fate == Fate::InProgress && self.holder.0 != t.0
+    }
+
     // Whether the operation is not aborted.
     fn is_live(self) -> bool
         ensures { result ≡ is_live self }
     {
         self.fate != Fate::Aborted
+    }
+
+    // Whether the operation counts for the value of an object of this kind.
+    fn is_live_on(&self, kind: &Kind, ob: ObjId) -> bool
+        ensures { live_on kind.now ob.0 self.now ≡ (if result then Some self.now.op else None) }
+    {
+        self.ob.0 == ob.0 && self.is_live() && is_of_kind(kind, &self.op)
     }
 
     // The operation, with this fate where the transaction holds it in progress.
@@ -52,31 +68,65 @@ pub(crate) fn end_all(items: &mut [Item], t: TxnId, fate: Fate)
     }
 }
 
-/// The value of an object of this kind after its operations that are not aborted.
-pub(crate) fn value_after(kind: &Kind, items: &[Item], ob: ObjId) -> Result<ObjectState, AllocError>
-    ensures { IfOk result (λ value. value ≡ state_after (first_state kind.now) (live_ops items.now ob.0)) }
+/// The value of an object of this kind after its operations that are not aborted. `Err` where there is no
+/// memory.
+pub(crate) fn value_after<A: Allocator + Copy>(
+    alloc: A,
+    kind: &Kind,
+    items: &[Item],
+    ob: ObjId,
+) -> Result<ObjectState<A>, AllocError>
+    requires { length items.now ≤ 65536 }
+    ensures value { IfOk result (λ value. value ≡ state_after (first_state kind.now) (live_ops kind.now items.now ob.0)) }
+    // A counter is far from the ends of 64 bits.
+    ensures small { IfOk result (λ value. IsSmall (length items.now + 1) value) }
 {
-    let mut value = ObjectState::new(kind);
+    let mut value = ObjectState::new(alloc, kind);
     for item in items {
-        if item.ob == ob && item.is_live() {
+        if item.is_live_on(kind, ob) {
             value.apply(&item.op)?;
         }
     }
     Ok(value)
 }
 
-/// The numbers of the operations that are not aborted, ascending.
-pub(crate) fn live_numbers<A: Allocator>(
+/// The sets of operations that ACTA speaks of.
+#[derive(Clone, Copy)]
+pub(crate) enum Selection {
+    /// The operations that the transaction holds in progress.
+    Access(TxnId),
+    /// The operations in progress that others hold.
+    Conflict(TxnId),
+    /// The operations that are not aborted.
+    View,
+}
+
+impl Selection {
+    // Whether the operation is in the set.
+    fn has(self, item: Item) -> bool
+        ensures { result ≡ is_selected self item }
+    {
+        match self {
+            Selection::Access(t) => item.is_held(t),
+            Selection::Conflict(t) => item.is_of_others(t),
+            Selection::View => item.is_live(),
+        }
+    }
+}
+
+/// The numbers of the operations in the set, ascending. `Err` where there is no memory.
+pub(crate) fn numbers_of<A: Allocator>(
     alloc: A,
+    selection: Selection,
     items: &[Item],
 ) -> Result<Vec<OpNo, A>, AllocError>
     requires { length items.now ≤ 65536 }
-    ensures { IfOk result (λ numbers. numbers.items ≡ view_set items.now) }
+    ensures { IfOk result (λ numbers. numbers.items ≡ operations_where (is_selected selection) items.now) }
 {
     let mut numbers = Vec::new(alloc);
     let mut number = 1u32;
     for item in items {
-        if item.is_live() {
+        if selection.has(*item) {
             numbers.push(OpNo(number))?;
         }
         number += 1;

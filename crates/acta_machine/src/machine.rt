@@ -1,9 +1,12 @@
 ghost use Rattle.std.specs.Prelude.{◌≡◌, ◌≤◌, length, None, OnOk, OnErr, IfOk, replicate};
 ghost use Rattle.acta_table.specs.declared.answer.Status.{Status};
-ghost use Rattle.acta_machine.specs.Table.{fresh, answer_to, after, run_answers, run_state, status_in, value_in, view_set_in};
+ghost use Rattle.acta_machine.specs.Changes.{summary_of};
+ghost use Rattle.acta_machine.specs.Operations.{operations_where};
+ghost use Rattle.acta_machine.specs.Selections.{is_selected};
+ghost use Rattle.acta_machine.specs.Table.{fresh, answer_to, after, run_answers, run_state, status_in, value_in, access_set_in, conflict_set_in, view_set_in};
 
 use crate::board::{Board, TABLE_SIZE};
-use crate::item::live_numbers;
+use crate::item::{Selection, numbers_of};
 use acta_objects::ObjectState;
 use acta_table::{Answer, ClassId, Event, Items, Kept, Model, ObjId, OpNo, Status, TxnId};
 use std::alloc::{AllocError, Allocator};
@@ -105,12 +108,50 @@ impl<A: Allocator + Copy> Machine<A> {
         })
     }
 
-    /// The numbers of the operations that are not aborted, ascending (ACTA's view). `Err` where there is no
+    /// The value of an object: what its operations that are not aborted leave, replayed in order from the
+    /// first value. Nothing for an object that is not in the model. `Err` where there is no memory.
+    pub fn value(&self, ob: ObjId) -> Result<Option<ObjectState<A>>, AllocError>
+        ensures { IfOk result (λ value. value ≡ value_in self.now ob.0) }
+    {
+        self.board.value(ob)
+    }
+
+    /// The operations in progress that the transaction holds, ascending (ACTA's access set; that it has
+    /// only operations in progress is ours). `Err` where there is no memory.
+    pub fn access_set(&self, t: TxnId) -> Result<Vec<OpNo, A>, AllocError>
+        ensures { IfOk result (λ numbers. numbers.items ≡ access_set_in self.now t.0) }
+    {
+        self.selected(Selection::Access(t))
+    }
+
+    /// The operations in progress that others hold, ascending (ACTA's conflict set). `Err` where there is no
     /// memory.
+    pub fn conflict_set(&self, t: TxnId) -> Result<Vec<OpNo, A>, AllocError>
+        ensures { IfOk result (λ numbers. numbers.items ≡ conflict_set_in self.now t.0) }
+    {
+        self.selected(Selection::Conflict(t))
+    }
+
+    /// The operations that are not aborted, ascending (ACTA's view). `Err` where there is no memory.
     pub fn view_set(&self) -> Result<Vec<OpNo, A>, AllocError>
         ensures { IfOk result (λ numbers. numbers.items ≡ view_set_in self.now) }
     {
-        live_numbers(*self.board.kept.allocator(), &self.board.operations)
+        self.selected(Selection::View)
+    }
+
+    fn selected(&self, selection: Selection) -> Result<Vec<OpNo, A>, AllocError>
+        ensures { IfOk result (λ numbers. numbers.items ≡ operations_where (is_selected selection) (summary_of self.now.kept).operations) }
+    {
+        numbers_of(*self.board.kept.allocator(), selection, &self.board.operations)
+    }
+
+    /// The same machine, in memory of its own. `Err` where there is no memory.
+    pub fn copy(&self) -> Result<Machine<A>, AllocError>
+        ensures { IfOk result (λ machine. machine ≡ self.now) }
+    {
+        Ok(Machine {
+            board: self.board.copy()?,
+        })
     }
 }
 
@@ -120,14 +161,6 @@ impl<A: Allocator> Machine<A> {
         ensures { result ≡ status_in self.now t.0 }
     {
         self.board.status(t)
-    }
-
-    /// The value of an object: what its operations that are not aborted leave, replayed in order from the
-    /// first value. Nothing for an object that is not in the model. `Err` where there is no memory.
-    pub fn value(&self, ob: ObjId) -> Result<Option<ObjectState>, AllocError>
-        ensures { IfOk result (λ value. value ≡ value_in self.now ob.0) }
-    {
-        self.board.value(ob)
     }
 
     /// The history: the events that were admitted, in order, with what they returned; at

@@ -1,14 +1,16 @@
-ghost use Rattle.std.specs.Prelude.{◌≡◌, ◌+◌, ◌<◌, length, None, option_map};
+ghost use Rattle.std.specs.Prelude.{◌≡◌, ◌+◌, ◌<◌, ◌≤◌, length, None, option_map};
 ghost use Rattle.acta_table.specs.declared.event.EventKind.{EventKind};
 ghost use Rattle.acta_table.specs.Events.{acting};
+ghost use Rattle.acta_table.specs.Numbered.{first_number};
 ghost use Rattle.acta_table.specs.WellFormed.{is_bad_number, bad_number, bad_class, bad_object};
 ghost use Rattle.acta_objects.specs.WellFormed.{bad_operation};
-ghost use Rattle.acta_machine.specs.Rules.{full, not_in_progress, already_begun, class_may, txn_may, not_in_model, lowest_broken};
+ghost use Rattle.acta_machine.specs.Rules.{full, not_in_progress, already_begun, class_may, txn_may, not_in_model, stands_against, conflict, lowest_broken};
 ghost use Rattle.acta_machine.specs.Shown.{shown};
 
 use crate::board::Board;
-use acta_objects::is_of_kind;
-use acta_table::{ClassId, Event, EventKind, Refusal, Rule, Status, TxnId};
+use crate::item::Item;
+use acta_objects::{ObjectState, is_of_kind};
+use acta_table::{ClassId, Event, EventKind, ObjId, Op, Refusal, Rule, Status, TxnId};
 use std::alloc::Allocator;
 
 /// How many events a history may have (our limit).
@@ -45,7 +47,7 @@ fn bad_number(event: &Event) -> Option<Refusal>
     }
 }
 
-impl<A: Allocator> Board<A> {
+impl<A: Allocator + Copy> Board<A> {
     #[tactic(auto, unfolding(crate::specs::Rules::full))]
     fn full(&self) -> Option<Refusal>
         ensures { result ≡ full (shown self.now) }
@@ -158,8 +160,51 @@ impl<A: Allocator> Board<A> {
         }
     }
 
+    // Whether the operation is in the transaction's conflict set, on the same object, and conflicts.
+    fn stands_against(&self, t: TxnId, ob: ObjId, op: &Op, item: &Item) -> bool
+        ensures { result ≡ stands_against self.now.model t.0 ob op.now item.now }
+    {
+        if !item.is_of_others(t) || item.ob.0 != ob.0 {
+            return false;
+        }
+        match self.model.objects().get(ob.0 as usize) {
+            Some(object) => ObjectState::<A>::conflicts(&object.kind, &item.op, op),
+            None => false,
+        }
+    }
+
+    // The number of the first operation that stands against this one.
+    fn first_against(&self, t: TxnId, ob: ObjId, op: &Op) -> Option<u32>
+        requires { length self.now.operations.items ≤ 65536 }
+        ensures { result ≡ first_number (stands_against self.now.model t.0 ob op.now) self.now.operations.items }
+    {
+        let mut number = 1u32;
+        for item in &self.operations {
+            if self.stands_against(t, ob, op, item) {
+                return Some(number);
+            }
+            number += 1;
+        }
+        None
+    }
+
+    #[tactic(auto, unfolding(crate::specs::Rules::conflict))]
+    fn conflict(&self, event: &Event) -> Option<Refusal>
+        requires { length self.now.operations.items ≤ 65536 }
+        ensures { result ≡ conflict self.now.model (shown self.now) event.now }
+    {
+        let Event::Operate(t, ob, op) = event else {
+            return None;
+        };
+        match self.first_against(*t, *ob, op) {
+            Some(number) => Some(Refusal::by(Rule::Conflict, number)),
+            None => None,
+        }
+    }
+
     /// The lowest rule that the event breaks.
     pub(crate) fn refusal(&self, event: &Event) -> Option<Refusal>
+        requires { length self.now.operations.items ≤ 65536 }
         ensures { result ≡ lowest_broken self.now.model (shown self.now) event.now }
     {
         self.full()
@@ -170,6 +215,7 @@ impl<A: Allocator> Board<A> {
             .or(self.not_in_progress(event))
             .or(self.already_begun(event))
             .or(self.not_in_model(event))
+            .or(self.conflict(event))
     }
 
     /// The place that the next event gets, where none is refused for want of room.

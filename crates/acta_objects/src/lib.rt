@@ -1,7 +1,17 @@
-//! Objects: the values that they have, and what operations do to them. A value is what its
-//! operations leave, replayed in order from the first value; to abort an operation is to leave it out.
+//! Objects: the values that operations work on, what an operation does and returns, and which two
+//! operations conflict. A conflict is defined by states and orders, after ACTA; the three kinds of
+//! object (register, counter, set) are ours, and for each the table of conflicting pairs is proved to
+//! be that definition.
 #![tactic(auto)]
 
+mod kinds;
+mod members;
+mod replays;
 mod state;
+#[cfg(test)]
+mod tests;
 
-pub use state::{ObjectState, Replayed, is_of_kind, replay};
+pub use kinds::{Counter, ElementSet, ObjectKind, Register};
+pub use members::Members;
+pub use replays::{Replayed, replay};
+pub use state::{ObjectState, is_of_kind};

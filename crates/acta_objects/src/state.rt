@@ -1,81 +1,101 @@
-ghost use Rattle.std.specs.Prelude.{◌≡◌, IfOk, IsOk, OnOk, OnErr};
-ghost use Rattle.acta_objects.specs.Objects.{suits, first_state, step, returned, state_after, returns_of};
+ghost use Rattle.std.specs.Prelude.{◌≡◌, false, IsTrue, IsOk, ◌↔◌, IfOk, OnOk, OnErr};
+ghost use Rattle.acta_objects.specs.Objects.{first_state, suits, step, returned, is_set, takes_memory, StaysWithin};
+ghost use Rattle.acta_objects.specs.Limits.{AmountFits, FirstFits};
+ghost use Rattle.acta_objects.specs.Conflicts as table;
+ghost use Rattle.acta_objects.specs.Conflicts.{IsConflict};
 
-use acta_table::{Items, Kind, Op, Ret};
+use crate::kinds::{Counter, ElementSet, ObjectKind, Register};
+use crate::members::Members;
+use acta_table::{Kind, Op, Ret};
 use std::alloc::{AllocError, Allocator};
 
 /// The value of an object.
-#[derive(PartialEq, Eq, Debug, Drop)]
-pub enum ObjectState {
+#[derive(Drop)]
+pub enum ObjectState<A: Allocator> {
+    /// The number that a register holds.
     Register(i32),
+    /// The sum of a counter.
+    Counter(i64),
+    /// The elements of a set.
+    Elements(Members<A>),
 }
 
-impl ObjectState {
+impl<A: Allocator> ObjectState<A> {
     /// The first value of an object of this kind. Takes no memory.
-    pub fn new(kind: &Kind) -> ObjectState
-        ensures { result ≡ first_state kind.now }
+    pub fn new(alloc: A, kind: &Kind) -> ObjectState<A>
+        ensures first { result ≡ first_state kind.now }
+        ensures fits { FirstFits kind.now }
     {
         match kind {
             Kind::Register(value) => ObjectState::Register(*value),
+            Kind::Counter(value) => ObjectState::Counter(*value as i64),
+            Kind::Elements => ObjectState::Elements(Members::new(alloc)),
+        }
+    }
+}
+
+impl<A: Allocator + Copy> ObjectState<A> {
+    /// Does the operation, which changes nothing and returns `Done` where it is of another kind. `Err`
+    /// where there is no memory, which only the insertion of an absent element takes: the value is then
+    /// as it was. A counter has to stay within 64 bits; that an amount fits 32 bits, its type says.
+    pub fn apply(&mut self, op: &Op) -> Result<Ret, AllocError>
+        requires { AmountFits op.now → StaysWithin self.old op.now }
+        ensures answer { IfOk result (λ ret. ret ≡ returned self.old op.now) }
+        ensures ok { OnOk result (self.new ≡ step self.old op.now) }
+        ensures err { OnErr result (self.new ≡ self.old) }
+        ensures sure { takes_memory self.old op.now ≡ false → IsOk result }
+        ensures fits { AmountFits op.now }
+    {
+        read_amount(op);
+        match self {
+            ObjectState::Register(value) => Register::apply(value, op),
+            ObjectState::Counter(value) => Counter::apply(value, op),
+            ObjectState::Elements(members) => ElementSet::apply(members, op),
         }
     }
 
-    /// Does the operation, and answers what it returns. A register takes no memory, so here `Err` never
-    /// comes; it is for kinds whose values grow.
-    pub fn apply(&mut self, op: &Op) -> Result<Ret, AllocError>
-        ensures register { IsOk result }
-        ensures ret { IfOk result (λ ret. ret ≡ returned self.old op.now) }
-        ensures ok { OnOk result (self.new ≡ step self.old op.now) }
-        ensures err { OnErr result (self.new ≡ self.old) }
+    /// Whether two operations on an object of this kind conflict, as ACTA defines it: from some state
+    /// their order can tell, by the state they end in or by what one of them returns.
+    pub fn conflicts(kind: &Kind, p: &Op, q: &Op) -> bool
+        ensures table { result ≡ table.conflicts kind.now p.now q.now }
+        ensures meaning { IsTrue result ↔ IsConflict kind.now p.now q.now }
     {
-        let ObjectState::Register(value) = self;
-        Ok(match op {
-            Op::Read => Ret::Value(i64::from(*value)),
-            Op::Write(next) => {
-                *value = *next;
-                Ret::Done
-            }
-        })
+        match kind {
+            Kind::Register(_) => Register::conflicts(p, q),
+            Kind::Counter(_) => Counter::conflicts(p, q),
+            Kind::Elements => ElementSet::<A>::conflicts(p, q),
+        }
     }
 
-    /// The same value. `Err` where there is no memory, which for a register never comes.
-    pub fn copy(&self) -> Result<ObjectState, AllocError>
-        ensures register { IsOk result }
+    /// The same value, in memory of its own. `Err` where there is no memory, which only a set takes.
+    pub fn copy(&self) -> Result<ObjectState<A>, AllocError>
         ensures same { IfOk result (λ state. state ≡ self.now) }
+        ensures sure { is_set self.now ≡ false → IsOk result }
     {
-        let ObjectState::Register(value) = self;
-        Ok(ObjectState::Register(*value))
+        Ok(match self {
+            ObjectState::Register(value) => ObjectState::Register(*value),
+            ObjectState::Counter(value) => ObjectState::Counter(*value),
+            ObjectState::Elements(members) => ObjectState::Elements(members.copy()?),
+        })
     }
 }
 
-/// Whether the operation is one of objects of this kind.
+// Does nothing: a proof learns from the call that the amount fits 32 bits, as its type says.
+fn read_amount(op: &Op)
+    ensures { AmountFits op.now }
+{
+    if let Op::Add(amount) = op {
+        let _amount = *amount;
+    }
+}
+
+/// Whether the operation is of the kind.
 pub fn is_of_kind(kind: &Kind, op: &Op) -> bool
     ensures { result ≡ suits kind.now op.now }
 {
-    match (kind, op) {
-        (Kind::Register(_), Op::Read | Op::Write(_)) => true,
+    match kind {
+        Kind::Register(_) => matches!(op, Op::Read | Op::Write(_)),
+        Kind::Counter(_) => matches!(op, Op::Get | Op::Add(_)),
+        Kind::Elements => matches!(op, Op::Insert(_) | Op::Remove(_) | Op::Has(_) | Op::Size),
     }
-}
-
-/// What operations leave, and what each of them returned.
-#[derive(Drop)]
-pub struct Replayed<A: Allocator> {
-    pub state: ObjectState,
-    pub rets: Items<Ret, A>,
-}
-
-/// Does the operations in order, from the first value of the kind. `Err` where there is no memory.
-pub fn replay<A: Allocator>(alloc: A, kind: &Kind, ops: &[Op]) -> Result<Replayed<A>, AllocError>
-    ensures state { IfOk result (λ replayed. replayed.state ≡ state_after (first_state kind.now) ops.now) }
-    ensures rets { IfOk result (λ replayed. replayed.rets ≡ returns_of (first_state kind.now) ops.now) }
-{
-    let mut state = ObjectState::new(kind);
-    let mut rets = Vec::new(alloc);
-    for op in ops {
-        rets.push(state.apply(op)?)?;
-    }
-    Ok(Replayed {
-        state,
-        rets: Items::of(rets),
-    })
 }

@@ -1,5 +1,6 @@
 -- Lists whose items are numbered from 1 on, and lists of numbers.
 use Rattle.std.specs.Prelude.{ℕ, ◌+◌, Bool, List, [], ◌∷◌, min, if◌then◌else◌, Option, Some, None}
+use Rattle.std.specs.List.{position_from}
 use Rattle.std.specs.Option.{option_map_or}
 
 -- the numbers, ascending, of the items that pass, where the first item has the number n
@@ -11,6 +12,10 @@ numbers_from test n (x ∷ xs) =
 -- the numbers, ascending, of the items that pass
 abbrev pub numbers_where : {X : Type 0} → (X → Bool) → List X → List ℕ
 numbers_where test xs = numbers_from test 1 xs
+
+-- the number of the first item that passes
+abbrev pub first_number : {X : Type 0} → (X → Bool) → List X → Option ℕ
+first_number test xs = position_from test 1 xs
 
 -- the smallest of some numbers
 abbrev pub smallest : List ℕ → Option ℕ

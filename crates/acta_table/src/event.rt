@@ -29,6 +29,18 @@ pub enum Op {
     Read,
     /// Sets the value of a register.
     Write(i32),
+    /// Returns the value of a counter.
+    Get,
+    /// Adds to the value of a counter.
+    Add(i32),
+    /// Puts an element into a set, and returns whether it was absent.
+    Insert(i32),
+    /// Takes an element out of a set, and returns whether it was present.
+    Remove(i32),
+    /// Returns whether an element is present in a set.
+    Has(i32),
+    /// Returns the number of elements of a set.
+    Size,
 }
 
 /// What an operation returns.

@@ -19,7 +19,12 @@ pub struct Starts {
 /// The kind of an object, with its first value.
 #[derive(Clone, Copy, PartialEq, Eq, Debug)]
 pub enum Kind {
+    /// One number, with its first value.
     Register(i32),
+    /// A sum, with its first value.
+    Counter(i32),
+    /// A finite set of numbers, empty at first.
+    Elements,
 }
 
 /// An object of a model.

@@ -1,4 +1,4 @@
-use crate::models::{FLAT, parts, small};
+use crate::models::{FLAT, atomic, parts};
 use acta_table::{Event, EventKind, Kinds, Model, ModelFault, Rule, TxnId};
 use std::test::Fail;
 
@@ -56,8 +56,8 @@ fn too_many(rt: HostRuntime) -> Result<(), Fail> {
 // A model shows the parts that were checked, and so does its copy.
 #[test]
 fn a_copy(rt: HostRuntime) -> Result<(), Fail> {
-    let model = small(rt.alloc())?.copy()?;
-    assert_eq!(rt; model.objects().len(), 1);
+    let model = atomic(rt.alloc())?.copy()?;
+    assert_eq!(rt; model.objects().len(), 4);
     assert_eq!(rt; model.classes().len(), 1);
     for class in model.classes() {
         assert_eq!(rt; class.name.as_slice(), b"flat".as_slice());

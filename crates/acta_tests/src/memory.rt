@@ -1,140 +1,195 @@
-use crate::models::{FLAT, X, parts, small};
-use acta_machine::Machine;
-use acta_objects::replay;
+use crate::models::{FLAT, S, X, atomic, parts};
+use acta_machine::{Machine, Run};
+use acta_objects::{ObjectState, replay};
 use acta_table::{Answer, Event, Items, Kind, Model, Op, OpNo, Ret, Status, TxnId};
 use refusing::Refusing;
+use std::alloc::{AllocError, Allocator};
+use std::process::Abort;
 use std::test::Fail;
 
 const ONE: TxnId = TxnId(1);
 
+const TWO: TxnId = TxnId(2);
+
 // More allocations than any of these calls makes.
-const MOST: u64 = 20;
+const MOST: u64 = 40;
 
 const WRITE: Event = Event::Operate(ONE, X, Op::Write(5));
 
-// Each growth of `Machine::new` is refused in turn, and then it gives a machine.
+const INSERT: Event = Event::Operate(ONE, S, Op::Insert(3));
+
+// Refuses the first allocation of the call, then the second, and so on, until it succeeds. Each refused
+// call has to answer `Err`. Gives what the call answers in the end, and how many calls were refused.
+macro_rules! refuse_each {
+    ($rt:expr, $heap:expr, $call:expr) => {{
+        let mut outcome = None;
+        let mut refused = 0u64;
+        for nth in 1..MOST {
+            $heap.refuse(nth);
+            let result = $call;
+            if $heap.is_waiting() {
+                outcome = result.ok();
+                break;
+            }
+            assert!($rt; result.is_err());
+            refused = nth;
+        }
+        $heap.refuse(0);
+        (outcome, refused)
+    }};
+}
+
+// Takes the event; where that fails, the machine has to be as it was.
+fn take<B: Allocator>(
+    rt: &impl Abort,
+    machine: &mut Machine<&Refusing<B>>,
+    event: &Event,
+) -> Result<Answer, AllocError> {
+    let kept = machine.history().len();
+    let status = machine.status(ONE);
+    let taken = machine.take(event);
+    if taken.is_err() {
+        assert_eq!(rt; machine.history().len(), kept);
+        assert_eq!(rt; machine.status(ONE), status);
+    }
+    taken
+}
+
+// A machine on a copy of the model.
+fn copied_machine<A: Allocator + Copy>(
+    alloc: A,
+    model: &Model<A>,
+) -> Result<Machine<A>, AllocError> {
+    Machine::new(alloc, model.copy()?)
+}
+
+// A run on a copy of the model.
+fn copied_run<A: Allocator + Copy>(
+    alloc: A,
+    model: &Model<A>,
+    events: &[Event],
+) -> Result<Run<A>, AllocError> {
+    Machine::run(alloc, model.copy()?, events)
+}
+
+// The growth of an operation that puts the first element into a set.
+fn inserted<A: Allocator + Copy>(alloc: A) -> Result<Ret, AllocError> {
+    ObjectState::new(alloc, &Kind::Elements).apply(&Op::Insert(3))
+}
+
+// The growths of a model's copy and of a new machine.
 #[test]
 fn of_new(rt: HostRuntime) -> Result<(), Fail> {
     let heap = Refusing::new(rt.alloc());
-    let mut refusals = 0;
-    for nth in 1..MOST {
-        let model = small(&heap)?;
-        heap.refuse(nth);
-        let made = Machine::new(&heap, model);
-        if !heap.is_waiting() {
-            assert!(rt; made.is_err());
-            refusals = nth;
-            continue;
-        }
-        heap.refuse(0);
-        assert_eq!(rt; made?.history().len(), 0);
-        break;
-    }
-    assert_eq!(rt; refusals, 2);
+    let model = atomic(&heap)?;
+    let (copied, in_copy) = refuse_each!(rt, heap, model.copy());
+    assert!(rt; copied.is_some());
+    assert_eq!(rt; in_copy, 7);
+    let (made, in_both) = refuse_each!(rt, heap, copied_machine(&heap, &model));
+    assert!(rt; made.is_some());
+    assert_eq!(rt; in_both, 9);
     Ok(())
 }
 
-// Each growth of `take` is refused in turn: the machine stays as it was, and in the end the answer comes.
+// The growths of taking one event after another: of the lists, and of the set.
 #[test]
 fn of_take(rt: HostRuntime) -> Result<(), Fail> {
     let heap = Refusing::new(rt.alloc());
-    let mut machine = Machine::new(&heap, small(&heap)?)?;
-    let mut refusals = 0u64;
-    let events = [
-        (Event::Begin(ONE, FLAT), None, Status::NotBegun),
-        (WRITE, Some(Ret::Done), Status::InProgress),
+    let rows = [
+        (Event::Begin(ONE, FLAT), None, 2),
+        (WRITE, Some(Ret::Done), 0),
+        (INSERT, Some(Ret::Flag(true)), 1),
     ];
-    for (before, (event, ret, status)) in events.into_iter().enumerate() {
-        for nth in 1..MOST {
-            heap.refuse(nth);
-            let Ok(answer) = machine.take(&event) else {
-                assert!(rt; !heap.is_waiting());
-                assert_eq!(rt; machine.history().len(), before);
-                assert_eq!(rt; machine.status(ONE), status);
-                refusals = refusals.saturating_add(1);
-                continue;
-            };
-            assert!(rt; heap.is_waiting());
-            let place = if before == 0 { 1 } else { 2 };
-            assert_eq!(rt; answer, Answer::Admitted { place, ret });
-            break;
-        }
+    let mut machine = Machine::new(&heap, atomic(&heap)?)?;
+    let mut place = 0u32;
+    for (event, ret, growths) in rows {
+        place = place.saturating_add(1);
+        let (answer, refused) = refuse_each!(rt, heap, take(&rt, &mut machine, &event));
+        assert_eq!(rt; answer, Some(Answer::Admitted { place, ret }));
+        assert_eq!(rt; refused, growths, "at {event:?}");
     }
-    heap.refuse(0);
-    assert_eq!(rt; machine.history().len(), 2);
-    assert!(rt; refusals >= 2);
     Ok(())
 }
 
-// The same of `view_set`, of a machine with one operation.
-#[test]
-fn of_view_set(rt: HostRuntime) -> Result<(), Fail> {
-    let heap = Refusing::new(rt.alloc());
-    let events = [Event::Begin(ONE, FLAT), WRITE];
-    let machine = Machine::run(&heap, small(&heap)?, &events)?.machine;
-    let mut refusals = 0;
-    for nth in 1..MOST {
-        heap.refuse(nth);
-        let Ok(view) = machine.view_set() else {
-            assert!(rt; !heap.is_waiting());
-            refusals = nth;
-            continue;
-        };
-        assert!(rt; heap.is_waiting());
-        assert_eq!(rt; view.as_slice(), [OpNo(1)].as_slice());
-        break;
-    }
-    assert_eq!(rt; refusals, 1);
-    Ok(())
-}
-
-// The same of a whole run.
+// The growths of a whole run.
 #[test]
 fn of_run(rt: HostRuntime) -> Result<(), Fail> {
     let heap = Refusing::new(rt.alloc());
-    let events = [Event::Begin(ONE, FLAT), WRITE, Event::Commit(ONE)];
-    let mut refusals = 0;
-    for nth in 1..MOST {
-        let model = small(&heap)?;
-        heap.refuse(nth);
-        let Ok(run) = Machine::run(&heap, model, &events) else {
-            assert!(rt; !heap.is_waiting());
-            refusals = nth;
-            continue;
-        };
-        assert!(rt; heap.is_waiting());
-        assert_eq!(rt; run.answers.as_slice().len(), 3);
-        assert_eq!(rt; run.machine.status(ONE), Status::Committed);
-        break;
-    }
-    assert!(rt; refusals >= 5);
+    let model = atomic(&heap)?;
+    let events = [Event::Begin(ONE, FLAT), INSERT, Event::Commit(ONE)];
+    let (run, refused) = refuse_each!(rt, heap, copied_run(&heap, &model, &events));
+    assert!(rt; refused > 9);
+    let Some(run) = run else {
+        return Ok(());
+    };
+    assert_eq!(rt; run.answers.as_slice().len(), 3);
+    assert_eq!(rt; run.machine.status(ONE), Status::Committed);
     Ok(())
 }
 
-// The same of copies of a model and of a list, and of a replay.
+// The growths of the readers, and of a copy.
+#[test]
+fn of_readers(rt: HostRuntime) -> Result<(), Fail> {
+    let heap = Refusing::new(rt.alloc());
+    let events = [Event::Begin(ONE, FLAT), INSERT];
+    let machine = Machine::run(&heap, atomic(&heap)?, &events)?.machine;
+    let sets = [machine.access_set(ONE)?, machine.conflict_set(TWO)?];
+    for set in &sets {
+        assert_eq!(rt; set.as_slice(), [OpNo(1)].as_slice());
+    }
+    let (_, refused) = refuse_each!(rt, heap, machine.access_set(ONE));
+    assert_eq!(rt; refused, 1);
+    let (_, refused) = refuse_each!(rt, heap, machine.conflict_set(TWO));
+    assert_eq!(rt; refused, 1);
+    let (_, refused) = refuse_each!(rt, heap, machine.view_set());
+    assert_eq!(rt; refused, 1);
+    let (value, refused) = refuse_each!(rt, heap, machine.value(S));
+    assert!(rt; value.is_some());
+    assert_eq!(rt; refused, 1);
+    let (copied, refused) = refuse_each!(rt, heap, machine.copy());
+    assert!(rt; copied.is_some());
+    assert_eq!(rt; refused, 11);
+    Ok(())
+}
+
+// A set with one element.
+fn one_element<A: Allocator + Copy>(alloc: A) -> Result<ObjectState<A>, AllocError> {
+    let mut set = ObjectState::new(alloc, &Kind::Elements);
+    set.apply(&Op::Insert(3))?;
+    Ok(set)
+}
+
+// How many returns a replay tells.
+fn replayed<A: Allocator + Copy>(alloc: A) -> Result<usize, AllocError> {
+    let ops = [Op::Insert(3), Op::Has(3)];
+    Ok(replay(alloc, &Kind::Elements, &ops)?.rets.as_slice().len())
+}
+
+// The growths of an operation and of a replay.
+#[test]
+fn of_operations(rt: HostRuntime) -> Result<(), Fail> {
+    let heap = Refusing::new(rt.alloc());
+    let (ret, refused) = refuse_each!(rt, heap, inserted(&heap));
+    assert_eq!(rt; ret, Some(Ret::Flag(true)));
+    assert_eq!(rt; refused, 1);
+    let (count, refused) = refuse_each!(rt, heap, replayed(&heap));
+    assert_eq!(rt; count, Some(2));
+    assert_eq!(rt; refused, 2);
+    Ok(())
+}
+
+// The growths of copies of a set and of a list.
 #[test]
 fn of_copies(rt: HostRuntime) -> Result<(), Fail> {
     let heap = Refusing::new(rt.alloc());
-    let model = small(&heap)?;
-    let mut refusals = 0;
-    for nth in 1..MOST {
-        heap.refuse(nth);
-        let Ok(copy) = model.copy() else {
-            assert!(rt; !heap.is_waiting());
-            refusals = nth;
-            continue;
-        };
-        assert!(rt; heap.is_waiting());
-        assert_eq!(rt; copy.objects().len(), 1);
-        break;
-    }
-    assert_eq!(rt; refusals, 4);
-    heap.refuse(1);
-    assert!(rt; replay(&heap, &Kind::Register(0), &[Op::Read]).is_err());
-    heap.refuse(0);
+    let set = one_element(&heap)?;
+    let (copied, refused) = refuse_each!(rt, heap, set.copy());
+    assert!(rt; copied.is_some());
+    assert_eq!(rt; refused, 1);
     let list = Items::of([1u8].to_vec(&heap)?);
-    heap.refuse(1);
-    assert!(rt; list.copy().is_err());
+    let (copied, refused) = refuse_each!(rt, heap, list.copy());
+    assert!(rt; copied.is_some());
+    assert_eq!(rt; refused, 1);
     Ok(())
 }
 

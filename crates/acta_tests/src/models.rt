@@ -2,14 +2,36 @@ use acta_table::{Class, ClassId, Items, Kind, Kinds, Model, ObjId, Object, Parts
 use std::alloc::{AllocError, Allocator};
 use std::test::Fail;
 
-/// The register of the small model.
+/// The register of the standard models.
 pub const X: ObjId = ObjId(0);
 
-/// The class of the small model.
+/// A counter of the standard models.
+pub const N: ObjId = ObjId(1);
+
+/// The set of the standard models.
+pub const S: ObjId = ObjId(3);
+
+/// The class of the model of flat transactions.
 pub const FLAT: ClassId = ClassId(0);
 
-fn name<A: Allocator>(alloc: A, text: &[u8]) -> Result<Items<u8, A>, AllocError> {
-    Ok(Items::of(Vec::from_slice(alloc, text)?))
+fn object<A: Allocator>(alloc: A, name: &str, kind: Kind) -> Result<Object<A>, AllocError> {
+    Ok(Object {
+        name: Items::of(Vec::from_slice(alloc, name.as_bytes())?),
+        kind,
+    })
+}
+
+// A class that may begin, operate, commit and abort.
+fn flat<A: Allocator>(alloc: A, name: &str) -> Result<Class<A>, AllocError> {
+    Ok(Class {
+        name: Items::of(Vec::from_slice(alloc, name.as_bytes())?),
+        starts: Starts {
+            begin: true,
+            spawned: false,
+            split: false,
+        },
+        may: Kinds::OPERATE.union(Kinds::COMMIT).union(Kinds::ABORT),
+    })
 }
 
 /// Registers that are 0 at first, and classes that may begin, operate, commit and abort, by their names: the
@@ -20,34 +42,39 @@ pub fn parts<A: Allocator + Copy>(
     classes: &str,
 ) -> Result<Parts<A>, AllocError> {
     let mut registers = Vec::new(alloc);
-    for text in objects.split(' ').filter(|_| !objects.is_empty()) {
-        registers.push(Object {
-            name: name(alloc, text.as_bytes())?,
-            kind: Kind::Register(0),
-        })?;
+    for name in objects.split(' ').filter(|_| !objects.is_empty()) {
+        registers.push(object(alloc, name, Kind::Register(0))?)?;
     }
-    let mut flat = Vec::new(alloc);
-    for text in classes.split(' ').filter(|_| !classes.is_empty()) {
-        flat.push(Class {
-            name: name(alloc, text.as_bytes())?,
-            starts: Starts {
-                begin: true,
-                spawned: false,
-                split: false,
-            },
-            may: Kinds::OPERATE.union(Kinds::COMMIT).union(Kinds::ABORT),
-        })?;
+    let mut flats = Vec::new(alloc);
+    for name in classes.split(' ').filter(|_| !classes.is_empty()) {
+        flats.push(flat(alloc, name)?)?;
     }
     Ok(Parts {
         objects: Items::of(registers),
-        classes: Items::of(flat),
+        classes: Items::of(flats),
     })
 }
 
-/// The register `x` and the class `flat`.
-pub fn small<A: Allocator + Copy>(alloc: A) -> Result<Model<A>, Fail> {
-    match Model::check(parts(alloc, "x", "flat")?) {
+/// The standard model of flat transactions: the objects `x`, `n`, `m`, `s` and the class `flat`.
+pub fn atomic<A: Allocator + Copy>(alloc: A) -> Result<Model<A>, Fail> {
+    let mut objects = Vec::new(alloc);
+    let named = [
+        ("x", Kind::Register(0)),
+        ("n", Kind::Counter(0)),
+        ("m", Kind::Counter(0)),
+        ("s", Kind::Elements),
+    ];
+    for (name, kind) in named {
+        objects.push(object(alloc, name, kind)?)?;
+    }
+    let mut classes = Vec::new(alloc);
+    classes.push(flat(alloc, "flat")?)?;
+    let parts = Parts {
+        objects: Items::of(objects),
+        classes: Items::of(classes),
+    };
+    match Model::check(parts) {
         Ok(model) => Ok(model),
-        Err(_) => Err("the small model has no fault")?,
+        Err(_) => Err("a standard model has no fault")?,
     }
 }

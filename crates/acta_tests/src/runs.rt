@@ -1,7 +1,9 @@
-use crate::models::{FLAT, X, small};
+use crate::models::{FLAT, N, S, X, atomic};
 use acta_machine::Machine;
 use acta_objects::{ObjectState, replay};
 use acta_table::{Answer, ClassId, Event, Kind, ObjId, Op, OpNo, Ret, Rule, Status, TxnId};
+use std::alloc::{Allocator, Global};
+use std::process::Abort;
 use std::test::Fail;
 
 const ONE: TxnId = TxnId(1);
@@ -27,37 +29,59 @@ fn no_by(rule: Rule, by: u32) -> Answer {
     Answer::Refused { rule, by: Some(by) }
 }
 
-fn write(t: TxnId, value: i32) -> Event {
-    Event::Operate(t, X, Op::Write(value))
+fn on(t: TxnId, ob: ObjId, op: Op) -> Event {
+    Event::Operate(t, ob, op)
 }
 
-fn read(t: TxnId) -> Event {
-    Event::Operate(t, X, Op::Read)
-}
-
-// One transaction writes and commits.
-#[test]
-fn a_write_stays(rt: HostRuntime) -> Result<(), Fail> {
-    let mut machine = Machine::new(rt.alloc(), small(rt.alloc())?)?;
-    let rows = [
-        (Event::Begin(ONE, FLAT), ok(1)),
-        (write(ONE, 5), ok_with(2, Ret::Done)),
-        (Event::Commit(ONE), ok(3)),
-    ];
+// The machine answers each event so.
+fn takes<A: Allocator + Copy>(
+    rt: &impl Abort,
+    machine: &mut Machine<A>,
+    rows: &[(Event, Answer)],
+) -> Result<(), Fail> {
     for (event, answer) in rows {
-        assert_eq!(rt; machine.take(&event)?, answer);
+        assert_eq!(rt; machine.take(event)?, *answer, "at {event:?}");
     }
-    assert_eq!(rt; machine.value(X)?, Some(ObjectState::Register(5)));
-    assert_eq!(rt; machine.view_set()?.as_slice(), [OpNo(1)].as_slice());
-    assert_eq!(rt; machine.status(ONE), Status::Committed);
-    assert_eq!(rt; machine.history().len(), 3);
     Ok(())
 }
 
-// Each rule that four kinds of event can break, and what an abort undoes.
+// A machine on which two transactions have begun.
+fn begun(rt: &(impl Abort + AllocGlobal)) -> Result<Machine<Global>, Fail> {
+    let mut machine = Machine::new(rt.alloc(), atomic(rt.alloc())?)?;
+    let rows = [
+        (Event::Begin(ONE, FLAT), ok(1)),
+        (Event::Begin(TWO, FLAT), ok(2)),
+    ];
+    takes(rt, &mut machine, &rows)?;
+    Ok(machine)
+}
+
+// One transaction writes and commits; a copy of the machine shows the same.
 #[test]
-fn refusals_and_an_abort(rt: HostRuntime) -> Result<(), Fail> {
-    let mut machine = Machine::new(rt.alloc(), small(rt.alloc())?)?;
+fn a_write_stays(rt: HostRuntime) -> Result<(), Fail> {
+    let mut machine = Machine::new(rt.alloc(), atomic(rt.alloc())?)?;
+    let rows = [
+        (Event::Begin(ONE, FLAT), ok(1)),
+        (on(ONE, X, Op::Write(5)), ok_with(2, Ret::Done)),
+        (Event::Commit(ONE), ok(3)),
+    ];
+    takes(&rt, &mut machine, &rows)?;
+    let copied = machine.copy()?;
+    for shown in [&machine, &copied] {
+        assert!(rt; matches!(shown.value(X)?, Some(ObjectState::Register(5))));
+        assert_eq!(rt; shown.view_set()?.as_slice(), [OpNo(1)].as_slice());
+        assert!(rt; shown.access_set(ONE)?.is_empty());
+        assert!(rt; shown.conflict_set(TWO)?.is_empty());
+        assert_eq!(rt; shown.status(ONE), Status::Committed);
+        assert_eq!(rt; shown.history().len(), 3);
+    }
+    Ok(())
+}
+
+// The rules on the form of an event, on statuses and on classes.
+#[test]
+fn refusals(rt: HostRuntime) -> Result<(), Fail> {
+    let mut machine = Machine::new(rt.alloc(), atomic(rt.alloc())?)?;
     let rows = [
         (Event::Begin(ONE, FLAT), ok(1)),
         (Event::Begin(ONE, FLAT), no_by(Rule::AlreadyBegun, 1)),
@@ -70,31 +94,85 @@ fn refusals_and_an_abort(rt: HostRuntime) -> Result<(), Fail> {
             no_by(Rule::BadNumber, 0),
         ),
         (Event::Commit(TxnId(4096)), no_by(Rule::BadNumber, 4096)),
-        (Event::Operate(ONE, ObjId(1), Op::Read), no(Rule::BadObject)),
+        (on(ONE, ObjId(4), Op::Read), no(Rule::BadObject)),
+        (on(ONE, X, Op::Add(5)), no(Rule::BadOperation)),
+        (on(ONE, N, Op::Read), no(Rule::BadOperation)),
+        (on(ONE, S, Op::Get), no(Rule::BadOperation)),
+        (on(ONE, X, Op::Read), no_by(Rule::NotInProgress, 1)),
         (Event::Begin(TxnId(4095), FLAT), ok(3)),
-        (write(TxnId(4095), 7), ok_with(4, Ret::Done)),
-        (Event::Begin(TWO, FLAT), ok(5)),
-        (read(TWO), ok_with(6, Ret::Value(7))),
-        (write(TWO, -1), ok_with(7, Ret::Done)),
-        (Event::Abort(TxnId(4095)), ok(8)),
-        (read(TWO), ok_with(9, Ret::Value(-1))),
-        (Event::Abort(TWO), ok(10)),
     ];
-    for (event, answer) in rows {
-        assert_eq!(rt; machine.take(&event)?, answer, "at {event:?}");
-    }
-    assert_eq!(rt; machine.value(X)?, Some(ObjectState::Register(0)));
-    assert_eq!(rt; machine.value(ObjId(1))?, None);
-    assert!(rt; machine.view_set()?.is_empty());
+    takes(&rt, &mut machine, &rows)?;
+    assert!(rt; machine.value(ObjId(4))?.is_none());
     assert_eq!(rt; machine.status(TxnId(4096)), Status::NotBegun);
     Ok(())
+}
+
+// Sums commute, so both may add; to abort one is to leave its sum out.
+#[test]
+fn sums_commute(rt: HostRuntime) -> Result<(), Fail> {
+    let mut machine = begun(&rt)?;
+    let rows = [
+        (on(ONE, N, Op::Add(5)), ok_with(3, Ret::Done)),
+        (on(TWO, N, Op::Add(7)), ok_with(4, Ret::Done)),
+        (on(TWO, N, Op::Get), no_by(Rule::Conflict, 1)),
+        (Event::Abort(ONE), ok(5)),
+        (on(TWO, N, Op::Get), ok_with(6, Ret::Value(7))),
+    ];
+    takes(&rt, &mut machine, &rows)?;
+    assert_eq!(rt;
+        machine.view_set()?.as_slice(),
+        [OpNo(2), OpNo(3)].as_slice()
+    );
+    assert_eq!(rt;
+        machine.access_set(TWO)?.as_slice(),
+        [OpNo(2), OpNo(3)].as_slice()
+    );
+    Ok(())
+}
+
+// Equal writes commute, and others don't.
+#[test]
+fn equal_writes_commute(rt: HostRuntime) -> Result<(), Fail> {
+    let mut machine = begun(&rt)?;
+    let rows = [
+        (on(ONE, X, Op::Write(5)), ok_with(3, Ret::Done)),
+        (on(TWO, X, Op::Write(5)), ok_with(4, Ret::Done)),
+        (on(TWO, X, Op::Write(6)), no_by(Rule::Conflict, 1)),
+    ];
+    takes(&rt, &mut machine, &rows)?;
+    assert_eq!(rt; machine.conflict_set(TWO)?.as_slice(), [OpNo(1)].as_slice());
+    assert_eq!(rt;
+        machine.conflict_set(TxnId(9))?.as_slice(),
+        [OpNo(1), OpNo(2)].as_slice()
+    );
+    Ok(())
+}
+
+// On a set, operations on different elements commute, and the size stands against whatever changes it.
+#[test]
+fn elements_of_a_set(rt: HostRuntime) -> Result<(), Fail> {
+    let mut machine = begun(&rt)?;
+    let rows = [
+        (on(ONE, S, Op::Insert(3)), ok_with(3, Ret::Flag(true))),
+        (on(TWO, S, Op::Has(4)), ok_with(4, Ret::Flag(false))),
+        (on(TWO, S, Op::Has(3)), no_by(Rule::Conflict, 1)),
+        (on(ONE, S, Op::Size), ok_with(5, Ret::Value(1))),
+        (on(TWO, S, Op::Insert(4)), no_by(Rule::Conflict, 3)),
+        (Event::Abort(ONE), ok(6)),
+        (on(TWO, S, Op::Size), ok_with(7, Ret::Value(0))),
+    ];
+    takes(&rt, &mut machine, &rows)
 }
 
 // A run answers as one event after another does, and a run of nothing has no answer.
 #[test]
 fn a_run(rt: HostRuntime) -> Result<(), Fail> {
-    let events = [Event::Begin(ONE, FLAT), read(ONE), Event::Begin(ONE, FLAT)];
-    let run = Machine::run(rt.alloc(), small(rt.alloc())?, &events)?;
+    let events = [
+        Event::Begin(ONE, FLAT),
+        on(ONE, X, Op::Read),
+        Event::Begin(ONE, FLAT),
+    ];
+    let run = Machine::run(rt.alloc(), atomic(rt.alloc())?, &events)?;
     let answers = [
         ok(1),
         ok_with(2, Ret::Value(0)),
@@ -103,18 +181,20 @@ fn a_run(rt: HostRuntime) -> Result<(), Fail> {
     assert_eq!(rt; run.answers.as_slice(), answers.as_slice());
     assert_eq!(rt; run.machine.history().len(), 2);
     assert_eq!(rt; run.machine.status(ONE), Status::InProgress);
-    let none = Machine::run(rt.alloc(), small(rt.alloc())?, &[])?;
+    let none = Machine::run(rt.alloc(), atomic(rt.alloc())?, &[])?;
     assert!(rt; none.answers.as_slice().is_empty());
     Ok(())
 }
 
 #[test]
-fn a_replay(rt: HostRuntime) -> Result<(), Fail> {
+fn replays(rt: HostRuntime) -> Result<(), Fail> {
+    let sums = replay(rt.alloc(), &Kind::Counter(0), &[Op::Add(5), Op::Add(7)])?;
+    assert!(rt; matches!(sums.state, ObjectState::Counter(12)));
+    assert_eq!(rt; sums.rets.as_slice(), [Ret::Done, Ret::Done].as_slice());
     let ops = [Op::Read, Op::Write(5), Op::Read];
-    let replayed = replay(rt.alloc(), &Kind::Register(3), &ops)?;
-    assert_eq!(rt; replayed.state, ObjectState::Register(5));
+    let register = replay(rt.alloc(), &Kind::Register(3), &ops)?;
+    assert!(rt; matches!(register.state.copy()?, ObjectState::Register(5)));
     let rets = [Ret::Value(3), Ret::Done, Ret::Value(5)];
-    assert_eq!(rt; replayed.rets.as_slice(), rets.as_slice());
-    assert_eq!(rt; replayed.state.copy()?, ObjectState::Register(5));
+    assert_eq!(rt; register.rets.as_slice(), rets.as_slice());
     Ok(())
 }

@@ -2,8 +2,14 @@ use Rattle.std.proofs.Common.{◌≡◌, sym, ◌∙◌, ap, ◌++◌, ◌∷◌
 use Rattle.acta_table.specs.declared.event.Kept.{Kept}
 use Rattle.acta_machine.specs.Summary.{Summary}
 use Rattle.acta_machine.specs.Changes.{effect, summary_of}
-use Rattle.acta_machine.proofs.Histories.{summary_more}
+use Rattle.acta_machine.proofs.Histories.{summary_more, operations_within}
 use Rattle.acta_machine.proofs.machine.Machine.take.Goals as goal
+
+pub refusal-requires : goal.refusal-requires
+refusal-requires g c = operations_within _ _ c.self.invariant.agrees c.self.invariant.within
+
+pub return_of-requires : goal.return_of-requires
+return_of-requires g c = operations_within _ _ c.self.invariant.agrees c.self.invariant.within
 
 pub invariant_of-self-2 : goal.invariant_of-self-2
 invariant_of-self-2 g c =

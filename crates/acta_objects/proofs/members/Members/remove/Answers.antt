@@ -1,0 +1,10 @@
+use Rattle.std.proofs.Common.{w32}
+use Rattle.std.specs.Prelude.{FitsSigned}
+use Rattle.std.proofs.lemmas.Int.{to_z-of_z}
+use Rattle.acta_objects.proofs.members.Members.remove.Goals as goal
+
+pub returns-clause-was : goal.returns-clause-was
+returns-clause-was g c = let fits : FitsSigned w32 c.args.x = c.ranges.x in rw (← c.self.view_is) (simp to_z-of_z at c.remove.ensures.test)
+
+pub returns-clause-without : goal.returns-clause-without
+returns-clause-without g c = let fits : FitsSigned w32 c.args.x = c.ranges.x in rw (← c.self.view_is) (simp to_z-of_z at c.remove.ensures.keys)
