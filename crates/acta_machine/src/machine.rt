@@ -3,6 +3,9 @@ ghost use Rattle.acta_table.specs.declared.answer.Status.{Status};
 ghost use Rattle.acta_machine.specs.Changes.{summary_of};
 ghost use Rattle.acta_machine.specs.Operations.{operations_where};
 ghost use Rattle.acta_machine.specs.Selections.{is_selected};
+ghost use Rattle.acta_axioms.specs.Claims.{status_at};
+ghost use Rattle.acta_axioms.specs.Operations as by_places;
+ghost use Rattle.acta_machine.specs.Places.{FollowsPlaces, numbers_of, value_at};
 ghost use Rattle.acta_machine.specs.Table.{fresh, answer_to, after, run_answers, run_state, status_in, value_in, access_set_in, conflict_set_in, view_set_in};
 
 use crate::board::{Board, TABLE_SIZE};
@@ -26,6 +29,7 @@ impl<A: Allocator> std::marker::Model for Machine<A> {
 
     ghost use Rattle.acta_machine.specs.Changes.{summary_of};
     ghost use Rattle.acta_machine.specs.Shown.{shown};
+    ghost use Rattle.acta_machine.specs.Places.{FollowsPlaces};
 
     ghost view = { λ m. record { model = m.board.model; kept = m.board.kept.items } };
 
@@ -34,6 +38,7 @@ impl<A: Allocator> std::marker::Model for Machine<A> {
       statuses : length m.board.statuses.items ≡ 4096;
       classes : length m.board.classes.items ≡ 4096;
       within : length m.board.kept.items ≤ 65536;
+      follows : FollowsPlaces (record { model = m.board.model; kept = m.board.kept.items });
     } };
 }
 
@@ -58,7 +63,8 @@ fn no_classes<A: Allocator>(alloc: A) -> Result<Vec<Option<ClassId>, A>, AllocEr
 impl<A: Allocator + Copy> Machine<A> {
     /// A machine on the model, which has kept nothing. `Err` where there is no memory.
     pub fn new(alloc: A, model: Model<A>) -> Result<Machine<A>, AllocError>
-        ensures { IfOk result (λ machine. machine ≡ fresh model) }
+        ensures fresh { IfOk result (λ machine. machine ≡ fresh model) }
+        ensures follows { IfOk result FollowsPlaces }
     {
         Ok(Machine {
             board: Board {
@@ -78,6 +84,8 @@ impl<A: Allocator + Copy> Machine<A> {
         ensures answer { IfOk result (λ answer. answer ≡ answer_to self.old event.now) }
         ensures ok { OnOk result (self.new ≡ after self.old event.now) }
         ensures err { OnErr result (self.new ≡ self.old) }
+        // Statuses, holders and fates are those by places, and the history meets the axioms.
+        ensures follows { FollowsPlaces self.new }
     {
         if let Some(refusal) = self.board.refusal(event) {
             return Ok(Answer::Refused {
@@ -96,6 +104,7 @@ impl<A: Allocator + Copy> Machine<A> {
     pub fn run(alloc: A, model: Model<A>, events: &[Event]) -> Result<Run<A>, AllocError>
         ensures answers { IfOk result (λ run. run.answers ≡ run_answers model events.now) }
         ensures machine { IfOk result (λ run. run.machine ≡ run_state model events.now) }
+        ensures follows { IfOk result (λ run. FollowsPlaces run.machine) }
     {
         let mut machine = Machine::new(alloc, model)?;
         let mut answers = Vec::new(alloc);
@@ -111,7 +120,8 @@ impl<A: Allocator + Copy> Machine<A> {
     /// The value of an object: what its operations that are not aborted leave, replayed in order from the
     /// first value. Nothing for an object that is not in the model. `Err` where there is no memory.
     pub fn value(&self, ob: ObjId) -> Result<Option<ObjectState<A>>, AllocError>
-        ensures { IfOk result (λ value. value ≡ value_in self.now ob.0) }
+        ensures value { IfOk result (λ value. value ≡ value_in self.now ob.0) }
+        ensures places { IfOk result (λ value. value ≡ value_at self.now ob.0) }
     {
         self.board.value(ob)
     }
@@ -119,7 +129,8 @@ impl<A: Allocator + Copy> Machine<A> {
     /// The operations in progress that the transaction holds, ascending (ACTA's access set; that it has
     /// only operations in progress is ours). `Err` where there is no memory.
     pub fn access_set(&self, t: TxnId) -> Result<Vec<OpNo, A>, AllocError>
-        ensures { IfOk result (λ numbers. numbers.items ≡ access_set_in self.now t.0) }
+        ensures set { IfOk result (λ numbers. numbers.items ≡ access_set_in self.now t.0) }
+        ensures places { IfOk result (λ numbers. numbers.items ≡ numbers_of (by_places.access_set self.now.model self.now.kept t.0)) }
     {
         self.selected(Selection::Access(t))
     }
@@ -127,22 +138,29 @@ impl<A: Allocator + Copy> Machine<A> {
     /// The operations in progress that others hold, ascending (ACTA's conflict set). `Err` where there is no
     /// memory.
     pub fn conflict_set(&self, t: TxnId) -> Result<Vec<OpNo, A>, AllocError>
-        ensures { IfOk result (λ numbers. numbers.items ≡ conflict_set_in self.now t.0) }
+        ensures set { IfOk result (λ numbers. numbers.items ≡ conflict_set_in self.now t.0) }
+        ensures places { IfOk result (λ numbers. numbers.items ≡ numbers_of (by_places.conflict_set self.now.model self.now.kept t.0)) }
     {
         self.selected(Selection::Conflict(t))
     }
 
     /// The operations that are not aborted, ascending (ACTA's view). `Err` where there is no memory.
     pub fn view_set(&self) -> Result<Vec<OpNo, A>, AllocError>
-        ensures { IfOk result (λ numbers. numbers.items ≡ view_set_in self.now) }
+        ensures set { IfOk result (λ numbers. numbers.items ≡ view_set_in self.now) }
+        ensures places { IfOk result (λ numbers. numbers.items ≡ numbers_of (by_places.view_set self.now.model self.now.kept)) }
     {
         self.selected(Selection::View)
     }
 
     fn selected(&self, selection: Selection) -> Result<Vec<OpNo, A>, AllocError>
-        ensures { IfOk result (λ numbers. numbers.items ≡ operations_where (is_selected selection) (summary_of self.now.kept).operations) }
+        ensures set { IfOk result (λ numbers. numbers.items ≡ operations_where (is_selected selection) (summary_of self.now.kept).operations) }
+        ensures follows { FollowsPlaces self.now }
     {
-        numbers_of(*self.board.kept.allocator(), selection, &self.board.operations)
+        numbers_of(
+            *self.board.kept.allocator(),
+            selection,
+            &self.board.operations,
+        )
     }
 
     /// The same machine, in memory of its own. `Err` where there is no memory.
@@ -158,7 +176,8 @@ impl<A: Allocator + Copy> Machine<A> {
 impl<A: Allocator> Machine<A> {
     /// How the transaction stands. A number that no transaction can have has not begun.
     pub fn status(&self, t: TxnId) -> Status
-        ensures { result ≡ status_in self.now t.0 }
+        ensures status { result ≡ status_in self.now t.0 }
+        ensures places { result ≡ status_at self.now.kept t.0 }
     {
         self.board.status(t)
     }

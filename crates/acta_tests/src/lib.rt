@@ -9,4 +9,6 @@ mod memory;
 #[cfg(test)]
 mod models;
 #[cfg(test)]
+mod places;
+#[cfg(test)]
 mod runs;

@@ -1,7 +1,10 @@
+ghost use Rattle.std.specs.Prelude.{◌≤◌, length};
+
 use crate::models::{FLAT, S, X, atomic, parts};
+use acta_axioms::Places;
 use acta_machine::{Machine, Run};
 use acta_objects::{ObjectState, replay};
-use acta_table::{Answer, Event, Items, Kind, Model, Op, OpNo, Ret, Status, TxnId};
+use acta_table::{Answer, Event, Items, Kept, Kind, Model, Op, OpNo, Ret, Status, TxnId};
 use refusing::Refusing;
 use std::alloc::{AllocError, Allocator};
 use std::process::Abort;
@@ -124,6 +127,31 @@ fn of_run(rt: HostRuntime) -> Result<(), Fail> {
     };
     assert_eq!(rt; run.answers.as_slice().len(), 3);
     assert_eq!(rt; run.machine.status(ONE), Status::Committed);
+    Ok(())
+}
+
+// Where the first transaction starts, by an index of its own.
+fn first_start<A: Allocator + Copy>(
+    alloc: A,
+    model: &Model<A>,
+    kept: &[Kept],
+) -> Result<Option<u32>, AllocError>
+    requires { length kept.now ≤ 65536 }
+{
+    Ok(Places::of(alloc, model, kept)?.start(ONE))
+}
+
+// The growths of the index of a history by its places.
+#[test]
+fn of_places(rt: HostRuntime) -> Result<(), Fail> {
+    let heap = Refusing::new(rt.alloc());
+    let model = atomic(&heap)?;
+    let events = [Event::Begin(ONE, FLAT), INSERT];
+    let machine = Machine::run(&heap, model.copy()?, &events)?.machine;
+    let kept = machine.history();
+    let (start, refused) = refuse_each!(rt, heap, first_start(&heap, &model, kept));
+    assert_eq!(rt; start, Some(Some(1)));
+    assert_eq!(rt; refused, 2);
     Ok(())
 }
 

@@ -1,5 +1,7 @@
-use Rattle.std.proofs.Common.{◌≡◌, length, arith, ap}
+use Rattle.std.proofs.Common.{◌≡◌, List, length, arith, ap, sym, subst}
 use Rattle.acta_table.specs.declared.event.Kept.{Kept}
+use Rattle.acta_machine.specs.Places.{FollowsPlaces}
+use Rattle.acta_machine.proofs.Steps.{follows-fresh}
 use Rattle.acta_machine.proofs.Histories.{fresh_summary, fresh_room}
 use Rattle.acta_machine.proofs.machine.Machine.new.Goals as goal
 
@@ -11,4 +13,8 @@ invariant_of-result g c =
       statuses = fresh_room _ _ c.in_ok-new_statuses.ensures;
       classes = fresh_room _ _ c.in_ok-no_classes.ensures;
       within = omega arith;
+      follows = subst (λ (kept : List Kept). FollowsPlaces {A = g.row.A.Denot} (record { model = c.args.model; kept = kept })) (sym c.new-2.ensures.items) (follows-fresh c.args.model);
     }
+
+pub returns-clause-follows : goal.returns-clause-follows
+returns-clause-follows g c = (invariant_of-result g c).follows

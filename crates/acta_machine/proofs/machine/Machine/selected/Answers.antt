@@ -1,4 +1,4 @@
-use Rattle.std.proofs.Common.{◌≡◌, length, arith, ap}
+use Rattle.std.proofs.Common.{length, arith, ap}
 use Rattle.acta_machine.specs.declared.item.Item.{Item}
 use Rattle.acta_machine.proofs.Histories.{operations_within}
 use Rattle.acta_machine.proofs.machine.Machine.selected.Goals as goal

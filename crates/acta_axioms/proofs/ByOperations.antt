@@ -1,0 +1,43 @@
+-- What a list that goes by operations tells, where each of its items shows how an operation stands: the
+-- numbers of those that conflict, and the values of objects.
+use Rattle.std.proofs.Common.{if◌then◌else◌, ◌≡◌, ℕ, ◌==◌, Bool, true, false, ◌&&◌, cond, List, [], ◌∷◌, map, filter, Option, None, refl, sym, ap, ◌∙◌}
+use Rattle.std.specs.List.{filter_map, cons_option}
+use Rattle.std.proofs.lemmas.List.Elements.{filter_agree}
+use Rattle.acta_table.specs.declared.event.Op.{Op}
+use Rattle.acta_table.specs.declared.event.Kept.{Kept}
+use Rattle.acta_table.specs.declared.model.Kind.{Kind}
+use Rattle.acta_table.specs.declared.model.Parts.{Parts}
+use Rattle.acta_table.specs.Numbered.{numbers_where}
+use Rattle.acta_objects.specs.Objects.{first_state, state_after}
+use Rattle.acta_axioms.specs.Operations.{Operation, operations, standing, is_of_others, is_in_view}
+use Rattle.acta_axioms.specs.Values.{value, asked_of, do_conflict, conflicting}
+use Rattle.acta_axioms.proofs.Numbers.{numbers-shown}
+use Rattle.acta_axioms.proofs.ValueGrowth.{filter-both}
+
+-- the numbers of the operations that one of t conflicts with, by a test of what is shown
+pub conflicting-shown : {A X : Type 0} (m : Parts A) (h : List Kept) (t object : ℕ) (op : Op) (show : Operation → X) (test : X → Bool) →
+    ((o : Operation) → test (show o) ≡ (is_of_others m h t (standing m h o) && ((o.object == object) && do_conflict m object o.op op))) →
+    map (λ o. o.number) (conflicting m h t object op) ≡ numbers_where test (map show (operations h))
+conflicting-shown m h t object op show test tells =
+    ap (map (λ (o : Operation). o.number))
+    (sym (filter-both (λ o. is_of_others m h t (standing m h o)) (λ o. (o.object == object) && do_conflict m object o.op op) (operations h))
+    ∙ filter_agree (λ o. is_of_others m h t (standing m h o) && ((o.object == object) && do_conflict m object o.op op)) (λ o. test (show o)) (λ o. sym (tells o)) (operations h))
+    ∙ numbers-shown show test h
+
+asked-shown : {X : Type 0} (seen : Operation → Bool) (asked : Operation → Option Op) (show : Operation → X) (ask : X → Option Op) →
+    ((o : Operation) → ask (show o) ≡ (if seen o then asked o else None)) → (os : List Operation) → filter_map asked (filter seen os) ≡ filter_map ask (map show os)
+asked-shown seen asked show ask tells [] = refl
+asked-shown {X} seen asked show ask tells (o ∷ os) =
+    of_test (seen o) (asked-shown seen asked show ask tells os) ∙ ap (λ p. cons_option p (filter_map ask (map show os))) (sym (tells o))
+  where
+    of_test : (b : Bool) → filter_map asked (filter seen os) ≡ filter_map ask (map show os) →
+        filter_map asked (cond b (o ∷ filter seen os) (filter seen os)) ≡ cons_option (if b then asked o else None) (filter_map ask (map show os))
+    of_test true later = ap (cons_option (asked o)) later
+    of_test false later = later
+
+-- the value of an object by what is shown
+pub value-shown : {A X : Type 0} (m : Parts A) (h : List Kept) (object : ℕ) (kind : Kind) (show : Operation → X) (ask : X → Option Op) →
+    ((o : Operation) → ask (show o) ≡ (if is_in_view (standing m h o) then asked_of object kind o else None)) →
+    value m h object kind ≡ state_after (first_state kind) (filter_map ask (map show (operations h)))
+value-shown m h object kind show ask tells =
+    ap (state_after (first_state kind)) (asked-shown (λ o. is_in_view (standing m h o)) (asked_of object kind) show ask tells (operations h))

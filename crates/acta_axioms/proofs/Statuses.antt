@@ -1,0 +1,114 @@
+-- How a transaction stands, when one kept item is put at the end, and what its status tells.
+use Rattle.std.proofs.Common.{◌≡◌, ℕ, ◌==◌, Bool, true, false, ◌&&◌, not, if◌then◌else◌, List, [], ◌∷◌, ◌++◌, Option, Some, None, is_some, refl, ap, ◌∙◌}
+use Rattle.std.proofs.lemmas.Bool.{true≢false}
+use Rattle.acta_table.specs.declared.answer.Status.{Status}
+use Rattle.acta_table.specs.declared.answer.Status.TheVariants.{NotBegun, InProgress, Committed, Aborted}
+use Rattle.acta_table.specs.declared.event.Event.{Event}
+use Rattle.acta_table.specs.declared.event.Event.TheVariants.{Begin, Commit, Abort}
+use Rattle.acta_table.specs.declared.event.Kept.{Kept}
+use Rattle.acta_axioms.specs.History.{starts, commits, aborts, course, least, has_begun, has_ended, is_in_progress}
+use Rattle.acta_axioms.specs.Claims.{status_in, status_at}
+use Rattle.acta_axioms.proofs.Growth.{or_here, course-push}
+
+-- a status after a begin, and after an abort; after a commit it is committed
+abbrev pub when_begun : Status → Status
+when_begun NotBegun = InProgress
+when_begun s = s
+
+abbrev pub when_aborted : Status → Status
+when_aborted Committed = Committed
+when_aborted s = Aborted
+
+-- the status of t after an event
+abbrev pub status_after : ℕ → Event → Status → Status
+status_after t (Begin u class) s = if u.0 == t then when_begun s else s
+status_after t (Commit u) s = if u.0 == t then Committed else s
+status_after t (Abort u) s = if u.0 == t then when_aborted s else s
+status_after t _ s = s
+
+begun_in : (h : List Kept) (s c a : Option ℕ) (b : Bool) →
+    status_in (record { start = or_here h s b; commit = or_here h c false; abort = or_here h a false }) ≡ (if b then when_begun (status_in (record { start = s; commit = c; abort = a })) else status_in (record { start = s; commit = c; abort = a }))
+begun_in h None None None true = refl
+begun_in h None None None false = refl
+begun_in h (Some i) None None true = refl
+begun_in h (Some i) None None false = refl
+begun_in h None None (Some j) true = refl
+begun_in h None None (Some j) false = refl
+begun_in h (Some i) None (Some j) true = refl
+begun_in h (Some i) None (Some j) false = refl
+begun_in h None (Some j) a true = refl
+begun_in h None (Some j) a false = refl
+begun_in h (Some i) (Some j) a true = refl
+begun_in h (Some i) (Some j) a false = refl
+
+committed_in : (h : List Kept) (s c a : Option ℕ) (b : Bool) →
+    status_in (record { start = or_here h s false; commit = or_here h c b; abort = or_here h a false }) ≡ (if b then Committed else status_in (record { start = s; commit = c; abort = a }))
+committed_in h s None a true = refl
+committed_in h s (Some i) a true = refl
+committed_in h s (Some i) a false = refl
+committed_in h s None (Some j) false = refl
+committed_in h None None None false = refl
+committed_in h (Some i) None None false = refl
+
+aborted_in : (h : List Kept) (s c a : Option ℕ) (b : Bool) →
+    status_in (record { start = or_here h s false; commit = or_here h c false; abort = or_here h a b }) ≡ (if b then when_aborted (status_in (record { start = s; commit = c; abort = a })) else status_in (record { start = s; commit = c; abort = a }))
+aborted_in h s (Some i) a true = refl
+aborted_in h s (Some i) a false = refl
+aborted_in h s None (Some j) true = refl
+aborted_in h s None (Some j) false = refl
+aborted_in h None None None true = refl
+aborted_in h None None None false = refl
+aborted_in h (Some i) None None true = refl
+aborted_in h (Some i) None None false = refl
+
+pub status_at-push : (h : List Kept) (k : Kept) (t : ℕ) → status_at (h ++ k ∷ []) t ≡ status_after t k.event (status_at h t)
+status_at-push h k t = ap status_in (course-push h k t) ∙ of_event k.event
+  where
+    of_event : (e : Event) → status_in (record { start = or_here h (course h t).start (starts t e); commit = or_here h (course h t).commit (commits t e); abort = or_here h (course h t).abort (aborts t e) }) ≡ status_after t e (status_at h t)
+    of_event (Begin u class) = begun_in h (course h t).start (course h t).commit (course h t).abort (u.0 == t)
+    of_event (Commit u) = committed_in h (course h t).start (course h t).commit (course h t).abort (u.0 == t)
+    of_event (Abort u) = aborted_in h (course h t).start (course h t).commit (course h t).abort (u.0 == t)
+    of_event _ = committed_in h (course h t).start (course h t).commit (course h t).abort false
+
+-- whether this is the status of one in progress
+abbrev pub is_under_way : Status → Bool
+is_under_way InProgress = true
+is_under_way _ = false
+
+-- one is in progress exactly where its status says so
+pub in_progress-status : (h : List Kept) (t : ℕ) → is_in_progress h t ≡ is_under_way (status_at h t)
+in_progress-status h t = of_course (course h t).start (course h t).commit (course h t).abort
+  where
+    of_course : (s c a : Option ℕ) → (is_some s && not (is_some (least c a))) ≡ is_under_way (status_in (record { start = s; commit = c; abort = a }))
+    of_course None None None = refl
+    of_course None None (Some j) = refl
+    of_course None (Some j) a = refl
+    of_course (Some i) None None = refl
+    of_course (Some i) None (Some j) = refl
+    of_course (Some i) (Some j) a = refl
+
+-- the start and the end of one, by its status; of one that has ended the start may be missing
+abbrev pub is_ended_status : Status → Bool
+is_ended_status Committed = true
+is_ended_status Aborted = true
+is_ended_status _ = false
+
+pub has_ended-status : (h : List Kept) (t : ℕ) → has_ended h t ≡ is_ended_status (status_at h t)
+has_ended-status h t = of_course (course h t).start (course h t).commit (course h t).abort
+  where
+    of_course : (s c a : Option ℕ) → is_some (least c a) ≡ is_ended_status (status_in (record { start = s; commit = c; abort = a }))
+    of_course None None None = refl
+    of_course (Some i) None None = refl
+    of_course s None (Some j) = refl
+    of_course s (Some j) a = refl
+
+pub has_begun-status : (h : List Kept) (t : ℕ) → is_ended_status (status_at h t) ≡ false → has_begun h t ≡ is_under_way (status_at h t)
+has_begun-status h t open_still = of_course (course h t).start (course h t).commit (course h t).abort open_still
+  where
+    of_course : (s c a : Option ℕ) → is_ended_status (status_in (record { start = s; commit = c; abort = a })) ≡ false → is_some s ≡ is_under_way (status_in (record { start = s; commit = c; abort = a }))
+    of_course None None None e = refl
+    of_course (Some i) None None e = refl
+    of_course None None (Some j) e = absurd (true≢false e)
+    of_course (Some i) None (Some j) e = absurd (true≢false e)
+    of_course None (Some j) a e = absurd (true≢false e)
+    of_course (Some i) (Some j) a e = absurd (true≢false e)

@@ -1,0 +1,42 @@
+-- The values of objects by replay, what is due as a return, and which operations conflict.
+use Rattle.std.specs.Prelude.{ℕ, Bool, false, ◌&&◌, ◌==◌, List, filter, filter_map, if◌then◌else◌, Option, Some, None, option_map}
+use Rattle.std.specs.Option.{option_map_or}
+use Rattle.acta_table.specs.declared.event.Op.{Op}
+use Rattle.acta_table.specs.declared.event.Ret.{Ret}
+use Rattle.acta_table.specs.declared.event.Kept.{Kept}
+use Rattle.acta_table.specs.declared.model.Kind.{Kind}
+use Rattle.acta_table.specs.declared.model.Parts.{Parts}
+use Rattle.acta_table.specs.Classes.{kind_at}
+use Rattle.acta_objects.specs.declared.state.ObjectState.{ObjectState}
+use Rattle.acta_objects.specs.Objects.{first_state, state_after, returned, suits}
+use Rattle.acta_objects.specs.Conflicts.{conflict_on}
+use Rattle.acta_axioms.specs.Operations.{Operation, view_set, conflict_set}
+
+-- whether the operation is on an object of the model, and of its kind
+abbrev pub is_well_formed : {A : Type 0} → Parts A → ℕ → Op → Bool
+is_well_formed m object op = option_map_or (λ kind. suits kind op) (kind_at m object) false
+
+-- what was asked of this object, if it suits its kind
+abbrev pub asked_of : ℕ → Kind → Operation → Option Op
+asked_of object kind o = if (o.object == object) && suits kind o.op then Some o.op else None
+
+-- the value of an object of this kind: its first value, with the operations on it that are not
+-- aborted, in order
+abbrev pub value : {A : Type 0} → Parts A → List Kept → ℕ → Kind → ObjectState A
+value m h object kind =
+    state_after (first_state kind) (filter_map (asked_of object kind) (view_set m h))
+
+-- what an operation has to return
+abbrev pub return_due : {A : Type 0} → Parts A → List Kept → ℕ → Op → Option Ret
+return_due m h object op =
+    option_map (λ kind. returned (value m h object kind) op) (kind_at m object)
+
+-- whether two operations on an object conflict; one that is ill formed conflicts with none
+abbrev pub do_conflict : {A : Type 0} → Parts A → ℕ → Op → Op → Bool
+do_conflict m object p q =
+    is_well_formed m object p && (is_well_formed m object q && conflict_on m object p q)
+
+-- the operations of t's conflict set that an operation on this object conflicts with
+abbrev pub conflicting : {A : Type 0} → Parts A → List Kept → ℕ → ℕ → Op → List Operation
+conflicting m h t object op =
+    filter (λ o. (o.object == object) && do_conflict m object o.op op) (conflict_set m h t)

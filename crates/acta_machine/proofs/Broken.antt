@@ -1,0 +1,55 @@
+-- What holds of an event that breaks no rule.
+use Rattle.std.proofs.Common.{◌≡◌, ℕ, Bool, true, false, not, Option, Some, None, refl}
+use Rattle.std.specs.Prelude.{if◌then◌else◌}
+use Rattle.std.specs.Option.{option_or}
+use Rattle.acta_table.specs.declared.answer.Rule.{Rule}
+use Rattle.acta_table.specs.declared.answer.Status.{Status}
+use Rattle.acta_table.specs.declared.answer.Status.TheVariants.{NotBegun, InProgress, Committed, Aborted, Joined}
+use Rattle.acta_table.specs.Refusals.{broken_if, broken_by}
+use Rattle.acta_machine.specs.Summary.{Summary, is_new, is_in_progress}
+use Rattle.acta_machine.specs.Rules.{fails}
+
+-- where neither of two is broken
+pub or_none : {X : Type 0} (a b : Option X) → option_or a b ≡ None → (a ≡ None) × (b ≡ None)
+or_none None b e = (refl, e)
+or_none (Some x) b e = cc
+
+pub if_none : (test : Bool) (rule : Rule) → broken_if test rule ≡ None → test ≡ false
+if_none true rule e = cc
+if_none false rule e = refl
+
+pub by_none : (rule : Rule) (n : Option ℕ) → broken_by rule n ≡ None → n ≡ None
+by_none rule None e = refl
+by_none rule (Some n) e = cc
+
+not_false : (b : Bool) → not b ≡ false → b ≡ true
+not_false true e = refl
+not_false false e = cc
+
+pub not_broken : (test : Bool) (rule : Rule) → broken_if (not test) rule ≡ None → test ≡ true
+not_broken test rule e = not_false test (if_none (not test) rule e)
+
+passes : (b : Bool) (t : ℕ) → (if b then None else Some t) ≡ None → b ≡ true
+passes true t e = refl
+passes false t e = cc
+
+is_begun : (x : Status) → is_in_progress x ≡ true → x ≡ InProgress
+is_begun NotBegun e = cc
+is_begun InProgress e = refl
+is_begun Committed e = cc
+is_begun Aborted e = cc
+is_begun Joined e = cc
+
+is_fresh : (x : Status) → is_new x ≡ true → x ≡ NotBegun
+is_fresh NotBegun e = refl
+is_fresh InProgress e = cc
+is_fresh Committed e = cc
+is_fresh Aborted e = cc
+is_fresh Joined e = cc
+
+-- the status that a rule asks for
+pub in_progress : (s : Summary) (rule : Rule) (t : ℕ) → broken_by rule (fails s is_in_progress t) ≡ None → s.status t ≡ InProgress
+in_progress s rule t e = is_begun (s.status t) (passes (is_in_progress (s.status t)) t (by_none rule (fails s is_in_progress t) e))
+
+pub not_begun : (s : Summary) (rule : Rule) (t : ℕ) → broken_by rule (fails s is_new t) ≡ None → s.status t ≡ NotBegun
+not_begun s rule t e = is_fresh (s.status t) (passes (is_new (s.status t)) t (by_none rule (fails s is_new t) e))

@@ -1,0 +1,72 @@
+-- The sets and values that the machine's readers show are those by places.
+use Rattle.std.proofs.Common.{◌≡◌, ℕ, Bool, true, false, ◌&&◌, not, ◌==◌, List, [], ◌∷◌, map, filter, Option, Some, None, refl, sym, ap, ◌∙◌}
+use Rattle.std.specs.Prelude.{if◌then◌else◌, option_map}
+use Rattle.std.proofs.lemmas.Simd.{map-map}
+use Rattle.acta_table.specs.declared.event.Kept.{Kept}
+use Rattle.acta_table.specs.declared.answer.Fate.{Fate}
+use Rattle.acta_table.specs.declared.answer.Fate.TheVariants.{InProgress, Committed, Aborted}
+use Rattle.acta_table.specs.declared.model.Kind.{Kind}
+use Rattle.acta_table.specs.declared.model.Parts.{Parts}
+use Rattle.acta_table.specs.Classes.{kind_at}
+use Rattle.acta_objects.specs.Objects.{first_state, state_after}
+use Rattle.acta_axioms.specs.Operations.{Operation, standing, operations}
+use Rattle.acta_axioms.specs.Operations as by_places
+use Rattle.acta_axioms.proofs.Numbers.{numbers-shown}
+use Rattle.acta_machine.specs.declared.item.Item.{Item}
+use Rattle.acta_machine.specs.Operations.{is_open, is_aborted, is_held, is_of_others, is_live, operations_where}
+use Rattle.acta_machine.specs.Values.{live_ops}
+use Rattle.acta_machine.specs.Table.{State, value_in, access_set_in, conflict_set_in, view_set_in}
+use Rattle.acta_machine.specs.Places.{item_of, items_at, numbers_of, value_at, FollowsPlaces}
+use Rattle.acta_machine.proofs.ValueTies.{value-places}
+
+filter-same : {X : Type 0} (f g : X → Bool) → ((x : X) → f x ≡ g x) → (xs : List X) → filter f xs ≡ filter g xs
+filter-same f g same [] = refl
+filter-same f g same (x ∷ xs) = λ i. if same x i then x ∷ filter-same f g same xs i else filter-same f g same xs i
+
+-- the operations that pass a test in the table are those that pass it by places
+where-places : {A : Type 0} (m : Parts A) (h : List Kept) (items : List Item) (test : Item → Bool) (by : Operation → Bool) → items ≡ items_at m h → ((o : Operation) → test (item_of o (standing m h o)) ≡ by o)
+    → operations_where test items ≡ numbers_of (filter by (operations h))
+where-places m h items test by same alike =
+    ap (operations_where test) same
+    ∙ ap (map (λ n. record { 0 = n })) (sym (numbers-shown (λ o. item_of o (standing m h o)) test h))
+    ∙ map-map (λ n. record { 0 = n }) (λ (o : Operation). o.number) (filter (λ o. test (item_of o (standing m h o))) (operations h))
+    ∙ ap numbers_of (filter-same (λ o. test (item_of o (standing m h o))) by alike (operations h))
+
+and_swap : (a b : Bool) → (a && b) ≡ (b && a)
+and_swap true true = refl
+and_swap true false = refl
+and_swap false true = refl
+and_swap false false = refl
+
+open_alike : (fate : Fate) → is_open fate ≡ by_places.is_open fate
+open_alike InProgress = refl
+open_alike Committed = refl
+open_alike Aborted = refl
+
+aborted_alike : (fate : Fate) → is_aborted fate ≡ by_places.is_aborted fate
+aborted_alike InProgress = refl
+aborted_alike Committed = refl
+aborted_alike Aborted = refl
+
+pub access-places : {A : Type 0} (state : State A) (t : ℕ) → FollowsPlaces state → access_set_in state t ≡ numbers_of (by_places.access_set state.model state.kept t)
+access-places state t follows =
+    where-places state.model state.kept _ (is_held t) (λ o. by_places.is_held_by t (standing state.model state.kept o)) follows.shows.operations
+    (λ o. let s = standing state.model state.kept o in and_swap (s.holder == t) (is_open s.fate) ∙ ap (λ b. b && (s.holder == t)) (open_alike s.fate))
+
+pub conflict-places : {A : Type 0} (state : State A) (t : ℕ) → FollowsPlaces state → conflict_set_in state t ≡ numbers_of (by_places.conflict_set state.model state.kept t)
+conflict-places state t follows =
+    where-places state.model state.kept _ (is_of_others t) (λ o. by_places.is_of_others state.model state.kept t (standing state.model state.kept o)) follows.shows.operations
+    (λ o. let s = standing state.model state.kept o in ap (λ b. b && not (s.holder == t)) (open_alike s.fate))
+
+pub view-places : {A : Type 0} (state : State A) → FollowsPlaces state → view_set_in state ≡ numbers_of (by_places.view_set state.model state.kept)
+view-places state follows =
+    where-places state.model state.kept _ is_live (λ o. by_places.is_in_view (standing state.model state.kept o)) follows.shows.operations
+    (λ o. ap not (aborted_alike (standing state.model state.kept o).fate))
+
+pub values-places : {A : Type 0} (state : State A) (object : ℕ) → FollowsPlaces state → value_in state object ≡ value_at state object
+values-places {A} state object follows = of (kind_at state.model object)
+  where
+    of : (k : Option Kind) → option_map (λ kind. state_after {A = A} (first_state kind) (live_ops kind (Rattle.acta_machine.specs.Changes.summary_of state.kept).operations object)) k
+        ≡ option_map (Rattle.acta_axioms.specs.Values.value state.model state.kept object) k
+    of None = refl
+    of (Some kind) = ap Some (value-places state.model state.kept _ object kind follows.shows.operations)

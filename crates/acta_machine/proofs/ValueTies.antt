@@ -1,0 +1,88 @@
+-- Values and conflicts by the table are those by places.
+use Rattle.std.proofs.Common.{◌≡◌, ℕ, ◌+◌, Bool, true, false, ◌&&◌, not, ◌==◌, List, [], ◌∷◌, map, filter, Option, Some, None, refl, sym, ap, ◌∙◌}
+use Rattle.std.specs.Prelude.{if◌then◌else◌, option_map}
+use Rattle.std.specs.List.{position_from}
+use Rattle.std.proofs.lemmas.Bool.{true≢false}
+use Rattle.acta_table.specs.declared.event.ObjId.{ObjId}
+use Rattle.acta_table.specs.declared.event.Op.{Op}
+use Rattle.acta_table.specs.declared.event.Kept.{Kept}
+use Rattle.acta_table.specs.declared.answer.Fate.{Fate}
+use Rattle.acta_table.specs.declared.answer.Fate.TheVariants.{InProgress, Committed, Aborted}
+use Rattle.acta_table.specs.declared.model.Kind.{Kind}
+use Rattle.acta_table.specs.declared.model.Parts.{Parts}
+use Rattle.acta_table.specs.Classes.{kind_at}
+use Rattle.acta_table.specs.Numbered.{first_number}
+use Rattle.acta_objects.specs.Objects.{suits, first_state, state_after, returned}
+use Rattle.acta_objects.specs.Conflicts.{conflict_on}
+use Rattle.acta_axioms.specs.Operations.{Operation, Standing, standing, operations, is_in_view, view_set, conflict_set}
+use Rattle.acta_axioms.specs.Operations as by_places
+use Rattle.acta_axioms.specs.Values.{asked_of, is_well_formed, do_conflict, conflicting}
+use Rattle.acta_axioms.specs.Values as by_places_value
+use Rattle.acta_axioms.proofs.ByOperations.{value-shown}
+use Rattle.acta_machine.specs.declared.item.Item.{Item}
+use Rattle.acta_machine.specs.Operations.{is_of_others}
+use Rattle.acta_machine.specs.Values.{live_on, live_ops}
+use Rattle.acta_machine.specs.Rules.{stands_against}
+use Rattle.acta_machine.specs.Places.{item_of, items_at}
+
+pick_live : (here : Bool) (fate : Fate) (fits : Bool) (op : Op) →
+    (if here && not (Rattle.acta_machine.specs.Operations.is_aborted fate) && fits then Some op else None)
+    ≡ (if not (by_places.is_aborted fate) then (if here && fits then Some op else None) else None)
+pick_live true InProgress fits op = refl
+pick_live true Committed fits op = refl
+pick_live true Aborted fits op = refl
+pick_live false InProgress fits op = refl
+pick_live false Committed fits op = refl
+pick_live false Aborted fits op = refl
+
+-- the value of an object
+pub value-places : {A : Type 0} (m : Parts A) (h : List Kept) (items : List Item) (object : ℕ) (kind : Kind) → items ≡ items_at m h → state_after {A = A} (first_state kind) (live_ops kind items object) ≡ by_places_value.value m h object kind
+value-places {A} m h items object kind same =
+    ap (λ xs. state_after {A = A} (first_state kind) (live_ops kind xs object)) same
+    ∙ sym (value-shown m h object kind (λ o. item_of o (standing m h o)) (live_on kind object) (λ o. pick_live (o.object == object) (standing m h o).fate (suits kind o.op) o.op))
+
+-- the return that is due
+pub return-places : {A : Type 0} (m : Parts A) (h : List Kept) (items : List Item) (object : ℕ) (op : Op) → items ≡ items_at m h →
+    option_map (λ value. returned value op) (option_map (λ kind. state_after {A = A} (first_state kind) (live_ops kind items object)) (kind_at m object))
+    ≡ by_places_value.return_due m h object op
+return-places {A} m h items object op same = of (kind_at m object)
+  where
+    of : (k : Option Kind) → option_map (λ value. returned value op) (option_map (λ kind. state_after {A = A} (first_state kind) (live_ops kind items object)) k)
+        ≡ option_map (λ kind. returned (by_places_value.value m h object kind) op) k
+    of None = refl
+    of (Some kind) = ap (λ value. Some (returned value op)) (value-places m h items object kind same)
+
+-- where no item passes, none of a part of them does
+none_passes : {X Y : Type 0} (test : Y → Bool) (g : X → Y) (keeps passes : X → Bool) → ((x : X) → keeps x ≡ true → passes x ≡ true → test (g x) ≡ true) → (n : ℕ) (xs : List X) → position_from test n (map g xs) ≡ None → filter passes (filter keeps xs) ≡ []
+none_passes test g keeps passes implied n [] e = refl
+none_passes test g keeps passes implied n (x ∷ xs) e = of (none_passes test g keeps passes implied (n + 1) xs) (test (g x)) refl e
+  where
+    kept : (b : Bool) → keeps x ≡ b → (c : Bool) → passes x ≡ c → test (g x) ≡ false → filter passes (filter keeps xs) ≡ [] → filter passes (if b then x ∷ filter keeps xs else filter keeps xs) ≡ []
+    kept false is c are failed none = none
+    kept true is true are failed none = absurd (true≢false (sym (implied x is are) ∙ failed))
+    kept true is false are failed none = ap (λ p. if p then x ∷ filter passes (filter keeps xs) else filter passes (filter keeps xs)) are ∙ none
+
+    of : (position_from test (n + 1) (map g xs) ≡ None → filter passes (filter keeps xs) ≡ []) → (b : Bool) → test (g x) ≡ b → (if b then Some n else position_from test (n + 1) (map g xs)) ≡ None → filter passes (if keeps x then x ∷ filter keeps xs else filter keeps xs) ≡ []
+    of rest true is found = cc
+    of rest false is found = kept (keeps x) refl (passes x) refl is (rest found)
+
+both : (a b : Bool) → (a && b) ≡ true → (a ≡ true) × (b ≡ true)
+both true b e = (refl, e)
+both false b e = absurd (true≢false (sym e))
+
+others_alike : (fate : Fate) (t holder : ℕ) → (by_places.is_open fate && not (holder == t)) ≡ (Rattle.acta_machine.specs.Operations.is_open fate && not (holder == t))
+others_alike InProgress t holder = refl
+others_alike Committed t holder = refl
+others_alike Aborted t holder = refl
+
+-- where nothing in the table stands against an operation, nothing conflicts by places
+pub conflicting-none : {A : Type 0} (m : Parts A) (h : List Kept) (items : List Item) (t : ℕ) (ob : ObjId) (op : Op) → items ≡ items_at m h → first_number (stands_against m t ob op) items ≡ None → conflicting m h t ob.0 op ≡ []
+conflicting-none m h items t ob op same none =
+    none_passes (stands_against m t ob op) (λ o. item_of o (standing m h o)) (λ o. by_places.is_of_others m h t (standing m h o)) (λ o. (o.object == ob.0) && do_conflict m ob.0 o.op op)
+    (λ o others conflicts.
+    let on = both (o.object == ob.0) (do_conflict m ob.0 o.op op) conflicts in
+    let formed = both (is_well_formed m ob.0 o.op) (is_well_formed m ob.0 op && conflict_on m ob.0 o.op op) on.1 in
+    let differ = both (is_well_formed m ob.0 op) (conflict_on m ob.0 o.op op) formed.1 in
+    let open_others = sym (others_alike (standing m h o).fate t (standing m h o).holder) ∙ others in
+    (λ i. open_others i && on.0 i && differ.1 i))
+    1 (operations h) (sym (ap (first_number (stands_against m t ob op)) same) ∙ none)
