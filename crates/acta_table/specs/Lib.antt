@@ -1,4 +1,6 @@
 pub mod Classes
+pub mod Dependencies
+pub mod Edges
 pub mod Events
 pub mod Faults
 pub mod Kinds

@@ -3,12 +3,14 @@
 #![tactic(auto)]
 
 mod answer;
+mod dep;
 mod event;
 mod items;
 mod kinds;
 mod model;
 
 pub use answer::{Answer, Fate, Refusal, Rule, Status};
+pub use dep::{Dep, DepKinds, Edge, EdgeNo, Missing, Owed};
 pub use event::{ClassId, Event, EventKind, Kept, ObjId, Op, OpNo, Ret, TxnId};
 pub use items::Items;
 pub use kinds::Kinds;

@@ -1,0 +1,13 @@
+use Rattle.std.proofs.Common.{◌≡◌, ◌≤◌, ◌+◌, ◌++◌, length, drop}
+use Rattle.acta_deps.specs.Deps.{status_in}
+use Rattle.acta_deps.specs.Debts.{owed_from}
+use Rattle.acta_deps.proofs.deps.Deps.owed.Given as goal
+
+-- the debts so far, and those of what is left, are all
+abbrev pub invariant-loop-e : goal.invariant-loop-e
+invariant-loop-e g l =
+    record {
+      count : l.number ≡ l.e-index;
+      few : length l.edges ≤ 16384;
+      rest : l.owed.items ++ owed_from (status_in l.self) (l.number + 1) (drop l.e-index l.edges) ≡ owed_from (status_in l.self) 1 l.edges;
+    }

@@ -1,0 +1,18 @@
+-- What a table of dependencies shows: the statuses of the transactions, and the edges in force.
+use Rattle.std.specs.Prelude.{ℕ, List, slice_get, unwrap_or}
+use Rattle.acta_table.specs.declared.dep.Edge.{Edge}
+use Rattle.acta_table.specs.declared.answer.Status.{Status}
+use Rattle.acta_table.specs.declared.answer.Status.TheVariants.{NotBegun}
+
+-- the statuses by number from 0, and the edges in order of forming
+pub record DepState : Type 0 where
+  pub statuses : List Status
+  pub edges : List Edge
+
+-- the status of a transaction in such a list; one past its end has not begun
+abbrev pub status_at : List Status → ℕ → Status
+status_at statuses t = unwrap_or (slice_get statuses t) NotBegun
+
+-- the status of a transaction
+abbrev pub status_in : DepState → ℕ → Status
+status_in d t = status_at d.statuses t

@@ -1,0 +1,5 @@
+pub mod Statuses
+pub mod Debts
+pub mod Dependencies
+pub mod Deps
+pub mod Bars

@@ -1,0 +1,41 @@
+-- How transactions stand.
+use Rattle.std.specs.Prelude.{ℕ, Bool, true, false, ◌||◌, ◌==◌, if◌then◌else◌}
+use Rattle.acta_table.specs.declared.answer.Status.{Status}
+use Rattle.acta_table.specs.declared.answer.Status.TheVariants.{NotBegun, InProgress, Committed, Aborted, Joined}
+
+-- begun, also where it has ended since
+abbrev pub has_begun : Status → Bool
+has_begun NotBegun = false
+has_begun _ = true
+
+-- begun and not ended
+abbrev pub is_in_progress : Status → Bool
+is_in_progress InProgress = true
+is_in_progress _ = false
+
+-- committed, aborted, or joined to another
+abbrev pub has_committed : Status → Bool
+has_committed Committed = true
+has_committed _ = false
+
+abbrev pub has_aborted : Status → Bool
+has_aborted Aborted = true
+has_aborted _ = false
+
+abbrev pub has_joined : Status → Bool
+has_joined Joined = true
+has_joined _ = false
+
+-- committed or aborted; one that joined another is neither
+abbrev pub is_decided : Status → Bool
+is_decided s = has_committed s || has_aborted s
+
+-- not begun or in progress: it may still commit or abort
+abbrev pub is_open : Status → Bool
+is_open NotBegun = true
+is_open InProgress = true
+is_open _ = false
+
+-- the statuses, with t's changed
+abbrev pub with_status : (ℕ → Status) → ℕ → Status → ℕ → Status
+with_status status t s u = if u == t then s else status u

@@ -1,0 +1,176 @@
+ghost use Rattle.std.specs.Prelude.{◌≡◌, ◌<◌, ◌≤◌, ◌+◌, ◌-◌, [], None, IfOk, OnOk, OnErr, length, take, replicate};
+ghost use Rattle.acta_table.specs.Edges.{formed};
+ghost use Rattle.acta_deps.specs.Deps.{status_in};
+ghost use Rattle.acta_deps.specs.Statuses.{with_status};
+ghost use Rattle.acta_deps.specs.Dependencies.{start_refusal, commit_refusal, abort_refusal};
+
+use crate::forming::{add_edges, count_new};
+use acta_table::{Edge, Status, TxnId};
+use std::alloc::{AllocError, Allocator};
+
+/// How the transactions stand, and the edges in force among them (ACTA's dependencies, kept as a
+/// list). Contracts see the list of statuses by number, and that of edges in order of forming.
+#[derive(Drop)]
+pub struct Deps<A: Allocator> {
+    statuses: Vec<Status, A>,
+    edges: Vec<Edge, A>,
+}
+
+impl<A: Allocator> std::marker::Model for Deps<A> {
+    ghost use Rattle.std.specs.Prelude.{◌≡◌, ◌≤◌, length};
+    ghost use Rattle.acta_deps.specs.Deps.{DepState};
+
+    ghost Value = { DepState };
+
+    ghost view = { λ d. record { statuses = d.statuses.items; edges = d.edges.items } };
+
+    ghost invariant = { λ d. record { table : length d.statuses.items ≡ 4096; few : length d.edges.items ≤ 16384 } };
+}
+
+// A table of transactions that have not begun.
+fn fresh<A: Allocator>(alloc: A) -> Result<Vec<Status, A>, AllocError>
+    ensures { IfOk result (λ statuses. statuses.items ≡ replicate 4096 Status.NotBegun) }
+{
+    let status = Status::NotBegun;
+    vec![in alloc; status; 4096]
+}
+
+// The same items, in memory of their own.
+fn copied<T: Copy, A: Allocator>(alloc: A, items: &[T]) -> Result<Vec<T, A>, AllocError>
+    ensures { IfOk result (λ copied. copied.items ≡ items.now) }
+{
+    let mut copied = Vec::with_capacity(alloc, items.len())?;
+    for item in items {
+        copied.push(*item)?;
+    }
+    Ok(copied)
+}
+
+impl<A: Allocator> Deps<A> {
+    /// How a transaction stands (ACTA's significant events, read as a state). One past the largest
+    /// number has not begun.
+    pub fn status(&self, t: TxnId) -> Status
+        ensures { result ≡ status_in self.now t.0 }
+    {
+        self.statuses
+            .get(t.0 as usize)
+            .copied()
+            .unwrap_or(Status::NotBegun)
+    }
+
+    /// The edges in force, in order of forming: at most 16,384. The first has the number 1.
+    pub fn edges(&self) -> &[Edge]
+        ensures edges { result.now ≡ self.now.edges }
+        ensures few { length self.now.edges ≤ 16384 }
+    {
+        self.edges.as_slice()
+    }
+
+    // From now on `t` stands so.
+    fn set(&mut self, t: TxnId, status: Status)
+        requires { t.0 ≤ 4095 }
+        ensures status { status_in self.new ≡ with_status (status_in self.old) t.0 status }
+        ensures edges { self.new.edges ≡ self.old.edges }
+    {
+        self.statuses[t.0 as usize] = status;
+    }
+
+    /// `t`, a number from 1 to 4,095 that has not begun, begins. Ask `may_start` first.
+    pub fn started(&mut self, t: TxnId)
+        requires low { 0 < t.0 }
+        requires high { t.0 ≤ 4095 }
+        requires stands { status_in self.old t.0 ≡ Status.NotBegun }
+        requires allowed { start_refusal (status_in self.old) self.old.edges t.0 ≡ None }
+        ensures status { status_in self.new ≡ with_status (status_in self.old) t.0 Status.InProgress }
+        ensures edges { self.new.edges ≡ self.old.edges }
+    {
+        self.set(t, Status::InProgress);
+    }
+
+    /// `t`, a number from 1 to 4,095 that is in progress, commits. Ask `may_commit` first.
+    pub fn committed(&mut self, t: TxnId)
+        requires low { 0 < t.0 }
+        requires high { t.0 ≤ 4095 }
+        requires stands { status_in self.old t.0 ≡ Status.InProgress }
+        requires allowed { commit_refusal (status_in self.old) self.old.edges t.0 ≡ None }
+        ensures status { status_in self.new ≡ with_status (status_in self.old) t.0 Status.Committed }
+        ensures edges { self.new.edges ≡ self.old.edges }
+    {
+        self.set(t, Status::Committed);
+    }
+
+    /// `t`, a number from 1 to 4,095 that is in progress, aborts. Ask `may_abort` first.
+    pub fn aborted(&mut self, t: TxnId)
+        requires low { 0 < t.0 }
+        requires high { t.0 ≤ 4095 }
+        requires stands { status_in self.old t.0 ≡ Status.InProgress }
+        requires allowed { abort_refusal (status_in self.old) self.old.edges t.0 ≡ None }
+        ensures status { status_in self.new ≡ with_status (status_in self.old) t.0 Status.Aborted }
+        ensures edges { self.new.edges ≡ self.old.edges }
+    {
+        self.set(t, Status::Aborted);
+    }
+
+    /// How many edges `form` would form of these: those not yet in force, each counted once.
+    pub fn lacks(&self, more: &[Edge]) -> usize
+        ensures { length (formed self.now.edges more.now) ≡ length self.now.edges + result }
+    {
+        count_new(self.edges(), more)
+    }
+
+    /// The last `n` edges are in force no longer, of at least as many (ours).
+    pub fn take_back(&mut self, n: usize)
+        requires { n ≤ length self.old.edges }
+        ensures statuses { self.new.statuses ≡ self.old.statuses }
+        ensures edges { self.new.edges ≡ take (length self.old.edges - n) self.old.edges }
+    {
+        let left = self.edges.len() - n;
+        self.edges.truncate(left);
+    }
+}
+
+impl<A: Allocator + Copy> Deps<A> {
+    /// All transactions have not begun, and no edge is in force. `Err` where there is no memory.
+    pub fn new(alloc: A) -> Result<Deps<A>, AllocError>
+        ensures { IfOk result (λ deps. deps ≡ record { statuses = replicate 4096 Status.NotBegun; edges = [] }) }
+    {
+        Ok(Deps {
+            statuses: fresh(alloc)?,
+            edges: Vec::new(alloc),
+        })
+    }
+
+    /// The allocator of the lists.
+    pub(crate) fn allocator(&self) -> A {
+        *self.edges.allocator()
+    }
+
+    /// Forms those of these edges that are not yet in force, in order, each once, and answers how
+    /// many they are. Those in force before keep their numbers. At most 16,384 are in force
+    /// afterwards. `Err` where there is no memory, and then none is formed (that an edge is in
+    /// force once is ours).
+    #[tactic(auto, using(crate::proofs::FormedEdges::take_formed))]
+    pub fn form(&mut self, more: &[Edge]) -> Result<usize, AllocError>
+        requires { length (formed self.old.edges more.now) ≤ 16384 }
+        ensures formed { OnOk result (self.new.edges ≡ formed self.old.edges more.now) }
+        ensures count { IfOk result (λ count. length self.new.edges ≡ length self.old.edges + count) }
+        ensures kept { OnOk result (take (length self.old.edges) self.new.edges ≡ self.old.edges) }
+        ensures statuses { self.new.statuses ≡ self.old.statuses }
+        ensures err { OnErr result (self.new ≡ self.old) }
+    {
+        let count = self.lacks(more);
+        self.edges.reserve(count)?;
+        add_edges(&mut self.edges, more);
+        Ok(count)
+    }
+
+    /// The same statuses and edges, in memory of their own. `Err` where there is no memory.
+    pub fn copy(&self) -> Result<Deps<A>, AllocError>
+        ensures { IfOk result (λ deps. deps ≡ self.now) }
+    {
+        Ok(Deps {
+            statuses: copied(self.allocator(), &self.statuses)?,
+            edges: copied(self.allocator(), &self.edges)?,
+        })
+    }
+}

@@ -1,0 +1,62 @@
+ghost use Rattle.std.specs.Prelude.{◌≡◌, ◌+◌, ◌≤◌, ◌||◌, not, length, vec_capacity};
+ghost use Rattle.acta_table.specs.Edges.{same_edge, is_among, with_edge, formed};
+
+use acta_table::Edge;
+use std::alloc::Allocator;
+
+fn is_same_edge(e: &Edge, f: &Edge) -> bool
+    ensures { result ≡ same_edge e.now f.now }
+{
+    e.kind.code() == f.kind.code() && e.j.0 == f.j.0 && e.i.0 == f.i.0
+}
+
+fn is_among(edges: &[Edge], e: &Edge) -> bool
+    ensures { result ≡ is_among edges.now e.now }
+{
+    for f in edges {
+        if is_same_edge(e, f) {
+            return true;
+        }
+    }
+    false
+}
+
+// Whether the edge is neither in force nor earlier among those to be formed.
+fn is_new(edges: &[Edge], earlier: &[Edge], e: &Edge) -> bool
+    ensures { result ≡ not (is_among edges.now e.now || is_among earlier.now e.now) }
+{
+    !is_among(edges, e) && !is_among(earlier, e)
+}
+
+/// How many of `more` are not yet in force, each counted once.
+pub(crate) fn count_new(edges: &[Edge], more: &[Edge]) -> usize
+    ensures { length (formed edges.now more.now) ≡ length edges.now + result }
+{
+    let mut count = 0;
+    for (k, e) in more.iter().enumerate() {
+        if is_new(edges, &more[..k], e) {
+            count += 1;
+        }
+    }
+    count
+}
+
+fn add_edge<A: Allocator>(edges: &mut Vec<Edge, A>, e: &Edge)
+    requires { length (with_edge edges.old.items e.now) ≤ vec_capacity edges.old }
+    ensures formed { edges.new.items ≡ with_edge edges.old.items e.now }
+    ensures room { vec_capacity edges.old ≤ vec_capacity edges.new }
+{
+    if !is_among(edges, e) {
+        let _ = edges.push(*e);
+    }
+}
+
+/// Forms those of `more` that are not yet in force, in order. There is room for them.
+pub(crate) fn add_edges<A: Allocator>(edges: &mut Vec<Edge, A>, more: &[Edge])
+    requires { length (formed edges.old.items more.now) ≤ vec_capacity edges.old }
+    ensures { edges.new.items ≡ formed edges.old.items more.now }
+{
+    for e in more {
+        add_edge(edges, e);
+    }
+}

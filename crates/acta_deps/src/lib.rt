@@ -1,0 +1,19 @@
+//! Who must wait for whom. `Deps` holds how each transaction stands and the dependencies in force
+//! among them, as edges in order of forming. It says which rule an event of a transaction would
+//! break, and what transactions owe: an event that one of them has yet to do, since another has
+//! committed or aborted. An edge speaks of one kind and two statuses, so each rule but the last is
+//! a test of single edges, and the first edge that breaks it is named. The last rule is that no
+//! transaction may come to owe both a commit and an abort.
+#![tactic(auto)]
+
+mod bar;
+mod clash;
+mod debt;
+mod deps;
+mod forming;
+mod rules;
+
+pub use deps::Deps;
+
+#[cfg(test)]
+mod tests;

@@ -1,0 +1,93 @@
+ghost use Rattle.std.specs.Prelude.{◌≡◌};
+ghost use Rattle.acta_table.specs.Numbered.{first_number};
+ghost use Rattle.acta_table.specs.Refusals.{broken_by};
+ghost use Rattle.acta_deps.specs.Deps.{status_in};
+ghost use Rattle.acta_deps.specs.Bars.{bars};
+ghost use Rattle.acta_deps.specs.Dependencies.{start_refusal, commit_refusal, abort_refusal};
+
+use crate::bar::Bar;
+use crate::clash::Change;
+use crate::deps::Deps;
+use acta_table::{Refusal, Rule, Status, TxnId};
+use std::alloc::Allocator;
+
+impl<A: Allocator> Deps<A> {
+    // The number of the first edge that bars `t` in this way.
+    fn first_barring(&self, bar: Bar, t: TxnId) -> Option<u32>
+        ensures { result ≡ first_number (bars bar (status_in self.now) t.0) self.now.edges }
+    {
+        let edges = self.edges();
+        let mut number = 0;
+        for e in edges {
+            number += 1;
+            if self.is_barred(bar, t, e) {
+                return Some(number);
+            }
+        }
+        None
+    }
+
+    // The rule, where an edge bars `t` in this way, with the first such edge.
+    fn broken(&self, rule: Rule, bar: Bar, t: TxnId) -> Option<Refusal>
+        ensures { result ≡ broken_by rule (first_number (bars bar (status_in self.now) t.0) self.now.edges) }
+    {
+        match self.first_barring(bar, t) {
+            Some(number) => Some(Refusal::by(rule, number)),
+            None => None,
+        }
+    }
+
+    /// The lowest rule that the start of `t` would break, with the smallest number of an edge that
+    /// breaks it, and for `Clash` the smallest transaction. `None` where it breaks none (ACTA's
+    /// begin, serial, begin-on-commit and begin-on-abort dependencies; the clash is ours).
+    #[tactic(auto, unfolding(crate::specs::Dependencies::start_refusal, crate::specs::Dependencies::begin_dep, crate::specs::Dependencies::serial_dep, crate::specs::Dependencies::begin_on_commit, crate::specs::Dependencies::begin_on_abort))]
+    pub fn may_start(&self, t: TxnId) -> Option<Refusal>
+        ensures { result ≡ start_refusal (status_in self.now) self.now.edges t.0 }
+    {
+        let change = Change {
+            txn: t,
+            status: Status::InProgress,
+        };
+        self.broken(Rule::BeginDep, Bar::AwaitsBegin, t)
+            .or(self.broken(Rule::SerialDep, Bar::AwaitsEnd, t))
+            .or(self.broken(Rule::BeginOnCommit, Bar::AwaitsCommit, t))
+            .or(self.broken(Rule::BeginOnAbort, Bar::AwaitsAbort, t))
+            .or(self.clash(change))
+    }
+
+    /// The lowest rule that the commit of `t` would break, with the smallest number of an edge that
+    /// breaks it, and for `Clash` the smallest transaction. `None` where it breaks none (ACTA's
+    /// dependencies; that what is owed can be paid, and the clash, are ours).
+    #[tactic(auto, unfolding(crate::specs::Dependencies::commit_refusal, crate::specs::Dependencies::termination_dep, crate::specs::Dependencies::owing_abort, crate::specs::Dependencies::commit_order, crate::specs::Dependencies::weak_begin, crate::specs::Dependencies::unpayable_commit))]
+    pub fn may_commit(&self, t: TxnId) -> Option<Refusal>
+        ensures { result ≡ commit_refusal (status_in self.now) self.now.edges t.0 }
+    {
+        let change = Change {
+            txn: t,
+            status: Status::Committed,
+        };
+        self.broken(Rule::TerminationDep, Bar::EndsAfter, t)
+            .or(self.broken(Rule::OwesAbort, Bar::OwesAbort, t))
+            .or(self.broken(Rule::CommitOrder, Bar::CommittedFirst, t))
+            .or(self.broken(Rule::WeakBegin, Bar::BeganFirst, t))
+            .or(self.broken(Rule::Unpayable, Bar::CannotPayCommit, t))
+            .or(self.clash(change))
+    }
+
+    /// The lowest rule that the abort of `t` would break, with the smallest number of an edge that
+    /// breaks it, and for `Clash` the smallest transaction. `None` where it breaks none (ACTA's
+    /// dependencies; that what is owed can be paid, and the clash, are ours).
+    #[tactic(auto, unfolding(crate::specs::Dependencies::abort_refusal, crate::specs::Dependencies::termination_dep, crate::specs::Dependencies::owing_commit, crate::specs::Dependencies::unpayable_abort))]
+    pub fn may_abort(&self, t: TxnId) -> Option<Refusal>
+        ensures { result ≡ abort_refusal (status_in self.now) self.now.edges t.0 }
+    {
+        let change = Change {
+            txn: t,
+            status: Status::Aborted,
+        };
+        self.broken(Rule::TerminationDep, Bar::EndsAfter, t)
+            .or(self.broken(Rule::OwesCommit, Bar::OwesCommit, t))
+            .or(self.broken(Rule::Unpayable, Bar::CannotPayAbort, t))
+            .or(self.clash(change))
+    }
+}

@@ -1,0 +1,250 @@
+ghost use Rattle.std.specs.Prelude.{◌≡◌, ◌||◌, ◌<◌, ◌^◌, ◌↔◌, false, IfSome, IsSome};
+ghost use Rattle.acta_table.specs.declared.dep.Dep.{Dep};
+ghost use Rattle.acta_table.specs.Dependencies.{code_of, word_of, is_begin_kind, has_dep};
+
+use crate::event::TxnId;
+use bitflags::{Flag, Flags, bitflag_items};
+
+/// The kinds of dependency, by code from 0 on (ACTA's). A transaction t_j depends on a t_i.
+#[derive(Clone, Copy, PartialEq, Eq, Debug)]
+pub enum Dep {
+    /// Commit: if both commit, t_i commits first.
+    Cd,
+    /// Strong-commit: if t_i commits, t_j commits.
+    Scd,
+    /// Abort: if t_i aborts, t_j aborts.
+    Ad,
+    /// Weak-abort: if t_i aborts and t_j has not committed, t_j aborts.
+    Wd,
+    /// Termination: t_j does not end before t_i has.
+    Td,
+    /// Exclusion: if t_i commits and t_j has begun, t_j aborts.
+    Ed,
+    /// Force-commit-on-abort: if t_i aborts, t_j commits.
+    Cmd,
+    /// Begin: t_j does not begin before t_i has.
+    Bd,
+    /// Serial: t_j does not begin before t_i has ended.
+    Sd,
+    /// Begin-on-commit: t_j does not begin before t_i has committed.
+    Bcd,
+    /// Begin-on-abort: t_j does not begin before t_i has aborted.
+    Bad,
+    /// Weak-begin-on-commit: if t_i commits, t_j does not begin before that.
+    Wcd,
+}
+
+impl Dep {
+    /// The code of the kind, from 0 to 11 (our numbering).
+    pub fn code(self) -> u8
+        ensures { result ≡ code_of self }
+    {
+        match self {
+            Dep::Cd => 0,
+            Dep::Scd => 1,
+            Dep::Ad => 2,
+            Dep::Wd => 3,
+            Dep::Td => 4,
+            Dep::Ed => 5,
+            Dep::Cmd => 6,
+            Dep::Bd => 7,
+            Dep::Sd => 8,
+            Dep::Bcd => 9,
+            Dep::Bad => 10,
+            Dep::Wcd => 11,
+        }
+    }
+
+    /// The short name of the kind, two or three capital letters (ACTA's).
+    pub fn word(self) -> &'static str
+        ensures { result.now ≡ word_of self }
+    {
+        match self {
+            Dep::Cd => "CD",
+            Dep::Scd => "SCD",
+            Dep::Ad => "AD",
+            Dep::Wd => "WD",
+            Dep::Td => "TD",
+            Dep::Ed => "ED",
+            Dep::Cmd => "CMD",
+            Dep::Bd => "BD",
+            Dep::Sd => "SD",
+            Dep::Bcd => "BCD",
+            Dep::Bad => "BAD",
+            Dep::Wcd => "WCD",
+        }
+    }
+
+    /// Whether the kind limits when the dependent transaction may begin.
+    pub fn is_begin_kind(self) -> bool
+        ensures { result ≡ is_begin_kind self }
+    {
+        matches!(self, Dep::Bd | Dep::Sd | Dep::Bcd | Dep::Bad | Dep::Wcd)
+    }
+}
+
+// The bits of a set of kinds. A value of `DepKinds` has no other bit.
+#[derive(Clone, Copy, PartialEq, Eq, Debug)]
+struct DepBits(u16);
+
+bitflag_items! {
+    impl DepBits: u16 {
+        const CD = 1;
+        const SCD = 2;
+        const AD = 4;
+        const WD = 8;
+        const TD = 16;
+        const ED = 32;
+        const CMD = 64;
+        const BD = 128;
+        const SD = 256;
+        const BCD = 512;
+        const BAD = 1024;
+        const WCD = 2048;
+    }
+}
+
+impl Flags for DepBits {
+    ghost use Rattle.std.specs.Prelude.{⊤, ◌∷◌, [], codes};
+
+    type Bits = u16;
+
+    ghost exact = { ⊤ };
+
+    ghost table = { (codes "CD", 1) ∷ (codes "SCD", 2) ∷ (codes "AD", 4) ∷ (codes "WD", 8) ∷ (codes "TD", 16) ∷ (codes "ED", 32) ∷ (codes "CMD", 64) ∷ (codes "BD", 128) ∷ (codes "SD", 256) ∷ (codes "BCD", 512) ∷ (codes "BAD", 1024) ∷ (codes "WCD", 2048) ∷ [] };
+
+    ghost set_of = { λ kinds. kinds.0 };
+
+    fn flags<'a>() -> &'a [Flag<DepBits>] {
+        DepBits::FLAGS
+    }
+
+    fn bits(&self) -> u16 {
+        self.0
+    }
+
+    fn from_bits_retain(bits: u16) -> DepBits {
+        DepBits(bits)
+    }
+}
+
+// The bit of a kind.
+fn bit_of(kind: Dep) -> DepBits
+    ensures { result.0 ≡ 2 ^ code_of kind }
+{
+    match kind {
+        Dep::Cd => DepBits::CD,
+        Dep::Scd => DepBits::SCD,
+        Dep::Ad => DepBits::AD,
+        Dep::Wd => DepBits::WD,
+        Dep::Td => DepBits::TD,
+        Dep::Ed => DepBits::ED,
+        Dep::Cmd => DepBits::CMD,
+        Dep::Bd => DepBits::BD,
+        Dep::Sd => DepBits::SD,
+        Dep::Bcd => DepBits::BCD,
+        Dep::Bad => DepBits::BAD,
+        Dep::Wcd => DepBits::WCD,
+    }
+}
+
+/// A set of kinds of dependency. Contracts see the number whose bits name the kinds: the kind of
+/// code c has the bit c, from `Cd` the lowest to `Wcd` the twelfth.
+#[derive(Clone, Copy, PartialEq, Eq, Debug)]
+pub struct DepKinds {
+    bits: DepBits,
+}
+
+impl std::marker::Model for DepKinds {
+    ghost use Rattle.std.specs.Prelude.{ℕ, ◌<◌, ◌^◌};
+
+    ghost Value = { ℕ };
+
+    ghost view = { λ kinds. kinds.bits.0 };
+
+    ghost invariant = { λ kinds. kinds.bits.0 < 2 ^ 12 };
+
+    ghost inverse = { λ bits. record { bits = record { 0 = bits } } };
+}
+
+impl DepKinds {
+    /// No kind.
+    pub fn none() -> DepKinds
+        ensures { (kind : Dep) → has_dep result kind ≡ false }
+    {
+        DepKinds {
+            bits: DepBits::empty(),
+        }
+    }
+
+    /// The set of this kind alone.
+    pub fn of(kind: Dep) -> DepKinds
+        ensures { result ≡ 2 ^ code_of kind }
+    {
+        DepKinds { bits: bit_of(kind) }
+    }
+
+    /// The kinds that are in one of the two sets.
+    pub fn union(self, other: DepKinds) -> DepKinds
+        ensures { (kind : Dep) → has_dep result kind ≡ (has_dep self kind || has_dep other kind) }
+    {
+        DepKinds {
+            bits: self.bits.union(other.bits),
+        }
+    }
+
+    /// Whether the kind is in the set.
+    pub fn has(self, kind: Dep) -> bool
+        ensures { result ≡ has_dep self kind }
+    {
+        self.bits.contains(bit_of(kind))
+    }
+
+    /// The number whose bits name the kinds, below 4,096.
+    pub fn bits(self) -> u16
+        ensures { result ≡ self }
+    {
+        self.bits.bits()
+    }
+
+    /// The set that has this number, or `None` where a bit is set that no kind has.
+    pub fn from_bits(bits: u16) -> Option<DepKinds>
+        ensures known { IsSome result ↔ (bits < 2 ^ 12) }
+        ensures same { IfSome result (λ kinds. kinds ≡ bits) }
+    {
+        if bits < 4096 {
+            Some(DepKinds {
+                bits: DepBits(bits),
+            })
+        } else {
+            None
+        }
+    }
+}
+
+/// An edge: the transaction `j` depends on the transaction `i` (ACTA's dependency in force).
+#[derive(Clone, Copy, PartialEq, Eq, Debug)]
+pub struct Edge {
+    pub kind: Dep,
+    pub j: TxnId,
+    pub i: TxnId,
+}
+
+/// The number of an edge among those in force, in order of forming, from 1.
+#[derive(Clone, Copy, PartialEq, Eq, Debug)]
+pub struct EdgeNo(pub u64);
+
+/// The one event that would pay a debt (ours).
+#[derive(Clone, Copy, PartialEq, Eq, Debug)]
+pub enum Missing {
+    Commit,
+    Abort,
+}
+
+/// A debt: by the edge of this number the transaction owes an event (ours).
+#[derive(Clone, Copy, PartialEq, Eq, Debug)]
+pub struct Owed {
+    pub edge: EdgeNo,
+    pub txn: TxnId,
+    pub missing: Missing,
+}
