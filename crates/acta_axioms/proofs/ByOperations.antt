@@ -15,7 +15,7 @@ use Rattle.acta_axioms.proofs.Numbers.{numbers-shown}
 use Rattle.acta_axioms.proofs.ValueGrowth.{filter-both}
 
 -- the numbers of the operations that one of t conflicts with, by a test of what is shown
-pub conflicting-shown : {A X : Type 0} (m : Parts A) (h : List Kept) (t object : ℕ) (op : Op) (show : Operation → X) (test : X → Bool) →
+pub conflicting-shown : {A X : Type 0} (m : Parts A) (h : List (Kept A)) (t object : ℕ) (op : Op) (show : Operation → X) (test : X → Bool) →
     ((o : Operation) → test (show o) ≡ (is_of_others m h t (standing m h o) && ((o.object == object) && do_conflict m object o.op op))) →
     map (λ o. o.number) (conflicting m h t object op) ≡ numbers_where test (map show (operations h))
 conflicting-shown m h t object op show test tells =
@@ -36,7 +36,7 @@ asked-shown {X} seen asked show ask tells (o ∷ os) =
     of_test false later = later
 
 -- the value of an object by what is shown
-pub value-shown : {A X : Type 0} (m : Parts A) (h : List Kept) (object : ℕ) (kind : Kind) (show : Operation → X) (ask : X → Option Op) →
+pub value-shown : {A X : Type 0} (m : Parts A) (h : List (Kept A)) (object : ℕ) (kind : Kind) (show : Operation → X) (ask : X → Option Op) →
     ((o : Operation) → ask (show o) ≡ (if is_in_view (standing m h o) then asked_of object kind o else None)) →
     value m h object kind ≡ state_after (first_state kind) (filter_map ask (map show (operations h)))
 value-shown m h object kind show ask tells =

@@ -2,39 +2,46 @@
 use Rattle.std.proofs.Common.{◌≡◌, ℕ, Bool, true, false, ◌&&◌, ◌||◌, not, cond, List, [], ◌∷◌, ◌++◌, map, Some, None, is_some, refl, ap, ◌∙◌}
 use Rattle.std.proofs.lemmas.Bool.Decides.{Decides-int_eq}
 use Rattle.acta_table.specs.declared.answer.Status.TheVariants.{NotBegun, InProgress}
+use Rattle.acta_table.specs.declared.dep.Dep.{Dep}
 use Rattle.acta_table.specs.declared.event.ClassId.{ClassId}
 use Rattle.acta_table.specs.declared.event.Event.{Event}
-use Rattle.acta_table.specs.declared.event.Event.TheVariants.{Begin, Operate, Commit, Abort}
+use Rattle.acta_table.specs.declared.event.Event.TheVariants.{Begin, Delegate, Form, Operate, Commit, Abort}
 use Rattle.acta_table.specs.declared.event.Kept.{Kept}
 use Rattle.acta_table.specs.declared.event.ObjId.{ObjId}
 use Rattle.acta_table.specs.declared.event.Op.{Op}
+use Rattle.acta_table.specs.declared.event.OpNo.{OpNo}
 use Rattle.acta_table.specs.declared.event.Ret.{Ret}
 use Rattle.acta_table.specs.declared.event.Ret.TheVariants.{Done, Value, Flag}
 use Rattle.acta_table.specs.declared.event.TxnId.{TxnId}
 use Rattle.acta_table.specs.declared.model.Parts.{Parts}
-use Rattle.acta_table.specs.WellFormed.{bad_number, bad_class, bad_object}
+use Rattle.acta_table.specs.WellFormed.{bad_number, bad_class, bad_object, same_transaction}
 use Rattle.acta_objects.specs.WellFormed.{bad_operation}
-use Rattle.acta_axioms.specs.declared.fault.Axiom.TheVariants.{BegunOnce, EndedAfterBegun, EndedOnce, OperatesInProgress, FormOfEvent, Allowed, Conflict, Return}
+use Rattle.acta_axioms.specs.declared.fault.Axiom.TheVariants.{BegunOnce, EndedAfterBegun, EndedOnce, OperatesInProgress, FormOfEvent, Allowed, PartiesInProgress, Responsible, HandsWhole, Conflict, Return, FormedInTime}
 use Rattle.acta_axioms.specs.History.{number, has_begun, has_ended, is_in_progress}
 use Rattle.acta_axioms.specs.Operations.{number_after}
 use Rattle.acta_axioms.specs.Values.{is_well_formed, return_due, conflicting}
-use Rattle.acta_axioms.specs.Faults.{when, first_named, is_same_ret, is_due, begun_again, ended_unbegun, ended_again, operated_idle, ill_formed, not_allowed, in_conflict, wrong_return, breaches, faults_of, faults_at}
+use Rattle.acta_axioms.specs.Faults.{when, first_named, is_same_ret, is_due, begun_again, ended_unbegun, ended_again, operated_idle, ill_formed, not_allowed, idle_party, handed_unheld, left_out, in_conflict, wrong_return, formed_late, breaches, faults_of, faults_at}
+use Rattle.acta_axioms.specs.Legal.{is_legal}
 use Rattle.acta_axioms.specs.Claims.{MeetsAxioms, status_at}
 use Rattle.acta_axioms.proofs.Growth.{at_end, faults_in_places-push}
 use Rattle.acta_axioms.proofs.Statuses.{is_under_way, is_ended_status, in_progress-status, has_ended-status, has_begun-status}
 
 -- an item behind these breaks no axiom
-pub record IsFaultless {A : Type 0} (m : Parts A) (before : List Kept) (k : Kept) : Type 0 where
+pub record IsFaultless {A : Type 0} (m : Parts A) (before : List (Kept A)) (k : Kept A) : Type 0 where
   pub begun_once : begun_again before k.event ≡ []
   pub ended_after_begun : ended_unbegun before k.event ≡ []
   pub ended_once : ended_again before k.event ≡ []
   pub operates_in_progress : operated_idle before k.event ≡ []
   pub form_of_event : ill_formed m k.event ≡ []
   pub allowed : not_allowed m before k.event ≡ []
+  pub parties_in_progress : idle_party before k.event ≡ []
+  pub responsible : handed_unheld m before k.event ≡ []
+  pub hands_whole : left_out m before k.event ≡ []
   pub conflict : in_conflict m before k.event ≡ []
   pub return : wrong_return m before k.ret k.event ≡ []
+  pub formed_in_time : formed_late before k.event ≡ []
 
-pub faults_at-none : {A : Type 0} (m : Parts A) (h : List Kept) (k : Kept) → IsFaultless m h k → faults_at m (at_end h k) ≡ []
+pub faults_at-none : {A : Type 0} (m : Parts A) (h : List (Kept A)) (k : Kept A) → IsFaultless m h k → faults_at m (at_end h k) ≡ []
 unfolding breaches
 faults_at-none m h k ok =
     let n = number (at_end h k) in
@@ -44,39 +51,47 @@ faults_at-none m h k ok =
     ++ (faults_of OperatesInProgress n (ok.operates_in_progress i)
     ++ (faults_of FormOfEvent n (ok.form_of_event i)
     ++ (faults_of Allowed n (ok.allowed i)
+    ++ (faults_of PartiesInProgress n (ok.parties_in_progress i)
+    ++ (faults_of Responsible n (ok.responsible i)
+    ++ (faults_of HandsWhole n (ok.hands_whole i)
     ++ (faults_of Conflict n (ok.conflict i)
-    ++ (faults_of Return n (ok.return i) ++ [])))))))
+    ++ (faults_of Return n (ok.return i)
+    ++ (faults_of FormedInTime n (ok.formed_in_time i) ++ [])))))))))))
 
 -- the empty history meets the axioms
 pub meets-none : {A : Type 0} (m : Parts A) → MeetsAxioms m []
-meets-none m = record { faultless = refl }
+unfolding is_legal
+meets-none m = record { faultless = refl; legal = refl }
 
--- and so does each that grows by an item without fault
-pub meets-push : {A : Type 0} (m : Parts A) (h : List Kept) (k : Kept) → MeetsAxioms m h → IsFaultless m h k → MeetsAxioms m (h ++ k ∷ [])
-meets-push m h k meets ok =
-    record { faultless = faults_in_places-push m h k ∙ (λ i. meets.faultless i ++ faults_at-none m h k ok i) }
+-- and so does each that grows by an item without fault, if it is legal then
+pub meets-push : {A : Type 0} (m : Parts A) (h : List (Kept A)) (k : Kept A) → MeetsAxioms m h → IsFaultless m h k → is_legal m (h ++ k ∷ []) ≡ true → MeetsAxioms m (h ++ k ∷ [])
+meets-push m h k meets ok legal =
+    record {
+      faultless = faults_in_places-push m h k ∙ (λ i. meets.faultless i ++ faults_at-none m h k ok i);
+      legal = legal;
+    }
 
 -- what makes an event faultless, by the status of its transaction
 
 -- none of the rules on the form of an event is broken
-pub well_formed : {A : Type 0} (m : Parts A) (e : Event) → bad_number e ≡ None → bad_class m e ≡ None → bad_object m e ≡ None → bad_operation m e ≡ None → ill_formed m e ≡ []
-well_formed m e number class object operation =
-    λ i. when (is_some (number i) || (is_some (class i) || (is_some (object i) || (is_some (operation i) || false)))) (first_named e)
+pub well_formed : {A : Type 0} (m : Parts A) (e : Event A) → bad_number e ≡ None → bad_class m e ≡ None → bad_object m e ≡ None → bad_operation m e ≡ None → same_transaction e ≡ None → ill_formed m e ≡ []
+well_formed m e number class object operation apart =
+    λ i. when (is_some (number i) || (is_some (class i) || (is_some (object i) || (is_some (operation i) || (is_some (apart i) || false))))) (first_named e)
 
-not_begun : (h : List Kept) (t : ℕ) → status_at h t ≡ NotBegun → has_begun h t ≡ false
+not_begun : {A : Type 0} (h : List (Kept A)) (t : ℕ) → status_at h t ≡ NotBegun → has_begun h t ≡ false
 not_begun h t is = has_begun-status h t (ap is_ended_status is) ∙ ap is_under_way is
 
-under_way : (h : List Kept) (t : ℕ) → status_at h t ≡ InProgress → is_in_progress h t ≡ true
+under_way : {A : Type 0} (h : List (Kept A)) (t : ℕ) → status_at h t ≡ InProgress → is_in_progress h t ≡ true
 under_way h t is = in_progress-status h t ∙ ap is_under_way is
 
-begun : (h : List Kept) (t : ℕ) → status_at h t ≡ InProgress → has_begun h t ≡ true
+begun : {A : Type 0} (h : List (Kept A)) (t : ℕ) → status_at h t ≡ InProgress → has_begun h t ≡ true
 begun h t is = has_begun-status h t (ap is_ended_status is) ∙ ap is_under_way is
 
-not_ended : (h : List Kept) (t : ℕ) → status_at h t ≡ InProgress → has_ended h t ≡ false
+not_ended : {A : Type 0} (h : List (Kept A)) (t : ℕ) → status_at h t ≡ InProgress → has_ended h t ≡ false
 not_ended h t is = has_ended-status h t ∙ ap is_ended_status is
 
 -- a begin of one that has not begun
-pub faultless-begin : {A : Type 0} (m : Parts A) (h : List Kept) (t : TxnId) (class : ClassId) → status_at h t.0 ≡ NotBegun →
+pub faultless-begin : {A : Type 0} (m : Parts A) (h : List (Kept A)) (t : TxnId) (class : ClassId) → status_at h t.0 ≡ NotBegun →
     ill_formed m (Begin t class) ≡ [] → not_allowed m h (Begin t class) ≡ [] → IsFaultless m h (record { event = Begin t class; ret = None })
 faultless-begin m h t class status form allowed =
     record {
@@ -86,12 +101,55 @@ faultless-begin m h t class status form allowed =
       operates_in_progress = refl;
       form_of_event = form;
       allowed = allowed;
+      parties_in_progress = refl;
+      responsible = refl;
+      hands_whole = refl;
       conflict = refl;
       return = refl;
+      formed_in_time = refl;
+    }
+
+-- an edge that is formed in time
+pub faultless-form : {A : Type 0} (m : Parts A) (h : List (Kept A)) (kind : Dep) (j i : TxnId) →
+    ill_formed m (Form kind j i) ≡ [] → not_allowed m h (Form kind j i) ≡ [] → formed_late h (Form kind j i) ≡ [] → IsFaultless m h (record { event = Form kind j i; ret = None })
+faultless-form m h kind j i form allowed in_time =
+    record {
+      begun_once = refl;
+      ended_after_begun = refl;
+      ended_once = refl;
+      operates_in_progress = refl;
+      form_of_event = form;
+      allowed = allowed;
+      parties_in_progress = refl;
+      responsible = refl;
+      hands_whole = refl;
+      conflict = refl;
+      return = refl;
+      formed_in_time = in_time;
+    }
+
+-- a delegation by one in progress to one in progress, of operations that it holds, and of all where it has to
+pub faultless-delegate : {A : Type 0} (m : Parts A) (h : List (Kept A)) (t u : TxnId) (ops : List OpNo) → status_at h t.0 ≡ InProgress → status_at h u.0 ≡ InProgress →
+    ill_formed m (Delegate t u ops) ≡ [] → not_allowed m h (Delegate t u ops) ≡ [] → handed_unheld m h (Delegate t u ops) ≡ [] → left_out m h (Delegate t u ops) ≡ [] →
+    IsFaultless m h (record { event = Delegate t u ops; ret = None })
+faultless-delegate m h t u ops status status_of_other form allowed held whole =
+    record {
+      begun_once = refl;
+      ended_after_begun = refl;
+      ended_once = refl;
+      operates_in_progress = refl;
+      form_of_event = form;
+      allowed = allowed;
+      parties_in_progress = λ i. let others = cond (not (under_way h u.0 status_of_other i)) (u.0 ∷ []) [] in cond (not (under_way h t.0 status i)) (t.0 ∷ others) others;
+      responsible = held;
+      hands_whole = whole;
+      conflict = refl;
+      return = refl;
+      formed_in_time = refl;
     }
 
 -- an end of one in progress
-pub faultless-commit : {A : Type 0} (m : Parts A) (h : List Kept) (t : TxnId) → status_at h t.0 ≡ InProgress →
+pub faultless-commit : {A : Type 0} (m : Parts A) (h : List (Kept A)) (t : TxnId) → status_at h t.0 ≡ InProgress →
     ill_formed m (Commit t) ≡ [] → not_allowed m h (Commit t) ≡ [] → IsFaultless m h (record { event = Commit t; ret = None })
 faultless-commit m h t status form allowed =
     record {
@@ -101,11 +159,15 @@ faultless-commit m h t status form allowed =
       operates_in_progress = refl;
       form_of_event = form;
       allowed = allowed;
+      parties_in_progress = refl;
+      responsible = refl;
+      hands_whole = refl;
       conflict = refl;
       return = refl;
+      formed_in_time = refl;
     }
 
-pub faultless-abort : {A : Type 0} (m : Parts A) (h : List Kept) (t : TxnId) → status_at h t.0 ≡ InProgress →
+pub faultless-abort : {A : Type 0} (m : Parts A) (h : List (Kept A)) (t : TxnId) → status_at h t.0 ≡ InProgress →
     ill_formed m (Abort t) ≡ [] → not_allowed m h (Abort t) ≡ [] → IsFaultless m h (record { event = Abort t; ret = None })
 faultless-abort m h t status form allowed =
     record {
@@ -115,8 +177,12 @@ faultless-abort m h t status form allowed =
       operates_in_progress = refl;
       form_of_event = form;
       allowed = allowed;
+      parties_in_progress = refl;
+      responsible = refl;
+      hands_whole = refl;
       conflict = refl;
       return = refl;
+      formed_in_time = refl;
     }
 
 same_ret : (r : Ret) → is_same_ret r r ≡ true
@@ -126,7 +192,7 @@ same_ret (Flag true) = refl
 same_ret (Flag false) = refl
 
 -- an operation of one in progress that conflicts with none and returns what is due
-pub faultless-operate : {A : Type 0} (m : Parts A) (h : List Kept) (t : TxnId) (object : ObjId) (op : Op) (r : Ret) → status_at h t.0 ≡ InProgress →
+pub faultless-operate : {A : Type 0} (m : Parts A) (h : List (Kept A)) (t : TxnId) (object : ObjId) (op : Op) (r : Ret) → status_at h t.0 ≡ InProgress →
     ill_formed m (Operate t object op) ≡ [] → not_allowed m h (Operate t object op) ≡ [] → map (λ o. o.number) (conflicting m h t.0 object.0 op) ≡ [] →
     return_due m h object.0 op ≡ Some r → IsFaultless m h (record { event = Operate t object op; ret = Some r })
 faultless-operate m h t object op r status form allowed conflict due =
@@ -137,11 +203,15 @@ faultless-operate m h t object op r status form allowed conflict due =
       operates_in_progress = ap (λ b. cond (not b) (t.0 ∷ []) []) (under_way h t.0 status);
       form_of_event = form;
       allowed = allowed;
+      parties_in_progress = refl;
+      responsible = refl;
+      hands_whole = refl;
       conflict = conflict;
       return =
           ap (λ d. when (is_well_formed m object.0 op && not (is_due d (Some r))) (number_after h)) due
           ∙ ap (λ b. when (is_well_formed m object.0 op && not b) (number_after h)) (same_ret r)
           ∙ when_never (is_well_formed m object.0 op);
+      formed_in_time = refl;
     }
   where
     when_never : (b : Bool) → when (b && false) (number_after h) ≡ []

@@ -29,30 +29,30 @@ found-passes test P (y ∷ ys) x all is = here (test y) refl is (found-passes te
     here false e is later = later is
 
 -- the place of an item at the end of a history
-abbrev pub at_end : List Kept → Kept → Place
+abbrev pub at_end : {A : Type 0} → List (Kept A) → Kept A → Place A
 at_end h k = record { before = h; kept = k }
 
-pub places_behind-append : (before xs ys : List Kept) → places_behind before (xs ++ ys) ≡ places_behind before xs ++ places_behind (before ++ xs) ys
+pub places_behind-append : {A : Type 0} (before xs ys : List (Kept A)) → places_behind before (xs ++ ys) ≡ places_behind before xs ++ places_behind (before ++ xs) ys
 places_behind-append before [] ys = ap (λ b. places_behind b ys) (sym (append-nil before))
 places_behind-append before (x ∷ xs) ys =
     ap (λ ps. record { before = before; kept = x } ∷ ps)
     (places_behind-append (before ++ x ∷ []) xs ys ∙ ap (λ b. places_behind (before ++ x ∷ []) xs ++ places_behind b ys) (append_assoc before (x ∷ []) xs))
 
-pub places-push : (h : List Kept) (k : Kept) → places (h ++ k ∷ []) ≡ places h ++ at_end h k ∷ []
+pub places-push : {A : Type 0} (h : List (Kept A)) (k : Kept A) → places (h ++ k ∷ []) ≡ places h ++ at_end h k ∷ []
 places-push h k = places_behind-append [] h (k ∷ [])
 
-length-places_behind : (before h : List Kept) → length (places_behind before h) ≡ length h
+length-places_behind : {A : Type 0} (before h : List (Kept A)) → length (places_behind before h) ≡ length h
 length-places_behind before [] = refl
 length-places_behind before (k ∷ ks) = ap suc (length-places_behind (before ++ k ∷ []) ks)
 
-pub length-places : (h : List Kept) → length (places h) ≡ length h
+pub length-places : {A : Type 0} (h : List (Kept A)) → length (places h) ≡ length h
 length-places h = length-places_behind [] h
 
-pub first-push : (test : Event → Bool) (h : List Kept) (k : Kept) → first test (h ++ k ∷ []) ≡ option_or (first test h) (cond (test k.event) (Some (at_end h k)) None)
+pub first-push : {A : Type 0} (test : Event A → Bool) (h : List (Kept A)) (k : Kept A) → first test (h ++ k ∷ []) ≡ option_or (first test h) (cond (test k.event) (Some (at_end h k)) None)
 first-push test h k = ap (find (λ p. test p.kept.event)) (places-push h k) ∙ find-append (λ p. test p.kept.event) (places h) (at_end h k ∷ [])
 
 -- what was there, or else the new place where the test is true
-abbrev pub or_here : List Kept → Option ℕ → Bool → Option ℕ
+abbrev pub or_here : {A : Type 0} → List (Kept A) → Option ℕ → Bool → Option ℕ
 or_here h old now = option_or old (cond now (Some (length h + 1)) None)
 
 pub option_map-or : {X Y : Type 0} (f : X → Y) (o p : Option X) → option_map f (option_or o p) ≡ option_or (option_map f o) (option_map f p)
@@ -68,13 +68,13 @@ is_some-or None true x = refl
 is_some-or None false x = refl
 is_some-or (Some y) b x = refl
 
-pub first_place-push : (test : Event → Bool) (h : List Kept) (k : Kept) → option_map number (first test (h ++ k ∷ [])) ≡ or_here h (option_map number (first test h)) (test k.event)
+pub first_place-push : {A : Type 0} (test : Event A → Bool) (h : List (Kept A)) (k : Kept A) → option_map number (first test (h ++ k ∷ [])) ≡ or_here h (option_map number (first test h)) (test k.event)
 first_place-push test h k =
     ap (option_map number) (first-push test h k) ∙ option_map-or number (first test h) (cond (test k.event) (Some (at_end h k)) None)
     ∙ ap (option_or (option_map number (first test h))) (option_map-cond number (test k.event) (at_end h k))
 
 -- each first place stays, or is the new one
-pub course-push : (h : List Kept) (k : Kept) (t : ℕ) → course (h ++ k ∷ []) t ≡ record {
+pub course-push : {A : Type 0} (h : List (Kept A)) (k : Kept A) (t : ℕ) → course (h ++ k ∷ []) t ≡ record {
   start = or_here h (course h t).start (starts t k.event);
   commit = or_here h (course h t).commit (commits t k.event);
   abort = or_here h (course h t).abort (aborts t k.event);
@@ -86,7 +86,7 @@ course-push h k t = λ i. record {
 }
 
 -- whether the event ends t
-abbrev pub ends : ℕ → Event → Bool
+abbrev pub ends : {A : Type 0} → ℕ → Event A → Bool
 ends t e = commits t e || aborts t e
 
 is_some-least : (m n : Option ℕ) → is_some (least m n) ≡ (is_some m || is_some n)
@@ -99,35 +99,35 @@ or_exchange false true true y = refl
 or_exchange false true false y = refl
 or_exchange false false x y = refl
 
-pub has_begun-push : (h : List Kept) (k : Kept) (t : ℕ) → has_begun (h ++ k ∷ []) t ≡ (has_begun h t || starts t k.event)
+pub has_begun-push : {A : Type 0} (h : List (Kept A)) (k : Kept A) (t : ℕ) → has_begun (h ++ k ∷ []) t ≡ (has_begun h t || starts t k.event)
 has_begun-push h k t = ap is_some (first_place-push (starts t) h k) ∙ is_some-or (course h t).start (starts t k.event) (length h + 1)
 
-pub has_ended-push : (h : List Kept) (k : Kept) (t : ℕ) → has_ended (h ++ k ∷ []) t ≡ (has_ended h t || ends t k.event)
-has_ended-push h k t =
-    let there = λ (test : Event → Bool). ap is_some (first_place-push test h k) ∙ is_some-or (option_map number (first test h)) (test k.event) (length h + 1) in
+pub has_ended-push : {A : Type 0} (h : List (Kept A)) (k : Kept A) (t : ℕ) → has_ended (h ++ k ∷ []) t ≡ (has_ended h t || ends t k.event)
+has_ended-push {A} h k t =
+    let there = λ (test : Event A → Bool). ap is_some (first_place-push test h k) ∙ is_some-or (option_map number (first test h)) (test k.event) (length h + 1) in
     is_some-least (course (h ++ k ∷ []) t).commit (course (h ++ k ∷ []) t).abort
     ∙ (λ i. there (commits t) i || there (aborts t) i)
     ∙ or_exchange (is_some (course h t).commit) (is_some (course h t).abort) (commits t k.event) (aborts t k.event)
     ∙ ap (λ b. b || ends t k.event) (sym (is_some-least (course h t).commit (course h t).abort))
 
-pub is_in_progress-push : (h : List Kept) (k : Kept) (t : ℕ) → is_in_progress (h ++ k ∷ []) t ≡ ((has_begun h t || starts t k.event) && not (has_ended h t || ends t k.event))
+pub is_in_progress-push : {A : Type 0} (h : List (Kept A)) (k : Kept A) (t : ℕ) → is_in_progress (h ++ k ∷ []) t ≡ ((has_begun h t || starts t k.event) && not (has_ended h t || ends t k.event))
 is_in_progress-push h k t = λ i. has_begun-push h k t i && not (has_ended-push h k t i)
 
 and_then-or : {X Y : Type 0} (f : X → Option Y) (o p : Option X) → option_and_then f (option_or o p) ≡ (if is_some o then option_and_then f o else option_and_then f p)
 and_then-or f None p = refl
 and_then-or f (Some x) p = refl
 
-first_start : (h : List Kept) (t : ℕ) → is_some (first (starts t) h) ≡ has_begun h t
-first_start h t = same (first (starts t) h)
+first_start : {A : Type 0} (h : List (Kept A)) (t : ℕ) → is_some (first (starts t) h) ≡ has_begun h t
+first_start {A} h t = same (first (starts t) h)
   where
-    same : (o : Option Place) → is_some o ≡ is_some (option_map number o)
+    same : (o : Option (Place A)) → is_some o ≡ is_some (option_map number o)
     same None = refl
     same (Some p) = refl
 
 -- one that has begun keeps its class
-pub class_number-push : (h : List Kept) (k : Kept) (t : ℕ) → class_number (h ++ k ∷ []) t ≡ (if has_begun h t then class_number h t else if starts t k.event then class_named k.event else None)
-class_number-push h k t =
-    let by = λ (p : Place). class_named p.kept.event in
+pub class_number-push : {A : Type 0} (h : List (Kept A)) (k : Kept A) (t : ℕ) → class_number (h ++ k ∷ []) t ≡ (if has_begun h t then class_number h t else if starts t k.event then class_named k.event else None)
+class_number-push {A} h k t =
+    let by = λ (p : Place A). class_named p.kept.event in
     ap (option_and_then by) (first-push (starts t) h k)
     ∙ and_then-or by (first (starts t) h) (cond (starts t k.event) (Some (at_end h k)) None)
     ∙ (λ i. if first_start h t i then class_number h t else at_cond (starts t k.event) i)
@@ -137,10 +137,10 @@ class_number-push h k t =
     at_cond false = refl
 
 -- the class that an event names, where it is in the model
-abbrev pub class_in : {A : Type 0} → Parts A → Event → Option (Class A)
+abbrev pub class_in : {A : Type 0} → Parts A → Event A → Option (Class A)
 class_in m e = option_and_then (class_at m) (class_named e)
 
-pub class_of-push : {A : Type 0} (m : Parts A) (h : List Kept) (k : Kept) (t : ℕ) → class_of m (h ++ k ∷ []) t ≡ (if has_begun h t then class_of m h t else if starts t k.event then class_in m k.event else None)
+pub class_of-push : {A : Type 0} (m : Parts A) (h : List (Kept A)) (k : Kept A) (t : ℕ) → class_of m (h ++ k ∷ []) t ≡ (if has_begun h t then class_of m h t else if starts t k.event then class_in m k.event else None)
 class_of-push m h k t =
     ap (option_and_then (class_at m)) (class_number-push h k t) ∙ push_in (has_begun h t) (starts t k.event)
   where
@@ -152,20 +152,20 @@ class_of-push m h k t =
 -- operations
 
 -- the operation that an item at the end adds, if it is one
-abbrev pub added : List Kept → Kept → List Operation
+abbrev pub added : {A : Type 0} → List (Kept A) → Kept A → List Operation
 added h k = cons_option (operation_at (at_end h k)) []
 
-pub operations-push : (h : List Kept) (k : Kept) → operations (h ++ k ∷ []) ≡ operations h ++ added h k
+pub operations-push : {A : Type 0} (h : List (Kept A)) (k : Kept A) → operations (h ++ k ∷ []) ≡ operations h ++ added h k
 operations-push h k = ap (filter_map operation_at) (places-push h k) ∙ filter_map-append operation_at (places h) (at_end h k ∷ [])
 
-pub number_after-push : (h : List Kept) (k : Kept) → number_after (h ++ k ∷ []) ≡ number_after h + cond (is_operate k.event) 1 0
+pub number_after-push : {A : Type 0} (h : List (Kept A)) (k : Kept A) → number_after (h ++ k ∷ []) ≡ number_after h + cond (is_operate k.event) 1 0
 number_after-push h k =
     let more : count_by (λ q. is_operate q.event) (h ++ k ∷ []) ≡ count_by (λ q. is_operate q.event) h + cond (is_operate k.event) 1 0 =
     fold-append (λ a q. a + cond (is_operate q.event) 1 0) 0 h (k ∷ []) in
     omega arith
 
 -- an operation that stands in the history is followed by the new item
-pub standing-push : {A : Type 0} (m : Parts A) (h : List Kept) (k : Kept) (o : Operation) → o.place ≤ length h → standing m (h ++ k ∷ []) o ≡ carried m o.number (standing m h o) (at_end h k)
+pub standing-push : {A : Type 0} (m : Parts A) (h : List (Kept A)) (k : Kept A) (o : Operation) → o.place ≤ length h → standing m (h ++ k ∷ []) o ≡ carried m o.number (standing m h o) (at_end h k)
 standing-push m h k o within =
     let fits : o.place ≤ length (places h) = omega (arith, length-places h) in
     ap (λ ps. fold (carried m o.number) (held_by o.invoker) (drop o.place ps)) (places-push h k)
@@ -173,7 +173,7 @@ standing-push m h k o within =
     ∙ fold-append (carried m o.number) (held_by o.invoker) (drop o.place (places h)) (at_end h k ∷ [])
 
 -- one that stands at the end of it is held by its invoker
-pub standing-new : {A : Type 0} (m : Parts A) (h : List Kept) (o : Operation) → length h ≤ o.place → standing m h o ≡ held_by o.invoker
+pub standing-new : {A : Type 0} (m : Parts A) (h : List (Kept A)) (o : Operation) → length h ≤ o.place → standing m h o ≡ held_by o.invoker
 standing-new m h o past =
     let beyond : length (places h) ≤ o.place = omega (arith, length-places h) in
     ap (fold (carried m o.number) (held_by o.invoker)) (drop_all o.place (places h) beyond)
@@ -186,22 +186,22 @@ filter_map-within : {X Y : Type 0} (P : X → Type 0) (Q : Y → Type 0) (f : X 
 filter_map-within P Q f step [] none = tt
 filter_map-within P Q f step (x ∷ xs) all = cons_option-all Q (f x) (filter_map f xs) (λ y e. step x y all.0 e) (filter_map-within P Q f step xs all.1)
 
-pub places_within : (n : ℕ) (before h : List Kept) → length before + length h ≤ n → AllByRecursion (λ p. number p ≤ n) (places_behind before h)
+pub places_within : {A : Type 0} (n : ℕ) (before h : List (Kept A)) → length before + length h ≤ n → AllByRecursion (λ p. number p ≤ n) (places_behind before h)
 places_within n before [] fits = tt
 places_within n before (k ∷ ks) fits =
     let grown = length_push before k in
     (omega arith, places_within n (before ++ k ∷ []) ks (omega arith))
 
 -- an operation's place is the number of the place where it stands
-pub operation_place : (p : Place) (o : Operation) → operation_at p ≡ Some o → number p ≡ o.place
-operation_place p o e = of_event p.kept.event e
+pub operation_place : {A : Type 0} (p : Place A) (o : Operation) → operation_at p ≡ Some o → number p ≡ o.place
+operation_place {A} p o e = of_event p.kept.event e
   where
-    of_event : (event : Event) → operation_in p event ≡ Some o → number p ≡ o.place
+    of_event : (event : Event A) → operation_in p event ≡ Some o → number p ≡ o.place
     of_event (Operate t object op) is = ap (λ q. option_map_or (λ (x : Operation). x.place) q (number p)) is
     of_event _ is = absurd (none-some _ is)
 
 -- every operation stands within the history
-pub operations_within : (h : List Kept) → AllByRecursion (λ o. o.place ≤ length h) (operations h)
+pub operations_within : {A : Type 0} (h : List (Kept A)) → AllByRecursion (λ o. o.place ≤ length h) (operations h)
 operations_within h = filter_map-within (λ p. number p ≤ length h) (λ o. o.place ≤ length h) operation_at (λ p o fits e. let at = operation_place p o e in omega arith) (places h) (places_within (length h) [] h (omega arith))
 
 pub map-agree : {X Y : Type 0} (P : X → Type 0) (f g : X → Y) → ((x : X) → P x → f x ≡ g x) → (xs : List X) → AllByRecursion P xs → map f xs ≡ map g xs
@@ -212,12 +212,12 @@ pub filter-agree : {X : Type 0} (P : X → Type 0) (f g : X → Bool) → ((x : 
 filter-agree P f g same [] none = refl
 filter-agree P f g same (x ∷ xs) all = λ i. cond (same x all.0 i) (x ∷ filter-agree P f g same xs all.1 i) (filter-agree P f g same xs all.1 i)
 
-pub added-new : {A : Type 0} (m : Parts A) (h : List Kept) (k : Kept) → AllByRecursion (λ o. standing m (h ++ k ∷ []) o ≡ held_by o.invoker) (added h k)
+pub added-new : {A : Type 0} (m : Parts A) (h : List (Kept A)) (k : Kept A) → AllByRecursion (λ o. standing m (h ++ k ∷ []) o ≡ held_by o.invoker) (added h k)
 added-new m h k = cons_option-all _ (operation_at (at_end h k)) [] (λ o e. standing-new m (h ++ k ∷ []) o (let at = operation_place (at_end h k) o e in let grown = length_push h k in omega arith)) tt
 
 -- what is said of each operation by how it stands: the old ones are followed by the item, a new one is
 -- held by its invoker
-pub shown-push : {A X : Type 0} (show : Operation → Standing → X) (m : Parts A) (h : List Kept) (k : Kept) →
+pub shown-push : {A X : Type 0} (show : Operation → Standing → X) (m : Parts A) (h : List (Kept A)) (k : Kept A) →
     map (λ o. show o (standing m (h ++ k ∷ []) o)) (operations (h ++ k ∷ []))
     ≡ map (λ o. show o (carried m o.number (standing m h o) (at_end h k))) (operations h) ++ map (λ o. show o (held_by o.invoker)) (added h k)
 shown-push show m h k =
@@ -225,16 +225,16 @@ shown-push show m h k =
     ∙ map-append (λ o. show o (standing m (h ++ k ∷ []) o)) (operations h) (added h k)
     ∙ (λ i. map-agree _ _ _ (λ o within. ap (show o) (standing-push m h k o within)) (operations h) (operations_within h) i ++ map-agree _ _ _ (λ o e. ap (show o) e) (added h k) (added-new m h k) i)
 
-pub standings-push : {A : Type 0} (m : Parts A) (h : List Kept) (k : Kept) →
+pub standings-push : {A : Type 0} (m : Parts A) (h : List (Kept A)) (k : Kept A) →
     map (standing m (h ++ k ∷ [])) (operations (h ++ k ∷ [])) ≡ map (λ o. carried m o.number (standing m h o) (at_end h k)) (operations h) ++ map (λ o. held_by o.invoker) (added h k)
 standings-push m h k = shown-push (λ o s. s) m h k
 
 -- an operation that is there goes on, and a new one begins
-abbrev pub goes_on : {A : Type 0} → Parts A → List Kept → Kept → ℕ → Option Standing → Option Standing
+abbrev pub goes_on : {A : Type 0} → Parts A → List (Kept A) → Kept A → ℕ → Option Standing → Option Standing
 goes_on m h k o None = option_map (λ q. held_by q.invoker) (find (λ q. q.number == o) (added h k))
 goes_on m h k o (Some s) = Some (carried m o s (at_end h k))
 
-pub standing_of-push : {A : Type 0} (m : Parts A) (h : List Kept) (k : Kept) (o : ℕ) → standing_of m (h ++ k ∷ []) o ≡ goes_on m h k o (standing_of m h o)
+pub standing_of-push : {A : Type 0} (m : Parts A) (h : List (Kept A)) (k : Kept A) (o : ℕ) → standing_of m (h ++ k ∷ []) o ≡ goes_on m h k o (standing_of m h o)
 standing_of-push m h k o =
     ap (λ os. option_map (standing m (h ++ k ∷ [])) (find (λ q. q.number == o) os)) (operations-push h k)
     ∙ ap (option_map (standing m (h ++ k ∷ []))) (find-append (λ q. q.number == o) (operations h) (added h k))
@@ -253,22 +253,22 @@ standing_of-push m h k o =
         ap Some (standing-push m h k q found.1 ∙ ap (λ n. carried m n (standing m h q) (at_end h k)) (eqb-true q.number o found.0))
 
 -- what a test of standings keeps
-pub operations_by-push : {A : Type 0} (test : Standing → Bool) (m : Parts A) (h : List Kept) (k : Kept) →
+pub operations_by-push : {A : Type 0} (test : Standing → Bool) (m : Parts A) (h : List (Kept A)) (k : Kept A) →
     filter (λ o. test (standing m (h ++ k ∷ []) o)) (operations (h ++ k ∷ [])) ≡ filter (λ o. test (carried m o.number (standing m h o) (at_end h k))) (operations h) ++ filter (λ o. test (held_by o.invoker)) (added h k)
 operations_by-push test m h k =
     ap (filter (λ o. test (standing m (h ++ k ∷ []) o))) (operations-push h k)
     ∙ filter-append (λ o. test (standing m (h ++ k ∷ []) o)) (operations h) (added h k)
     ∙ (λ i. filter-agree _ _ _ (λ o within. ap test (standing-push m h k o within)) (operations h) (operations_within h) i ++ filter-agree _ _ _ (λ o e. ap test e) (added h k) (added-new m h k) i)
 
-pub access_set-push : {A : Type 0} (m : Parts A) (h : List Kept) (k : Kept) (t : ℕ) →
+pub access_set-push : {A : Type 0} (m : Parts A) (h : List (Kept A)) (k : Kept A) (t : ℕ) →
     access_set m (h ++ k ∷ []) t ≡ filter (λ o. is_held_by t (carried m o.number (standing m h o) (at_end h k))) (operations h) ++ filter (λ o. is_held_by t (held_by o.invoker)) (added h k)
 access_set-push m h k t = operations_by-push (is_held_by t) m h k
 
-pub conflict_set-push : {A : Type 0} (m : Parts A) (h : List Kept) (k : Kept) (t : ℕ) →
+pub conflict_set-push : {A : Type 0} (m : Parts A) (h : List (Kept A)) (k : Kept A) (t : ℕ) →
     conflict_set m (h ++ k ∷ []) t ≡ filter (λ o. is_of_others m (h ++ k ∷ []) t (carried m o.number (standing m h o) (at_end h k))) (operations h) ++ filter (λ o. is_of_others m (h ++ k ∷ []) t (held_by o.invoker)) (added h k)
 conflict_set-push m h k t = operations_by-push (is_of_others m (h ++ k ∷ []) t) m h k
 
-pub view_set-push : {A : Type 0} (m : Parts A) (h : List Kept) (k : Kept) →
+pub view_set-push : {A : Type 0} (m : Parts A) (h : List (Kept A)) (k : Kept A) →
     view_set m (h ++ k ∷ []) ≡ filter (λ o. is_in_view (carried m o.number (standing m h o) (at_end h k))) (operations h) ++ added h k
 view_set-push m h k = operations_by-push is_in_view m h k ∙ ap (λ os. filter (λ o. is_in_view (carried m o.number (standing m h o) (at_end h k))) (operations h) ++ os) (all_pass (added h k))
   where
@@ -278,7 +278,7 @@ view_set-push m h k = operations_by-push is_in_view m h k ∙ ap (λ os. filter 
 
 -- faults
 
-pub faults_in_places-push : {A : Type 0} (m : Parts A) (h : List Kept) (k : Kept) → faults_in_places m (h ++ k ∷ []) ≡ faults_in_places m h ++ faults_at m (at_end h k)
+pub faults_in_places-push : {A : Type 0} (m : Parts A) (h : List (Kept A)) (k : Kept A) → faults_in_places m (h ++ k ∷ []) ≡ faults_in_places m h ++ faults_at m (at_end h k)
 faults_in_places-push m h k =
     ap (flat_map (faults_at m)) (places-push h k) ∙ flat_map-append (faults_at m) (places h) (at_end h k ∷ [])
     ∙ ap (λ fs. faults_in_places m h ++ fs) (append-nil (faults_at m (at_end h k)))

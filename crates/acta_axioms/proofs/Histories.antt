@@ -1,32 +1,53 @@
 -- Short words for the histories and models of the examples.
-use Rattle.std.specs.Prelude.{ℕ, pos, true, false, Bool, List, [], ◌∷◌, Some, None}
+use Rattle.std.specs.Prelude.{ℕ, pos, true, false, Bool, List, [], ◌∷◌, Option, Some, None}
+use Rattle.acta_table.specs.declared.dep.Dep.{Dep}
+use Rattle.acta_table.specs.declared.dep.Edge.{Edge}
+use Rattle.acta_table.specs.declared.dep.Missing.{Missing}
+use Rattle.acta_table.specs.declared.dep.Owed.{Owed}
 use Rattle.acta_table.specs.declared.event.Op.{Op}
 use Rattle.acta_table.specs.declared.event.Ret.{Ret}
 use Rattle.acta_table.specs.declared.event.Event.{Event}
-use Rattle.acta_table.specs.declared.event.Event.TheVariants.{Begin, Operate, Commit, Abort}
+use Rattle.acta_table.specs.declared.event.Event.TheVariants.{Begin, Delegate, Form, Operate, Commit, Abort}
 use Rattle.acta_table.specs.declared.event.Kept.{Kept}
 use Rattle.acta_table.specs.declared.model.Class.{Class}
+use Rattle.acta_table.specs.declared.model.Extent.TheVariants.{Whole, Any}
 use Rattle.acta_table.specs.declared.model.Kind.TheVariants.{Register, Counter, Elements}
 use Rattle.acta_table.specs.declared.model.Object.{Object}
 use Rattle.acta_table.specs.declared.model.Parts.{Parts}
+use Rattle.acta_table.specs.Sets.{numbered}
 use Rattle.acta_axioms.specs.declared.fault.Fault.{Fault}
 use Rattle.acta_axioms.specs.declared.fault.Axiom.{Axiom}
+use Rattle.acta_axioms.specs.History.{course}
+use Rattle.acta_axioms.specs.Formulas.{is_false}
+use Rattle.acta_axioms.specs.Legal.{debt_in, is_broken_in, is_legal}
 
 -- an item with no return
-abbrev pub plain : Event → Kept
+abbrev pub plain : Event (Unit {0}) → Kept (Unit {0})
 plain e = record { event = e; ret = None }
 
-abbrev pub begin : ℕ → ℕ → Kept
+abbrev pub begin : ℕ → ℕ → Kept (Unit {0})
 begin t class = plain (Begin (record { 0 = t }) (record { 0 = class }))
 
-abbrev pub operate : ℕ → ℕ → Op → Ret → Kept
+abbrev pub delegate : ℕ → ℕ → List ℕ → Kept (Unit {0})
+delegate t u ops = plain (Delegate (record { 0 = t }) (record { 0 = u }) (numbered ops))
+
+abbrev pub form : Dep → ℕ → ℕ → Kept (Unit {0})
+form kind j i = plain (Form kind (record { 0 = j }) (record { 0 = i }))
+
+abbrev pub operate : ℕ → ℕ → Op → Ret → Kept (Unit {0})
 operate t object op ret = record { event = Operate (record { 0 = t }) (record { 0 = object }) op; ret = Some ret }
 
-abbrev pub commit : ℕ → Kept
+abbrev pub commit : ℕ → Kept (Unit {0})
 commit t = plain (Commit (record { 0 = t }))
 
-abbrev pub abort : ℕ → Kept
+abbrev pub abort : ℕ → Kept (Unit {0})
 abort t = plain (Abort (record { 0 = t }))
+
+abbrev pub edge : Dep → ℕ → ℕ → Edge
+edge kind j i = record { kind = kind; j = record { 0 = j }; i = record { 0 = i } }
+
+abbrev pub owes : ℕ → ℕ → Missing → Owed
+owes number t missing = record { edge = record { 0 = number }; txn = record { 0 = t }; missing = missing }
 
 abbrev pub fault : Axiom → ℕ → ℕ → Fault
 fault broken place by = record { broken = broken; place = place; by = by }
@@ -35,11 +56,47 @@ fault broken place by = record { broken = broken; place = place; by = by }
 abbrev pub objects : List (Object (Unit {0}))
 objects = record { name = []; kind = Register (pos 0) } ∷ record { name = []; kind = Counter (pos 0) } ∷ record { name = []; kind = Elements } ∷ []
 
--- a class, by whether it starts by begin and the bits of what it may do: 32 is to operate, 64 to
--- commit and 128 to abort
+-- a class, by whether it starts by begin and the bits of what it may do: 8 is to delegate, 16 to form,
+-- 32 to operate, 64 to commit and 128 to abort
 abbrev pub class : Bool → ℕ → Class (Unit {0})
-class begins may = record { name = []; starts = record { begin = begins; spawned = false; split = false }; may = may }
+class begins may = record { name = []; starts = record { begin = begins; spawned = false; split = false }; may = may; extent = Any }
 
--- class 0 may all, class 1 may not operate, and class 2 may not start
+-- class 0 may all but delegate and form, class 1 may not operate either, class 2 may not start, class 3 may
+-- all but delegate, and classes 4 and 5 all but form: 4 delegates any part, and 5 all that it holds
 abbrev pub model : Parts (Unit {0})
-model = record { objects = objects; classes = class true 224 ∷ class true 192 ∷ class false 224 ∷ [] }
+model = record {
+  objects = objects;
+  classes = class true 224 ∷ class true 192 ∷ class false 224 ∷ class true 240
+      ∷ class true 232 ∷ record (class true 232) { extent = Whole } ∷ [];
+}
+
+-- the same with no class that may form
+abbrev pub edgeless : Parts (Unit {0})
+edgeless = record { objects = objects; classes = class true 224 ∷ [] }
+
+-- what is said of an edge of 2 on 1, in a history that forms it first: whether its formula is false, what
+-- is owed by it, whether it is broken, and whether the history is legal
+pub record Said : Type 0 where
+  pub false_there : Bool
+  pub debt : Option Missing
+  pub broken : Bool
+  pub legal : Bool
+
+abbrev pub said : Dep → List (Kept (Unit {0})) → Said
+said kind ks =
+    let h = form kind 2 1 ∷ ks in
+    record {
+      false_there = is_false kind (course h 2) (course h 1);
+      debt = debt_in h (edge kind 2 1);
+      broken = is_broken_in h (edge kind 2 1);
+      legal = is_legal model h;
+    }
+
+abbrev pub holds : Said
+holds = record { false_there = false; debt = None; broken = false; legal = true }
+
+abbrev pub is_due : Missing → Said
+is_due missing = record { false_there = true; debt = Some missing; broken = false; legal = true }
+
+abbrev pub breaks : Said
+breaks = record { false_there = true; debt = None; broken = true; legal = false }

@@ -1,11 +1,14 @@
 mod Histories
 mod Examples
 pub mod Growth
+pub mod EdgeGrowth
 pub mod Statuses
 pub mod Numbers
 pub mod ValueGrowth
 pub mod ByOperations
 pub mod Prefixes
 pub mod Faultless
+pub mod Delegations
 mod Named
 mod Tracing
+mod Turns

@@ -10,11 +10,11 @@ use Rattle.acta_axioms.specs.History.{places_behind}
 use Rattle.acta_axioms.specs.Operations.{Operation, is_operate, number_after, operation_in, operation_at, operations}
 use Rattle.acta_axioms.proofs.Growth.{number_after-push}
 
-numbers_behind : {X : Type 0} (show : Operation → X) (test : X → Bool) (before ks : List Kept) →
+numbers_behind : {A : Type 0} {X : Type 0} (show : Operation → X) (test : X → Bool) (before ks : List (Kept A)) →
     map (λ o. o.number) (filter (λ o. test (show o)) (filter_map operation_at (places_behind before ks)))
     ≡ numbers_from test (number_after before) (map show (filter_map operation_at (places_behind before ks)))
 numbers_behind show test before [] = refl
-numbers_behind {X} show test before (k ∷ ks) = of_event k.event (number_after-push before k) (numbers_behind show test (before ++ k ∷ []) ks)
+numbers_behind {A} {X} show test before (k ∷ ks) = of_event k.event (number_after-push before k) (numbers_behind show test (before ++ k ∷ []) ks)
   where
     of_test : (b : Bool) (n : ℕ) (o : Operation) (os : List Operation) → o.number ≡ n →
         map (λ q. q.number) (filter (λ q. test (show q)) os) ≡ numbers_from test (n + 1) (map show os) →
@@ -23,7 +23,7 @@ numbers_behind {X} show test before (k ∷ ks) = of_event k.event (number_after-
     of_test true n o os same later = λ i. same i ∷ later i
     of_test false n o os same later = later
 
-    of_event : (e : Event) → number_after (before ++ k ∷ []) ≡ number_after before + cond (is_operate e) 1 0 →
+    of_event : (e : Event A) → number_after (before ++ k ∷ []) ≡ number_after before + cond (is_operate e) 1 0 →
         map (λ o. o.number) (filter (λ o. test (show o)) (filter_map operation_at (places_behind (before ++ k ∷ []) ks)))
         ≡ numbers_from test (number_after (before ++ k ∷ [])) (map show (filter_map operation_at (places_behind (before ++ k ∷ []) ks))) →
         map (λ o. o.number) (filter (λ o. test (show o)) (cons_option (operation_in (record { before = before; kept = k }) e) (filter_map operation_at (places_behind (before ++ k ∷ []) ks))))
@@ -36,6 +36,6 @@ numbers_behind {X} show test before (k ∷ ks) = of_event k.event (number_after-
         later ∙ ap (λ n. numbers_from test n (map show (filter_map operation_at (places_behind (before ++ k ∷ []) ks)))) same
 
 -- the numbers of the operations that pass a test of what is shown of them
-pub numbers-shown : {X : Type 0} (show : Operation → X) (test : X → Bool) (h : List Kept) →
+pub numbers-shown : {A : Type 0} {X : Type 0} (show : Operation → X) (test : X → Bool) (h : List (Kept A)) →
     map (λ o. o.number) (filter (λ o. test (show o)) (operations h)) ≡ numbers_where test (map show (operations h))
 numbers-shown show test h = numbers_behind show test [] h

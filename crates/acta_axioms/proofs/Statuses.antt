@@ -20,13 +20,13 @@ when_aborted Committed = Committed
 when_aborted s = Aborted
 
 -- the status of t after an event
-abbrev pub status_after : ℕ → Event → Status → Status
+abbrev pub status_after : {A : Type 0} → ℕ → Event A → Status → Status
 status_after t (Begin u class) s = if u.0 == t then when_begun s else s
 status_after t (Commit u) s = if u.0 == t then Committed else s
 status_after t (Abort u) s = if u.0 == t then when_aborted s else s
 status_after t _ s = s
 
-begun_in : (h : List Kept) (s c a : Option ℕ) (b : Bool) →
+begun_in : {A : Type 0} (h : List (Kept A)) (s c a : Option ℕ) (b : Bool) →
     status_in (record { start = or_here h s b; commit = or_here h c false; abort = or_here h a false }) ≡ (if b then when_begun (status_in (record { start = s; commit = c; abort = a })) else status_in (record { start = s; commit = c; abort = a }))
 begun_in h None None None true = refl
 begun_in h None None None false = refl
@@ -41,7 +41,7 @@ begun_in h None (Some j) a false = refl
 begun_in h (Some i) (Some j) a true = refl
 begun_in h (Some i) (Some j) a false = refl
 
-committed_in : (h : List Kept) (s c a : Option ℕ) (b : Bool) →
+committed_in : {A : Type 0} (h : List (Kept A)) (s c a : Option ℕ) (b : Bool) →
     status_in (record { start = or_here h s false; commit = or_here h c b; abort = or_here h a false }) ≡ (if b then Committed else status_in (record { start = s; commit = c; abort = a }))
 committed_in h s None a true = refl
 committed_in h s (Some i) a true = refl
@@ -50,7 +50,7 @@ committed_in h s None (Some j) false = refl
 committed_in h None None None false = refl
 committed_in h (Some i) None None false = refl
 
-aborted_in : (h : List Kept) (s c a : Option ℕ) (b : Bool) →
+aborted_in : {A : Type 0} (h : List (Kept A)) (s c a : Option ℕ) (b : Bool) →
     status_in (record { start = or_here h s false; commit = or_here h c false; abort = or_here h a b }) ≡ (if b then when_aborted (status_in (record { start = s; commit = c; abort = a })) else status_in (record { start = s; commit = c; abort = a }))
 aborted_in h s (Some i) a true = refl
 aborted_in h s (Some i) a false = refl
@@ -61,10 +61,10 @@ aborted_in h None None None false = refl
 aborted_in h (Some i) None None true = refl
 aborted_in h (Some i) None None false = refl
 
-pub status_at-push : (h : List Kept) (k : Kept) (t : ℕ) → status_at (h ++ k ∷ []) t ≡ status_after t k.event (status_at h t)
-status_at-push h k t = ap status_in (course-push h k t) ∙ of_event k.event
+pub status_at-push : {A : Type 0} (h : List (Kept A)) (k : Kept A) (t : ℕ) → status_at (h ++ k ∷ []) t ≡ status_after t k.event (status_at h t)
+status_at-push {A} h k t = ap status_in (course-push h k t) ∙ of_event k.event
   where
-    of_event : (e : Event) → status_in (record { start = or_here h (course h t).start (starts t e); commit = or_here h (course h t).commit (commits t e); abort = or_here h (course h t).abort (aborts t e) }) ≡ status_after t e (status_at h t)
+    of_event : (e : Event A) → status_in (record { start = or_here h (course h t).start (starts t e); commit = or_here h (course h t).commit (commits t e); abort = or_here h (course h t).abort (aborts t e) }) ≡ status_after t e (status_at h t)
     of_event (Begin u class) = begun_in h (course h t).start (course h t).commit (course h t).abort (u.0 == t)
     of_event (Commit u) = committed_in h (course h t).start (course h t).commit (course h t).abort (u.0 == t)
     of_event (Abort u) = aborted_in h (course h t).start (course h t).commit (course h t).abort (u.0 == t)
@@ -76,7 +76,7 @@ is_under_way InProgress = true
 is_under_way _ = false
 
 -- one is in progress exactly where its status says so
-pub in_progress-status : (h : List Kept) (t : ℕ) → is_in_progress h t ≡ is_under_way (status_at h t)
+pub in_progress-status : {A : Type 0} (h : List (Kept A)) (t : ℕ) → is_in_progress h t ≡ is_under_way (status_at h t)
 in_progress-status h t = of_course (course h t).start (course h t).commit (course h t).abort
   where
     of_course : (s c a : Option ℕ) → (is_some s && not (is_some (least c a))) ≡ is_under_way (status_in (record { start = s; commit = c; abort = a }))
@@ -93,7 +93,7 @@ is_ended_status Committed = true
 is_ended_status Aborted = true
 is_ended_status _ = false
 
-pub has_ended-status : (h : List Kept) (t : ℕ) → has_ended h t ≡ is_ended_status (status_at h t)
+pub has_ended-status : {A : Type 0} (h : List (Kept A)) (t : ℕ) → has_ended h t ≡ is_ended_status (status_at h t)
 has_ended-status h t = of_course (course h t).start (course h t).commit (course h t).abort
   where
     of_course : (s c a : Option ℕ) → is_some (least c a) ≡ is_ended_status (status_in (record { start = s; commit = c; abort = a }))
@@ -102,7 +102,7 @@ has_ended-status h t = of_course (course h t).start (course h t).commit (course 
     of_course s None (Some j) = refl
     of_course s (Some j) a = refl
 
-pub has_begun-status : (h : List Kept) (t : ℕ) → is_ended_status (status_at h t) ≡ false → has_begun h t ≡ is_under_way (status_at h t)
+pub has_begun-status : {A : Type 0} (h : List (Kept A)) (t : ℕ) → is_ended_status (status_at h t) ≡ false → has_begun h t ≡ is_under_way (status_at h t)
 has_begun-status h t open_still = of_course (course h t).start (course h t).commit (course h t).abort open_still
   where
     of_course : (s c a : Option ℕ) → is_ended_status (status_in (record { start = s; commit = c; abort = a })) ≡ false → is_some s ≡ is_under_way (status_in (record { start = s; commit = c; abort = a }))

@@ -1,27 +1,27 @@
--- The index says what the definitions give: first places found along the items from the front, and an
--- operation followed to the first end of its invoker.
-use Rattle.std.proofs.Common.{if◌then◌else◌, ◌==◌, ◌≡◌, ℕ, zero, suc, ◌+◌, ◌<◌, ◌≤◌, Bool, true, false, cond, List, [], ◌∷◌, ◌++◌, length, get_or, take, drop, fold, Option, Some, None, option_map, refl, sym, ap, ◌∙◌, arith}
+-- The index says what the definitions give: first places and turns found along the items from the front, and
+-- each operation at its place.
+use Rattle.std.proofs.Common.{subst, ◌==◌, ◌≡◌, ℕ, zero, suc, ◌+◌, ◌-◌, ◌<◌, ◌≤◌, Bool, true, false, cond, leb, if◌then◌else◌, List, [], ◌∷◌, ◌++◌, length, get_or, take, drop, reverse, fold, Option, Some, None, option_map, refl, sym, ap, ◌∙◌, arith}
 use Rattle.std.specs.Prelude.{slice_get}
 use Rattle.std.specs.List.{find, filter_map, position_from, cons_option}
 use Rattle.std.specs.Option.{option_and_then}
 use Rattle.std.proofs.Math.ListN.{replicate}
-use Rattle.std.proofs.Math.Seq.{drop-append_seam}
-use Rattle.std.proofs.lemmas.List.{length_push, append_assoc}
-use Rattle.std.proofs.lemmas.Bool.{le-leb, lt-leb, lt-ltb, le-ltb, eq-eqb, ne_eqb, cond-true, cond-false}
+use Rattle.std.proofs.Math.Seq.{drop-cons}
+use Rattle.std.proofs.lemmas.List.{length_push, reverse-append}
+use Rattle.std.proofs.lemmas.Bool.{le-leb, lt-leb, eq-eqb, ne_eqb, cond-true, cond-false}
 use Rattle.std.proofs.lemmas.Option.{none-some, same_Some}
-use Rattle.acta_table.specs.declared.answer.Fate.{Fate}
-use Rattle.acta_table.specs.declared.answer.Fate.TheVariants.{Committed, Aborted}
+use Rattle.acta_table.specs.declared.dep.Edge.{Edge}
 use Rattle.acta_table.specs.declared.event.Event.{Event}
-use Rattle.acta_table.specs.declared.event.Event.TheVariants.{Operate, Commit, Abort}
+use Rattle.acta_table.specs.declared.event.Event.TheVariants.{Operate}
 use Rattle.acta_table.specs.declared.event.Kept.{Kept}
 use Rattle.acta_table.specs.declared.model.Parts.{Parts}
 use Rattle.acta_axioms.specs.declared.index.Firsts.{Firsts}
-use Rattle.acta_axioms.specs.declared.index.Ending.{Ending}
+use Rattle.acta_axioms.specs.declared.index.Onward.{Onward}
 use Rattle.acta_axioms.specs.declared.index.Traced.{Traced}
 use Rattle.acta_axioms.specs.History.{Place, number, places_behind, places, starts, commits, aborts, Course, course}
-use Rattle.acta_axioms.specs.Operations.{is_operate, number_after, operation_in, operation_at, Standing, held_by, ended_by, is_open, followed, carried, standing, standing_of}
-use Rattle.acta_axioms.specs.Index.{nowhere, course_in, course_from, ending, ending_by, traced_in, traced_from, stands_at, traced_at, standing_by, IsIndex}
-use Rattle.acta_axioms.proofs.Growth.{places_behind-append, length-places, number_after-push}
+use Rattle.acta_axioms.specs.Operations.{is_operate, number_after, operation_in, operation_at, Standing, held_by, carried, standing, standing_of}
+use Rattle.acta_axioms.specs.Edges.{edges}
+use Rattle.acta_axioms.specs.Index.{nowhere, course_in, course_from, with_event, turn_in, turn_from, with_turn, traced_in, traced_from, onward_in, onward_from, held_from, numbered, IsIndex}
+use Rattle.acta_axioms.proofs.Growth.{number_after-push}
 
 -- a table of rows that are all alike has no other behind its end
 get_or-blank : {X : Type 0} (n t : ℕ) (x : X) → get_or (replicate n x) t x ≡ x
@@ -30,16 +30,23 @@ get_or-blank (suc n) zero x = refl
 get_or-blank (suc n) (suc t) x = get_or-blank n t x
 
 -- a blank table has no first place
-pub courses-blank : (rows : List Firsts) (n p t : ℕ) (ks : List Kept) → rows ≡ replicate n nowhere → ks ≡ [] → course_in rows t ≡ course_from p ks t
-courses-blank rows n p t ks blank none =
+pub courses-blank : {A : Type 0} (rows : List Firsts) (n p t : ℕ) (ks : List (Kept A)) → rows ≡ replicate n nowhere → ks ≡ [] → course_in rows t ≡ course_from p ks t
+courses-blank {A} rows n p t ks blank none =
     ap (λ (xs : List Firsts). course_in xs t) blank
     ∙ ap (λ (row : Firsts). let c : Course = record { start = row.start; commit = row.commit; abort = row.abort } in c) (get_or-blank n t nowhere)
-    ∙ ap (λ (xs : List Kept). course_from p xs t) (sym none)
+    ∙ ap (λ (xs : List (Kept A)). course_from p xs t) (sym none)
+
+-- nor a turn
+pub turns-blank : {A : Type 0} (rows : List Firsts) (n p t : ℕ) (ks : List (Kept A)) → rows ≡ replicate n nowhere → ks ≡ [] → turn_in rows t ≡ turn_from p ks t
+turns-blank {A} rows n p t ks blank none =
+    ap (λ (xs : List Firsts). turn_in xs t) blank
+    ∙ ap (λ (row : Firsts). row.turn) (get_or-blank n t nowhere)
+    ∙ ap (λ (xs : List (Kept A)). turn_from p xs t) (sym none)
 
 -- the first place with an event that passes the test, found along the items
-first_from : (test : Event → Bool) (before ks : List Kept) → option_map number (find (λ p. test p.kept.event) (places_behind before ks)) ≡ position_from (λ k. test k.event) (length before + 1) ks
+first_from : {A : Type 0} (test : Event A → Bool) (before ks : List (Kept A)) → option_map number (find (λ p. test p.kept.event) (places_behind before ks)) ≡ position_from (λ k. test k.event) (length before + 1) ks
 first_from test before [] = refl
-first_from test before (k ∷ ks) =
+first_from {A} test before (k ∷ ks) =
     of_test (test k.event) (first_from test (before ++ k ∷ []) ks ∙ ap (λ n. position_from (λ q. test q.event) (n + 1) ks) (length_push before k))
   where
     of_test : (b : Bool) → option_map number (find (λ p. test p.kept.event) (places_behind (before ++ k ∷ []) ks)) ≡ position_from (λ q. test q.event) (length before + 1 + 1) ks →
@@ -48,205 +55,194 @@ first_from test before (k ∷ ks) =
     of_test true e = refl
     of_test false e = e
 
-pub course-from : (h : List Kept) (t : ℕ) → course_from 1 h t ≡ course h t
+pub course-from : {A : Type 0} (h : List (Kept A)) (t : ℕ) → course_from 1 h t ≡ course h t
 course-from h t = λ i. record {
   start = sym (first_from (starts t) [] h) i;
   commit = sym (first_from (commits t) [] h) i;
   abort = sym (first_from (aborts t) [] h) i;
 }
 
--- the first end of t, found along the items
+-- one item more, in a pass from the back
 
-abbrev end_here : ℕ → ℕ → Event → Option Ending → Option Ending
-end_here n t (Commit s) later = if s.0 == t then Some (record { place = n; fate = Committed }) else later
-end_here n t (Abort s) later = if s.0 == t then Some (record { place = n; fate = Aborted }) else later
-end_here n t _ later = later
+from-here : {A : Type 0} (h : List (Kept A)) (i : ℕ) (d : Kept A) → 0 < i → i ≤ length h → drop (i - 1) h ≡ get_or h (i - 1) d ∷ drop i h
+from-here h i d some within =
+    let next : suc (i - 1) ≡ i = omega arith in
+    drop-cons h (i - 1) d (omega arith) ∙ (λ x. get_or h (i - 1) d ∷ drop (next x) h)
 
-abbrev end_from : ℕ → ℕ → List Kept → Option Ending
-end_from n t [] = None
-end_from n t (k ∷ ks) = end_here n t k.event (end_from (n + 1) t ks)
+pub courses-more : {A : Type 0} (h : List (Kept A)) (i t : ℕ) (d : Kept A) (now later : Course) → 0 < i → i ≤ length h →
+    now ≡ with_event (i - 1 + 1) (get_or h (i - 1) d).event t later → later ≡ course_from (i + 1) (drop i h) t → now ≡ course_from (i - 1 + 1) (drop (i - 1) h) t
+courses-more h i t d now later some within step old =
+    let next : i + 1 ≡ i - 1 + 1 + 1 = omega arith in
+    step
+    ∙ ap (with_event (i - 1 + 1) (get_or h (i - 1) d).event t) (old ∙ ap (λ n. course_from n (drop i h) t) next)
+    ∙ ap (λ ks. course_from (i - 1 + 1) ks t) (sym (from-here h i d some within))
 
-position_past : (test : Kept → Bool) (n i : ℕ) (ks : List Kept) → position_from test n ks ≡ Some i → n ≤ i
-position_past test n i [] is = absurd (none-some i is)
-position_past test n i (k ∷ ks) is = of_test (test k) is (position_past test (n + 1) i ks)
-  where
-    of_test : (b : Bool) → cond b (Some n) (position_from test (n + 1) ks) ≡ Some i → (position_from test (n + 1) ks ≡ Some i → n + 1 ≤ i) → n ≤ i
-    of_test true here later = let same : n ≡ i = same_Some n i here in omega arith
-    of_test false here later = let past : n + 1 ≤ i = later here in omega arith
+pub turns-more : {A : Type 0} (h : List (Kept A)) (i t : ℕ) (d : Kept A) (now later : Option ℕ) → 0 < i → i ≤ length h →
+    now ≡ with_turn (i - 1 + 1) (get_or h (i - 1) d).event t later → later ≡ turn_from (i + 1) (drop i h) t → now ≡ turn_from (i - 1 + 1) (drop (i - 1) h) t
+turns-more h i t d now later some within step old =
+    let next : i + 1 ≡ i - 1 + 1 + 1 = omega arith in
+    step
+    ∙ ap (with_turn (i - 1 + 1) (get_or h (i - 1) d).event t) (old ∙ ap (λ n. turn_from n (drop i h) t) next)
+    ∙ ap (λ ks. turn_from (i - 1 + 1) ks t) (sym (from-here h i d some within))
 
--- a place, if there is one, is behind n
-abbrev IsPast : ℕ → Option ℕ → Type 0
-IsPast n o = (i : ℕ) → o ≡ Some i → n < i
+-- what is put at the end of a list that goes backwards
+abbrev pub then_put : List Traced → Option Traced → List Traced
+then_put xs None = xs
+then_put xs (Some x) = xs ++ x ∷ []
 
-ending-commit : (n : ℕ) (a : Option ℕ) → IsPast n a → ending_by (Some n) a ≡ Some (record { place = n; fate = Committed })
-ending-commit n None past = refl
-ending-commit n (Some a) past = cond-true _ _ _ (lt-ltb n a (past a refl))
+put-reverse : (o : Option Traced) (xs : List Traced) → then_put (reverse xs) o ≡ reverse (cons_option o xs)
+put-reverse None xs = refl
+put-reverse (Some x) xs = sym (reverse-append (x ∷ []) xs)
 
-ending-abort : (n : ℕ) (c : Option ℕ) → IsPast n c → ending_by c (Some n) ≡ Some (record { place = n; fate = Aborted })
-ending-abort n None past = refl
-ending-abort n (Some c) past = cond-false _ _ _ (le-ltb c n (let later : n < c = past c refl in omega arith))
+pub traced-more : {A : Type 0} (h : List (Kept A)) (i : ℕ) (d : Kept A) (turn : ℕ → Option ℕ) (now later : List Traced) (o : Option Traced) → 0 < i → i ≤ length h →
+    ((t : ℕ) → turn t ≡ turn_from (i + 1) (drop i h) t) → o ≡ traced_in (i - 1 + 1) turn (get_or h (i - 1) d).event → now ≡ then_put later o →
+    later ≡ reverse (traced_from (i + 1) (drop i h)) → now ≡ reverse (traced_from (i - 1 + 1) (drop (i - 1) h))
+traced-more h i d turn now later o some within turns_are step put old =
+    let next : i + 1 ≡ i - 1 + 1 + 1 = omega arith in
+    let here : turn ≡ turn_from (i - 1 + 1 + 1) (drop i h) = λ x t. (turns_are t ∙ ap (λ n. turn_from n (drop i h) t) next) x in
+    put
+    ∙ (λ x. then_put ((old ∙ ap (λ n. reverse (traced_from n (drop i h))) next) x) ((step ∙ ap (λ f. traced_in (i - 1 + 1) f (get_or h (i - 1) d).event) here) x))
+    ∙ put-reverse (traced_in (i - 1 + 1) (turn_from (i - 1 + 1 + 1) (drop i h)) (get_or h (i - 1) d).event) (traced_from (i - 1 + 1 + 1) (drop i h))
+    ∙ ap (λ ks. reverse (traced_from (i - 1 + 1) ks)) (sym (from-here h i d some within))
 
-ending-here : (n t : ℕ) (e : Event) (c a : Option ℕ) (later : Option Ending) → IsPast n c → IsPast n a → ending_by c a ≡ later → ending_by (cond (commits t e) (Some n) c) (cond (aborts t e) (Some n) a) ≡ end_here n t e later
-ending-here n t (Commit s) c a later past_c past_a is = of_test (s.0 == t)
-  where
-    of_test : (b : Bool) → ending_by (cond b (Some n) c) a ≡ (if b then Some (record { place = n; fate = Committed }) else later)
-    of_test true = ending-commit n a past_a
-    of_test false = is
-ending-here n t (Abort s) c a later past_c past_a is = of_test (s.0 == t)
-  where
-    of_test : (b : Bool) → ending_by c (cond b (Some n) a) ≡ (if b then Some (record { place = n; fate = Aborted }) else later)
-    of_test true = ending-abort n c past_c
-    of_test false = is
-ending-here n t _ c a later past_c past_a is = is
+pub onward-more : {A : Type 0} (h : List (Kept A)) (i : ℕ) (d : Kept A) (turn : ℕ → Option ℕ) (now later : List Onward) (w : Onward) → 0 < i → i ≤ length h →
+    ((t : ℕ) → turn t ≡ turn_from (i + 1) (drop i h) t) → w ≡ onward_in turn (get_or h (i - 1) d).event → now ≡ later ++ w ∷ [] →
+    later ≡ reverse (onward_from (i + 1) (drop i h)) → now ≡ reverse (onward_from (i - 1 + 1) (drop (i - 1) h))
+onward-more h i d turn now later w some within turns_are step put old =
+    let next : i + 1 ≡ i - 1 + 1 + 1 = omega arith in
+    let here : turn ≡ turn_from (i - 1 + 1 + 1) (drop i h) = λ x t. (turns_are t ∙ ap (λ n. turn_from n (drop i h) t) next) x in
+    put
+    ∙ (λ x. (old ∙ ap (λ n. reverse (onward_from n (drop i h))) next) x ++ (step ∙ ap (λ f. onward_in f (get_or h (i - 1) d).event) here) x ∷ [])
+    ∙ sym (reverse-append (onward_in (turn_from (i - 1 + 1 + 1) (drop i h)) (get_or h (i - 1) d).event ∷ []) (onward_from (i - 1 + 1 + 1) (drop i h)))
+    ∙ ap (λ ks. reverse (onward_from (i - 1 + 1) ks)) (sym (from-here h i d some within))
 
-ending-from : (n t : ℕ) (ks : List Kept) → ending (course_from n ks t) ≡ end_from n t ks
-ending-from n t [] = refl
-ending-from n t (k ∷ ks) =
-    ending-here n t k.event (position_from (λ q. commits t q.event) (n + 1) ks) (position_from (λ q. aborts t q.event) (n + 1) ks) (end_from (n + 1) t ks)
-    (λ i is. let past = position_past (λ q. commits t q.event) (n + 1) i ks is in omega arith)
-    (λ i is. let past = position_past (λ q. aborts t q.event) (n + 1) i ks is in omega arith)
-    (ending-from (n + 1) t ks)
-
--- an end behind l leaves an operation in progress at l
-stands-open : (l n t : ℕ) (ks : List Kept) → l < n → stands_at l t (end_from n t ks) ≡ held_by t
-stands-open l n t [] low = refl
-stands-open l n t (k ∷ ks) low = of_event k.event (stands-open l (n + 1) t ks (omega arith))
-  where
-    of_test : (f : Fate) (later : Option Ending) (b : Bool) → stands_at l t later ≡ held_by t → stands_at l t (if b then Some (record { place = n; fate = f }) else later) ≡ held_by t
-    of_test f later true is = cond-false _ _ _ (lt-leb n l low)
-    of_test f later false is = is
-
-    of_event : (e : Event) → stands_at l t (end_from (n + 1) t ks) ≡ held_by t → stands_at l t (end_here n t e (end_from (n + 1) t ks)) ≡ held_by t
-    of_event (Commit s) is = of_test Committed (end_from (n + 1) t ks) (s.0 == t) is
-    of_event (Abort s) is = of_test Aborted (end_from (n + 1) t ks) (s.0 == t) is
-    of_event _ is = is
-
--- once ended it stays so
-stays_ended : {A : Type 0} (m : Parts A) (o t : ℕ) (f : Fate) → is_open f ≡ false → (ps : List Place) → fold (carried m o) (ended_by t f) ps ≡ ended_by t f
-stays_ended m o t f closed [] = refl
-stays_ended m o t f closed (p ∷ ps) =
-    ap (λ b. fold (carried m o) (if b then followed m p.before o t p.kept.event else ended_by t f) ps) closed ∙ stays_ended m o t f closed ps
-
--- an operation followed through the first j items behind it
-followed_from : {A : Type 0} (m : Parts A) (o t j : ℕ) (before ks : List Kept) →
-    fold (carried m o) (held_by t) (places_behind before (take j ks)) ≡ stands_at (length before + j) t (end_from (length before + 1) t ks)
-followed_from m o t zero before [] = refl
-followed_from m o t (suc j) before [] = refl
-followed_from m o t zero before (k ∷ ks) = sym (stands-open (length before + 0) (length before + 1) t (k ∷ ks) (omega arith))
-followed_from m o t (suc j) before (k ∷ ks) =
-    let more : length (before ++ k ∷ []) + j ≡ length before + suc j = omega (arith, length_push before k) in
-    of_event k.event (followed_from m o t j (before ++ k ∷ []) ks ∙ (λ i. stands_at (more i) t (end_from (length_push before k i + 1) t ks)))
-  where
-    of_test : (f : Fate) (b : Bool) → is_open f ≡ false → fold (carried m o) (held_by t) (places_behind (before ++ k ∷ []) (take j ks)) ≡ stands_at (length before + suc j) t (end_from (length before + 1 + 1) t ks) →
-        fold (carried m o) (if b then ended_by t f else held_by t) (places_behind (before ++ k ∷ []) (take j ks))
-        ≡ stands_at (length before + suc j) t (if b then Some (record { place = length before + 1; fate = f }) else end_from (length before + 1 + 1) t ks)
-    of_test f true closed is = stays_ended m o t f closed (places_behind (before ++ k ∷ []) (take j ks)) ∙ sym (cond-true _ _ _ (le-leb (length before + 1) (length before + suc j) (omega arith)))
-    of_test f false closed is = is
-
-    of_event : (e : Event) → fold (carried m o) (held_by t) (places_behind (before ++ k ∷ []) (take j ks)) ≡ stands_at (length before + suc j) t (end_from (length before + 1 + 1) t ks) →
-        fold (carried m o) (followed m before o t e) (places_behind (before ++ k ∷ []) (take j ks))
-        ≡ stands_at (length before + suc j) t (end_here (length before + 1) t e (end_from (length before + 1 + 1) t ks))
-    of_event (Commit s) is = of_test Committed (s.0 == t) refl is
-    of_event (Abort s) is = of_test Aborted (s.0 == t) refl is
-    of_event _ is = is
-
--- what stands behind the places of the first items
-drop-places : (before ks : List Kept) → drop (length before) (places (before ++ ks)) ≡ places_behind before ks
-drop-places before ks =
-    ap (drop (length before)) (places_behind-append [] before ks)
-    ∙ ap (λ n. drop n (places before ++ places_behind before ks)) (sym (length-places before))
-    ∙ drop-append_seam (places before) (places_behind before ks)
+-- an operation that is traced, as it stands at the end of g, if it is among the first l places
+abbrev traced_at : {A : Type 0} → Parts A → List (Kept A) → ℕ → ℕ → Traced → Option Standing
+traced_at m g o l x = if leb x.place l then Some (held_from m g o x.invoker.0 x.place) else None
 
 -- the operations behind l are not there at l
-traced-past : (l n i : ℕ) (ks : List Kept) → l < n → option_and_then (traced_at l) (slice_get (traced_from n ks) i) ≡ None
-traced-past l n i [] low = refl
-traced-past l n i (k ∷ ks) low = of_event k.event i (λ j. traced-past l (n + 1) j ks (omega arith))
+traced-past : {A : Type 0} (m : Parts A) (g : List (Kept A)) (o l n i : ℕ) (ks : List (Kept A)) → l < n → option_and_then (traced_at m g o l) (slice_get (traced_from n ks) i) ≡ None
+traced-past m g o l n i [] low = refl
+traced-past {A} m g o l n i (k ∷ ks) low = of_event k.event i (λ j. traced-past m g o l (n + 1) j ks (omega arith))
   where
-    of_event : (e : Event) (b : ℕ) → ((j : ℕ) → option_and_then (traced_at l) (slice_get (traced_from (n + 1) ks) j) ≡ None) →
-        option_and_then (traced_at l) (slice_get (cons_option (traced_in n (course_from (n + 1) ks) e) (traced_from (n + 1) ks)) b) ≡ None
+    of_event : (e : Event A) (b : ℕ) → ((j : ℕ) → option_and_then (traced_at m g o l) (slice_get (traced_from (n + 1) ks) j) ≡ None) →
+        option_and_then (traced_at m g o l) (slice_get (cons_option (traced_in n (turn_from (n + 1) ks) e) (traced_from (n + 1) ks)) b) ≡ None
     of_event (Operate t object op) zero later = cond-false _ _ _ (lt-leb n l low)
     of_event (Operate t object op) (suc b) later = later b
     of_event _ b later = later b
 
--- the ith operation behind some items, as it stands at the jth item behind them
-abbrev found_standing : {A : Type 0} → Parts A → List Kept → List Place → ℕ → Option Standing
-found_standing m h ps o =
-    option_map (λ q. fold (carried m q.number) (held_by q.invoker) (drop q.place (places h))) (find (λ q. q.number == o) (filter_map operation_at ps))
+-- the operation of this number among some places, as it stands at the end of g
+abbrev found_standing : {A : Type 0} → Parts A → List (Kept A) → List (Place A) → ℕ → Option Standing
+found_standing m g ps o =
+    option_map (λ q. fold (carried m q.number) (held_by q.invoker) (drop q.place (places g))) (find (λ q. q.number == o) (filter_map operation_at ps))
 
--- what stands behind an item
-drop-own : (before ks : List Kept) (k : Kept) → drop (length before + 1) (places (before ++ k ∷ ks)) ≡ places_behind (before ++ k ∷ []) ks
-drop-own before ks k =
-    (λ i. drop (sym (length_push before k) i) (places (sym (append_assoc before (k ∷ []) ks) i)))
-    ∙ drop-places (before ++ k ∷ []) ks
-
--- an operation at the place of an item, as it stands at the jth item behind that
-standing_own : {A : Type 0} (m : Parts A) (o t j : ℕ) (before ks : List Kept) (k : Kept) →
-    fold (carried m o) (held_by t) (drop (length before + 1) (places (before ++ k ∷ take j ks)))
-    ≡ stands_at (length before + suc j) t (ending (course_from (length before + 1 + 1) ks t))
-standing_own m o t j before ks k =
-    let more : length (before ++ k ∷ []) + j ≡ length before + suc j = omega (arith, length_push before k) in
-    ap (fold (carried m o) (held_by t)) (drop-own before (take j ks) k)
-    ∙ followed_from m o t j (before ++ k ∷ []) ks
-    ∙ (λ i. stands_at (more i) t (end_from (length_push before k i + 1) t ks))
-    ∙ ap (stands_at (length before + suc j) t) (sym (ending-from (length before + 1 + 1) t ks))
-
-standing_from : {A : Type 0} (m : Parts A) (i j : ℕ) (before ks : List Kept) →
-    found_standing m (before ++ take j ks) (places_behind before (take j ks)) (number_after before + i)
-    ≡ option_and_then (traced_at (length before + j)) (slice_get (traced_from (length before + 1) ks) i)
-standing_from m i zero before [] = refl
-standing_from m i (suc j) before [] = refl
-standing_from m i zero before (k ∷ ks) = sym (traced-past (length before + 0) (length before + 1) i (k ∷ ks) (omega arith))
-standing_from {A} m i (suc j) before (k ∷ ks) =
+standing_from : {A : Type 0} (m : Parts A) (g : List (Kept A)) (i j : ℕ) (before ks : List (Kept A)) →
+    found_standing m g (places_behind before (take j ks)) (number_after before + i)
+    ≡ option_and_then (traced_at m g (number_after before + i) (length before + j)) (slice_get (traced_from (length before + 1) ks) i)
+standing_from m g i zero before [] = refl
+standing_from m g i (suc j) before [] = refl
+standing_from m g i zero before (k ∷ ks) = sym (traced-past m g (number_after before + i) (length before + 0) (length before + 1) i (k ∷ ks) (omega arith))
+standing_from {A} m g i (suc j) before (k ∷ ks) =
     let more : length (before ++ k ∷ []) + j ≡ length before + suc j = omega (arith, length_push before k) in
     of_event k.event (number_after-push before k) i
-    (λ b. ap (λ h. found_standing m h (places_behind (before ++ k ∷ []) (take j ks)) (number_after (before ++ k ∷ []) + b)) (sym (append_assoc before (k ∷ []) (take j ks)))
-    ∙ standing_from m b j (before ++ k ∷ []) ks
-    ∙ (λ x. option_and_then (traced_at (more x)) (slice_get (traced_from (length_push before k x + 1) ks) b)))
+    (λ b. standing_from m g b j (before ++ k ∷ []) ks
+    ∙ (λ x. option_and_then (traced_at m g (number_after (before ++ k ∷ []) + b) (more x)) (slice_get (traced_from (length_push before k x + 1) ks) b)))
   where
-    of_event : (e : Event) → number_after (before ++ k ∷ []) ≡ number_after before + cond (is_operate e) 1 0 → (b : ℕ) →
-        ((d : ℕ) → found_standing m (before ++ k ∷ take j ks) (places_behind (before ++ k ∷ []) (take j ks)) (number_after (before ++ k ∷ []) + d)
-        ≡ option_and_then (traced_at (length before + suc j)) (slice_get (traced_from (length before + 1 + 1) ks) d)) →
-        option_map (λ q. fold (carried m q.number) (held_by q.invoker) (drop q.place (places (before ++ k ∷ take j ks)))) (find (λ q. q.number == (number_after before + b)) (cons_option (operation_in (record { before = before; kept = k }) e) (filter_map operation_at (places_behind (before ++ k ∷ []) (take j ks)))))
-        ≡ option_and_then (traced_at (length before + suc j)) (slice_get (cons_option (traced_in (length before + 1) (course_from (length before + 1 + 1) ks) e) (traced_from (length before + 1 + 1) ks)) b)
+    numbered_alike : (b o : ℕ) → number_after (before ++ k ∷ []) + b ≡ o → found_standing m g (places_behind (before ++ k ∷ []) (take j ks)) (number_after (before ++ k ∷ []) + b)
+        ≡ option_and_then (traced_at m g (number_after (before ++ k ∷ []) + b) (length before + suc j)) (slice_get (traced_from (length before + 1 + 1) ks) b) →
+        found_standing m g (places_behind (before ++ k ∷ []) (take j ks)) o ≡ option_and_then (traced_at m g o (length before + suc j)) (slice_get (traced_from (length before + 1 + 1) ks) b)
+    numbered_alike b o same is =
+        subst (λ x. found_standing m g (places_behind (before ++ k ∷ []) (take j ks)) x ≡ option_and_then (traced_at m g x (length before + suc j)) (slice_get (traced_from (length before + 1 + 1) ks) b)) same is
+
+    of_event : (e : Event A) → number_after (before ++ k ∷ []) ≡ number_after before + cond (is_operate e) 1 0 → (b : ℕ) →
+        ((d : ℕ) → found_standing m g (places_behind (before ++ k ∷ []) (take j ks)) (number_after (before ++ k ∷ []) + d)
+        ≡ option_and_then (traced_at m g (number_after (before ++ k ∷ []) + d) (length before + suc j)) (slice_get (traced_from (length before + 1 + 1) ks) d)) →
+        option_map (λ q. fold (carried m q.number) (held_by q.invoker) (drop q.place (places g))) (find (λ q. q.number == (number_after before + b)) (cons_option (operation_in (record { before = before; kept = k }) e) (filter_map operation_at (places_behind (before ++ k ∷ []) (take j ks)))))
+        ≡ option_and_then (traced_at m g (number_after before + b) (length before + suc j)) (slice_get (cons_option (traced_in (length before + 1) (turn_from (length before + 1 + 1) ks) e) (traced_from (length before + 1 + 1) ks)) b)
     of_event (Operate t object op) grown zero later =
-        ap (λ (x : Bool). option_map (λ q. fold (carried m q.number) (held_by q.invoker) (drop q.place (places (before ++ k ∷ take j ks)))) (cond x (operation_in (record { before = before; kept = k }) (Operate t object op)) (find (λ q. q.number == (number_after before + 0)) (filter_map operation_at (places_behind (before ++ k ∷ []) (take j ks))))))
-        (eq-eqb (number_after before) (number_after before + 0) (omega arith))
-        ∙ ap Some (standing_own m (number_after before) t.0 j before ks k)
+        let same : number_after before ≡ number_after before + 0 = omega arith in
+        ap (λ (x : Bool). option_map (λ q. fold (carried m q.number) (held_by q.invoker) (drop q.place (places g))) (cond x (operation_in (record { before = before; kept = k }) (Operate t object op)) (find (λ q. q.number == (number_after before + 0)) (filter_map operation_at (places_behind (before ++ k ∷ []) (take j ks))))))
+        (eq-eqb (number_after before) (number_after before + 0) same)
+        ∙ ap (λ o. Some (held_from m g o t.0 (length before + 1))) same
         ∙ sym (cond-true _ _ _ (le-leb (length before + 1) (length before + suc j) (omega arith)))
     of_event (Operate t object op) grown (suc b) later =
-        let same : number_after before + suc b ≡ number_after (before ++ k ∷ []) + b = omega arith in
-        ap (λ (x : Bool). option_map (λ q. fold (carried m q.number) (held_by q.invoker) (drop q.place (places (before ++ k ∷ take j ks)))) (cond x (operation_in (record { before = before; kept = k }) (Operate t object op)) (find (λ q. q.number == (number_after before + suc b)) (filter_map operation_at (places_behind (before ++ k ∷ []) (take j ks))))))
+        let same : number_after (before ++ k ∷ []) + b ≡ number_after before + suc b = omega arith in
+        ap (λ (x : Bool). option_map (λ q. fold (carried m q.number) (held_by q.invoker) (drop q.place (places g))) (cond x (operation_in (record { before = before; kept = k }) (Operate t object op)) (find (λ q. q.number == (number_after before + suc b)) (filter_map operation_at (places_behind (before ++ k ∷ []) (take j ks))))))
         (ne_eqb (number_after before) (number_after before + suc b) (λ e. omega arith))
-        ∙ ap (found_standing m (before ++ k ∷ take j ks) (places_behind (before ++ k ∷ []) (take j ks))) same
-        ∙ later b
+        ∙ numbered_alike b (number_after before + suc b) same (later b)
     of_event _ grown b later =
-        let same : number_after before + b ≡ number_after (before ++ k ∷ []) + b = omega arith in
-        ap (found_standing m (before ++ k ∷ take j ks) (places_behind (before ++ k ∷ []) (take j ks))) same ∙ later b
+        let same : number_after (before ++ k ∷ []) + b ≡ number_after before + b = omega arith in
+        numbered_alike b (number_after before + b) same (later b)
 
 -- no operation has the number 0
-none_zero : (before ks : List Kept) → find (λ q. q.number == 0) (filter_map operation_at (places_behind before ks)) ≡ None
+none_zero : {A : Type 0} (before ks : List (Kept A)) → find (λ q. q.number == 0) (filter_map operation_at (places_behind before ks)) ≡ None
 none_zero before [] = refl
-none_zero before (k ∷ ks) = of_event k.event (none_zero (before ++ k ∷ []) ks)
+none_zero {A} before (k ∷ ks) = of_event k.event (none_zero (before ++ k ∷ []) ks)
   where
-    of_event : (e : Event) → find (λ q. q.number == 0) (filter_map operation_at (places_behind (before ++ k ∷ []) ks)) ≡ None →
+    of_event : (e : Event A) → find (λ q. q.number == 0) (filter_map operation_at (places_behind (before ++ k ∷ []) ks)) ≡ None →
         find (λ q. q.number == 0) (cons_option (operation_in (record { before = before; kept = k }) e) (filter_map operation_at (places_behind (before ++ k ∷ []) ks))) ≡ None
     of_event (Operate t object op) later = cond-false _ _ _ (ne_eqb (number_after before) 0 (λ e. omega arith)) ∙ later
     of_event _ later = later
 
-pub standing-traced : {A : Type 0} (m : Parts A) (h : List Kept) (o n : ℕ) → standing_by (traced_from 1 h) o n ≡ standing_of m (take n h) o
+-- how an operation of the first n items stands: held from its place on
+standing-traced : {A : Type 0} (m : Parts A) (h : List (Kept A)) (o n : ℕ) → option_and_then (traced_at m (take n h) o n) (numbered (traced_from 1 h) o) ≡ standing_of m (take n h) o
 standing-traced m h zero n = sym (ap (option_map (standing m (take n h))) (none_zero [] (take n h)))
-standing-traced m h (suc i) n =
-    let first_number : suc i ≡ number_after [] + i = omega arith in
+standing-traced {A} m h (suc i) n =
+    let first_number : number_after {A = A} [] + i ≡ suc i = omega arith in
     let all : n ≡ 0 + n = omega arith in
-    (λ x. option_and_then (traced_at (all x)) (slice_get (traced_from 1 h) i))
-    ∙ sym (standing_from m i n [] h)
-    ∙ ap (standing_of m (take n h)) (sym first_number)
+    (λ x. option_and_then (traced_at m (take n h) (sym first_number x) (all x)) (slice_get (traced_from 1 h) i))
+    ∙ sym (standing_from m (take n h) i n [] h)
+    ∙ ap (standing_of m (take n h)) first_number
 
--- so an index that was made in one pass is one
-pub index-made : {A : Type 0} (m : Parts A) (h : List Kept) (rows : List Firsts) (traced : List Traced) →
-    ((t : ℕ) → course_in rows t ≡ course_from 1 h t) → traced ≡ traced_from 1 h → IsIndex m h rows traced
-index-made m h rows traced courses operations_are =
+-- an operation that is not there
+pub untraced : {A : Type 0} (m : Parts A) (h : List (Kept A)) (o n : ℕ) → numbered (traced_from 1 h) o ≡ None → None ≡ standing_of m (take n h) o
+untraced m h o n is = ap (option_and_then (traced_at m (take n h) o n)) (sym is) ∙ standing-traced m h o n
+
+-- one that stands behind the first n
+pub traced_later : {A : Type 0} (m : Parts A) (h : List (Kept A)) (o n : ℕ) (x : Traced) → numbered (traced_from 1 h) o ≡ Some x → n < x.place → None ≡ standing_of m (take n h) o
+traced_later m h o n x is past =
+    sym (cond-false _ _ _ (lt-leb x.place n past)) ∙ ap (option_and_then (traced_at m (take n h) o n)) (sym is) ∙ standing-traced m h o n
+
+-- and one that stands among them
+pub traced_there : {A : Type 0} (m : Parts A) (h : List (Kept A)) (o n : ℕ) (x : Traced) → numbered (traced_from 1 h) o ≡ Some x → x.place ≤ n → Some (held_from m (take n h) o x.invoker.0 x.place) ≡ standing_of m (take n h) o
+traced_there m h o n x is within =
+    sym (cond-true _ _ _ (le-leb x.place n within)) ∙ ap (option_and_then (traced_at m (take n h) o n)) (sym is) ∙ standing-traced m h o n
+
+-- the turn that is traced with an operation is the first of its invoker behind it
+turn_traced : {A : Type 0} (n i : ℕ) (ks : List (Kept A)) (x : Traced) → slice_get (traced_from n ks) i ≡ Some x → (n ≤ x.place) × (x.turn ≡ turn_from (x.place + 1) (drop (x.place + 1 - n) ks) x.invoker.0)
+turn_traced n i [] x is = absurd (none-some x is)
+turn_traced {A} n i (k ∷ ks) x is = of_event k.event i is (λ b. turn_traced (n + 1) b ks x)
+  where
+    behind : (n + 1 ≤ x.place) × (x.turn ≡ turn_from (x.place + 1) (drop (x.place + 1 - (n + 1)) ks) x.invoker.0) → (n ≤ x.place) × (x.turn ≡ turn_from (x.place + 1) (drop (x.place + 1 - n) (k ∷ ks)) x.invoker.0)
+    behind found =
+        let past : n + 1 ≤ x.place = found.0 in
+        let less : suc (x.place + 1 - (n + 1)) ≡ x.place + 1 - n = omega arith in
+        (omega arith, found.1 ∙ ap (λ l. turn_from (x.place + 1) (drop l (k ∷ ks)) x.invoker.0) less)
+
+    of_event : (e : Event A) (b : ℕ) → slice_get (cons_option (traced_in n (turn_from (n + 1) ks) e) (traced_from (n + 1) ks)) b ≡ Some x →
+        ((d : ℕ) → slice_get (traced_from (n + 1) ks) d ≡ Some x → (n + 1 ≤ x.place) × (x.turn ≡ turn_from (x.place + 1) (drop (x.place + 1 - (n + 1)) ks) x.invoker.0)) →
+        (n ≤ x.place) × (x.turn ≡ turn_from (x.place + 1) (drop (x.place + 1 - n) (k ∷ ks)) x.invoker.0)
+    of_event (Operate t object op) zero is later =
+        let here : ℕ → Option ℕ = turn_from (n + 1) ks in
+        let less : 1 ≡ n + 1 - n = omega arith in
+        subst (λ y. (n ≤ y.place) × (y.turn ≡ turn_from (y.place + 1) (drop (y.place + 1 - n) (k ∷ ks)) y.invoker.0)) (same_Some _ x is)
+        (omega arith, ap (λ l. turn_from (n + 1) (drop l (k ∷ ks)) t.0) less)
+    of_event (Operate t object op) (suc b) is later = behind (later b is)
+    of_event _ b is later = behind (later b is)
+
+pub turn_of_traced : {A : Type 0} (h : List (Kept A)) (o : ℕ) (x : Traced) → numbered (traced_from 1 h) o ≡ Some x → x.turn ≡ turn_from (x.place + 1) (drop x.place h) x.invoker.0
+turn_of_traced h zero x is = absurd (none-some x is)
+turn_of_traced h (suc i) x is =
+    let less : x.place + 1 - 1 ≡ x.place = omega arith in
+    (turn_traced 1 i h x is).1 ∙ ap (λ l. turn_from (x.place + 1) (drop l h) x.invoker.0) less
+
+-- so an index that was made in one pass, with the edges, is one
+pub index-made : {A : Type 0} (m : Parts A) (h : List (Kept A)) (rows : List Firsts) (traced : List Traced) (behind : List Onward) (in_force : List Edge) →
+    ((t : ℕ) → course_in rows t ≡ course_from 1 h t) → traced ≡ traced_from 1 h → behind ≡ onward_from 1 h → in_force ≡ edges m h → IsIndex m h rows traced behind in_force
+index-made m h rows traced behind in_force courses operations_are turns_are formed =
     record {
       courses = λ t. courses t ∙ course-from h t;
-      standings = λ o n. ap (λ xs. standing_by xs o n) operations_are ∙ standing-traced m h o n;
+      operations = operations_are;
+      turns = turns_are;
+      formed = formed;
     }

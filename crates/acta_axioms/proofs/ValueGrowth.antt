@@ -11,11 +11,12 @@ use Rattle.std.proofs.lemmas.Bool.{true≢false, cases_eq, eq-eqb, ne_eqb}
 use Rattle.acta_table.specs.declared.answer.Fate.{Fate}
 use Rattle.acta_table.specs.declared.answer.Fate.TheVariants.{InProgress, Committed, Aborted}
 use Rattle.acta_table.specs.declared.event.Event.{Event}
-use Rattle.acta_table.specs.declared.event.Event.TheVariants.{Commit, Abort}
+use Rattle.acta_table.specs.declared.event.Event.TheVariants.{Delegate, Commit, Abort}
 use Rattle.acta_table.specs.declared.event.Kept.{Kept}
 use Rattle.acta_table.specs.declared.model.Kind.{Kind}
 use Rattle.acta_table.specs.declared.model.Parts.{Parts}
 use Rattle.acta_table.specs.Classes.{kind_at}
+use Rattle.acta_table.specs.Sets.{is_named}
 use Rattle.acta_objects.specs.Objects.{step, first_state, state_after, returned}
 use Rattle.acta_axioms.specs.Operations.{operations, Standing, held_by, ended_by, followed, carried, standing, is_held_by, is_in_view, view_set}
 use Rattle.acta_axioms.specs.Values.{value, asked_of, return_due}
@@ -32,21 +33,26 @@ filter-both p q (x ∷ xs) = of_test (p x) (filter-both p q xs)
     of_test false later = later
 
 -- whether the event is an abort
-abbrev pub is_abort : Event → Bool
+abbrev pub is_abort : {A : Type 0} → Event A → Bool
 is_abort (Abort t) = true
 is_abort _ = false
 
-unaborted : {A : Type 0} (m : Parts A) (h : List Kept) (o t : ℕ) (e : Event) → is_abort e ≡ false → is_in_view (followed m h o t e) ≡ true
+unaborted : {A : Type 0} (m : Parts A) (h : List (Kept A)) (o t : ℕ) (e : Event A) → is_abort e ≡ false → is_in_view (followed m h o t e) ≡ true
 unaborted m h o t (Abort s) not_abort = absurd (true≢false not_abort)
 unaborted m h o t (Commit s) not_abort = of_commit (s.0 == t)
   where
     of_commit : (b : Bool) → is_in_view (if b then ended_by t Committed else held_by t) ≡ true
     of_commit true = refl
     of_commit false = refl
+unaborted m h o t (Delegate s u ops) not_abort = of_delegate ((s.0 == t) && is_named ops o)
+  where
+    of_delegate : (b : Bool) → is_in_view (if b then held_by u.0 else held_by t) ≡ true
+    of_delegate true = refl
+    of_delegate false = refl
 unaborted m h o t _ not_abort = refl
 
 -- only an abort takes operations out of the view
-carried-seen : {A : Type 0} (m : Parts A) (h : List Kept) (k : Kept) → is_abort k.event ≡ false → (o : ℕ) (s : Standing) → is_in_view (carried m o s (at_end h k)) ≡ is_in_view s
+carried-seen : {A : Type 0} (m : Parts A) (h : List (Kept A)) (k : Kept A) → is_abort k.event ≡ false → (o : ℕ) (s : Standing) → is_in_view (carried m o s (at_end h k)) ≡ is_in_view s
 carried-seen m h k not_abort o s = of_fate s.fate
   where
     of_fate : (f : Fate) → is_in_view (carried m o (ended_by s.holder f) (at_end h k)) ≡ is_in_view (ended_by s.holder f)
@@ -54,28 +60,28 @@ carried-seen m h k not_abort o s = of_fate s.fate
     of_fate Committed = refl
     of_fate Aborted = refl
 
-pub view_set-push_kept : {A : Type 0} (m : Parts A) (h : List Kept) (k : Kept) → is_abort k.event ≡ false → view_set m (h ++ k ∷ []) ≡ view_set m h ++ added h k
+pub view_set-push_kept : {A : Type 0} (m : Parts A) (h : List (Kept A)) (k : Kept A) → is_abort k.event ≡ false → view_set m (h ++ k ∷ []) ≡ view_set m h ++ added h k
 view_set-push_kept m h k not_abort =
     view_set-push m h k
     ∙ ap (λ os. os ++ added h k) (filter_agree (λ o. is_in_view (carried m o.number (standing m h o) (at_end h k))) (λ o. is_in_view (standing m h o)) (λ o. carried-seen m h k not_abort o.number (standing m h o)) (operations h))
 
 -- where nothing is aborted, a value goes on from the value before
-pub value-push : {A : Type 0} (m : Parts A) (h : List Kept) (k : Kept) (object : ℕ) (kind : Kind) → is_abort k.event ≡ false →
+pub value-push : {A : Type 0} (m : Parts A) (h : List (Kept A)) (k : Kept A) (object : ℕ) (kind : Kind) → is_abort k.event ≡ false →
     value m (h ++ k ∷ []) object kind ≡ fold step (value m h object kind) (filter_map (asked_of object kind) (added h k))
 value-push m h k object kind not_abort =
     ap (λ os. fold step (first_state kind) (filter_map (asked_of object kind) os)) (view_set-push_kept m h k not_abort)
     ∙ ap (fold step (first_state kind)) (filter_map-append (asked_of object kind) (view_set m h) (added h k))
     ∙ fold-append step (first_state kind) (filter_map (asked_of object kind) (view_set m h)) (filter_map (asked_of object kind) (added h k))
 
-pub return_due-push : {A : Type 0} (m : Parts A) (h : List Kept) (k : Kept) (object : ℕ) (op : Op) → is_abort k.event ≡ false →
+pub return_due-push : {A : Type 0} (m : Parts A) (h : List (Kept A)) (k : Kept A) (object : ℕ) (op : Op) → is_abort k.event ≡ false →
     return_due m (h ++ k ∷ []) object op ≡ option_map (λ kind. returned (fold step (value m h object kind) (filter_map (asked_of object kind) (added h k))) op) (kind_at m object)
 return_due-push m h k object op not_abort = λ i. option_map (λ kind. returned (value-push m h k object kind not_abort i) op) (kind_at m object)
 
-eqb-turned : (a b : ℕ) → (a == b) ≡ (b == a)
+pub eqb-turned : (a b : ℕ) → (a == b) ≡ (b == a)
 eqb-turned a b = elim (cases_eq a b) [ inl e ↦ eq-eqb a b e ∙ sym (eq-eqb b a (sym e)) | inr n ↦ ne_eqb a b n ∙ sym (ne_eqb b a (λ e. n (sym e))) ]
 
 -- an operation is seen behind an abort where it was seen, and the one that aborts did not hold it
-aborted-seen : {A : Type 0} (m : Parts A) (h : List Kept) (t : TxnId) (ret : Option Ret) (o : ℕ) (s : Standing) →
+aborted-seen : {A : Type 0} (m : Parts A) (h : List (Kept A)) (t : TxnId) (ret : Option Ret) (o : ℕ) (s : Standing) →
     is_in_view (carried m o s (at_end h (record { event = Abort t; ret = ret }))) ≡ (is_in_view s && not (is_held_by t.0 s))
 aborted-seen m h t ret o s = of_fate s.fate
   where
@@ -89,7 +95,7 @@ aborted-seen m h t ret o s = of_fate s.fate
     of_fate Aborted = refl
 
 -- an abort takes what it holds out of the view
-pub view_set-abort : {A : Type 0} (m : Parts A) (h : List Kept) (t : TxnId) (ret : Option Ret) →
+pub view_set-abort : {A : Type 0} (m : Parts A) (h : List (Kept A)) (t : TxnId) (ret : Option Ret) →
     view_set m (h ++ record { event = Abort t; ret = ret } ∷ []) ≡ filter (λ o. not (is_held_by t.0 (standing m h o))) (view_set m h)
 view_set-abort m h t ret =
     view_set-push m h (record { event = Abort t; ret = ret })
@@ -98,7 +104,7 @@ view_set-abort m h t ret =
     ∙ filter-both (λ o. is_in_view (standing m h o)) (λ o. not (is_held_by t.0 (standing m h o))) (operations h)
 
 -- so a value behind an abort is that of the operations that it leaves
-pub value-abort : {A : Type 0} (m : Parts A) (h : List Kept) (t : TxnId) (ret : Option Ret) (object : ℕ) (kind : Kind) →
+pub value-abort : {A : Type 0} (m : Parts A) (h : List (Kept A)) (t : TxnId) (ret : Option Ret) (object : ℕ) (kind : Kind) →
     value m (h ++ record { event = Abort t; ret = ret } ∷ []) object kind
     ≡ state_after (first_state kind) (filter_map (asked_of object kind) (filter (λ o. not (is_held_by t.0 (standing m h o))) (view_set m h)))
 value-abort m h t ret object kind = ap (λ os. state_after (first_state kind) (filter_map (asked_of object kind) os)) (view_set-abort m h t ret)

@@ -1,15 +1,33 @@
 -- What is claimed of each history that a machine keeps.
-use Rattle.std.specs.Prelude.{ℕ, ◌≡◌, List, [], is_some, if◌then◌else◌}
+use Rattle.std.specs.Prelude.{ℕ, ◌≡◌, Bool, true, ◌&&◌, ◌||◌, not, ◌==◌, List, [], is_some, if◌then◌else◌}
+use Rattle.std.specs.List.{list_all}
+use Rattle.acta_table.specs.declared.dep.Edge.{Edge}
 use Rattle.acta_table.specs.declared.event.Kept.{Kept}
 use Rattle.acta_table.specs.declared.answer.Status.{Status}
 use Rattle.acta_table.specs.declared.answer.Status.TheVariants.{NotBegun, InProgress, Committed, Aborted}
 use Rattle.acta_table.specs.declared.model.Parts.{Parts}
-use Rattle.acta_axioms.specs.History.{Course, course}
+use Rattle.acta_axioms.specs.History.{Course, course, end}
+use Rattle.acta_axioms.specs.Edges.{edges}
+use Rattle.acta_axioms.specs.Legal.{is_legal}
 use Rattle.acta_axioms.specs.Faults.{faults_in_places}
 
--- a history that the axioms allow: there is no fault at any place
-pub record MeetsAxioms {A : Type 0} (m : Parts A) (h : List Kept) : Type 0 where
+-- a history that the axioms allow: there is no fault at any place, and it is legal
+pub record MeetsAxioms {A : Type 0} (m : Parts A) (h : List (Kept A)) : Type 0 where
   pub faultless : faults_in_places m h ≡ []
+  pub legal : is_legal m h ≡ true
+
+-- whether a course that has an end has a start, and has not both a commit and an abort
+abbrev pub is_orderly : Course → Bool
+is_orderly c = (is_some c.start || not (is_some (end c))) && not (is_some c.commit && is_some c.abort)
+
+-- whether the edge joins two transactions
+abbrev pub is_apart : Edge → Bool
+is_apart e = not (e.j.0 == e.i.0)
+
+-- each course is orderly, and each edge joins two transactions
+pub record IsOrderly {A : Type 0} (m : Parts A) (h : List (Kept A)) : Type 0 where
+  pub courses : (t : ℕ) → is_orderly (course h t) ≡ true
+  pub edges : list_all is_apart (edges m h) ≡ true
 
 -- how a transaction of this course stands
 abbrev pub status_in : Course → Status
@@ -20,5 +38,5 @@ status_in c =
     else NotBegun
 
 -- how a transaction stands, by the places of the history
-abbrev pub status_at : List Kept → ℕ → Status
+abbrev pub status_at : {A : Type 0} → List (Kept A) → ℕ → Status
 status_at h t = status_in (course h t)

@@ -1,25 +1,29 @@
 -- What is wrong at a place: for each axiom the numbers by which the event there breaks it, given all
 -- that stands before it.
-use Rattle.std.specs.Prelude.{ℕ, Bool, true, false, ◌&&◌, ◌||◌, not, List, [], ◌∷◌, get_or, map, filter, flat_map, if◌then◌else◌, Option, Some, is_some, option_to_list}
+use Rattle.std.specs.Prelude.{ℕ, Bool, true, false, ◌&&◌, ◌||◌, not, ◌==◌, List, [], ◌∷◌, get_or, map, filter, flat_map, if◌then◌else◌, Option, Some, is_some, option_to_list}
 use Rattle.std.specs.List.{list_any}
 use Rattle.std.specs.Option.{option_map_or, option_and_then}
 use Rattle.std.specs.Ordering.{int_eq}
 use Rattle.acta_table.specs.declared.event.Ret.{Ret}
 use Rattle.acta_table.specs.declared.event.Ret.TheVariants.{Done, Value, Flag}
 use Rattle.acta_table.specs.declared.event.EventKind.{EventKind}
+use Rattle.acta_table.specs.declared.event.EventKind.TheVariants.{Form as form_kind}
 use Rattle.acta_table.specs.declared.event.Event.{Event}
-use Rattle.acta_table.specs.declared.event.Event.TheVariants.{Operate, Commit, Abort}
+use Rattle.acta_table.specs.declared.event.Event.TheVariants.{Delegate, Form, Operate, Commit, Abort}
 use Rattle.acta_table.specs.declared.event.Kept.{Kept}
 use Rattle.acta_table.specs.declared.model.Parts.{Parts}
-use Rattle.acta_table.specs.Events.{kind_of, named, acting, started, class_named}
-use Rattle.acta_table.specs.Classes.{class_at, can_start, can_do}
-use Rattle.acta_table.specs.WellFormed.{bad_number, bad_class, bad_object}
+use Rattle.acta_table.specs.Events.{kind_of, named, acting, started, class_named, operations_named, hands_over}
+use Rattle.acta_table.specs.Classes.{class_at, can_start, can_do, is_whole}
+use Rattle.acta_table.specs.Dependencies.{is_begin_kind}
+use Rattle.acta_table.specs.Numbered.{smallest}
+use Rattle.acta_table.specs.Sets.{numbers_of, is_named}
+use Rattle.acta_table.specs.WellFormed.{bad_number, bad_class, bad_object, same_transaction}
 use Rattle.acta_objects.specs.WellFormed.{bad_operation}
 use Rattle.acta_axioms.specs.declared.fault.Fault.{Fault}
 use Rattle.acta_axioms.specs.declared.fault.Axiom.{Axiom}
-use Rattle.acta_axioms.specs.declared.fault.Axiom.TheVariants.{BegunOnce, EndedAfterBegun, EndedOnce, OperatesInProgress, FormOfEvent, Allowed, Conflict, Return}
+use Rattle.acta_axioms.specs.declared.fault.Axiom.TheVariants.{BegunOnce, EndedAfterBegun, EndedOnce, OperatesInProgress, FormOfEvent, Allowed, PartiesInProgress, Responsible, HandsWhole, Conflict, Return, FormedInTime}
 use Rattle.acta_axioms.specs.History.{Place, number, places, has_begun, has_ended, is_in_progress, has_class}
-use Rattle.acta_axioms.specs.Operations.{number_after}
+use Rattle.acta_axioms.specs.Operations.{number_after, access_set}
 use Rattle.acta_axioms.specs.Values.{is_well_formed, return_due, conflicting}
 
 -- the number, where the test is true
@@ -27,55 +31,98 @@ abbrev pub when : Bool → ℕ → List ℕ
 when test n = if test then n ∷ [] else []
 
 -- the first transaction that the event names
-abbrev pub first_named : Event → ℕ
+abbrev pub first_named : {A : Type 0} → Event A → ℕ
 first_named e = get_or (named e) 0 0
 
 -- the transaction that the event ends
-abbrev pub ended : Event → List ℕ
+abbrev pub ended : {A : Type 0} → Event A → List ℕ
 ended (Commit t) = t.0 ∷ []
 ended (Abort t) = t.0 ∷ []
 ended _ = []
 
 -- begun once: the one that is started has begun already
-abbrev pub begun_again : List Kept → Event → List ℕ
+abbrev pub begun_again : {A : Type 0} → List (Kept A) → Event A → List ℕ
 begun_again before e = filter (has_begun before) (option_to_list (started e))
 
 -- ended only after it began: the one that ends has not begun
-abbrev pub ended_unbegun : List Kept → Event → List ℕ
+abbrev pub ended_unbegun : {A : Type 0} → List (Kept A) → Event A → List ℕ
 ended_unbegun before e = filter (λ t. not (has_begun before t)) (ended e)
 
 -- ended once: the one that ends has ended already
-abbrev pub ended_again : List Kept → Event → List ℕ
+abbrev pub ended_again : {A : Type 0} → List (Kept A) → Event A → List ℕ
 ended_again before e = filter (has_ended before) (ended e)
 
 -- operates in progress: an operation by one that is not in progress
-abbrev pub operated_idle : List Kept → Event → List ℕ
+abbrev pub operated_idle : {A : Type 0} → List (Kept A) → Event A → List ℕ
 operated_idle before (Operate t object op) = when (not (is_in_progress before t.0)) t.0
 operated_idle before _ = []
 
--- form of the event: a transaction's number, the class, the object or the operation is bad
-abbrev pub ill_formed : {A : Type 0} → Parts A → Event → List ℕ
+-- form of the event: a transaction's number, the class, the object or the operation is bad, or the
+-- two transactions are one
+abbrev pub ill_formed : {A : Type 0} → Parts A → Event A → List ℕ
 ill_formed m e =
-    let broken = bad_number e ∷ bad_class m e ∷ bad_object m e ∷ bad_operation m e ∷ [] in
+    let broken = bad_number e ∷ bad_class m e ∷ bad_object m e ∷ bad_operation m e ∷ same_transaction e ∷ [] in
     when (list_any is_some broken) (first_named e)
 
 -- whether the class named may not start by such an event; one that is not known lacks nothing
-abbrev pub lacks_start : {A : Type 0} → Parts A → Event → Bool
+abbrev pub lacks_start : {A : Type 0} → Parts A → Event A → Bool
 lacks_start m e =
     option_map_or (λ k. not (can_start (kind_of e) k)) (option_and_then (class_at m) (class_named e)) false
 
 -- whether the class of t may not do such an event; one that is not known lacks nothing
-abbrev pub lacks_kind : {A : Type 0} → Parts A → List Kept → EventKind → ℕ → Bool
+abbrev pub lacks_kind : {A : Type 0} → Parts A → List (Kept A) → EventKind → ℕ → Bool
 lacks_kind m before kind t = has_class (λ k. not (can_do kind k)) m before t
 
--- allowed: the class named lacks the start, or that of the acting one the kind of event
-abbrev pub not_allowed : {A : Type 0} → Parts A → List Kept → Event → List ℕ
+-- whether an edge is formed where no class may form any, or of one whose class may not
+abbrev pub cannot_form : {A : Type 0} → Parts A → List (Kept A) → Event A → Bool
+cannot_form m before (Form kind j i) =
+    not (list_any (can_do form_kind) m.classes)
+    || (lacks_kind m before form_kind j.0 || lacks_kind m before form_kind i.0)
+cannot_form m before _ = false
+
+-- allowed: the class named lacks the start, or that of the acting one the kind of event, or the edge
+-- may not be formed
+abbrev pub not_allowed : {A : Type 0} → Parts A → List (Kept A) → Event A → List ℕ
 not_allowed m before e =
     let lacks_its_kind = option_map_or (lacks_kind m before (kind_of e)) (acting e) false in
-    when (lacks_start m e || lacks_its_kind) (first_named e)
+    when (lacks_start m e || (lacks_its_kind || cannot_form m before e)) (first_named e)
+
+-- the transactions that take part in an event beside ending, and have to be in progress
+abbrev pub party : {A : Type 0} → Event A → List ℕ
+party (Delegate t u ops) = t.0 ∷ u.0 ∷ []
+party _ = []
+
+-- parties in progress: one that delegates, or is handed something, is not in progress
+abbrev pub idle_party : {A : Type 0} → List (Kept A) → Event A → List ℕ
+idle_party before e = filter (λ t. not (is_in_progress before t)) (party e)
+
+-- the operations that the acting one holds in progress
+abbrev pub held_numbers : {A : Type 0} → Parts A → List (Kept A) → Event A → List ℕ
+held_numbers m before e = option_map_or (λ t. map (λ o. o.number) (access_set m before t)) (acting e) []
+
+-- whether the number is among these
+abbrev pub has_number : List ℕ → ℕ → Bool
+has_number ns n = list_any (λ q. q == n) ns
+
+-- responsible: what is handed over is not held in progress by the one that hands it over
+abbrev pub handed_unheld : {A : Type 0} → Parts A → List (Kept A) → Event A → List ℕ
+handed_unheld m before e =
+    filter (λ o. not (has_number (held_numbers m before e) o)) (numbers_of (operations_named e))
+
+-- whether the event hands operations over, and its transaction's class wants all of them handed over
+abbrev pub hands_whole : {A : Type 0} → Parts A → List (Kept A) → Event A → Bool
+hands_whole m before e =
+    hands_over e && option_map_or (has_class (λ k. is_whole k.extent) m before) (acting e) false
+
+-- hands over the whole: one that must hand over all that it holds leaves something out
+abbrev pub left_out : {A : Type 0} → Parts A → List (Kept A) → Event A → List ℕ
+left_out m before e =
+    if hands_whole m before e
+    then filter (λ o. not (is_named (operations_named e) o)) (held_numbers m before e)
+    else []
 
 -- conflict: the operation conflicts with operations of its transaction's conflict set
-abbrev pub in_conflict : {A : Type 0} → Parts A → List Kept → Event → List ℕ
+abbrev pub in_conflict : {A : Type 0} → Parts A → List (Kept A) → Event A → List ℕ
 in_conflict m before (Operate t object op) = map (λ o. o.number) (conflicting m before t.0 object.0 op)
 in_conflict m before _ = []
 
@@ -92,15 +139,23 @@ is_due (Some due) (Some ret) = is_same_ret due ret
 is_due _ _ = false
 
 -- return: that of a well-formed operation is not the one due, or what is no operation has one
-abbrev pub wrong_return : {A : Type 0} → Parts A → List Kept → Option Ret → Event → List ℕ
+abbrev pub wrong_return : {A : Type 0} → Parts A → List (Kept A) → Option Ret → Event A → List ℕ
 wrong_return m before ret (Operate t object op) =
     let is_wrong = not (is_due (return_due m before object.0 op) ret) in
     when (is_well_formed m object.0 op && is_wrong) (number_after before)
 wrong_return m before ret _ = when (is_some ret) 0
 
+-- formed in time: an edge of a begin kind where j has begun, or of another where j or i has ended
+abbrev pub formed_late : {A : Type 0} → List (Kept A) → Event A → List ℕ
+formed_late before (Form kind j i) =
+    if is_begin_kind kind
+    then when (has_begun before j.0) j.0
+    else option_to_list (smallest (filter (has_ended before) (j.0 ∷ i.0 ∷ [])))
+formed_late before _ = []
+
 -- the numbers by which an event breaks each axiom, in the order of the axioms
 unfoldable pub breaches : {A : Type 0} →
-    Parts A → List Kept → Option Ret → Event → List (Axiom × List ℕ)
+    Parts A → List (Kept A) → Option Ret → Event A → List (Axiom × List ℕ)
 breaches m before ret e =
     (BegunOnce, begun_again before e)
     ∷ (EndedAfterBegun, ended_unbegun before e)
@@ -108,8 +163,12 @@ breaches m before ret e =
     ∷ (OperatesInProgress, operated_idle before e)
     ∷ (FormOfEvent, ill_formed m e)
     ∷ (Allowed, not_allowed m before e)
+    ∷ (PartiesInProgress, idle_party before e)
+    ∷ (Responsible, handed_unheld m before e)
+    ∷ (HandsWhole, left_out m before e)
     ∷ (Conflict, in_conflict m before e)
     ∷ (Return, wrong_return m before ret e)
+    ∷ (FormedInTime, formed_late before e)
     ∷ []
 
 -- the faults of an axiom at a place
@@ -117,10 +176,10 @@ abbrev pub faults_of : Axiom → ℕ → List ℕ → List Fault
 faults_of broken place bys = map (λ by. record { broken = broken; place = place; by = by }) bys
 
 -- all faults at a place
-abbrev pub faults_at : {A : Type 0} → Parts A → Place → List Fault
+abbrev pub faults_at : {A : Type 0} → Parts A → Place A → List Fault
 faults_at m p =
     flat_map (λ b. faults_of b.0 (number p) b.1) (breaches m p.before p.kept.ret p.kept.event)
 
 -- all faults of a history, place by place
-abbrev pub faults_in_places : {A : Type 0} → Parts A → List Kept → List Fault
+abbrev pub faults_in_places : {A : Type 0} → Parts A → List (Kept A) → List Fault
 faults_in_places m h = flat_map (faults_at m) (places h)

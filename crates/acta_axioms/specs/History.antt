@@ -12,39 +12,39 @@ use Rattle.acta_table.specs.Events.{started, class_named}
 use Rattle.acta_table.specs.Classes.{class_at}
 
 -- a place of a history: the item that stands there, and all that stands before it
-pub record Place : Type 0 where
-  pub before : List Kept
-  pub kept : Kept
+pub record Place (A : Type 0) : Type 0 where
+  pub before : List (Kept A)
+  pub kept : Kept A
 
 -- places are numbered from 1
-abbrev pub number : Place → ℕ
+abbrev pub number : {A : Type 0} → Place A → ℕ
 number p = length p.before + 1
 
 -- the places of some items that stand behind others
-abbrev pub places_behind : List Kept → List Kept → List Place
+abbrev pub places_behind : {A : Type 0} → List (Kept A) → List (Kept A) → List (Place A)
 places_behind before [] = []
 places_behind before (k ∷ ks) =
     record { before = before; kept = k } ∷ places_behind (before ++ k ∷ []) ks
 
 -- the places of a history, in order
-abbrev pub places : List Kept → List Place
+abbrev pub places : {A : Type 0} → List (Kept A) → List (Place A)
 places h = places_behind [] h
 
 -- the first place with an event that passes the test
-abbrev pub first : (Event → Bool) → List Kept → Option Place
+abbrev pub first : {A : Type 0} → (Event A → Bool) → List (Kept A) → Option (Place A)
 first test h = find (λ p. test p.kept.event) (places h)
 
 -- whether the event starts t
-abbrev pub starts : ℕ → Event → Bool
+abbrev pub starts : {A : Type 0} → ℕ → Event A → Bool
 starts t e = option_map_or (λ u. u == t) (started e) false
 
 -- whether the event is a commit of t
-abbrev pub commits : ℕ → Event → Bool
+abbrev pub commits : {A : Type 0} → ℕ → Event A → Bool
 commits t (Commit u) = u.0 == t
 commits t _ = false
 
 -- whether the event is an abort of t
-abbrev pub aborts : ℕ → Event → Bool
+abbrev pub aborts : {A : Type 0} → ℕ → Event A → Bool
 aborts t (Abort u) = u.0 == t
 aborts t _ = false
 
@@ -55,7 +55,7 @@ pub record Course : Type 0 where
   pub abort : Option ℕ
 
 -- the course of t in a history
-abbrev pub course : List Kept → ℕ → Course
+abbrev pub course : {A : Type 0} → List (Kept A) → ℕ → Course
 course h t = record {
   start = option_map number (first (starts t) h);
   commit = option_map number (first (commits t) h);
@@ -72,25 +72,25 @@ abbrev pub end : Course → Option ℕ
 end c = least c.commit c.abort
 
 -- whether t has started
-abbrev pub has_begun : List Kept → ℕ → Bool
+abbrev pub has_begun : {A : Type 0} → List (Kept A) → ℕ → Bool
 has_begun h t = is_some (course h t).start
 
 -- whether t has ended, also where it never started
-abbrev pub has_ended : List Kept → ℕ → Bool
+abbrev pub has_ended : {A : Type 0} → List (Kept A) → ℕ → Bool
 has_ended h t = is_some (end (course h t))
 
 -- whether t has started and not ended
-abbrev pub is_in_progress : List Kept → ℕ → Bool
+abbrev pub is_in_progress : {A : Type 0} → List (Kept A) → ℕ → Bool
 is_in_progress h t = has_begun h t && not (has_ended h t)
 
 -- the number of the class that t's start names
-abbrev pub class_number : List Kept → ℕ → Option ℕ
+abbrev pub class_number : {A : Type 0} → List (Kept A) → ℕ → Option ℕ
 class_number h t = option_and_then (λ p. class_named p.kept.event) (first (starts t) h)
 
 -- the class of t, where it is in the model
-abbrev pub class_of : {A : Type 0} → Parts A → List Kept → ℕ → Option (Class A)
+abbrev pub class_of : {A : Type 0} → Parts A → List (Kept A) → ℕ → Option (Class A)
 class_of m h t = option_and_then (class_at m) (class_number h t)
 
 -- whether t has a class in the model, of which the test is true
-abbrev pub has_class : {A : Type 0} → (Class A → Bool) → Parts A → List Kept → ℕ → Bool
+abbrev pub has_class : {A : Type 0} → (Class A → Bool) → Parts A → List (Kept A) → ℕ → Bool
 has_class test m h t = option_map_or test (class_of m h t) false

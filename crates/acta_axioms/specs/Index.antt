@@ -1,22 +1,27 @@
 -- What the index of `Places` says: the words of the code's own contracts.
-use Rattle.std.specs.Prelude.{ℕ, ◌≡◌, ◌+◌, zero, suc, nat_le, nat_lt, List, [], ◌∷◌, get_or, take, slice_get, if◌then◌else◌, Option, Some, None}
+use Rattle.std.specs.Prelude.{ℕ, ◌≡◌, ◌+◌, Bool, false, ◌==◌, zero, suc, List, [], ◌∷◌, get_or, drop, fold, slice_get, if◌then◌else◌, Option, Some, None}
 use Rattle.std.specs.List.{position_from, cons_option}
-use Rattle.std.specs.Option.{option_and_then}
+use Rattle.acta_table.specs.declared.dep.Edge.{Edge}
 use Rattle.acta_table.specs.declared.answer.Fate.TheVariants.{Committed, Aborted}
 use Rattle.acta_table.specs.declared.event.Event.{Event}
-use Rattle.acta_table.specs.declared.event.Event.TheVariants.{Operate}
+use Rattle.acta_table.specs.declared.event.Event.TheVariants.{Delegate, Operate, Commit, Abort}
 use Rattle.acta_table.specs.declared.event.Kept.{Kept}
+use Rattle.acta_table.specs.declared.event.TxnId.{TxnId}
 use Rattle.acta_table.specs.declared.model.Parts.{Parts}
-use Rattle.acta_axioms.specs.declared.places.Held.{Held}
+use Rattle.acta_table.specs.Sets.{is_named}
+use Rattle.acta_axioms.specs.declared.follow.Held.{Held}
+use Rattle.acta_axioms.specs.declared.follow.Turn.{Turn}
+use Rattle.acta_axioms.specs.declared.follow.Turn.TheVariants.{On, Ended}
 use Rattle.acta_axioms.specs.declared.index.Firsts.{Firsts}
-use Rattle.acta_axioms.specs.declared.index.Ending.{Ending}
+use Rattle.acta_axioms.specs.declared.index.Onward.{Onward}
 use Rattle.acta_axioms.specs.declared.index.Traced.{Traced}
-use Rattle.acta_axioms.specs.History.{Course, course, starts, commits, aborts}
-use Rattle.acta_axioms.specs.Operations.{Standing, held_by, ended_by, standing_of}
+use Rattle.acta_axioms.specs.History.{Course, course, places, starts, commits, aborts}
+use Rattle.acta_axioms.specs.Operations.{Standing, held_by, carried}
+use Rattle.acta_axioms.specs.Edges.{edges}
 
 -- no place
 abbrev pub nowhere : Firsts
-nowhere = record { start = None; commit = None; abort = None }
+nowhere = record { start = None; commit = None; abort = None; turn = None }
 
 -- the course of t by a table of first places, which has none for those behind its end
 abbrev pub course_in : List Firsts → ℕ → Course
@@ -25,7 +30,7 @@ course_in rows t =
     record { start = row.start; commit = row.commit; abort = row.abort }
 
 -- the course of t in items of which the first stands at the place n
-abbrev pub course_from : ℕ → List Kept → ℕ → Course
+abbrev pub course_from : {A : Type 0} → ℕ → List (Kept A) → ℕ → Course
 course_from n ks t = record {
   start = position_from (λ k. starts t k.event) n ks;
   commit = position_from (λ k. commits t k.event) n ks;
@@ -33,63 +38,78 @@ course_from n ks t = record {
 }
 
 -- the course with one more event, which stands at the place n before the others
-abbrev pub with_event : ℕ → Event → ℕ → Course → Course
+abbrev pub with_event : {A : Type 0} → ℕ → Event A → ℕ → Course → Course
 with_event n e t c = record {
   start = if starts t e then Some n else c.start;
   commit = if commits t e then Some n else c.commit;
   abort = if aborts t e then Some n else c.abort;
 }
 
--- of a first commit and a first abort the earlier
-abbrev pub ending_by : Option ℕ → Option ℕ → Option Ending
-ending_by None None = None
-ending_by (Some c) None = Some (record { place = c; fate = Committed })
-ending_by None (Some a) = Some (record { place = a; fate = Aborted })
-ending_by (Some c) (Some a) =
-    if nat_lt c a
-    then Some (record { place = c; fate = Committed })
-    else Some (record { place = a; fate = Aborted })
+-- whether the event is a turn of t: an end of it, or a delegation by it
+abbrev pub turns : {A : Type 0} → ℕ → Event A → Bool
+turns t (Delegate s u ops) = s.0 == t
+turns t (Commit s) = s.0 == t
+turns t (Abort s) = s.0 == t
+turns t _ = false
 
--- the first end of a course
-abbrev pub ending : Course → Option Ending
-ending c = ending_by c.commit c.abort
+-- the first turn of t by a table of first places
+abbrev pub turn_in : List Firsts → ℕ → Option ℕ
+turn_in rows t = (get_or rows t nowhere).turn
 
--- an operation at the place n, with the first end of its invoker behind it
-abbrev pub traced_in : ℕ → (ℕ → Course) → Event → Option Traced
-traced_in n courses (Operate t object op) =
-    Some (record { place = n; invoker = t; end = ending (courses t.0) })
-traced_in n courses _ = None
+-- the first turn of t in items of which the first stands at the place n
+abbrev pub turn_from : {A : Type 0} → ℕ → List (Kept A) → ℕ → Option ℕ
+turn_from n ks t = position_from (λ k. turns t k.event) n ks
+
+-- the first turn with one more event, which stands at the place n before the others
+abbrev pub with_turn : {A : Type 0} → ℕ → Event A → ℕ → Option ℕ → Option ℕ
+with_turn n e t turn = if turns t e then Some n else turn
+
+-- an operation at the place n, with the first turn of its invoker behind it
+abbrev pub traced_in : {A : Type 0} → ℕ → (ℕ → Option ℕ) → Event A → Option Traced
+traced_in n turn (Operate t object op) = Some (record { place = n; invoker = t; turn = turn t.0 })
+traced_in n turn _ = None
 
 -- the operations among items of which the first stands at the place n
-abbrev pub traced_from : ℕ → List Kept → List Traced
+abbrev pub traced_from : {A : Type 0} → ℕ → List (Kept A) → List Traced
 traced_from n [] = []
 traced_from n (k ∷ ks) =
-    cons_option (traced_in n (course_from (n + 1) ks) k.event) (traced_from (n + 1) ks)
+    cons_option (traced_in n (turn_from (n + 1) ks) k.event) (traced_from (n + 1) ks)
 
--- how an operation that t invoked stands at n, where its first end is known
-abbrev pub stands_at : ℕ → ℕ → Option Ending → Standing
-stands_at n t None = held_by t
-stands_at n t (Some e) = if nat_le e.place n then ended_by t e.fate else held_by t
+-- the first turns behind a delegation, of the one that delegates and of its partner
+abbrev pub onward_in : {A : Type 0} → (ℕ → Option ℕ) → Event A → Onward
+onward_in turn (Delegate t u ops) = record { own = turn t.0; partner = turn u.0 }
+onward_in turn _ = record { own = None; partner = None }
 
--- how a traced operation stands at n, if it is there already
-abbrev pub traced_at : ℕ → Traced → Option Standing
-traced_at n x = if nat_le x.place n then Some (stands_at n x.invoker.0 x.end) else None
+-- the first turns behind each of the items, of which the first stands at the place n
+abbrev pub onward_from : {A : Type 0} → ℕ → List (Kept A) → List Onward
+onward_from n [] = []
+onward_from n (k ∷ ks) = onward_in (turn_from (n + 1) ks) k.event ∷ onward_from (n + 1) ks
+
+-- what becomes of operation o, which t holds, at a turn of t
+abbrev pub turned_by : {A : Type 0} → Onward → ℕ → TxnId → Event A → Turn
+turned_by behind o t (Delegate s u ops) =
+    if is_named ops o then On u behind.partner else On t behind.own
+turned_by behind o t (Commit s) = Ended Committed
+turned_by behind o t (Abort s) = Ended Aborted
+turned_by behind o t _ = On t None
+
+-- how operation o stands at the end of a history, where t holds it in progress behind the place p
+abbrev pub held_from : {A : Type 0} → Parts A → List (Kept A) → ℕ → ℕ → ℕ → Standing
+held_from m h o t p = fold (carried m o) (held_by t) (drop p (places h))
 
 -- the operation of this number, from 1
 abbrev pub numbered : List Traced → ℕ → Option Traced
 numbered xs zero = None
 numbered xs (suc i) = slice_get xs i
 
--- how operation o stands at n
-abbrev pub standing_by : List Traced → ℕ → ℕ → Option Standing
-standing_by xs o n = option_and_then (traced_at n) (numbered xs o)
-
--- the index is what the definitions give: the course of each transaction, and how each operation
--- stands at each place
-pub record IsIndex {A : Type 0} (m : Parts A) (h : List Kept)
-    (rows : List Firsts) (traced : List Traced) : Type 0 where
+-- the index is what the definitions give: the course of each transaction, the operations, the turns
+-- behind each place, and the edges
+pub record IsIndex {A : Type 0} (m : Parts A) (h : List (Kept A))
+    (rows : List Firsts) (traced : List Traced) (behind : List Onward) (in_force : List Edge) : Type 0 where
   pub courses : (t : ℕ) → course_in rows t ≡ course h t
-  pub standings : (o n : ℕ) → standing_by traced o n ≡ standing_of m (take n h) o
+  pub operations : traced ≡ traced_from 1 h
+  pub turns : behind ≡ onward_from 1 h
+  pub formed : in_force ≡ edges m h
 
 -- what `Held` says of an operation
 abbrev pub standing_in : Held → Standing

@@ -1,7 +1,11 @@
 pub mod History
 pub mod Operations
 pub mod Values
+pub mod Edges
+pub mod Formulas
+pub mod Legal
 pub mod Faults
 pub mod Claims
+pub mod Within
 pub mod Index
 pub mod Shown

@@ -6,4 +6,4 @@ use Rattle.acta_table.specs.declared.model.Parts.{Parts}
 -- a model and a history
 pub record ModelAndHistory (A : Type 0) : Type 0 where
   pub model : Parts A
-  pub history : List Kept
+  pub history : List (Kept A)

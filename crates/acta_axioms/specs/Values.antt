@@ -22,12 +22,12 @@ asked_of object kind o = if (o.object == object) && suits kind o.op then Some o.
 
 -- the value of an object of this kind: its first value, with the operations on it that are not
 -- aborted, in order
-abbrev pub value : {A : Type 0} → Parts A → List Kept → ℕ → Kind → ObjectState A
+abbrev pub value : {A : Type 0} → Parts A → List (Kept A) → ℕ → Kind → ObjectState A
 value m h object kind =
     state_after (first_state kind) (filter_map (asked_of object kind) (view_set m h))
 
 -- what an operation has to return
-abbrev pub return_due : {A : Type 0} → Parts A → List Kept → ℕ → Op → Option Ret
+abbrev pub return_due : {A : Type 0} → Parts A → List (Kept A) → ℕ → Op → Option Ret
 return_due m h object op =
     option_map (λ kind. returned (value m h object kind) op) (kind_at m object)
 
@@ -37,6 +37,6 @@ do_conflict m object p q =
     is_well_formed m object p && (is_well_formed m object q && conflict_on m object p q)
 
 -- the operations of t's conflict set that an operation on this object conflicts with
-abbrev pub conflicting : {A : Type 0} → Parts A → List Kept → ℕ → ℕ → Op → List Operation
+abbrev pub conflicting : {A : Type 0} → Parts A → List (Kept A) → ℕ → ℕ → Op → List Operation
 conflicting m h t object op =
     filter (λ o. (o.object == object) && do_conflict m object o.op op) (conflict_set m h t)

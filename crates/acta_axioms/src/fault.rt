@@ -10,14 +10,22 @@ pub enum Axiom {
     EndedOnce,
     /// Only a transaction in progress does operations.
     OperatesInProgress,
-    /// Numbers, classes, objects and operations are those of the model.
+    /// Numbers, classes, objects and operations are those of the model, and an edge joins two transactions.
     FormOfEvent,
-    /// Classes start and act only as the model lets them.
+    /// Classes start, act and form edges only as the model lets them.
     Allowed,
+    /// Only transactions in progress hand operations over, and to such.
+    PartiesInProgress,
+    /// A transaction hands over only operations that it holds in progress.
+    Responsible,
+    /// One whose class wants it hands over all that it holds in progress.
+    HandsWhole,
     /// No operation conflicts with one in progress that another transaction holds.
     Conflict,
     /// Operations return what their replay does, and nothing else returns anything.
     Return,
+    /// An edge of a begin kind is formed before its first transaction begins, another before either ends.
+    FormedInTime,
 }
 
 /// A fault of a history: the axiom that is broken, the place, from 1, and the number of the

@@ -1,10 +1,13 @@
 //! The meaning of a history, by its places alone: what ACTA says of any list of kept items, legal or
 //! not, with no running state. The definitions stand in `specs/`: where transactions start and end, who
-//! holds each operation and what became of it, the values by replay, and which axiom each place breaks.
-//! `Places` answers questions about a history by them, from an index that it makes once.
+//! holds each operation and what became of it, the values by replay, the edges and what is owed by them,
+//! and which axiom each place breaks. `Places` answers questions about a history by them, from an index
+//! that it makes once.
 #![tactic(auto)]
 
+mod edges;
 mod fault;
+mod follow;
 mod index;
 mod places;
 #[cfg(test)]

@@ -1,21 +1,27 @@
-ghost use Rattle.std.specs.Prelude.{◌≡◌, ◌≤◌, length, option_map, IfOk};
+ghost use Rattle.std.specs.Prelude.{◌≡◌, ◌≤◌, length, take, option_map, IfOk};
 ghost use Rattle.acta_axioms.specs.History.{course};
-ghost use Rattle.acta_axioms.specs.Operations.{holder_at, fate_at};
-ghost use Rattle.acta_axioms.specs.Index.{standing_by, standing_in};
+ghost use Rattle.acta_axioms.specs.Operations.{holder_at, fate_at, standing_of};
+ghost use Rattle.acta_axioms.specs.Edges.{edges};
+ghost use Rattle.acta_axioms.specs.Index.{standing_in};
 
-use crate::index::{Firsts, Index, Traced, index_of, row};
-use acta_table::{Fate, Kept, Model, OpNo, TxnId};
+use crate::edges::edges_of;
+use crate::follow::{Held, standing};
+use crate::index::{Firsts, Index, Onward, Traced, index_of, row};
+use acta_table::{Edge, Fate, Kept, Model, OpNo, TxnId};
 use std::alloc::{AllocError, Allocator};
 
 /// A model and a list of kept items, legal or not, to be asked by places, as ACTA speaks of histories.
-/// The list is read once, into an index (ours), and no question goes over it again. Contracts see the
+/// The list is read once, into an index (ours), and no question goes over it again: one about an operation
+/// goes from turn to turn of those who hold it, where a turn is an end or a delegation. Contracts see the
 /// model and the list.
 #[derive(Drop)]
 pub struct Places<'a, A: Allocator> {
     model: &'a Model<A>,
-    kept: &'a [Kept],
+    kept: &'a [Kept<A>],
     firsts: Vec<Firsts, A>,
     traced: Vec<Traced, A>,
+    onward: Vec<Onward, A>,
+    in_force: Vec<Edge, A>,
 }
 
 impl<'a, A: Allocator> std::marker::Model for Places<'a, A> {
@@ -26,56 +32,50 @@ impl<'a, A: Allocator> std::marker::Model for Places<'a, A> {
 
     ghost view = { λ p. record { model = p.model.now; history = p.kept.now } };
 
-    ghost invariant = { λ p. IsIndex p.model.now p.kept.now p.firsts.items p.traced.items };
-}
-
-// How an operation stands.
-#[derive(Clone, Copy)]
-struct Held {
-    holder: TxnId,
-    fate: Fate,
-}
-
-// How an operation that was traced stands among the first n places, if it is among them.
-fn standing(traced: &[Traced], op: OpNo, n: u32) -> Option<Held>
-    ensures { option_map standing_in result ≡ standing_by traced.now op.0 n }
-{
-    if op.0 == 0 {
-        return None;
-    }
-    let operation = traced.get(op.0 as usize - 1)?;
-    if operation.place > n {
-        return None;
-    }
-    let mut fate = Fate::InProgress;
-    if let Some(end) = operation.end {
-        if end.place <= n {
-            fate = end.fate;
-        }
-    }
-    Some(Held {
-        holder: operation.invoker,
-        fate,
-    })
+    ghost invariant = { λ p. IsIndex p.model.now p.kept.now p.firsts.items p.traced.items p.onward.items p.in_force.items };
 }
 
 impl<'a, A: Allocator + Copy> Places<'a, A> {
     /// The places of a list of at most 65,536 items. `Err` where there is no memory for the index.
-    pub fn of(alloc: A, model: &'a Model<A>, kept: &'a [Kept]) -> Result<Places<'a, A>, AllocError>
+    pub fn of(
+        alloc: A,
+        model: &'a Model<A>,
+        kept: &'a [Kept<A>],
+    ) -> Result<Places<'a, A>, AllocError>
         requires { length kept.now ≤ 65536 }
         ensures { IfOk result (λ places. places ≡ record { model = model.now; history = kept.now }) }
     {
-        let Index { firsts, traced } = index_of(alloc, kept)?;
+        let Index {
+            firsts,
+            traced,
+            onward,
+        } = index_of(alloc, kept)?;
+        let in_force = edges_of(alloc, kept)?;
         Ok(Places {
             model,
             kept,
             firsts,
             traced,
+            onward,
+            in_force,
         })
     }
 }
 
 impl<'a, A: Allocator> Places<'a, A> {
+    // How the operation stands among the first n places, if it is among them.
+    fn held(&self, op: OpNo, n: u32) -> Option<Held>
+        ensures { option_map standing_in result ≡ standing_of self.now.model (take n self.now.history) op.0 }
+    {
+        standing(
+            self.kept,
+            self.traced.as_slice(),
+            self.onward.as_slice(),
+            op,
+            n,
+        )
+    }
+
     /// The first place, from 1, at which the transaction begins (ACTA's initiation). `None` where
     /// it never does, and for each number that the list doesn't name.
     pub fn start(&self, t: TxnId) -> Option<u32>
@@ -103,7 +103,7 @@ impl<'a, A: Allocator> Places<'a, A> {
     pub fn holder(&self, op: OpNo, n: u32) -> Option<TxnId>
         ensures { option_map (λ t. t.0) result ≡ holder_at self.now.model self.now.history op.0 n }
     {
-        let held = standing(self.traced.as_slice(), op, n)?;
+        let held = self.held(op, n)?;
         Some(held.holder)
     }
 
@@ -112,7 +112,15 @@ impl<'a, A: Allocator> Places<'a, A> {
     pub fn fate(&self, op: OpNo, n: u32) -> Option<Fate>
         ensures { result ≡ fate_at self.now.model self.now.history op.0 n }
     {
-        let held = standing(self.traced.as_slice(), op, n)?;
+        let held = self.held(op, n)?;
         Some(held.fate)
+    }
+
+    /// The edges that the events form, legal or not, in order of forming (ACTA's dependencies in
+    /// force). Each is in force once, however often it is formed, and the first has the number 1 (ours).
+    pub fn edges(&self) -> &[Edge]
+        ensures { result.now ≡ edges self.now.model self.now.history }
+    {
+        self.in_force.as_slice()
     }
 }

@@ -5,8 +5,8 @@
 
 use acta_axioms::Places;
 use acta_table::{
-    Class, Event, Fate, Items, Kept, Kind, Kinds, Model, ObjId, Object, Op, OpNo, Parts, Ret,
-    Starts, TxnId,
+    Class, Event, Extent, Fate, Items, Kept, Kind, Kinds, Model, ObjId, Object, Op, OpNo, Parts,
+    Ret, Starts, TxnId,
 };
 use anyhow::{Context, Result, anyhow, ensure};
 use std::alloc::Global;
@@ -27,6 +27,7 @@ fn counting(alloc: Global) -> Result<Model<Global>> {
             split: false,
         },
         may: Kinds::OPERATE.union(Kinds::COMMIT),
+        extent: Extent::Whole,
     };
     let parts = Parts {
         objects: Items::of(vec![in alloc; object]?),
@@ -36,7 +37,7 @@ fn counting(alloc: Global) -> Result<Model<Global>> {
 }
 
 // A history of additions by 4,000 transactions in turn, none of which has begun.
-fn additions(alloc: Global, count: u32) -> Result<Vec<Kept>> {
+fn additions(alloc: Global, count: u32) -> Result<Vec<Kept<Global>>> {
     let mut kept = Vec::new(alloc);
     for i in 0..count {
         let t = TxnId((i % 4000) as u16 + 1);

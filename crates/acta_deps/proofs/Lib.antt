@@ -1,3 +1,2 @@
-mod Clashes
 mod FormedEdges
 mod StatusTables

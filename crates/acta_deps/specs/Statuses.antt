@@ -8,12 +8,23 @@ abbrev pub has_begun : Status → Bool
 has_begun NotBegun = false
 has_begun _ = true
 
+-- not yet begun
+abbrev pub is_new : Status → Bool
+is_new NotBegun = true
+is_new _ = false
+
 -- begun and not ended
 abbrev pub is_in_progress : Status → Bool
 is_in_progress InProgress = true
 is_in_progress _ = false
 
--- committed, aborted, or joined to another
+-- committed, aborted or joined to another: ended in any way
+abbrev pub has_ended : Status → Bool
+has_ended NotBegun = false
+has_ended InProgress = false
+has_ended _ = true
+
+-- each of the three ways to end
 abbrev pub has_committed : Status → Bool
 has_committed Committed = true
 has_committed _ = false

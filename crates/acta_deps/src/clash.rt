@@ -70,7 +70,7 @@ impl<A: Allocator> Deps<A> {
     }
 
     // The smallest transaction that would owe both a commit and an abort.
-    #[tactic(auto, using(crate::proofs::Clashes::least_is_smallest))]
+    #[tactic(auto, using(acta_table::proofs::Smallest::least_is_smallest))]
     fn clashing(&self, change: Change) -> Option<u32>
         ensures { result ≡ clashing (with_status (status_in self.now) change.txn.0 change.status) self.now.edges }
     {

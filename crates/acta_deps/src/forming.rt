@@ -1,31 +1,14 @@
 ghost use Rattle.std.specs.Prelude.{◌≡◌, ◌+◌, ◌≤◌, ◌||◌, not, length, vec_capacity};
-ghost use Rattle.acta_table.specs.Edges.{same_edge, is_among, with_edge, formed};
+ghost use Rattle.acta_table.specs.Edges.{is_among, with_edge, formed};
 
 use acta_table::Edge;
 use std::alloc::Allocator;
-
-fn is_same_edge(e: &Edge, f: &Edge) -> bool
-    ensures { result ≡ same_edge e.now f.now }
-{
-    e.kind.code() == f.kind.code() && e.j.0 == f.j.0 && e.i.0 == f.i.0
-}
-
-fn is_among(edges: &[Edge], e: &Edge) -> bool
-    ensures { result ≡ is_among edges.now e.now }
-{
-    for f in edges {
-        if is_same_edge(e, f) {
-            return true;
-        }
-    }
-    false
-}
 
 // Whether the edge is neither in force nor earlier among those to be formed.
 fn is_new(edges: &[Edge], earlier: &[Edge], e: &Edge) -> bool
     ensures { result ≡ not (is_among edges.now e.now || is_among earlier.now e.now) }
 {
-    !is_among(edges, e) && !is_among(earlier, e)
+    !e.is_among(edges) && !e.is_among(earlier)
 }
 
 /// How many of `more` are not yet in force, each counted once.
@@ -46,7 +29,7 @@ fn add_edge<A: Allocator>(edges: &mut Vec<Edge, A>, e: &Edge)
     ensures formed { edges.new.items ≡ with_edge edges.old.items e.now }
     ensures room { vec_capacity edges.old ≤ vec_capacity edges.new }
 {
-    if !is_among(edges, e) {
+    if !e.is_among(edges) {
         let _ = edges.push(*e);
     }
 }

@@ -1,12 +1,17 @@
 -- What holds of an event that breaks no rule.
-use Rattle.std.proofs.Common.{◌≡◌, ℕ, Bool, true, false, not, Option, Some, None, refl}
-use Rattle.std.specs.Prelude.{if◌then◌else◌}
+use Rattle.std.proofs.Common.{◌≡◌, ◌<◌, ◌≤◌, ℕ, ◌==◌, Bool, true, false, ◌||◌, not, [], ◌∷◌, filter, Option, Some, None, refl, sym, ◌∙◌, arith, eq-eqb}
+use Rattle.std.specs.Prelude.{if◌then◌else◌, nat_lt}
+use Rattle.std.proofs.lemmas.Bool.{true≢false, lt-ltb}
 use Rattle.std.specs.Option.{option_or}
 use Rattle.acta_table.specs.declared.answer.Rule.{Rule}
 use Rattle.acta_table.specs.declared.answer.Status.{Status}
 use Rattle.acta_table.specs.declared.answer.Status.TheVariants.{NotBegun, InProgress, Committed, Aborted, Joined}
+use Rattle.acta_table.specs.declared.answer.Rule.TheVariants.{BadNumber}
+use Rattle.acta_table.specs.Numbered.{smallest}
+use Rattle.acta_table.specs.WellFormed.{is_bad_number}
 use Rattle.acta_table.specs.Refusals.{broken_if, broken_by}
-use Rattle.acta_machine.specs.Summary.{Summary, is_new, is_in_progress}
+use Rattle.acta_machine.specs.Summary.{Summary}
+use Rattle.acta_deps.specs.Statuses.{is_new, is_in_progress}
 use Rattle.acta_machine.specs.Rules.{fails}
 
 -- where neither of two is broken
@@ -53,3 +58,19 @@ in_progress s rule t e = is_begun (s.status t) (passes (is_in_progress (s.status
 
 pub not_begun : (s : Summary) (rule : Rule) (t : ℕ) → broken_by rule (fails s is_new t) ≡ None → s.status t ≡ NotBegun
 not_begun s rule t e = is_fresh (s.status t) (passes (is_new (s.status t)) t (by_none rule (fails s is_new t) e))
+
+none_bad : (t : ℕ) → (b : Bool) → smallest (if b then t ∷ [] else []) ≡ None → b ≡ false
+none_bad t true e = cc
+none_bad t false e = refl
+
+neither : (a b : Bool) → (a || b) ≡ false → (a ≡ false) × (b ≡ false)
+neither true b e = cc
+neither false b e = (refl, e)
+
+-- a number that is not bad is from 1 to 4,095
+pub good_number : (t : ℕ) → broken_by BadNumber (smallest (filter is_bad_number (t ∷ []))) ≡ None → (0 < t) × (t ≤ 4095)
+good_number t e =
+    let parts = neither (t == 0) (nat_lt 4095 t) (none_bad t (is_bad_number t) (by_none BadNumber _ e)) in
+    let low : t ≡ 0 → ⊥ = λ z. true≢false (sym (eq-eqb t 0 z) ∙ parts.0) in
+    let high : 4095 < t → ⊥ = λ l. true≢false (sym (lt-ltb 4095 t l) ∙ parts.1) in
+    (omega (arith, low), omega (arith, high))

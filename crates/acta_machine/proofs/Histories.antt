@@ -1,23 +1,27 @@
 -- The summary of a history that is one event longer, and of none.
-use Rattle.std.proofs.Common.{◌≡◌, ℕ, ◌+◌, ◌≤◌, List, [], ◌∷◌, ◌++◌, length, get_or, slice_get, unwrap_or, replicate, refl, arith, ◌∙◌, ap, sym, Option, None, length-append}
+use Rattle.std.proofs.Common.{◌≡◌, ℕ, suc, ◌+◌, ◌≤◌, List, [], ◌∷◌, ◌++◌, length, get_or, slice_get, unwrap_or, replicate, refl, arith, ◌∙◌, ap, sym, Option, None, length-append}
 use Rattle.std.proofs.lemmas.List.{get_or-replicate, get_or_past, length-replicate, length-map}
 use Rattle.std.proofs.lemmas.Option.{unwrap_or-slice_get}
 use Rattle.acta_table.specs.declared.event.ClassId.{ClassId}
-use Rattle.acta_table.specs.declared.event.Event.TheVariants.{Begin, Operate, Commit, Abort}
+use Rattle.acta_table.specs.declared.event.OpNo.{OpNo}
+use Rattle.acta_table.specs.declared.event.TxnId.{TxnId}
+use Rattle.acta_sets.specs.Operations.{moved_from}
+use Rattle.acta_table.specs.declared.event.Event.TheVariants.{Begin, Delegate, Form, Operate, Commit, Abort}
 use Rattle.acta_table.specs.declared.event.Kept.{Kept}
 use Rattle.acta_table.specs.declared.answer.Status.{Status}
 use Rattle.acta_table.specs.declared.answer.Status.TheVariants.{NotBegun}
-use Rattle.acta_machine.specs.declared.item.Item.{Item}
-use Rattle.acta_machine.specs.Summary.{Summary, nothing_yet, stood, entered, operated, fated, counted}
-use Rattle.acta_machine.specs.Changes.{effect, summary_from, summary_of}
+use Rattle.acta_deps.specs.Deps.{DepState}
+use Rattle.acta_sets.specs.declared.item.Item.{Item}
+use Rattle.acta_machine.specs.Summary.{Summary, nothing_yet, stood, entered, linked, given, operated, fated, counted}
+use Rattle.acta_machine.specs.Changes.{edges_due, effect, summary_from, summary_of}
 use Rattle.acta_machine.specs.Shown.{summary_in}
 
-summary_from_more : (s : Summary) (history : List Kept) (k : Kept) → summary_from s (history ++ k ∷ []) ≡ effect (summary_from s history) k.event
+summary_from_more : {A : Type 0} (s : Summary) (history : List (Kept A)) (k : Kept A) → summary_from s (history ++ k ∷ []) ≡ effect (summary_from s history) k.event
 summary_from_more s [] k = refl
 summary_from_more s (h ∷ hs) k = summary_from_more (effect s h.event) hs k
 
 -- one more event has its effect on the summary
-pub summary_more : (history : List Kept) (k : Kept) → summary_of (history ++ k ∷ []) ≡ effect (summary_of history) k.event
+pub summary_more : {A : Type 0} (history : List (Kept A)) (k : Kept A) → summary_of (history ++ k ∷ []) ≡ effect (summary_of history) k.event
 unfolding summary_of
 summary_more history k = summary_from_more nothing_yet history k
 
@@ -30,37 +34,45 @@ fresh_table {X} x table is_fresh u =
     ∙ unwrap_or-slice_get (replicate 4096 x) u x ∙ fresh_entry x 4096 u
 
 -- fresh tables with nothing kept show the summary before any event
-pub fresh_summary : (statuses : List Status) (classes : List (Option ClassId)) (operations : List Item) (kept : List Kept) → statuses ≡ replicate 4096 NotBegun → classes ≡ replicate 4096 None → operations ≡ [] → kept ≡ [] → summary_in statuses classes operations kept ≡ summary_of kept
+pub fresh_summary : {A : Type 0} (deps : DepState) (classes : List (Option ClassId)) (operations : List Item) (kept : List (Kept A)) → deps ≡ record { statuses = replicate 4096 NotBegun; edges = [] } → classes ≡ replicate 4096 None → operations ≡ [] → kept ≡ [] → summary_in deps classes operations kept ≡ summary_of kept
 unfolding summary_of
-fresh_summary statuses classes operations kept new_statuses new_classes none empty =
-    let shows : summary_in statuses classes operations kept ≡ nothing_yet =
-    λ i. record { kept = length (empty i); status = λ u. fresh_table NotBegun statuses new_statuses u i; class = λ u. fresh_table None classes new_classes u i; operations = none i } in
+fresh_summary deps classes operations kept new none no_operation empty =
+    let statuses = ap (λ (d : DepState). d.statuses) new in
+    let edges = ap (λ (d : DepState). d.edges) new in
+    let shows : summary_in deps classes operations kept ≡ nothing_yet =
+    λ i. record { kept = length (empty i); status = λ u. fresh_table NotBegun deps.statuses statuses u i; class = λ u. fresh_table None classes none u i; operations = no_operation i; edges = edges i } in
     shows ∙ sym (ap (summary_from nothing_yet) empty)
 
 pub fresh_room : {X : Type 0} (x : X) (table : List X) → table ≡ replicate 4096 x → length table ≡ 4096
 fresh_room {X} x table is_fresh = ap (length {A = X}) is_fresh ∙ length-replicate 4096 x
 
-changed_few : (s : Summary) (k : Kept) → length (effect s k.event).operations ≤ length s.operations + 1
-unfolding stood entered operated fated counted
+length-moved : (n : ℕ) (ops : List OpNo) (u : TxnId) (items : List Item) → length (moved_from n ops u items) ≡ length items
+length-moved n ops u [] = refl
+length-moved n ops u (i ∷ items) = ap suc (length-moved (n + 1) ops u items)
+
+changed_few : {A : Type 0} (s : Summary) (k : Kept A) → length (effect s k.event).operations ≤ length s.operations + 1
+unfolding stood entered linked given operated fated counted
 changed_few s k =
     elim k.event as (λ e. length (effect s e).operations ≤ length s.operations + 1) [
       | Begin t class ↦ omega arith
+      | Delegate t u ops ↦ let same = length-moved 1 ops u s.operations in omega (arith, same)
+      | Form kind j i ↦ omega arith
       | Operate t ob op ↦ simp length-append (omega arith)
       | Commit t ↦ simp length-map (omega arith)
       | Abort t ↦ simp length-map (omega arith)
     ]
 
-few_from : (s : Summary) (history : List Kept) → length (summary_from s history).operations ≤ length s.operations + length history
+few_from : {A : Type 0} (s : Summary) (history : List (Kept A)) → length (summary_from s history).operations ≤ length s.operations + length history
 few_from s [] = omega arith
 few_from s (k ∷ ks) = omega (arith, changed_few s k, few_from (effect s k.event) ks)
 
 -- no more operations than events
-pub operations_few : (history : List Kept) → length (summary_of history).operations ≤ length history
+pub operations_few : {A : Type 0} (history : List (Kept A)) → length (summary_of history).operations ≤ length history
 unfolding summary_of
 operations_few history = let h = few_from nothing_yet history in omega (arith, h)
 
 -- the lists that show the summary of a history have room for a number of each operation
-pub operations_within : (s : Summary) (history : List Kept) → s ≡ summary_of history → length history ≤ 65536 → length s.operations ≤ 65536
+pub operations_within : {A : Type 0} (s : Summary) (history : List (Kept A)) → s ≡ summary_of history → length history ≤ 65536 → length s.operations ≤ 65536
 operations_within s history same within =
     let few = operations_few history in
     let count = ap (λ (x : Summary). length x.operations) same in

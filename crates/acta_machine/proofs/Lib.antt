@@ -1,8 +1,14 @@
 pub mod Broken
+pub mod Courses
+pub mod DependencyTies
+pub mod EdgeSteps
+pub mod Exactness
+pub mod Handing
 pub mod Histories
 pub mod OperationGrowth
 pub mod SetTies
 pub mod StatusGrowth
 pub mod Steps
 pub mod Tables
+pub mod Unbroken
 pub mod ValueTies

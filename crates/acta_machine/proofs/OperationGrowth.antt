@@ -1,23 +1,32 @@
 -- The operations of the table are those by places, and stay so when one event is put at the end.
-use Rattle.std.proofs.Common.{◌≡◌, ℕ, ◌==◌, List, [], ◌∷◌, ◌++◌, map, Option, refl, sym, ap, ◌∙◌, eq-eqb, inl, inr}
+use Rattle.std.proofs.Common.{◌≡◌, ℕ, suc, ◌+◌, ◌==◌, Bool, true, false, ◌&&◌, cond, List, [], ◌∷◌, ◌++◌, map, slice_get, Option, refl, sym, ap, ◌∙◌, arith, eq-eqb, inl, inr}
+use Rattle.std.specs.List.{filter_map, cons_option}
+use Rattle.std.specs.Option.{option_map_or}
 use Rattle.std.specs.Prelude.{if◌then◌else◌}
-use Rattle.std.proofs.lemmas.Bool.{ne_eqb, cases_eq}
+use Rattle.std.proofs.lemmas.Bool.{true≢false, ne_eqb, eqb-true, cases_eq}
 use Rattle.std.proofs.lemmas.List.{append-nil}
 use Rattle.std.proofs.lemmas.Simd.{map-map}
+use Rattle.acta_table.specs.declared.dep.Dep.{Dep}
 use Rattle.acta_table.specs.declared.event.TxnId.{TxnId}
 use Rattle.acta_table.specs.declared.event.ClassId.{ClassId}
 use Rattle.acta_table.specs.declared.event.ObjId.{ObjId}
 use Rattle.acta_table.specs.declared.event.Op.{Op}
 use Rattle.acta_table.specs.declared.event.Ret.{Ret}
-use Rattle.acta_table.specs.declared.event.Event.TheVariants.{Begin, Operate, Commit, Abort}
+use Rattle.acta_table.specs.declared.event.Event.TheVariants.{Begin, Delegate, Form, Operate, Commit, Abort}
 use Rattle.acta_table.specs.declared.event.Kept.{Kept}
 use Rattle.acta_table.specs.declared.answer.Fate.{Fate}
 use Rattle.acta_table.specs.declared.answer.Fate.TheVariants.{InProgress, Committed, Aborted}
 use Rattle.acta_table.specs.declared.model.Parts.{Parts}
-use Rattle.acta_axioms.specs.Operations.{Operation, Standing, held_by, ended_by, carried, followed, standing, operations}
-use Rattle.acta_axioms.proofs.Growth.{at_end, shown-push}
-use Rattle.acta_machine.specs.Operations.{ended_item, ended, added}
+use Rattle.acta_table.specs.declared.event.Event.{Event}
+use Rattle.acta_table.specs.declared.event.OpNo.{OpNo}
+use Rattle.acta_table.specs.Sets.{is_named}
+use Rattle.acta_axioms.specs.History.{places_behind}
+use Rattle.acta_axioms.specs.Operations.{Operation, Standing, held_by, ended_by, carried, followed, standing, operations, is_operate, number_after, operation_in, operation_at}
+use Rattle.acta_axioms.proofs.Growth.{at_end, shown-push, number_after-push}
+use Rattle.acta_sets.specs.declared.item.Item.{Item}
+use Rattle.acta_sets.specs.Operations.{is_open, is_held, ended_item, ended, moved_from, moved, added}
 use Rattle.acta_machine.specs.Places.{item_of, items_at}
+use Rattle.acta_machine.proofs.Handing.{holds}
 
 map-same : {X Y : Type 0} (f g : X → Y) → ((x : X) → f x ≡ g x) → (xs : List X) → map f xs ≡ map g xs
 map-same f g same [] = refl
@@ -30,19 +39,86 @@ idle Committed t = refl
 idle Aborted t = refl
 
 -- a start changes no operation
-pub operations-begin : {A : Type 0} (m : Parts A) (h : List Kept) (ret : Option Ret) (t : TxnId) (class : ClassId) → items_at m (h ++ (record { event = Begin t class; ret = ret }) ∷ []) ≡ items_at m h
-operations-begin m h ret t class =
-    let k : Kept = record { event = Begin t class; ret = ret } in
+pub operations-begin : {A : Type 0} (m : Parts A) (h : List (Kept A)) (ret : Option Ret) (t : TxnId) (class : ClassId) → items_at m (h ++ (record { event = Begin t class; ret = ret }) ∷ []) ≡ items_at m h
+operations-begin {A} m h ret t class =
+    let k : Kept A = record { event = Begin t class; ret = ret } in
+    shown-push item_of m h k
+    ∙ append-nil (map (λ o. item_of o (carried m o.number (standing m h o) (at_end h k))) (operations h))
+    ∙ map-same _ _ (λ o. ap (item_of o) (idle (standing m h o).fate (standing m h o).holder)) (operations h)
+
+-- nor does an edge that is formed
+pub operations-form : {A : Type 0} (m : Parts A) (h : List (Kept A)) (ret : Option Ret) (kind : Dep) (j i : TxnId) → items_at m (h ++ (record { event = Form kind j i; ret = ret }) ∷ []) ≡ items_at m h
+operations-form {A} m h ret kind j i =
+    let k : Kept A = record { event = Form kind j i; ret = ret } in
     shown-push item_of m h k
     ∙ append-nil (map (λ o. item_of o (carried m o.number (standing m h o) (at_end h k))) (operations h))
     ∙ map-same _ _ (λ o. ap (item_of o) (idle (standing m h o).fate (standing m h o).holder)) (operations h)
 
 -- an operation comes to the others, in progress and held by its invoker
-pub operations-operate : {A : Type 0} (m : Parts A) (h : List Kept) (ret : Option Ret) (t : TxnId) (ob : ObjId) (op : Op) → items_at m (h ++ (record { event = Operate t ob op; ret = ret }) ∷ []) ≡ added (items_at m h) t ob op
-operations-operate m h ret t ob op =
-    let k : Kept = record { event = Operate t ob op; ret = ret } in
+pub operations-operate : {A : Type 0} (m : Parts A) (h : List (Kept A)) (ret : Option Ret) (t : TxnId) (ob : ObjId) (op : Op) → items_at m (h ++ (record { event = Operate t ob op; ret = ret }) ∷ []) ≡ added (items_at m h) t ob op
+operations-operate {A} m h ret t ob op =
+    let k : Kept A = record { event = Operate t ob op; ret = ret } in
     shown-push item_of m h k
     ∙ ap (λ items. items ++ (record { ob = ob; op = op; holder = t; fate = InProgress }) ∷ []) (map-same _ _ (λ o. ap (item_of o) (idle (standing m h o).fate (standing m h o).holder)) (operations h))
+
+and_true : (b : Bool) → (b && true) ≡ b
+and_true true = refl
+and_true false = refl
+
+and_false : (b : Bool) → (b && false) ≡ false
+and_false true = refl
+and_false false = refl
+
+-- what is handed over, by the table and by places
+gives : (t : ℕ) (u : TxnId) (b : Bool) (o : Operation) (holder : ℕ) (fate : Fate) → (b ≡ true → ((holder == t) && is_open fate) ≡ true) →
+    item_of o (if Rattle.acta_axioms.specs.Operations.is_open fate then (if (t == holder) && b then held_by u.0 else held_by holder) else record { holder = holder; fate = fate })
+    ≡ (if b then record (item_of o (record { holder = holder; fate = fate })) { holder = u } else item_of o (record { holder = holder; fate = fate }))
+gives t u false o holder InProgress held = kept (t == holder)
+  where
+    kept : (b : Bool) → item_of o (if b && false then held_by u.0 else held_by holder) ≡ item_of o (held_by holder)
+    kept true = refl
+    kept false = refl
+gives t u false o holder Committed held = refl
+gives t u false o holder Aborted held = refl
+gives t u true o holder InProgress held =
+    let same = eqb-true holder t (sym (and_true (holder == t)) ∙ held refl) in
+    ap (λ b. item_of o (if b && true then held_by u.0 else held_by holder)) (eq-eqb t holder (sym same))
+gives t u true o holder Committed held = absurd (true≢false (sym (held refl) ∙ and_false (holder == t)))
+gives t u true o holder Aborted held = absurd (true≢false (sym (held refl) ∙ and_false (holder == t)))
+
+-- the operations behind some items, handed over by number
+handed : {A : Type 0} (show : Operation → Item) (over : Operation → Item) (holding : Item → Bool) (ops : List OpNo) (u : TxnId) →
+    ((o : Operation) → (is_named ops o.number ≡ true → holding (show o) ≡ true) → over o ≡ (if is_named ops o.number then record (show o) { holder = u } else show o)) →
+    (before ks : List (Kept A)) → ((i : ℕ) → is_named ops (number_after before + i) ≡ true → option_map_or holding (slice_get (map show (filter_map operation_at (places_behind before ks))) i) false ≡ true) →
+    map over (filter_map operation_at (places_behind before ks)) ≡ moved_from (number_after before) ops u (map show (filter_map operation_at (places_behind before ks)))
+handed show over holding ops u one before [] held = refl
+handed {A} show over holding ops u one before (k ∷ ks) held =
+    of_event k.event (number_after-push before k) held
+    (handed show over holding ops u one (before ++ k ∷ []) ks)
+  where
+    of_event : (e : Event A) → number_after (before ++ k ∷ []) ≡ number_after before + cond (is_operate e) 1 0 →
+        ((i : ℕ) → is_named ops (number_after before + i) ≡ true → option_map_or holding (slice_get (map show (cons_option (operation_in (record { before = before; kept = k }) e) (filter_map operation_at (places_behind (before ++ k ∷ []) ks)))) i) false ≡ true) →
+        (((i : ℕ) → is_named ops (number_after (before ++ k ∷ []) + i) ≡ true → option_map_or holding (slice_get (map show (filter_map operation_at (places_behind (before ++ k ∷ []) ks))) i) false ≡ true) → map over (filter_map operation_at (places_behind (before ++ k ∷ []) ks)) ≡ moved_from (number_after (before ++ k ∷ [])) ops u (map show (filter_map operation_at (places_behind (before ++ k ∷ []) ks)))) →
+        map over (cons_option (operation_in (record { before = before; kept = k }) e) (filter_map operation_at (places_behind (before ++ k ∷ []) ks))) ≡ moved_from (number_after before) ops u (map show (cons_option (operation_in (record { before = before; kept = k }) e) (filter_map operation_at (places_behind (before ++ k ∷ []) ks))))
+    of_event (Operate t object op) grown held later =
+        let none : number_after before ≡ number_after before + 0 = omega arith in
+        let here = one _ (λ named. held 0 (sym (ap (is_named ops) none) ∙ named)) in
+        let shifted = later (λ i named. held (suc i) (let same : number_after before + suc i ≡ number_after (before ++ k ∷ []) + i = omega (arith, grown) in ap (is_named ops) same ∙ named)) in
+        (λ i. here i ∷ (shifted ∙ ap (λ n. moved_from n ops u (map show (filter_map operation_at (places_behind (before ++ k ∷ []) ks)))) grown) i)
+    of_event _ grown held later =
+        let same : number_after (before ++ k ∷ []) ≡ number_after before = omega (arith, grown) in
+        later (λ i named. held i (ap (λ n. is_named ops (n + i)) (sym same) ∙ named)) ∙ ap (λ n. moved_from n ops u (map show (filter_map operation_at (places_behind (before ++ k ∷ []) ks)))) same
+
+-- what t hands over, all of which it holds, u holds
+pub operations-delegate : {A : Type 0} (m : Parts A) (h : List (Kept A)) (ret : Option Ret) (t u : TxnId) (ops : List OpNo) →
+    ((n : ℕ) → is_named ops n ≡ true → holds (items_at m h) t.0 n ≡ true) → items_at m (h ++ (record { event = Delegate t u ops; ret = ret }) ∷ []) ≡ moved ops u (items_at m h)
+operations-delegate {A} m h ret t u ops held =
+    let k : Kept A = record { event = Delegate t u ops; ret = ret } in
+    shown-push item_of m h k
+    ∙ append-nil (map (λ o. item_of o (carried m o.number (standing m h o) (at_end h k))) (operations h))
+    ∙ handed (λ o. item_of o (standing m h o)) (λ o. item_of o (carried m o.number (standing m h o) (at_end h k))) (is_held t.0) ops u
+    (λ o named. gives t.0 u (is_named ops o.number) o (standing m h o).holder (standing m h o).fate named)
+    [] h (λ i named. let same : 1 + i ≡ suc i = omega arith in held (suc i) (sym (ap (is_named ops) same) ∙ named))
 
 -- the end of t, by the table and by places
 ends : (t u : ℕ) (o : Operation) (fate old : Fate) →
@@ -56,17 +132,17 @@ ends t u o fate InProgress =
       | inr ne ↦ let en : t ≡ u → ⊥ = λ e. ne (sym e) in rw (ne_eqb u t ne, ne_eqb t u en) refl
     ]
 
-pub operations-commit : {A : Type 0} (m : Parts A) (h : List Kept) (ret : Option Ret) (t : TxnId) → items_at m (h ++ (record { event = Commit t; ret = ret }) ∷ []) ≡ ended t.0 Committed (items_at m h)
-operations-commit m h ret t =
-    let k : Kept = record { event = Commit t; ret = ret } in
+pub operations-commit : {A : Type 0} (m : Parts A) (h : List (Kept A)) (ret : Option Ret) (t : TxnId) → items_at m (h ++ (record { event = Commit t; ret = ret }) ∷ []) ≡ ended t.0 Committed (items_at m h)
+operations-commit {A} m h ret t =
+    let k : Kept A = record { event = Commit t; ret = ret } in
     shown-push item_of m h k
     ∙ append-nil (map (λ o. item_of o (carried m o.number (standing m h o) (at_end h k))) (operations h))
     ∙ map-same _ _ (λ o. ends t.0 (standing m h o).holder o Committed (standing m h o).fate) (operations h)
     ∙ sym (map-map (ended_item t.0 Committed) (λ o. item_of o (standing m h o)) (operations h))
 
-pub operations-abort : {A : Type 0} (m : Parts A) (h : List Kept) (ret : Option Ret) (t : TxnId) → items_at m (h ++ (record { event = Abort t; ret = ret }) ∷ []) ≡ ended t.0 Aborted (items_at m h)
-operations-abort m h ret t =
-    let k : Kept = record { event = Abort t; ret = ret } in
+pub operations-abort : {A : Type 0} (m : Parts A) (h : List (Kept A)) (ret : Option Ret) (t : TxnId) → items_at m (h ++ (record { event = Abort t; ret = ret }) ∷ []) ≡ ended t.0 Aborted (items_at m h)
+operations-abort {A} m h ret t =
+    let k : Kept A = record { event = Abort t; ret = ret } in
     shown-push item_of m h k
     ∙ append-nil (map (λ o. item_of o (carried m o.number (standing m h o) (at_end h k))) (operations h))
     ∙ map-same _ _ (λ o. ends t.0 (standing m h o).holder o Aborted (standing m h o).fate) (operations h)

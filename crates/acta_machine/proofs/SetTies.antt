@@ -8,23 +8,24 @@ use Rattle.acta_table.specs.declared.answer.Fate.TheVariants.{InProgress, Commit
 use Rattle.acta_table.specs.declared.model.Kind.{Kind}
 use Rattle.acta_table.specs.declared.model.Parts.{Parts}
 use Rattle.acta_table.specs.Classes.{kind_at}
+use Rattle.acta_table.specs.Numbered.{numbers_where}
 use Rattle.acta_objects.specs.Objects.{first_state, state_after}
 use Rattle.acta_axioms.specs.Operations.{Operation, standing, operations}
 use Rattle.acta_axioms.specs.Operations as by_places
 use Rattle.acta_axioms.proofs.Numbers.{numbers-shown}
-use Rattle.acta_machine.specs.declared.item.Item.{Item}
-use Rattle.acta_machine.specs.Operations.{is_open, is_aborted, is_held, is_of_others, is_live, operations_where}
+use Rattle.acta_sets.specs.declared.item.Item.{Item}
+use Rattle.acta_sets.specs.Operations.{is_open, is_aborted, is_held, is_of_others, is_live, operations_where}
 use Rattle.acta_machine.specs.Values.{live_ops}
 use Rattle.acta_machine.specs.Table.{State, value_in, access_set_in, conflict_set_in, view_set_in}
 use Rattle.acta_machine.specs.Places.{item_of, items_at, numbers_of, value_at, FollowsPlaces}
-use Rattle.acta_machine.proofs.ValueTies.{value-places}
+use Rattle.acta_machine.proofs.ValueTies.{value-places, others_alike}
 
-filter-same : {X : Type 0} (f g : X → Bool) → ((x : X) → f x ≡ g x) → (xs : List X) → filter f xs ≡ filter g xs
+pub filter-same : {X : Type 0} (f g : X → Bool) → ((x : X) → f x ≡ g x) → (xs : List X) → filter f xs ≡ filter g xs
 filter-same f g same [] = refl
 filter-same f g same (x ∷ xs) = λ i. if same x i then x ∷ filter-same f g same xs i else filter-same f g same xs i
 
 -- the operations that pass a test in the table are those that pass it by places
-where-places : {A : Type 0} (m : Parts A) (h : List Kept) (items : List Item) (test : Item → Bool) (by : Operation → Bool) → items ≡ items_at m h → ((o : Operation) → test (item_of o (standing m h o)) ≡ by o)
+where-places : {A : Type 0} (m : Parts A) (h : List (Kept A)) (items : List Item) (test : Item → Bool) (by : Operation → Bool) → items ≡ items_at m h → ((o : Operation) → test (item_of o (standing m h o)) ≡ by o)
     → operations_where test items ≡ numbers_of (filter by (operations h))
 where-places m h items test by same alike =
     ap (operations_where test) same
@@ -48,6 +49,13 @@ aborted_alike InProgress = refl
 aborted_alike Committed = refl
 aborted_alike Aborted = refl
 
+-- the numbers of t's access set by places, by the table
+pub held-places : {A : Type 0} (m : Parts A) (h : List (Kept A)) (items : List Item) (t : ℕ) → items ≡ items_at m h → map (λ o. o.number) (by_places.access_set m h t) ≡ numbers_where (is_held t) items
+held-places m h items t same =
+    ap (map (λ (o : Operation). o.number)) (sym (filter-same (λ o. is_held t (item_of o (standing m h o))) (λ o. by_places.is_held_by t (standing m h o)) (λ o. let s = standing m h o in and_swap (s.holder == t) (is_open s.fate) ∙ ap (λ b. b && (s.holder == t)) (open_alike s.fate)) (operations h)))
+    ∙ numbers-shown (λ o. item_of o (standing m h o)) (is_held t) h
+    ∙ ap (numbers_where (is_held t)) (sym same)
+
 pub access-places : {A : Type 0} (state : State A) (t : ℕ) → FollowsPlaces state → access_set_in state t ≡ numbers_of (by_places.access_set state.model state.kept t)
 access-places state t follows =
     where-places state.model state.kept _ (is_held t) (λ o. by_places.is_held_by t (standing state.model state.kept o)) follows.shows.operations
@@ -55,8 +63,8 @@ access-places state t follows =
 
 pub conflict-places : {A : Type 0} (state : State A) (t : ℕ) → FollowsPlaces state → conflict_set_in state t ≡ numbers_of (by_places.conflict_set state.model state.kept t)
 conflict-places state t follows =
-    where-places state.model state.kept _ (is_of_others t) (λ o. by_places.is_of_others state.model state.kept t (standing state.model state.kept o)) follows.shows.operations
-    (λ o. let s = standing state.model state.kept o in ap (λ b. b && not (s.holder == t)) (open_alike s.fate))
+    where-places state.model state.kept _ (is_of_others t []) (λ o. by_places.is_of_others state.model state.kept t (standing state.model state.kept o)) follows.shows.operations
+    (λ o. let s = standing state.model state.kept o in sym (others_alike s.fate t s.holder))
 
 pub view-places : {A : Type 0} (state : State A) → FollowsPlaces state → view_set_in state ≡ numbers_of (by_places.view_set state.model state.kept)
 view-places state follows =

@@ -4,27 +4,29 @@ use Rattle.std.specs.Prelude.{option_map, option_and_then, is_some, if◌then◌
 use Rattle.std.proofs.lemmas.Bool.{ne_eqb, cases_eq}
 use Rattle.acta_table.specs.declared.event.TxnId.{TxnId}
 use Rattle.acta_table.specs.declared.event.ClassId.{ClassId}
+use Rattle.acta_table.specs.declared.event.Event.{Event}
 use Rattle.acta_table.specs.declared.event.Event.TheVariants.{Begin, Commit, Abort}
 use Rattle.acta_table.specs.declared.event.Kept.{Kept}
 use Rattle.acta_table.specs.declared.event.Ret.{Ret}
 use Rattle.acta_table.specs.declared.answer.Status.{Status}
 use Rattle.acta_table.specs.declared.answer.Status.TheVariants.{NotBegun, InProgress, Committed, Aborted}
 use Rattle.acta_table.specs.Events.{class_named}
-use Rattle.acta_axioms.specs.History.{Place, number, first, starts, has_begun, class_number}
+use Rattle.acta_axioms.specs.History.{Place, number, first, starts, course, has_begun, has_ended, class_number}
 use Rattle.acta_axioms.specs.Claims.{status_at}
 use Rattle.acta_axioms.proofs.Growth.{class_number-push}
-use Rattle.acta_axioms.proofs.Statuses.{when_begun, when_aborted, status_after, status_at-push}
+use Rattle.acta_axioms.proofs.Statuses.{is_under_way, is_ended_status, has_begun-status, has_ended-status, when_begun, when_aborted, status_after, status_at-push}
+use Rattle.acta_deps.specs.Statuses.{with_status, has_ended as has_ended_status}
 use Rattle.acta_machine.specs.Summary.{with_entry}
 
 -- the tests for one and the same transaction, one way round and the other
-flipped : (t u : ℕ) → (u ≡ t → ⊥) → (t == u) ≡ false
+pub flipped : (t u : ℕ) → (u ≡ t → ⊥) → (t == u) ≡ false
 flipped t u apart = ne_eqb t u (λ e. apart (sym e))
 
 -- t's status becomes the one that the event gives it, and every other stays
-pub statuses-tie : (f : ℕ → Status) (h : List Kept) (k : Kept) (t : ℕ) (x : Status) → ((u : ℕ) → f u ≡ status_at h u)
+pub statuses-tie : {A : Type 0} (f : ℕ → Status) (h : List (Kept A)) (k : Kept A) (t : ℕ) (x : Status) → ((u : ℕ) → f u ≡ status_at h u)
     → status_after t k.event (f t) ≡ x
     → ((u : ℕ) → (u ≡ t → ⊥) → status_after u k.event (status_at h u) ≡ status_at h u)
-    → (u : ℕ) → with_entry f t x u ≡ status_at (h ++ k ∷ []) u
+    → (u : ℕ) → with_status f t x u ≡ status_at (h ++ k ∷ []) u
 statuses-tie f h k t x shows now others u =
     elim (cases_eq u t) [
       | inl e ↦
@@ -36,36 +38,52 @@ statuses-tie f h k t x shows now others u =
           ∙ shows u ∙ sym (others u ne) ∙ sym (status_at-push h k u)
     ]
 
-pub statuses-begin : (f : ℕ → Status) (h : List Kept) (ret : Option Ret) (t : TxnId) (class : ClassId) → ((u : ℕ) → f u ≡ status_at h u) → f t.0 ≡ NotBegun →
-    (u : ℕ) → with_entry f t.0 InProgress u ≡ status_at (h ++ (record { event = Begin t class; ret = ret }) ∷ []) u
-statuses-begin f h ret t class shows new =
-    let e = Begin t class in
+pub statuses-begin : {A : Type 0} (f : ℕ → Status) (h : List (Kept A)) (ret : Option Ret) (t : TxnId) (class : ClassId) → ((u : ℕ) → f u ≡ status_at h u) → f t.0 ≡ NotBegun →
+    (u : ℕ) → with_status f t.0 InProgress u ≡ status_at (h ++ (record { event = Begin t class; ret = ret }) ∷ []) u
+statuses-begin {A} f h ret t class shows new =
+    let e : Event A = Begin t class in
     statuses-tie f h _ t.0 InProgress shows
     ((λ i. status_after t.0 e (new i)) ∙ ap (λ b. if b then InProgress else NotBegun) (eq-eqb t.0 t.0 refl))
     (λ u ne. ap (λ b. if b then when_begun (status_at h u) else status_at h u) (flipped t.0 u ne))
 
-pub statuses-commit : (f : ℕ → Status) (h : List Kept) (ret : Option Ret) (t : TxnId) → ((u : ℕ) → f u ≡ status_at h u) →
-    (u : ℕ) → with_entry f t.0 Committed u ≡ status_at (h ++ (record { event = Commit t; ret = ret }) ∷ []) u
+pub statuses-commit : {A : Type 0} (f : ℕ → Status) (h : List (Kept A)) (ret : Option Ret) (t : TxnId) → ((u : ℕ) → f u ≡ status_at h u) →
+    (u : ℕ) → with_status f t.0 Committed u ≡ status_at (h ++ (record { event = Commit t; ret = ret }) ∷ []) u
 statuses-commit f h ret t shows =
     statuses-tie f h _ t.0 Committed shows
     (ap (λ b. if b then Committed else f t.0) (eq-eqb t.0 t.0 refl))
     (λ u ne. ap (λ b. if b then Committed else status_at h u) (flipped t.0 u ne))
 
-pub statuses-abort : (f : ℕ → Status) (h : List Kept) (ret : Option Ret) (t : TxnId) → ((u : ℕ) → f u ≡ status_at h u) → f t.0 ≡ InProgress →
-    (u : ℕ) → with_entry f t.0 Aborted u ≡ status_at (h ++ (record { event = Abort t; ret = ret }) ∷ []) u
-statuses-abort f h ret t shows on =
-    let e = Abort t in
+pub statuses-abort : {A : Type 0} (f : ℕ → Status) (h : List (Kept A)) (ret : Option Ret) (t : TxnId) → ((u : ℕ) → f u ≡ status_at h u) → f t.0 ≡ InProgress →
+    (u : ℕ) → with_status f t.0 Aborted u ≡ status_at (h ++ (record { event = Abort t; ret = ret }) ∷ []) u
+statuses-abort {A} f h ret t shows on =
+    let e : Event A = Abort t in
     statuses-tie f h _ t.0 Aborted shows
     ((λ i. status_after t.0 e (on i)) ∙ ap (λ b. if b then Aborted else InProgress) (eq-eqb t.0 t.0 refl))
     (λ u ne. ap (λ b. if b then when_aborted (status_at h u) else status_at h u) (flipped t.0 u ne))
 
+-- what a status tells by places
+
+-- one that ended by its status has by places; by places nobody is joined to another
+pub ended-places : {A : Type 0} (h : List (Kept A)) (t : ℕ) → has_ended_status (status_at h t) ≡ has_ended h t
+ended-places h t = of_course (is_some (course h t).commit) (is_some (course h t).abort) (is_some (course h t).start) ∙ sym (has_ended-status h t)
+  where
+    of_course : (c a s : Bool) → has_ended_status (if c then Committed else if a then Aborted else if s then InProgress else NotBegun) ≡ is_ended_status (if c then Committed else if a then Aborted else if s then InProgress else NotBegun)
+    of_course true a s = refl
+    of_course false true s = refl
+    of_course false false true = refl
+    of_course false false false = refl
+
+-- one that has not begun by its status has not by places
+pub begun-places : {A : Type 0} (h : List (Kept A)) (t : ℕ) → status_at h t ≡ NotBegun → has_begun h t ≡ false
+begun-places h t is = has_begun-status h t (ap is_ended_status is) ∙ ap is_under_way is
+
 -- classes
 
 -- where a transaction has not begun, no class is named
-no_class : (h : List Kept) (u : ℕ) → has_begun h u ≡ false → class_number h u ≡ None
+pub no_class : {A : Type 0} (h : List (Kept A)) (u : ℕ) → has_begun h u ≡ false → class_number h u ≡ None
 no_class h u = of (first (starts u) h)
   where
-    of : (p : Option Place) → is_some (option_map number p) ≡ false → option_and_then (λ q. class_named q.kept.event) p ≡ None
+    of : {A : Type 0} (p : Option (Place A)) → is_some (option_map number p) ≡ false → option_and_then (λ q. class_named q.kept.event) p ≡ None
     of None e = refl
     of (Some q) e = cc
 
@@ -74,16 +92,16 @@ branch true x y none = refl
 branch false x y none = sym (none refl)
 
 -- an event that does not start u leaves its class
-pub class-stays : (h : List Kept) (k : Kept) (u : ℕ) → starts u k.event ≡ false → class_number (h ++ k ∷ []) u ≡ class_number h u
+pub class-stays : {A : Type 0} (h : List (Kept A)) (k : Kept A) (u : ℕ) → starts u k.event ≡ false → class_number (h ++ k ∷ []) u ≡ class_number h u
 class-stays h k u idle =
     class_number-push h k u
     ∙ ap (λ b. if has_begun h u then class_number h u else if b then class_named k.event else None) idle
     ∙ branch (has_begun h u) (class_number h u) (class_named k.event) (no_class h u)
 
-pub classes-begin : (f : ℕ → Option ClassId) (h : List Kept) (ret : Option Ret) (t : TxnId) (class : ClassId) → ((u : ℕ) → option_map (λ c. c.0) (f u) ≡ class_number h u) → has_begun h t.0 ≡ false →
+pub classes-begin : {A : Type 0} (f : ℕ → Option ClassId) (h : List (Kept A)) (ret : Option Ret) (t : TxnId) (class : ClassId) → ((u : ℕ) → option_map (λ c. c.0) (f u) ≡ class_number h u) → has_begun h t.0 ≡ false →
     (u : ℕ) → option_map (λ c. c.0) (with_entry f t.0 (Some class) u) ≡ class_number (h ++ (record { event = Begin t class; ret = ret }) ∷ []) u
-classes-begin f h ret t class shows new u =
-    let k : Kept = record { event = Begin t class; ret = ret } in
+classes-begin {A} f h ret t class shows new u =
+    let k : Kept A = record { event = Begin t class; ret = ret } in
     elim (cases_eq u t.0) [
       | inl e ↦
           let here = eq-eqb u t.0 e in

@@ -8,7 +8,7 @@ use Rattle.acta_table.specs.declared.event.TxnId.{TxnId}
 use Rattle.acta_table.specs.declared.event.Kept.{Kept}
 use Rattle.acta_table.specs.declared.answer.Status.{Status}
 use Rattle.acta_table.specs.declared.answer.Status.TheVariants.{NotBegun}
-use Rattle.acta_machine.specs.declared.item.Item.{Item}
+use Rattle.acta_sets.specs.declared.item.Item.{Item}
 use Rattle.acta_machine.specs.Summary.{with_entry, stood}
 use Rattle.acta_machine.specs.Shown.{summary_in}
 
@@ -22,9 +22,3 @@ at_set none xs t x h u =
 -- a table in which one entry was set is the function with that entry changed
 pub entry_set : {X : Type 0} (none : X) (xs : List X) (t : ℕ) (x : X) → t < length xs → (λ u. unwrap_or (slice_get (slice_set xs t x) u) none) ≡ with_entry (λ u. unwrap_or (slice_get xs u) none) t x
 entry_set none xs t x h = λ i u. at_set none xs t x h u i
-
--- a status that was set in the table is the status in the summary
-pub status_set : (statuses : List Status) (classes : List (Option ClassId)) (operations : List Item) (kept : List Kept) (t : TxnId) (status : Status) → t.0 < length statuses → summary_in (slice_set statuses t.0 status) classes operations kept ≡ stood (summary_in statuses classes operations kept) t status
-unfolding stood
-status_set statuses classes operations kept t status h =
-    ap (λ f. record (summary_in statuses classes operations kept) { status = f }) (entry_set NotBegun statuses t.0 status h)

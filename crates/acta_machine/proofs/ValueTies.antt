@@ -19,14 +19,14 @@ use Rattle.acta_axioms.specs.Operations as by_places
 use Rattle.acta_axioms.specs.Values.{asked_of, is_well_formed, do_conflict, conflicting}
 use Rattle.acta_axioms.specs.Values as by_places_value
 use Rattle.acta_axioms.proofs.ByOperations.{value-shown}
-use Rattle.acta_machine.specs.declared.item.Item.{Item}
-use Rattle.acta_machine.specs.Operations.{is_of_others}
+use Rattle.acta_sets.specs.declared.item.Item.{Item}
+use Rattle.acta_sets.specs.Operations.{is_of_others}
 use Rattle.acta_machine.specs.Values.{live_on, live_ops}
 use Rattle.acta_machine.specs.Rules.{stands_against}
 use Rattle.acta_machine.specs.Places.{item_of, items_at}
 
 pick_live : (here : Bool) (fate : Fate) (fits : Bool) (op : Op) →
-    (if here && not (Rattle.acta_machine.specs.Operations.is_aborted fate) && fits then Some op else None)
+    (if here && not (Rattle.acta_sets.specs.Operations.is_aborted fate) && fits then Some op else None)
     ≡ (if not (by_places.is_aborted fate) then (if here && fits then Some op else None) else None)
 pick_live true InProgress fits op = refl
 pick_live true Committed fits op = refl
@@ -36,13 +36,13 @@ pick_live false Committed fits op = refl
 pick_live false Aborted fits op = refl
 
 -- the value of an object
-pub value-places : {A : Type 0} (m : Parts A) (h : List Kept) (items : List Item) (object : ℕ) (kind : Kind) → items ≡ items_at m h → state_after {A = A} (first_state kind) (live_ops kind items object) ≡ by_places_value.value m h object kind
+pub value-places : {A : Type 0} (m : Parts A) (h : List (Kept A)) (items : List Item) (object : ℕ) (kind : Kind) → items ≡ items_at m h → state_after {A = A} (first_state kind) (live_ops kind items object) ≡ by_places_value.value m h object kind
 value-places {A} m h items object kind same =
     ap (λ xs. state_after {A = A} (first_state kind) (live_ops kind xs object)) same
     ∙ sym (value-shown m h object kind (λ o. item_of o (standing m h o)) (live_on kind object) (λ o. pick_live (o.object == object) (standing m h o).fate (suits kind o.op) o.op))
 
 -- the return that is due
-pub return-places : {A : Type 0} (m : Parts A) (h : List Kept) (items : List Item) (object : ℕ) (op : Op) → items ≡ items_at m h →
+pub return-places : {A : Type 0} (m : Parts A) (h : List (Kept A)) (items : List Item) (object : ℕ) (op : Op) → items ≡ items_at m h →
     option_map (λ value. returned value op) (option_map (λ kind. state_after {A = A} (first_state kind) (live_ops kind items object)) (kind_at m object))
     ≡ by_places_value.return_due m h object op
 return-places {A} m h items object op same = of (kind_at m object)
@@ -70,13 +70,17 @@ both : (a b : Bool) → (a && b) ≡ true → (a ≡ true) × (b ≡ true)
 both true b e = (refl, e)
 both false b e = absurd (true≢false (sym e))
 
-others_alike : (fate : Fate) (t holder : ℕ) → (by_places.is_open fate && not (holder == t)) ≡ (Rattle.acta_machine.specs.Operations.is_open fate && not (holder == t))
-others_alike InProgress t holder = refl
+and_true : (b : Bool) → (b && true) ≡ b
+and_true true = refl
+and_true false = refl
+
+pub others_alike : (fate : Fate) (t holder : ℕ) → (by_places.is_open fate && not (holder == t)) ≡ (Rattle.acta_sets.specs.Operations.is_open fate && not (holder == t) && not false)
+others_alike InProgress t holder = sym (and_true (not (holder == t)))
 others_alike Committed t holder = refl
 others_alike Aborted t holder = refl
 
 -- where nothing in the table stands against an operation, nothing conflicts by places
-pub conflicting-none : {A : Type 0} (m : Parts A) (h : List Kept) (items : List Item) (t : ℕ) (ob : ObjId) (op : Op) → items ≡ items_at m h → first_number (stands_against m t ob op) items ≡ None → conflicting m h t ob.0 op ≡ []
+pub conflicting-none : {A : Type 0} (m : Parts A) (h : List (Kept A)) (items : List Item) (t : ℕ) (ob : ObjId) (op : Op) → items ≡ items_at m h → first_number (stands_against m t ob op) items ≡ None → conflicting m h t ob.0 op ≡ []
 conflicting-none m h items t ob op same none =
     none_passes (stands_against m t ob op) (λ o. item_of o (standing m h o)) (λ o. by_places.is_of_others m h t (standing m h o)) (λ o. (o.object == ob.0) && do_conflict m ob.0 o.op op)
     (λ o others conflicts.

@@ -3,13 +3,14 @@ use Rattle.std.specs.Prelude.{List, [], ◌∷◌, Some}
 use Rattle.acta_table.specs.declared.event.TxnId.{TxnId}
 use Rattle.acta_table.specs.declared.event.ClassId.{ClassId}
 use Rattle.acta_table.specs.declared.event.Event.{Event}
-use Rattle.acta_table.specs.declared.event.Event.TheVariants.{Begin, Operate, Commit, Abort}
+use Rattle.acta_table.specs.declared.event.Event.TheVariants.{Begin, Delegate, Form, Operate, Commit, Abort}
 use Rattle.acta_table.specs.declared.event.Kept.{Kept}
+use Rattle.acta_table.specs.declared.dep.Edge.{Edge}
 use Rattle.acta_table.specs.declared.answer.Status.{Status}
 use Rattle.acta_table.specs.declared.answer.Status.TheVariants.{InProgress, Committed as has_committed, Aborted as has_aborted}
 use Rattle.acta_table.specs.declared.answer.Fate.{Fate}
 use Rattle.acta_table.specs.declared.answer.Fate.TheVariants.{Committed, Aborted}
-use Rattle.acta_machine.specs.Summary.{Summary, nothing_yet, stood, entered, operated, fated, counted}
+use Rattle.acta_machine.specs.Summary.{Summary, nothing_yet, stood, entered, linked, given, operated, fated, counted}
 
 -- t is in progress, with this class
 abbrev pub begun : Summary → TxnId → ClassId → Summary
@@ -19,22 +20,29 @@ begun s t class = entered (stood s t InProgress) t (Some class)
 abbrev pub closed : Summary → TxnId → Status → Fate → Summary
 closed s t status fate = fated (stood s t status) t fate
 
+-- the edges that the event forms, in order
+abbrev pub edges_due : {A : Type 0} → Event A → List Edge
+edges_due (Form kind j i) = (record { kind = kind; j = j; i = i }) ∷ []
+edges_due _ = []
+
 -- what the event does to transactions and operations
-abbrev pub changed : Summary → Event → Summary
+abbrev pub changed : {A : Type 0} → Summary → Event A → Summary
 changed s (Begin t class) = begun s t class
+changed s (Delegate t u ops) = given s ops u
+changed s (Form kind j i) = s
 changed s (Operate t ob op) = operated s t ob op
 changed s (Commit t) = closed s t has_committed Committed
 changed s (Abort t) = closed s t has_aborted Aborted
 
--- the change, and one more event
-abbrev pub effect : Summary → Event → Summary
-effect s event = counted (changed s event)
+-- the edges, the change, and one more event
+abbrev pub effect : {A : Type 0} → Summary → Event A → Summary
+effect s event = counted (changed (linked s (edges_due event)) event)
 
 -- after a history, from a summary
-abbrev pub summary_from : Summary → List Kept → Summary
+abbrev pub summary_from : {A : Type 0} → Summary → List (Kept A) → Summary
 summary_from s [] = s
 summary_from s (k ∷ ks) = summary_from (effect s k.event) ks
 
 -- after a history, from nothing
-unfoldable pub summary_of : List Kept → Summary
+unfoldable pub summary_of : {A : Type 0} → List (Kept A) → Summary
 summary_of history = summary_from nothing_yet history

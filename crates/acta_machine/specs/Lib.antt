@@ -1,8 +1,6 @@
 pub mod Changes
-pub mod Operations
 pub mod Places
 pub mod Rules
-pub mod Selections
 pub mod Shown
 pub mod Summary
 pub mod Table

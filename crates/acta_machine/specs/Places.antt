@@ -1,37 +1,66 @@
 -- That the written table and the places of the history say the same.
-use Rattle.std.specs.Prelude.{◌≡◌, ℕ, List, Option, map, option_map}
+use Rattle.std.specs.Prelude.{◌≡◌, ℕ, Bool, false, ◌&&◌, not, nat_le, List, [], ◌∷◌, ◌++◌, Option, None, map, option_map}
+use Rattle.acta_table.specs.declared.event.Event.{Event}
 use Rattle.acta_table.specs.declared.event.Kept.{Kept}
 use Rattle.acta_table.specs.declared.event.OpNo.{OpNo}
 use Rattle.acta_table.specs.declared.model.Parts.{Parts}
+use Rattle.acta_table.specs.declared.answer.Answer.{Answer}
+use Rattle.acta_table.specs.declared.answer.Answer.TheVariants.{Refused}
+use Rattle.acta_table.specs.declared.answer.Rule.{Rule}
 use Rattle.acta_table.specs.Classes.{kind_at}
+use Rattle.acta_table.specs.Numbers.{rule_number}
 use Rattle.acta_objects.specs.declared.state.ObjectState.{ObjectState}
 use Rattle.acta_axioms.specs.History.{class_number}
 use Rattle.acta_axioms.specs.Operations.{Operation, Standing, operations, standing}
 use Rattle.acta_axioms.specs.Values.{value}
-use Rattle.acta_axioms.specs.Claims.{MeetsAxioms, status_at}
-use Rattle.acta_machine.specs.declared.item.Item.{Item}
+use Rattle.acta_axioms.specs.Edges.{edges}
+use Rattle.acta_axioms.specs.Legal.{is_legal}
+use Rattle.acta_axioms.specs.Claims.{MeetsAxioms, IsOrderly, status_at}
+use Rattle.acta_sets.specs.declared.item.Item.{Item}
 use Rattle.acta_machine.specs.Summary.{Summary}
 use Rattle.acta_machine.specs.Changes.{summary_of}
-use Rattle.acta_machine.specs.Table.{State}
+use Rattle.acta_machine.specs.Rules.{earlier_broken}
+use Rattle.acta_machine.specs.Table.{State, kept_as, answer_to}
 
 -- an operation that stands so
 abbrev pub item_of : Operation → Standing → Item
 item_of o s = record { ob = record { 0 = o.object }; op = o.op; holder = record { 0 = s.holder }; fate = s.fate }
 
 -- the operations of a history, with holders and fates by places
-abbrev pub items_at : {A : Type 0} → Parts A → List Kept → List Item
+abbrev pub items_at : {A : Type 0} → Parts A → List (Kept A) → List Item
 items_at m h = map (λ o. item_of o (standing m h o)) (operations h)
 
--- the statuses, classes, holders and fates of a summary are those by places
-pub record ShowsPlaces {A : Type 0} (m : Parts A) (h : List Kept) (s : Summary) : Type 0 where
+-- the statuses, classes, holders, fates and edges of a summary are those by places
+pub record ShowsPlaces {A : Type 0} (m : Parts A) (h : List (Kept A)) (s : Summary) : Type 0 where
   pub status : (t : ℕ) → s.status t ≡ status_at h t
   pub class : (t : ℕ) → option_map (λ c. c.0) (s.class t) ≡ class_number h t
   pub operations : s.operations ≡ items_at m h
+  pub edges : s.edges ≡ edges m h
 
--- the summary of the history is that by places, and the history meets the axioms
+-- whether the rule is one of those on dependencies
+abbrev pub is_dependency_rule : Rule → Bool
+is_dependency_rule rule = nat_le 17 (rule_number rule) && nat_le (rule_number rule) 27
+
+-- whether the event is refused by one of them
+abbrev pub is_refused_by_dependency : Answer → Bool
+is_refused_by_dependency (Refused rule by) = is_dependency_rule rule
+is_refused_by_dependency _ = false
+
+-- an event that breaks none of the earlier rules is refused by one of those on dependencies exactly
+-- where the history with it would not be legal
+abbrev pub RefusesIllegal : {A : Type 0} → State A → Event A → Type 0
+RefusesIllegal state event =
+    earlier_broken state.model (summary_of state.kept) event ≡ None
+    → is_refused_by_dependency (answer_to state event)
+    ≡ not (is_legal state.model (state.kept ++ kept_as state event ∷ []))
+
+-- the summary of the history is that by places; the history meets the axioms, and is orderly; and of each
+-- event that may come next the rules on dependencies refuse exactly what would be illegal
 pub record FollowsPlaces {A : Type 0} (state : State A) : Type 0 where
   pub shows : ShowsPlaces state.model state.kept (summary_of state.kept)
   pub meets : MeetsAxioms state.model state.kept
+  pub orderly : IsOrderly state.model state.kept
+  pub exact : (event : Event A) → RefusesIllegal state event
 
 -- the numbers of operations
 abbrev pub numbers_of : List Operation → List OpNo

@@ -1,35 +1,30 @@
 -- What the written table knows of a history: no places, only how things stand now.
-use Rattle.std.specs.Prelude.{ℕ, ◌+◌, ◌==◌, Bool, true, false, List, [], if◌then◌else◌, Option, None}
+use Rattle.std.specs.Prelude.{ℕ, ◌+◌, ◌==◌, List, [], if◌then◌else◌, Option, None}
 use Rattle.acta_table.specs.declared.event.TxnId.{TxnId}
 use Rattle.acta_table.specs.declared.event.ClassId.{ClassId}
 use Rattle.acta_table.specs.declared.event.ObjId.{ObjId}
 use Rattle.acta_table.specs.declared.event.Op.{Op}
+use Rattle.acta_table.specs.declared.event.OpNo.{OpNo}
 use Rattle.acta_table.specs.declared.answer.Status.{Status}
-use Rattle.acta_table.specs.declared.answer.Status.TheVariants.{NotBegun, InProgress}
+use Rattle.acta_table.specs.declared.answer.Status.TheVariants.{NotBegun}
 use Rattle.acta_table.specs.declared.answer.Fate.{Fate}
-use Rattle.acta_machine.specs.declared.item.Item.{Item}
-use Rattle.acta_machine.specs.Operations.{added, ended}
+use Rattle.acta_table.specs.declared.dep.Edge.{Edge}
+use Rattle.acta_table.specs.Edges.{formed}
+use Rattle.acta_deps.specs.Statuses.{with_status}
+use Rattle.acta_sets.specs.declared.item.Item.{Item}
+use Rattle.acta_sets.specs.Operations.{added, moved, ended}
 
--- kept: how many events; status and class: of each transaction; operations: by number
+-- kept: how many events; status and class: of each transaction; operations and edges: by number
 pub record Summary : Type 0 where
   pub kept : ℕ
   pub status : ℕ → Status
   pub class : ℕ → Option ClassId
   pub operations : List Item
+  pub edges : List Edge
 
 -- before any event
 abbrev pub nothing_yet : Summary
-nothing_yet = record { kept = 0; status = λ _. NotBegun; class = λ _. None; operations = [] }
-
--- not yet begun
-abbrev pub is_new : Status → Bool
-is_new NotBegun = true
-is_new _ = false
-
--- begun and not ended
-abbrev pub is_in_progress : Status → Bool
-is_in_progress InProgress = true
-is_in_progress _ = false
+nothing_yet = record { kept = 0; status = λ _. NotBegun; class = λ _. None; operations = []; edges = [] }
 
 -- what each transaction has, with t's changed
 abbrev pub with_entry : {X : Type 0} → (ℕ → X) → ℕ → X → ℕ → X
@@ -37,15 +32,23 @@ with_entry f t x u = if u == t then x else f u
 
 -- t's status is this
 unfoldable pub stood : Summary → TxnId → Status → Summary
-stood s t status = record s { status = with_entry s.status t.0 status }
+stood s t status = record s { status = with_status s.status t.0 status }
 
 -- t's class is this
 unfoldable pub entered : Summary → TxnId → Option ClassId → Summary
 entered s t class = record s { class = with_entry s.class t.0 class }
 
+-- these edges are in force too
+unfoldable pub linked : Summary → List Edge → Summary
+linked s more = record s { edges = formed s.edges more }
+
 -- one more operation, in progress, held by t
 unfoldable pub operated : Summary → TxnId → ObjId → Op → Summary
 operated s t ob op = record s { operations = added s.operations t ob op }
+
+-- u holds these operations
+unfoldable pub given : Summary → List OpNo → TxnId → Summary
+given s ops u = record s { operations = moved ops u s.operations }
 
 -- all that t holds in progress has this fate
 unfoldable pub fated : Summary → TxnId → Fate → Summary

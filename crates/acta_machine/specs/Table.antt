@@ -3,13 +3,16 @@ use Rattle.std.specs.Prelude.{ℕ, ◌+◌, List, [], ◌∷◌, ◌++◌, lengt
 use Rattle.acta_table.specs.declared.event.OpNo.{OpNo}
 use Rattle.acta_table.specs.declared.event.Event.{Event}
 use Rattle.acta_table.specs.declared.event.Kept.{Kept}
+use Rattle.acta_table.specs.declared.dep.Edge.{Edge}
+use Rattle.acta_table.specs.declared.dep.Owed.{Owed}
 use Rattle.acta_table.specs.declared.answer.Status.{Status}
 use Rattle.acta_table.specs.declared.answer.Answer.{Answer}
 use Rattle.acta_table.specs.declared.answer.Answer.TheVariants.{Admitted, Refused}
 use Rattle.acta_table.specs.declared.answer.Refusal.{Refusal}
 use Rattle.acta_table.specs.declared.model.Parts.{Parts}
 use Rattle.acta_objects.specs.declared.state.ObjectState.{ObjectState}
-use Rattle.acta_machine.specs.Operations.{access_set, conflict_set, view_set}
+use Rattle.acta_deps.specs.Debts.{owed_in}
+use Rattle.acta_sets.specs.Operations.{access_set, conflict_set, view_set}
 use Rattle.acta_machine.specs.Values.{value_of, return_due}
 use Rattle.acta_machine.specs.Rules.{lowest_broken}
 use Rattle.acta_machine.specs.Changes.{summary_of}
@@ -17,51 +20,51 @@ use Rattle.acta_machine.specs.Changes.{summary_of}
 -- a machine: its model, and the events that it kept, with what they returned
 pub record State (A : Type 0) : Type 0 where
   pub model : Parts A
-  pub kept : List Kept
+  pub kept : List (Kept A)
 
 -- a machine that has kept nothing
 abbrev pub fresh : {A : Type 0} → Parts A → State A
 fresh m = record { model = m; kept = [] }
 
 -- the event as it is kept
-abbrev pub kept_as : {A : Type 0} → State A → Event → Kept
+abbrev pub kept_as : {A : Type 0} → State A → Event A → Kept A
 kept_as state event =
     record { event = event; ret = return_due state.model (summary_of state.kept) event }
 
 -- the answer, given the rule that is broken, if one is
-abbrev pub answered : {A : Type 0} → State A → Event → Option Refusal → Answer
+abbrev pub answered : {A : Type 0} → State A → Event A → Option Refusal → Answer
 answered state event None = Admitted (length state.kept + 1) (kept_as state event).ret
 answered state event (Some r) = Refused r.rule r.by
 
 -- the state after, given the same
-abbrev pub moved_on : {A : Type 0} → State A → Event → Option Refusal → State A
+abbrev pub moved_on : {A : Type 0} → State A → Event A → Option Refusal → State A
 moved_on state event None = record state { kept = state.kept ++ kept_as state event ∷ [] }
 moved_on state event (Some r) = state
 
 -- the answer to an event
-unfoldable pub answer_to : {A : Type 0} → State A → Event → Answer
+unfoldable pub answer_to : {A : Type 0} → State A → Event A → Answer
 answer_to state event = answered state event (lowest_broken state.model (summary_of state.kept) event)
 
 -- the state after an event
-unfoldable pub after : {A : Type 0} → State A → Event → State A
+unfoldable pub after : {A : Type 0} → State A → Event A → State A
 after state event = moved_on state event (lowest_broken state.model (summary_of state.kept) event)
 
 -- the answers to a list of events
-abbrev pub answers_to : {A : Type 0} → State A → List Event → List Answer
+abbrev pub answers_to : {A : Type 0} → State A → List (Event A) → List Answer
 answers_to state [] = []
 answers_to state (event ∷ events) = answer_to state event ∷ answers_to (after state event) events
 
 -- the state after a list of events
-abbrev pub after_all : {A : Type 0} → State A → List Event → State A
+abbrev pub after_all : {A : Type 0} → State A → List (Event A) → State A
 after_all state [] = state
 after_all state (event ∷ events) = after_all (after state event) events
 
 -- the answers of a run of a model over a list of events
-abbrev pub run_answers : {A : Type 0} → Parts A → List Event → List Answer
+abbrev pub run_answers : {A : Type 0} → Parts A → List (Event A) → List Answer
 run_answers m events = answers_to (fresh m) events
 
 -- the state that such a run ends in
-abbrev pub run_state : {A : Type 0} → Parts A → List Event → State A
+abbrev pub run_state : {A : Type 0} → Parts A → List (Event A) → State A
 run_state m events = after_all (fresh m) events
 
 -- how a transaction stands, as readers of a machine show it
@@ -78,8 +81,16 @@ access_set_in state t = access_set t (summary_of state.kept).operations
 
 -- the operations in progress that others hold
 abbrev pub conflict_set_in : {A : Type 0} → State A → ℕ → List OpNo
-conflict_set_in state t = conflict_set t (summary_of state.kept).operations
+conflict_set_in state t = conflict_set t [] (summary_of state.kept).operations
 
 -- the operations that are not aborted
 abbrev pub view_set_in : {A : Type 0} → State A → List OpNo
 view_set_in state = view_set (summary_of state.kept).operations
+
+-- the edges in force, by number
+abbrev pub edges_in : {A : Type 0} → State A → List Edge
+edges_in state = (summary_of state.kept).edges
+
+-- what is owed, by edge number
+abbrev pub debts_in : {A : Type 0} → State A → List Owed
+debts_in state = owed_in (summary_of state.kept).status (summary_of state.kept).edges

@@ -9,8 +9,8 @@ use Rattle.acta_table.specs.declared.model.Parts.{Parts}
 use Rattle.acta_table.specs.Classes.{kind_at}
 use Rattle.acta_objects.specs.declared.state.ObjectState.{ObjectState}
 use Rattle.acta_objects.specs.Objects.{suits, first_state, state_after, returned}
-use Rattle.acta_machine.specs.declared.item.Item.{Item}
-use Rattle.acta_machine.specs.Operations.{is_live}
+use Rattle.acta_sets.specs.declared.item.Item.{Item}
+use Rattle.acta_sets.specs.Operations.{is_live}
 use Rattle.acta_machine.specs.Summary.{Summary}
 
 -- the operation, if it is on this object, of its kind, and not aborted
@@ -27,6 +27,6 @@ value_of m s object =
     option_map (λ kind. state_after (first_state kind) (live_ops kind s.operations object)) (kind_at m object)
 
 -- what the event returns
-abbrev pub return_due : {A : Type 0} → Parts A → Summary → Event → Option Ret
+abbrev pub return_due : {A : Type 0} → Parts A → Summary → Event A → Option Ret
 return_due m s (Operate t ob op) = option_map (λ value. returned value op) (value_of m s ob.0)
 return_due m s _ = None

@@ -1,47 +1,66 @@
-ghost use Rattle.std.specs.Prelude.{◌≡◌, ◌+◌, ◌<◌, ◌≤◌, ◌++◌, ◌∷◌, [], length, OnOk, IfOk, IfSome, vec_capacity, None, Some};
-ghost use Rattle.acta_table.specs.declared.answer.Status.TheVariants.{InProgress};
+ghost use Rattle.std.specs.Prelude.{◌≡◌, ◌+◌, ◌<◌, ◌≤◌, ◌++◌, ◌∷◌, [], true, false, length, OnOk, OnErr, IfOk, IfSome, vec_capacity, None, Some};
+ghost use Rattle.acta_table.specs.declared.answer.Status.{Status};
 ghost use Rattle.acta_table.specs.WellFormed.{bad_number};
 ghost use Rattle.acta_objects.specs.Limits.{IsSmall};
-ghost use Rattle.acta_machine.specs.Summary.{stood, entered, operated, fated, counted};
-ghost use Rattle.acta_machine.specs.Changes.{begun, closed, effect};
+ghost use Rattle.acta_table.specs.Events.{operations_named};
+ghost use Rattle.acta_deps.specs.Debts.{owed_in};
+ghost use Rattle.acta_sets.specs.Operations.{is_open, are_open};
+ghost use Rattle.acta_machine.specs.Summary.{stood, entered, linked, given, operated, fated, counted};
+ghost use Rattle.acta_machine.specs.Changes.{edges_due, begun, closed, changed};
+ghost use Rattle.acta_machine.specs.Rules.{not_in_progress, already_begun, edges_full, dependency};
 ghost use Rattle.acta_machine.specs.Values.{value_of, return_due};
 ghost use Rattle.acta_machine.specs.Shown.{shown};
 
-use crate::item::{Item, end_all, value_after};
+use crate::values::value_after;
+use acta_deps::Deps;
 use acta_objects::ObjectState;
-use acta_table::{ClassId, Event, Fate, Kept, Model, ObjId, Op, Ret, Status, TxnId};
+use acta_sets::OpTable;
+use acta_table::{
+    ClassId, Edge, Event, Fate, Kept, Model, ObjId, Op, OpNo, OpSet, Owed, Ret, Status, TxnId,
+};
 use std::alloc::{AllocError, Allocator};
 
-/// How many entries the tables of transactions have: one for each number, and one for 0.
+/// How many entries the table of classes has: one for each number, and one for 0.
 pub(crate) const TABLE_SIZE: usize = 4096;
 
 /// All that a machine keeps, in plain lists. It has no model of its own: `shown` says what it stands for.
 #[derive(Drop)]
 pub(crate) struct Board<A: Allocator> {
     pub(crate) model: Model<A>,
-    pub(crate) statuses: Vec<Status, A>,
+    pub(crate) deps: Deps<A>,
     pub(crate) classes: Vec<Option<ClassId>, A>,
-    pub(crate) operations: Vec<Item, A>,
-    pub(crate) kept: Vec<Kept, A>,
+    pub(crate) operations: OpTable<A>,
+    pub(crate) kept: Vec<Kept<A>, A>,
+}
+
+// The same items, in memory of their own.
+fn copy_all<A: Allocator + Copy>(alloc: A, items: &[Kept<A>]) -> Result<Vec<Kept<A>, A>, AllocError>
+    ensures { IfOk result (λ copied. copied.items ≡ items.now) }
+{
+    let mut copied = Vec::with_capacity(alloc, items.len())?;
+    for item in items {
+        copied.push(item.copy()?)?;
+    }
+    Ok(copied)
 }
 
 impl<A: Allocator + Copy> Board<A> {
     /// The value of an object; nothing for one that is not in the model.
     pub(crate) fn value(&self, ob: ObjId) -> Result<Option<ObjectState<A>>, AllocError>
-        requires { length self.now.operations.items ≤ 65536 }
         ensures value { IfOk result (λ value. value ≡ value_of self.now.model (shown self.now) ob.0) }
-        ensures small { IfOk result (λ value. IfSome value (IsSmall (length self.now.operations.items + 1))) }
+        ensures small { IfOk result (λ value. IfSome value (IsSmall (length self.now.operations + 1))) }
+        ensures few { length self.now.operations ≤ 65536 }
     {
-        let alloc = *self.operations.allocator();
+        let alloc = *self.kept.allocator();
+        let operations = self.operations.operations();
         match self.model.objects().get(ob.0 as usize) {
-            Some(object) => Ok(Some(value_after(alloc, &object.kind, &self.operations, ob)?)),
+            Some(object) => Ok(Some(value_after(alloc, &object.kind, operations, ob)?)),
             None => Ok(None),
         }
     }
 
     /// What the event returns.
-    pub(crate) fn return_of(&self, event: &Event) -> Result<Option<Ret>, AllocError>
-        requires { length self.now.operations.items ≤ 65536 }
+    pub(crate) fn return_of(&self, event: &Event<A>) -> Result<Option<Ret>, AllocError>
         ensures { IfOk result (λ ret. ret ≡ return_due self.now.model (shown self.now) event.now) }
     {
         match event {
@@ -49,7 +68,11 @@ impl<A: Allocator + Copy> Board<A> {
                 Some(mut value) => Ok(Some(value.apply(op)?)),
                 None => Ok(None),
             },
-            Event::Begin(_, _) | Event::Commit(_) | Event::Abort(_) => Ok(None),
+            Event::Begin(_, _)
+            | Event::Delegate(_, _, _)
+            | Event::Form(_, _, _)
+            | Event::Commit(_)
+            | Event::Abort(_) => Ok(None),
         }
     }
 
@@ -57,18 +80,55 @@ impl<A: Allocator + Copy> Board<A> {
     pub(crate) fn copy(&self) -> Result<Board<A>, AllocError>
         ensures model { IfOk result (λ board. board.model ≡ self.now.model) }
         ensures kept { IfOk result (λ board. board.kept.items ≡ self.now.kept.items) }
-        ensures statuses { IfOk result (λ board. board.statuses.items ≡ self.now.statuses.items) }
+        ensures deps { IfOk result (λ board. board.deps ≡ self.now.deps) }
         ensures classes { IfOk result (λ board. board.classes.items ≡ self.now.classes.items) }
-        ensures operations { IfOk result (λ board. board.operations.items ≡ self.now.operations.items) }
+        ensures operations { IfOk result (λ board. board.operations ≡ self.now.operations) }
     {
         let alloc = *self.kept.allocator();
         Ok(Board {
             model: self.model.copy()?,
-            statuses: Vec::from_slice(alloc, &self.statuses)?,
+            deps: self.deps.copy()?,
             classes: Vec::from_slice(alloc, &self.classes)?,
-            operations: Vec::from_slice(alloc, &self.operations)?,
-            kept: Vec::from_slice(alloc, &self.kept)?,
+            operations: self.operations.copy()?,
+            kept: copy_all(alloc, &self.kept)?,
         })
+    }
+}
+
+impl<A: Allocator + Copy> Board<A> {
+    /// All that is owed, by edge number.
+    pub(crate) fn owed(&self) -> Result<Vec<Owed, A>, AllocError>
+        ensures { IfOk result (λ owed. owed.items ≡ owed_in (shown self.now).status (shown self.now).edges) }
+    {
+        self.deps.owed()
+    }
+
+    /// Room for one more event.
+    pub(crate) fn make_room(&mut self) -> Result<(), AllocError>
+        ensures shows { shown self.new ≡ shown self.old }
+        ensures others { self.new ≡ record self.old { kept = self.new.kept } }
+        ensures kept { self.new.kept.items ≡ self.old.kept.items }
+        ensures room { OnOk result (length self.new.kept.items < vec_capacity self.new.kept) }
+    {
+        self.kept.reserve(1)
+    }
+
+    /// Forms the edges that the event forms. `Err` where there is no memory, and then none is formed.
+    #[tactic(auto, unfolding(crate::specs::Summary::linked, crate::specs::Rules::edges_full))]
+    pub(crate) fn link(&mut self, event: &Event<A>) -> Result<(), AllocError>
+        requires { edges_full (shown self.old) event.now ≡ None }
+        ensures shows { OnOk result (shown self.new ≡ linked (shown self.old) (edges_due event.now)) }
+        ensures err { OnErr result (shown self.new ≡ shown self.old) }
+        ensures others { self.new ≡ record self.old { deps = self.new.deps } }
+    {
+        if let Event::Form(kind, j, i) = event {
+            self.deps.form(&[Edge {
+                kind: *kind,
+                j: *j,
+                i: *i,
+            }])?;
+        }
+        Ok(())
     }
 }
 
@@ -77,10 +137,7 @@ impl<A: Allocator> Board<A> {
     pub(crate) fn status(&self, t: TxnId) -> Status
         ensures { result ≡ (shown self.now).status t.0 }
     {
-        match self.statuses.get(t.0 as usize) {
-            Some(status) => *status,
-            None => Status::NotBegun,
-        }
+        self.deps.status(t)
     }
 
     /// The number of the class that the transaction began with.
@@ -93,31 +150,6 @@ impl<A: Allocator> Board<A> {
         }
     }
 
-    /// Room for one more event, and for one more operation.
-    pub(crate) fn make_room(&mut self) -> Result<(), AllocError>
-        ensures shows { shown self.new ≡ shown self.old }
-        ensures model { self.new.model ≡ self.old.model }
-        ensures kept { self.new.kept.items ≡ self.old.kept.items }
-        ensures statuses { length self.new.statuses.items ≡ length self.old.statuses.items }
-        ensures classes { length self.new.classes.items ≡ length self.old.classes.items }
-        ensures room_kept { OnOk result (length self.new.kept.items < vec_capacity self.new.kept) }
-        ensures room_operations { OnOk result (length self.new.operations.items < vec_capacity self.new.operations) }
-    {
-        self.kept.reserve(1)?;
-        self.operations.reserve(1)?;
-        Ok(())
-    }
-
-    #[tactic(auto, unfolding(crate::specs::Summary::stood))]
-    fn stand(&mut self, t: TxnId, status: Status)
-        requires { t.0 < length self.old.statuses.items }
-        ensures shows { shown self.new ≡ stood (shown self.old) t status }
-        ensures table { length self.new.statuses.items ≡ length self.old.statuses.items }
-        ensures others { self.new ≡ record self.old { statuses = self.new.statuses } }
-    {
-        self.statuses[t.0 as usize] = status;
-    }
-
     #[tactic(auto, unfolding(crate::specs::Summary::entered))]
     fn enter(&mut self, t: TxnId, class: Option<ClassId>)
         requires { t.0 < length self.old.classes.items }
@@ -128,80 +160,136 @@ impl<A: Allocator> Board<A> {
         self.classes[t.0 as usize] = class;
     }
 
-    #[tactic(auto, unfolding(crate::specs::Summary::operated))]
-    fn operate(&mut self, t: TxnId, ob: ObjId, op: Op)
-        requires { length self.old.operations.items < vec_capacity self.old.operations }
-        ensures shows { shown self.new ≡ operated (shown self.old) t ob op }
+    #[tactic(auto, unfolding(crate::specs::Summary::given))]
+    fn give(&mut self, ops: &OpSet<A>, u: TxnId)
+        requires named { are_open ops.now self.old.operations ≡ true }
+        requires low { 0 < u.0 }
+        requires high { u.0 ≤ 4095 }
+        ensures shows { shown self.new ≡ given (shown self.old) ops.now u }
         ensures others { self.new ≡ record self.old { operations = self.new.operations } }
     {
-        let _ = self.operations.push(Item {
-            ob,
-            op,
-            holder: t,
-            fate: Fate::InProgress,
-        });
+        self.operations.move_to(ops.as_slice(), u);
     }
 
     #[tactic(auto, unfolding(crate::specs::Summary::fated))]
     fn end(&mut self, t: TxnId, fate: Fate)
+        requires { is_open fate ≡ false }
         ensures shows { shown self.new ≡ fated (shown self.old) t fate }
         ensures others { self.new ≡ record self.old { operations = self.new.operations } }
     {
-        end_all(&mut self.operations, t, fate);
+        self.operations.end_all(t, fate);
     }
 
     #[tactic(auto, unfolding(crate::specs::Summary::counted))]
-    fn keep(&mut self, event: Event, ret: Option<Ret>)
+    fn keep(&mut self, kept: Kept<A>)
         requires { length self.old.kept.items < vec_capacity self.old.kept }
         ensures shows { shown self.new ≡ counted (shown self.old) }
-        ensures kept { self.new.kept.items ≡ self.old.kept.items ++ record { event = event; ret = ret } ∷ [] }
+        ensures kept { self.new.kept.items ≡ self.old.kept.items ++ kept ∷ [] }
         ensures others { self.new ≡ record self.old { kept = self.new.kept } }
     {
-        let _ = self.kept.push(Kept { event, ret });
+        let _ = self.kept.push(kept);
     }
 
+    #[tactic(auto, unfolding(crate::specs::Summary::stood))]
     fn begin(&mut self, t: TxnId, class: ClassId)
-        requires statuses { t.0 < length self.old.statuses.items }
-        requires classes { t.0 < length self.old.classes.items }
+        requires number { bad_number {A = A} (Event.Begin t class) ≡ None }
+        requires stands { already_begun {A = A} (shown self.old) (Event.Begin t class) ≡ None }
+        requires allowed { dependency {A = A} (shown self.old) (Event.Begin t class) ≡ None }
+        requires classes { length self.old.classes.items ≡ 4096 }
         ensures shows { shown self.new ≡ begun (shown self.old) t class }
-        ensures statuses { length self.new.statuses.items ≡ length self.old.statuses.items }
-        ensures classes { length self.new.classes.items ≡ length self.old.classes.items }
-        ensures others { self.new ≡ record self.old { statuses = self.new.statuses; classes = self.new.classes } }
+        ensures classes { length self.new.classes.items ≡ 4096 }
+        ensures others { self.new ≡ record self.old { deps = self.new.deps; classes = self.new.classes } }
     {
-        self.stand(t, Status::InProgress);
+        self.deps.started(t);
         self.enter(t, Some(class));
     }
 
-    fn close(&mut self, t: TxnId, status: Status, fate: Fate)
-        requires { t.0 < length self.old.statuses.items }
-        ensures shows { shown self.new ≡ closed (shown self.old) t status fate }
-        ensures statuses { length self.new.statuses.items ≡ length self.old.statuses.items }
-        ensures others { self.new ≡ record self.old { statuses = self.new.statuses; operations = self.new.operations } }
+    #[tactic(auto, unfolding(crate::specs::Summary::stood))]
+    fn commit(&mut self, t: TxnId)
+        requires number { bad_number {A = A} (Event.Commit t) ≡ None }
+        requires stands { not_in_progress {A = A} (shown self.old) (Event.Commit t) ≡ None }
+        requires allowed { dependency {A = A} (shown self.old) (Event.Commit t) ≡ None }
+        ensures shows { shown self.new ≡ closed (shown self.old) t Status.Committed Fate.Committed }
+        ensures others { self.new ≡ record self.old { deps = self.new.deps; operations = self.new.operations } }
     {
-        self.stand(t, status);
-        self.end(t, fate);
+        self.deps.committed(t);
+        self.end(t, Fate::Committed);
     }
 
-    /// Does what an admitted event does.
+    #[tactic(auto, unfolding(crate::specs::Summary::stood))]
+    fn abort(&mut self, t: TxnId)
+        requires number { bad_number {A = A} (Event.Abort t) ≡ None }
+        requires stands { not_in_progress {A = A} (shown self.old) (Event.Abort t) ≡ None }
+        requires allowed { dependency {A = A} (shown self.old) (Event.Abort t) ≡ None }
+        ensures shows { shown self.new ≡ closed (shown self.old) t Status.Aborted Fate.Aborted }
+        ensures others { self.new ≡ record self.old { deps = self.new.deps; operations = self.new.operations } }
+    {
+        self.deps.aborted(t);
+        self.end(t, Fate::Aborted);
+    }
+
+    #[tactic(auto, unfolding(crate::specs::Summary::operated))]
+    fn operate(&mut self, t: TxnId, ob: ObjId, op: Op) -> Result<(), AllocError>
+        requires number { 0 < t.0 }
+        requires high { t.0 ≤ 4095 }
+        requires few { length self.old.operations < 65536 }
+        ensures shows { OnOk result (shown self.new ≡ operated (shown self.old) t ob op) }
+        ensures err { OnErr result (shown self.new ≡ shown self.old) }
+        ensures others { self.new ≡ record self.old { operations = self.new.operations } }
+    {
+        self.operations.add(t, ob, op)?;
+        Ok(())
+    }
+
+    // Changes how transactions and operations stand. `Err` where there is no memory for an operation, and
+    // then nothing is changed.
     #[tactic(auto, unfolding(acta_table::specs::WellFormed::bad_number))]
-    pub(crate) fn admit(&mut self, event: Event, ret: Option<Ret>)
-        requires room_kept { length self.old.kept.items < vec_capacity self.old.kept }
-        requires room_operations { length self.old.operations.items < vec_capacity self.old.operations }
-        requires statuses { length self.old.statuses.items ≡ 4096 }
+    fn change(&mut self, event: &Event<A>) -> Result<(), AllocError>
         requires classes { length self.old.classes.items ≡ 4096 }
-        requires number { bad_number event ≡ None }
-        ensures shows { shown self.new ≡ effect (shown self.old) event }
-        ensures kept { self.new.kept.items ≡ self.old.kept.items ++ record { event = event; ret = ret } ∷ [] }
-        ensures model { self.new.model ≡ self.old.model }
-        ensures statuses { length self.new.statuses.items ≡ 4096 }
+        requires few { length self.old.operations < 65536 }
+        requires number { bad_number event.now ≡ None }
+        requires progress { not_in_progress (shown self.old) event.now ≡ None }
+        requires new { already_begun (shown self.old) event.now ≡ None }
+        requires allowed { dependency (shown self.old) event.now ≡ None }
+        requires named { are_open (operations_named event.now) self.old.operations ≡ true }
+        ensures shows { OnOk result (shown self.new ≡ changed (shown self.old) event.now) }
+        ensures err { OnErr result (shown self.new ≡ shown self.old) }
+        ensures edgeless { OnErr result (edges_due event.now ≡ []) }
         ensures classes { length self.new.classes.items ≡ 4096 }
+        ensures others { self.new ≡ record self.old { deps = self.new.deps; classes = self.new.classes; operations = self.new.operations } }
     {
         match event {
-            Event::Begin(t, class) => self.begin(t, class),
-            Event::Operate(t, ob, op) => self.operate(t, ob, op),
-            Event::Commit(t) => self.close(t, Status::Committed, Fate::Committed),
-            Event::Abort(t) => self.close(t, Status::Aborted, Fate::Aborted),
+            Event::Begin(t, class) => self.begin(*t, *class),
+            Event::Delegate(_, u, ops) => self.give(ops, *u),
+            Event::Form(_, _, _) => {}
+            Event::Operate(t, ob, op) => return self.operate(*t, *ob, *op),
+            Event::Commit(t) => self.commit(*t),
+            Event::Abort(t) => self.abort(*t),
         }
-        self.keep(event, ret);
+        Ok(())
+    }
+
+    /// Does what an admitted event does beside forming edges. `Err` where there is no memory for an operation,
+    /// and then nothing is done.
+    pub(crate) fn admit(&mut self, event: &Event<A>, kept: Kept<A>) -> Result<(), AllocError>
+        requires room { length self.old.kept.items < vec_capacity self.old.kept }
+        requires classes { length self.old.classes.items ≡ 4096 }
+        requires few { length self.old.operations < 65536 }
+        requires number { bad_number event.now ≡ None }
+        requires progress { not_in_progress (shown self.old) event.now ≡ None }
+        requires new { already_begun (shown self.old) event.now ≡ None }
+        requires allowed { dependency (shown self.old) event.now ≡ None }
+        requires named { are_open (operations_named event.now) self.old.operations ≡ true }
+        ensures shows { OnOk result (shown self.new ≡ counted (changed (shown self.old) event.now)) }
+        ensures kept { OnOk result (self.new.kept.items ≡ self.old.kept.items ++ kept ∷ []) }
+        ensures model { self.new.model ≡ self.old.model }
+        ensures classes { length self.new.classes.items ≡ 4096 }
+        ensures err { OnErr result (shown self.new ≡ shown self.old) }
+        ensures edgeless { OnErr result (edges_due event.now ≡ []) }
+        ensures as_it_was { OnErr result (self.new.kept.items ≡ self.old.kept.items) }
+    {
+        self.change(event)?;
+        self.keep(kept);
+        Ok(())
     }
 }

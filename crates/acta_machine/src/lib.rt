@@ -4,8 +4,8 @@
 #![tactic(auto)]
 
 mod board;
-mod item;
 mod machine;
 mod rules;
+mod values;
 
 pub use machine::{Machine, Run};

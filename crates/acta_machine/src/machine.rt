@@ -1,17 +1,19 @@
 ghost use Rattle.std.specs.Prelude.{◌≡◌, ◌≤◌, length, None, OnOk, OnErr, IfOk, replicate};
-ghost use Rattle.acta_table.specs.declared.answer.Status.{Status};
 ghost use Rattle.acta_machine.specs.Changes.{summary_of};
-ghost use Rattle.acta_machine.specs.Operations.{operations_where};
-ghost use Rattle.acta_machine.specs.Selections.{is_selected};
 ghost use Rattle.acta_axioms.specs.Claims.{status_at};
+ghost use Rattle.acta_axioms.specs.Edges as edges_by_places;
+ghost use Rattle.acta_axioms.specs.Legal as debts_by_places;
 ghost use Rattle.acta_axioms.specs.Operations as by_places;
 ghost use Rattle.acta_machine.specs.Places.{FollowsPlaces, numbers_of, value_at};
-ghost use Rattle.acta_machine.specs.Table.{fresh, answer_to, after, run_answers, run_state, status_in, value_in, access_set_in, conflict_set_in, view_set_in};
+ghost use Rattle.acta_machine.specs.Table.{fresh, answer_to, after, run_answers, run_state, status_in, value_in, access_set_in, conflict_set_in, view_set_in, edges_in, debts_in};
 
 use crate::board::{Board, TABLE_SIZE};
-use crate::item::{Selection, numbers_of};
+use acta_deps::Deps;
 use acta_objects::ObjectState;
-use acta_table::{Answer, ClassId, Event, Items, Kept, Model, ObjId, OpNo, Status, TxnId};
+use acta_sets::OpTable;
+use acta_table::{
+    Answer, ClassId, Edge, Event, Items, Kept, Model, ObjId, OpNo, Owed, Status, TxnId,
+};
 use std::alloc::{AllocError, Allocator};
 
 /// A machine: it admits events of transactions by its model, or refuses them. Contracts see the model and
@@ -35,18 +37,10 @@ impl<A: Allocator> std::marker::Model for Machine<A> {
 
     ghost invariant = { λ m. record {
       agrees : shown m.board ≡ summary_of m.board.kept.items;
-      statuses : length m.board.statuses.items ≡ 4096;
       classes : length m.board.classes.items ≡ 4096;
       within : length m.board.kept.items ≤ 65536;
       follows : FollowsPlaces (record { model = m.board.model; kept = m.board.kept.items });
     } };
-}
-
-// The statuses of transactions that have not begun.
-fn new_statuses<A: Allocator>(alloc: A) -> Result<Vec<Status, A>, AllocError>
-    ensures { IfOk result (λ table. table.items ≡ replicate 4096 Status.NotBegun) }
-{
-    vec![in alloc; Status::NotBegun; TABLE_SIZE]
 }
 
 // The classes of transactions that have not begun.
@@ -69,9 +63,9 @@ impl<A: Allocator + Copy> Machine<A> {
         Ok(Machine {
             board: Board {
                 model,
-                statuses: new_statuses(alloc)?,
+                deps: Deps::new(alloc)?,
                 classes: no_classes(alloc)?,
-                operations: Vec::new(alloc),
+                operations: OpTable::new(alloc),
                 kept: Vec::new(alloc),
             },
         })
@@ -80,11 +74,12 @@ impl<A: Allocator + Copy> Machine<A> {
     /// Takes one event: it is admitted and kept, or refused with the lowest rule that it breaks. A refusal
     /// leaves the machine as it was, and so does `Err`, which comes where there is no memory.
     #[tactic(auto, unfolding(crate::specs::Table::answer_to, crate::specs::Table::after))]
-    pub fn take(&mut self, event: &Event) -> Result<Answer, AllocError>
+    pub fn take(&mut self, event: &Event<A>) -> Result<Answer, AllocError>
         ensures answer { IfOk result (λ answer. answer ≡ answer_to self.old event.now) }
         ensures ok { OnOk result (self.new ≡ after self.old event.now) }
         ensures err { OnErr result (self.new ≡ self.old) }
-        // Statuses, holders and fates are those by places, and the history meets the axioms.
+        // Statuses, holders, fates and edges are those by places; the history meets the axioms; and of the
+        // events that may come next the rules on dependencies refuse exactly those that would be illegal.
         ensures follows { FollowsPlaces self.new }
     {
         if let Some(refusal) = self.board.refusal(event) {
@@ -95,13 +90,18 @@ impl<A: Allocator + Copy> Machine<A> {
         }
         let place = self.board.next_place(event);
         let ret = self.board.return_of(event)?;
+        let kept = Kept {
+            event: event.copy()?,
+            ret,
+        };
         self.board.make_room()?;
-        self.board.admit(*event, ret);
+        self.board.link(event)?;
+        self.board.admit(event, kept)?;
         Ok(Answer::Admitted { place, ret })
     }
 
     /// A run: takes the events, in order, on a new machine on the model. `Err` where there is no memory.
-    pub fn run(alloc: A, model: Model<A>, events: &[Event]) -> Result<Run<A>, AllocError>
+    pub fn run(alloc: A, model: Model<A>, events: &[Event<A>]) -> Result<Run<A>, AllocError>
         ensures answers { IfOk result (λ run. run.answers ≡ run_answers model events.now) }
         ensures machine { IfOk result (λ run. run.machine ≡ run_state model events.now) }
         ensures follows { IfOk result (λ run. FollowsPlaces run.machine) }
@@ -132,7 +132,7 @@ impl<A: Allocator + Copy> Machine<A> {
         ensures set { IfOk result (λ numbers. numbers.items ≡ access_set_in self.now t.0) }
         ensures places { IfOk result (λ numbers. numbers.items ≡ numbers_of (by_places.access_set self.now.model self.now.kept t.0)) }
     {
-        self.selected(Selection::Access(t))
+        self.board.operations.access_set(t)
     }
 
     /// The operations in progress that others hold, ascending (ACTA's conflict set). `Err` where there is no
@@ -141,7 +141,7 @@ impl<A: Allocator + Copy> Machine<A> {
         ensures set { IfOk result (λ numbers. numbers.items ≡ conflict_set_in self.now t.0) }
         ensures places { IfOk result (λ numbers. numbers.items ≡ numbers_of (by_places.conflict_set self.now.model self.now.kept t.0)) }
     {
-        self.selected(Selection::Conflict(t))
+        self.board.operations.conflict_set(t, &[])
     }
 
     /// The operations that are not aborted, ascending (ACTA's view). `Err` where there is no memory.
@@ -149,18 +149,16 @@ impl<A: Allocator + Copy> Machine<A> {
         ensures set { IfOk result (λ numbers. numbers.items ≡ view_set_in self.now) }
         ensures places { IfOk result (λ numbers. numbers.items ≡ numbers_of (by_places.view_set self.now.model self.now.kept)) }
     {
-        self.selected(Selection::View)
+        self.board.operations.view_set()
     }
 
-    fn selected(&self, selection: Selection) -> Result<Vec<OpNo, A>, AllocError>
-        ensures set { IfOk result (λ numbers. numbers.items ≡ operations_where (is_selected selection) (summary_of self.now.kept).operations) }
-        ensures follows { FollowsPlaces self.now }
+    /// What transactions owe, by edge number: an event that one of them has yet to do, since another has
+    /// committed or aborted (ours). `Err` where there is no memory.
+    pub fn owed(&self) -> Result<Vec<Owed, A>, AllocError>
+        ensures debts { IfOk result (λ owed. owed.items ≡ debts_in self.now) }
+        ensures places { IfOk result (λ owed. owed.items ≡ debts_by_places.owed self.now.model self.now.kept) }
     {
-        numbers_of(
-            *self.board.kept.allocator(),
-            selection,
-            &self.board.operations,
-        )
+        self.board.owed()
     }
 
     /// The same machine, in memory of its own. `Err` where there is no memory.
@@ -182,9 +180,18 @@ impl<A: Allocator> Machine<A> {
         self.board.status(t)
     }
 
+    /// The edges in force, in order of forming, each once (ACTA's dependencies): at most 16,384. The first has
+    /// the number 1.
+    pub fn edges(&self) -> &[Edge]
+        ensures edges { result.now ≡ edges_in self.now }
+        ensures places { result.now ≡ edges_by_places.edges self.now.model self.now.kept }
+    {
+        self.board.deps.edges()
+    }
+
     /// The history: the events that were admitted, in order, with what they returned; at
     /// most 65,536.
-    pub fn history(&self) -> &[Kept]
+    pub fn history(&self) -> &[Kept<A>]
         ensures history { result.now ≡ self.now.kept }
         ensures within { length self.now.kept ≤ 65536 }
     {

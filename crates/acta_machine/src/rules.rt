@@ -1,28 +1,43 @@
-ghost use Rattle.std.specs.Prelude.{◌≡◌, ◌+◌, ◌<◌, ◌≤◌, length, None, option_map};
+ghost use Rattle.std.specs.Prelude.{◌≡◌, ◌+◌, ◌<◌, ◌≤◌, ◌++◌, ◌∷◌, [], filter, min, length, Some, None, option_map, if◌then◌else◌};
+ghost use Rattle.std.specs.List.{list_any};
+ghost use Rattle.std.specs.Option.{option_map_or};
 ghost use Rattle.acta_table.specs.declared.event.EventKind.{EventKind};
-ghost use Rattle.acta_table.specs.Events.{acting};
-ghost use Rattle.acta_table.specs.Numbered.{first_number};
-ghost use Rattle.acta_table.specs.WellFormed.{is_bad_number, bad_number, bad_class, bad_object};
+ghost use Rattle.acta_table.specs.Edges.{formed};
+ghost use Rattle.acta_table.specs.Events.{acting, named};
+ghost use Rattle.acta_table.specs.Classes.{can_do};
+ghost use Rattle.acta_table.specs.Numbered.{first_number, smallest};
+ghost use Rattle.acta_table.specs.WellFormed.{is_bad_number, bad_number, bad_class, bad_object, same_transaction};
 ghost use Rattle.acta_objects.specs.WellFormed.{bad_operation};
-ghost use Rattle.acta_machine.specs.Rules.{full, not_in_progress, already_begun, class_may, txn_may, not_in_model, stands_against, conflict, lowest_broken};
+ghost use Rattle.acta_table.specs.Refusals.{broken_by};
+ghost use Rattle.acta_table.specs.Sets.{is_named};
+ghost use Rattle.acta_deps.specs.Statuses.{has_ended};
+ghost use Rattle.acta_sets.specs.Operations.{operation_at};
+ghost use Rattle.acta_machine.specs.Changes.{edges_due};
+ghost use Rattle.acta_machine.specs.Rules.{full, not_in_progress, already_begun, class_may, txn_may, forms_none, not_in_model, partner_not_in_progress, is_of_another, not_held, not_responsible, wants_whole, left_out, partial_delegation, unknown_in, bad_set, stands_against, conflict, too_late, form_too_late, edges_full, earlier_broken, dependency, lowest_broken};
 ghost use Rattle.acta_machine.specs.Shown.{shown};
 
 use crate::board::Board;
-use crate::item::Item;
 use acta_objects::{ObjectState, is_of_kind};
-use acta_table::{ClassId, Event, EventKind, ObjId, Op, Refusal, Rule, Status, TxnId};
+use acta_sets::Item;
+use acta_table::{
+    ClassId, Dep, Edge, Event, EventKind, Extent, ObjId, Op, OpNo, Refusal, Rule, Status, TxnId,
+};
 use std::alloc::Allocator;
 
 /// How many events a history may have (our limit).
 const MOST_EVENTS: usize = 65_536;
 
+/// How many edges may be in force (our limit).
+const MOST_EDGES: usize = 16_384;
+
 // The transaction that has to be in progress.
-fn acting_of(event: &Event) -> Option<TxnId>
+fn acting_of<A: Allocator>(event: &Event<A>) -> Option<TxnId>
     ensures { acting event.now ≡ option_map (λ t. t.0) result }
 {
     match event {
-        Event::Begin(_, _) => None,
-        Event::Operate(t, _, _) | Event::Commit(t) | Event::Abort(t) => Some(*t),
+        Event::Begin(_, _) | Event::Form(_, _, _) => None,
+        Event::Delegate(t, _, _) | Event::Operate(t, _, _) | Event::Commit(t) | Event::Abort(t) =>
+            Some(*t),
     }
 }
 
@@ -32,19 +47,87 @@ fn is_bad_number(t: TxnId) -> bool
     t.0 == 0 || t.0 > TxnId::LAST.0
 }
 
-#[tactic(auto, unfolding(acta_table::specs::WellFormed::bad_number))]
-fn bad_number(event: &Event) -> Option<Refusal>
-    ensures { result ≡ bad_number event.now }
+// The smaller of those of two transactions that are so.
+fn smallest_of(j: TxnId, is_j: bool, i: TxnId, is_i: bool) -> Option<u32>
+    ensures { result ≡ smallest ((if is_j then j.0 ∷ [] else []) ++ (if is_i then i.0 ∷ [] else [])) }
+{
+    match (is_j, is_i) {
+        (true, true) => Some(u32::from(j.0.min(i.0))),
+        (true, false) => Some(u32::from(j.0)),
+        (false, true) => Some(u32::from(i.0)),
+        (false, false) => None,
+    }
+}
+
+// The smallest number of a transaction that the event names and that none can have.
+fn smallest_bad<A: Allocator>(event: &Event<A>) -> Option<u32>
+    ensures { result ≡ smallest (filter is_bad_number (named event.now)) }
 {
     match event {
+        Event::Delegate(j, i, _) | Event::Form(_, j, i) => {
+            smallest_of(*j, is_bad_number(*j), *i, is_bad_number(*i))
+        }
         Event::Begin(t, _) | Event::Operate(t, _, _) | Event::Commit(t) | Event::Abort(t) => {
-            if is_bad_number(*t) {
-                Some(Refusal::by(Rule::BadNumber, u32::from(t.0)))
-            } else {
-                None
-            }
+            smallest_of(*t, is_bad_number(*t), *t, false)
         }
     }
+}
+
+// The rule, where there is such a number.
+fn broken_by(rule: Rule, number: Option<u32>) -> Option<Refusal>
+    ensures { result ≡ broken_by rule number }
+{
+    match number {
+        Some(number) => Some(Refusal::by(rule, number)),
+        None => None,
+    }
+}
+
+#[tactic(auto, unfolding(acta_table::specs::WellFormed::bad_number))]
+fn bad_number<A: Allocator>(event: &Event<A>) -> Option<Refusal>
+    ensures { result ≡ bad_number event.now }
+{
+    broken_by(Rule::BadNumber, smallest_bad(event))
+}
+
+#[tactic(auto, unfolding(acta_table::specs::WellFormed::same_transaction))]
+fn same_transaction<A: Allocator>(event: &Event<A>) -> Option<Refusal>
+    ensures { result ≡ same_transaction event.now }
+{
+    match event {
+        Event::Delegate(j, i, _) | Event::Form(_, j, i) if j.0 == i.0 => {
+            Some(Refusal::by(Rule::SameTransaction, u32::from(j.0)))
+        }
+        _ => None,
+    }
+}
+
+// The lesser of the least so far and one more.
+fn lesser(least: Option<u32>, n: u32) -> Option<u32>
+    ensures { result ≡ Some (option_map_or (min n) least n) }
+{
+    match least {
+        Some(m) => Some(n.min(m)),
+        None => Some(n),
+    }
+}
+
+// Whether the operation of this number is named.
+fn is_named(ops: &[OpNo], number: u32) -> bool
+    ensures { result ≡ is_named ops.now number }
+{
+    for op in ops {
+        if op.0 == number {
+            return true;
+        }
+    }
+    false
+}
+
+fn has_ended(status: Status) -> bool
+    ensures { result ≡ has_ended status }
+{
+    !matches!(status, Status::NotBegun | Status::InProgress)
 }
 
 impl<A: Allocator + Copy> Board<A> {
@@ -60,7 +143,7 @@ impl<A: Allocator + Copy> Board<A> {
     }
 
     #[tactic(auto, unfolding(acta_table::specs::WellFormed::bad_class))]
-    fn bad_class(&self, event: &Event) -> Option<Refusal>
+    fn bad_class(&self, event: &Event<A>) -> Option<Refusal>
         ensures { result ≡ bad_class self.now.model event.now }
     {
         match event {
@@ -72,7 +155,7 @@ impl<A: Allocator + Copy> Board<A> {
     }
 
     #[tactic(auto, unfolding(acta_table::specs::WellFormed::bad_object))]
-    fn bad_object(&self, event: &Event) -> Option<Refusal>
+    fn bad_object(&self, event: &Event<A>) -> Option<Refusal>
         ensures { result ≡ bad_object self.now.model event.now }
     {
         match event {
@@ -84,7 +167,7 @@ impl<A: Allocator + Copy> Board<A> {
     }
 
     #[tactic(auto, unfolding(acta_objects::specs::WellFormed::bad_operation))]
-    fn bad_operation(&self, event: &Event) -> Option<Refusal>
+    fn bad_operation(&self, event: &Event<A>) -> Option<Refusal>
         ensures { result ≡ bad_operation self.now.model event.now }
     {
         let Event::Operate(_, ob, op) = event else {
@@ -97,7 +180,7 @@ impl<A: Allocator + Copy> Board<A> {
     }
 
     #[tactic(auto, unfolding(crate::specs::Rules::not_in_progress))]
-    fn not_in_progress(&self, event: &Event) -> Option<Refusal>
+    fn not_in_progress(&self, event: &Event<A>) -> Option<Refusal>
         ensures { result ≡ not_in_progress (shown self.now) event.now }
     {
         let t = acting_of(event)?;
@@ -109,7 +192,7 @@ impl<A: Allocator + Copy> Board<A> {
     }
 
     #[tactic(auto, unfolding(crate::specs::Rules::already_begun))]
-    fn already_begun(&self, event: &Event) -> Option<Refusal>
+    fn already_begun(&self, event: &Event<A>) -> Option<Refusal>
         ensures { result ≡ already_begun (shown self.now) event.now }
     {
         match event {
@@ -143,12 +226,35 @@ impl<A: Allocator + Copy> Board<A> {
         }
     }
 
+    // Whether some class may form edges.
+    fn may_any_form(&self) -> bool
+        ensures { result ≡ list_any (can_do EventKind.Form) self.now.model.classes }
+    {
+        for class in self.model.classes() {
+            if class.may.has(EventKind::Form) {
+                return true;
+            }
+        }
+        false
+    }
+
+    // Whether the transaction has begun with a class that may form no edges.
+    fn forms_none(&self, t: TxnId) -> bool
+        ensures { result ≡ forms_none self.now.model (shown self.now) t.0 }
+    {
+        self.status(t) != Status::NotBegun && !self.may(t, EventKind::Form)
+    }
+
     #[tactic(auto, unfolding(crate::specs::Rules::not_in_model))]
-    fn not_in_model(&self, event: &Event) -> Option<Refusal>
+    fn not_in_model(&self, event: &Event<A>) -> Option<Refusal>
         ensures { result ≡ not_in_model self.now.model (shown self.now) event.now }
     {
         let is_allowed = match event {
             Event::Begin(_, class) => self.may_begin(*class),
+            Event::Form(_, j, i) => {
+                self.may_any_form() && !self.forms_none(*j) && !self.forms_none(*i)
+            }
+            Event::Delegate(t, _, _) => self.may(*t, EventKind::Delegate),
             Event::Operate(t, _, _) => self.may(*t, EventKind::Operate),
             Event::Commit(t) => self.may(*t, EventKind::Commit),
             Event::Abort(t) => self.may(*t, EventKind::Abort),
@@ -160,11 +266,130 @@ impl<A: Allocator + Copy> Board<A> {
         }
     }
 
+    #[tactic(auto, unfolding(crate::specs::Rules::partner_not_in_progress))]
+    fn partner_not_in_progress(&self, event: &Event<A>) -> Option<Refusal>
+        ensures { result ≡ partner_not_in_progress (shown self.now) event.now }
+    {
+        match event {
+            Event::Delegate(_, u, _) if self.status(*u) != Status::InProgress => {
+                Some(Refusal::by(Rule::PartnerNotInProgress, u32::from(u.0)))
+            }
+            _ => None,
+        }
+    }
+
+    // The operation of this number.
+    fn operation(&self, op: OpNo) -> Option<Item>
+        ensures { result ≡ operation_at (shown self.now).operations op.0 }
+    {
+        if op.0 == 0 {
+            return None;
+        }
+        self.operations.operations().get(op.0 as usize - 1).copied()
+    }
+
+    // Whether the operation is there, and the transaction does not hold it in progress.
+    fn is_of_another(&self, t: TxnId, op: OpNo) -> bool
+        ensures { result ≡ is_of_another (shown self.now) t.0 op.0 }
+    {
+        match self.operation(op) {
+            Some(item) => !item.is_held(t),
+            None => false,
+        }
+    }
+
+    // The smallest of the operations that is there, and that the transaction does not hold in progress.
+    #[tactic(auto, using(acta_table::proofs::Smallest::least_is_smallest))]
+    fn not_held(&self, ops: &[OpNo], t: TxnId) -> Option<u32>
+        ensures { result ≡ not_held (shown self.now) ops.now t.0 }
+    {
+        let mut least = None;
+        for op in ops {
+            if self.is_of_another(t, *op) {
+                least = lesser(least, op.0);
+            }
+        }
+        least
+    }
+
+    #[tactic(auto, unfolding(crate::specs::Rules::not_responsible))]
+    fn not_responsible(&self, event: &Event<A>) -> Option<Refusal>
+        ensures { result ≡ not_responsible (shown self.now) event.now }
+    {
+        let Event::Delegate(t, _, ops) = event else {
+            return None;
+        };
+        broken_by(Rule::NotResponsible, self.not_held(ops.as_slice(), *t))
+    }
+
+    // Whether the transaction's class wants all that it holds handed over.
+    fn wants_whole(&self, t: TxnId) -> bool
+        ensures { result ≡ wants_whole self.now.model (shown self.now) t.0 }
+    {
+        let Some(class) = self.class(t) else {
+            return false;
+        };
+        match self.model.classes().get(class.0 as usize) {
+            Some(class) => matches!(class.extent, Extent::Whole),
+            None => false,
+        }
+    }
+
+    // The smallest operation that the transaction holds in progress, and that is not named.
+    fn left_out(&self, ops: &[OpNo], t: TxnId) -> Option<u32>
+        ensures { result ≡ left_out (shown self.now) ops.now t.0 }
+    {
+        let mut number = 1u32;
+        for item in self.operations.operations() {
+            if item.is_held(t) && !is_named(ops, number) {
+                return Some(number);
+            }
+            number += 1;
+        }
+        None
+    }
+
+    #[tactic(auto, unfolding(crate::specs::Rules::partial_delegation))]
+    fn partial_delegation(&self, event: &Event<A>) -> Option<Refusal>
+        ensures { result ≡ partial_delegation self.now.model (shown self.now) event.now }
+    {
+        match event {
+            Event::Delegate(t, _, ops) if self.wants_whole(*t) => {
+                broken_by(Rule::PartialDelegation, self.left_out(ops.as_slice(), *t))
+            }
+            _ => None,
+        }
+    }
+
+    // The smallest of the operations that is not there.
+    #[tactic(auto, using(acta_table::proofs::Smallest::least_is_smallest))]
+    fn unknown_in(&self, ops: &[OpNo]) -> Option<u32>
+        ensures { result ≡ unknown_in (shown self.now) ops.now }
+    {
+        let mut least = None;
+        for op in ops {
+            if self.operation(*op).is_none() {
+                least = lesser(least, op.0);
+            }
+        }
+        least
+    }
+
+    #[tactic(auto, unfolding(crate::specs::Rules::bad_set))]
+    fn bad_set(&self, event: &Event<A>) -> Option<Refusal>
+        ensures { result ≡ bad_set (shown self.now) event.now }
+    {
+        let Event::Delegate(_, _, ops) = event else {
+            return None;
+        };
+        broken_by(Rule::BadSet, self.unknown_in(ops.as_slice()))
+    }
+
     // Whether the operation is in the transaction's conflict set, on the same object, and conflicts.
     fn stands_against(&self, t: TxnId, ob: ObjId, op: &Op, item: &Item) -> bool
         ensures { result ≡ stands_against self.now.model t.0 ob op.now item.now }
     {
-        if !item.is_of_others(t) || item.ob.0 != ob.0 {
+        if !item.is_of_others(t, &[]) || item.ob.0 != ob.0 {
             return false;
         }
         match self.model.objects().get(ob.0 as usize) {
@@ -175,11 +400,10 @@ impl<A: Allocator + Copy> Board<A> {
 
     // The number of the first operation that stands against this one.
     fn first_against(&self, t: TxnId, ob: ObjId, op: &Op) -> Option<u32>
-        requires { length self.now.operations.items ≤ 65536 }
-        ensures { result ≡ first_number (stands_against self.now.model t.0 ob op.now) self.now.operations.items }
+        ensures { result ≡ first_number (stands_against self.now.model t.0 ob op.now) self.now.operations }
     {
         let mut number = 1u32;
-        for item in &self.operations {
+        for item in self.operations.operations() {
             if self.stands_against(t, ob, op, item) {
                 return Some(number);
             }
@@ -189,38 +413,112 @@ impl<A: Allocator + Copy> Board<A> {
     }
 
     #[tactic(auto, unfolding(crate::specs::Rules::conflict))]
-    fn conflict(&self, event: &Event) -> Option<Refusal>
-        requires { length self.now.operations.items ≤ 65536 }
+    fn conflict(&self, event: &Event<A>) -> Option<Refusal>
         ensures { result ≡ conflict self.now.model (shown self.now) event.now }
     {
         let Event::Operate(t, ob, op) = event else {
             return None;
         };
-        match self.first_against(*t, *ob, op) {
-            Some(number) => Some(Refusal::by(Rule::Conflict, number)),
-            None => None,
+        broken_by(Rule::Conflict, self.first_against(*t, *ob, op))
+    }
+
+    // The smaller of j and i that is too far on for an edge of this kind.
+    fn too_late(&self, kind: Dep, j: TxnId, i: TxnId) -> Option<u32>
+        ensures { result ≡ too_late (shown self.now) kind j.0 i.0 }
+    {
+        if !kind.is_begin_kind() {
+            return smallest_of(j, has_ended(self.status(j)), i, has_ended(self.status(i)));
+        }
+        if self.status(j) == Status::NotBegun {
+            None
+        } else {
+            Some(u32::from(j.0))
         }
     }
 
-    /// The lowest rule that the event breaks.
-    pub(crate) fn refusal(&self, event: &Event) -> Option<Refusal>
-        requires { length self.now.operations.items ≤ 65536 }
-        ensures { result ≡ lowest_broken self.now.model (shown self.now) event.now }
+    #[tactic(auto, unfolding(crate::specs::Rules::form_too_late))]
+    fn form_too_late(&self, event: &Event<A>) -> Option<Refusal>
+        ensures { result ≡ form_too_late (shown self.now) event.now }
+    {
+        let Event::Form(kind, j, i) = event else {
+            return None;
+        };
+        broken_by(Rule::FormTooLate, self.too_late(*kind, *j, *i))
+    }
+
+    // How many edges would be in force after the event.
+    fn count_edges(&self, event: &Event<A>) -> usize
+        ensures { result ≡ length (formed (shown self.now).edges (edges_due event.now)) }
+    {
+        let edges = self.deps.edges().len();
+        match event {
+            Event::Form(kind, j, i) => {
+                let edge = Edge {
+                    kind: *kind,
+                    j: *j,
+                    i: *i,
+                };
+                edges + self.deps.lacks(&[edge])
+            }
+            _ => edges,
+        }
+    }
+
+    #[tactic(auto, unfolding(crate::specs::Rules::edges_full))]
+    fn edges_full(&self, event: &Event<A>) -> Option<Refusal>
+        ensures { result ≡ edges_full (shown self.now) event.now }
+    {
+        if self.count_edges(event) > MOST_EDGES {
+            Some(Refusal::of(Rule::EdgesFull))
+        } else {
+            None
+        }
+    }
+
+    // The lowest of the rules before those on dependencies that the event breaks.
+    fn earlier(&self, event: &Event<A>) -> Option<Refusal>
+        ensures { result ≡ earlier_broken self.now.model (shown self.now) event.now }
     {
         self.full()
             .or(bad_number(event))
             .or(self.bad_class(event))
             .or(self.bad_object(event))
             .or(self.bad_operation(event))
+            .or(same_transaction(event))
             .or(self.not_in_progress(event))
             .or(self.already_begun(event))
             .or(self.not_in_model(event))
+            .or(self.partner_not_in_progress(event))
+            .or(self.not_responsible(event))
+            .or(self.partial_delegation(event))
+            .or(self.bad_set(event))
             .or(self.conflict(event))
+            .or(self.form_too_late(event))
+            .or(self.edges_full(event))
+    }
+
+    // The lowest rule on dependencies that the event breaks.
+    fn dependency(&self, event: &Event<A>) -> Option<Refusal>
+        ensures { result ≡ dependency (shown self.now) event.now }
+    {
+        match event {
+            Event::Begin(t, _) => self.deps.may_start(*t),
+            Event::Commit(t) => self.deps.may_commit(*t),
+            Event::Abort(t) => self.deps.may_abort(*t),
+            Event::Delegate(_, _, _) | Event::Form(_, _, _) | Event::Operate(_, _, _) => None,
+        }
+    }
+
+    /// The lowest rule that the event breaks.
+    pub(crate) fn refusal(&self, event: &Event<A>) -> Option<Refusal>
+        ensures { result ≡ lowest_broken self.now.model (shown self.now) event.now }
+    {
+        self.earlier(event).or(self.dependency(event))
     }
 
     /// The place that the next event gets, where none is refused for want of room.
     #[tactic(auto, unfolding(crate::specs::Rules::full))]
-    pub(crate) fn next_place(&self, event: &Event) -> u32
+    pub(crate) fn next_place(&self, event: &Event<A>) -> u32
         requires { lowest_broken self.now.model (shown self.now) event.now ≡ None }
         ensures place { result ≡ length self.now.kept.items + 1 }
         ensures room { length self.now.kept.items < 65536 }

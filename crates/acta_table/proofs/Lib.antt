@@ -1,1 +1,3 @@
 pub mod KindSets
+pub mod OpSets
+pub mod Smallest

@@ -1,8 +1,10 @@
 -- What a model says of its classes and objects. A class that is not there allows nothing.
-use Rattle.std.specs.Prelude.{ℕ, Bool, false, Option, slice_get, option_map}
+use Rattle.std.specs.Prelude.{ℕ, Bool, true, false, Option, slice_get, option_map}
 use Rattle.acta_table.specs.declared.event.EventKind.{EventKind}
 use Rattle.acta_table.specs.declared.event.EventKind.TheVariants.{Begin, Spawn, Split}
 use Rattle.acta_table.specs.declared.model.Class.{Class}
+use Rattle.acta_table.specs.declared.model.Extent.{Extent}
+use Rattle.acta_table.specs.declared.model.Extent.TheVariants.{Whole}
 use Rattle.acta_table.specs.declared.model.Kind.{Kind}
 use Rattle.acta_table.specs.declared.model.Parts.{Parts}
 use Rattle.acta_table.specs.Kinds.{has_kind}
@@ -25,3 +27,8 @@ can_start _ class = false
 -- whether the class may do an event of this kind
 abbrev pub can_do : {A : Type 0} → EventKind → Class A → Bool
 can_do kind class = has_kind class.may kind
+
+-- whether all that is held has to be handed over
+abbrev pub is_whole : Extent → Bool
+is_whole Whole = true
+is_whole _ = false

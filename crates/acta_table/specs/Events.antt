@@ -1,42 +1,64 @@
 -- What an event is and names.
-use Rattle.std.specs.Prelude.{ℕ, List, [], ◌∷◌, Option, Some, None}
+use Rattle.std.specs.Prelude.{ℕ, Bool, true, false, List, [], ◌∷◌, Option, Some, None}
+use Rattle.acta_table.specs.declared.event.OpNo.{OpNo}
 use Rattle.acta_table.specs.declared.event.EventKind.{EventKind}
-use Rattle.acta_table.specs.declared.event.EventKind.TheVariants.{Begin as begin_kind, Operate as operate_kind, Commit as commit_kind, Abort as abort_kind}
+use Rattle.acta_table.specs.declared.event.EventKind.TheVariants.{Begin as begin_kind, Delegate as delegate_kind, Form as form_kind, Operate as operate_kind, Commit as commit_kind, Abort as abort_kind}
 use Rattle.acta_table.specs.declared.event.Event.{Event}
-use Rattle.acta_table.specs.declared.event.Event.TheVariants.{Begin, Operate, Commit, Abort}
+use Rattle.acta_table.specs.declared.event.Event.TheVariants.{Begin, Delegate, Form, Operate, Commit, Abort}
 
 -- the kind of the event
-abbrev pub kind_of : Event → EventKind
+abbrev pub kind_of : {A : Type 0} → Event A → EventKind
 kind_of (Begin t class) = begin_kind
+kind_of (Delegate t u ops) = delegate_kind
+kind_of (Form kind j i) = form_kind
 kind_of (Operate t ob op) = operate_kind
 kind_of (Commit t) = commit_kind
 kind_of (Abort t) = abort_kind
 
 -- the transactions named, in order
-abbrev pub named : Event → List ℕ
+abbrev pub named : {A : Type 0} → Event A → List ℕ
 named (Begin t class) = t.0 ∷ []
+named (Delegate t u ops) = t.0 ∷ u.0 ∷ []
+named (Form kind j i) = j.0 ∷ i.0 ∷ []
 named (Operate t ob op) = t.0 ∷ []
 named (Commit t) = t.0 ∷ []
 named (Abort t) = t.0 ∷ []
 
 -- the transaction that acts: one that has to be in progress
-abbrev pub acting : Event → Option ℕ
+abbrev pub acting : {A : Type 0} → Event A → Option ℕ
 acting (Begin t class) = None
+acting (Delegate t u ops) = Some t.0
+acting (Form kind j i) = None
 acting (Operate t ob op) = Some t.0
 acting (Commit t) = Some t.0
 acting (Abort t) = Some t.0
 
 -- the transaction that is started
-abbrev pub started : Event → Option ℕ
+abbrev pub started : {A : Type 0} → Event A → Option ℕ
 started (Begin t class) = Some t.0
 started _ = None
 
 -- the class named
-abbrev pub class_named : Event → Option ℕ
+abbrev pub class_named : {A : Type 0} → Event A → Option ℕ
 class_named (Begin t class) = Some class.0
 class_named _ = None
 
 -- the object named
-abbrev pub object_named : Event → Option ℕ
+abbrev pub object_named : {A : Type 0} → Event A → Option ℕ
 object_named (Operate t ob op) = Some ob.0
 object_named _ = None
+
+-- the transaction that is handed something: one that has to be in progress too
+abbrev pub partner : {A : Type 0} → Event A → Option ℕ
+partner (Delegate t u ops) = Some u.0
+partner _ = None
+
+-- the operations named
+abbrev pub operations_named : {A : Type 0} → Event A → List OpNo
+operations_named (Delegate t u ops) = ops
+operations_named _ = []
+
+-- whether the event hands operations over by name
+abbrev pub hands_over : {A : Type 0} → Event A → Bool
+hands_over (Delegate t u ops) = true
+hands_over _ = false

@@ -7,4 +7,5 @@ pub mod Kinds
 pub mod Numbered
 pub mod Numbers
 pub mod Refusals
+pub mod Sets
 pub mod WellFormed

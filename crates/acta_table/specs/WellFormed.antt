@@ -1,8 +1,8 @@
 -- The rules on the form of an event, which look at the model alone.
-use Rattle.std.specs.Prelude.{ℕ, Bool, false, ◌||◌, ◌==◌, nat_lt, nat_le, filter, length, Option}
+use Rattle.std.specs.Prelude.{ℕ, Bool, false, ◌||◌, ◌==◌, nat_lt, nat_le, List, [], ◌∷◌, filter, length, if◌then◌else◌, Option, Some, None}
 use Rattle.std.specs.Option.{option_map_or}
 use Rattle.acta_table.specs.declared.event.Event.{Event}
-use Rattle.acta_table.specs.declared.answer.Rule.TheVariants.{BadNumber, BadClass, BadObject}
+use Rattle.acta_table.specs.declared.answer.Rule.TheVariants.{BadNumber, BadClass, BadObject, SameTransaction}
 use Rattle.acta_table.specs.declared.answer.Refusal.{Refusal}
 use Rattle.acta_table.specs.declared.model.Parts.{Parts}
 use Rattle.acta_table.specs.Events.{named, class_named, object_named}
@@ -14,13 +14,22 @@ abbrev pub is_bad_number : ℕ → Bool
 is_bad_number t = (t == 0) || nat_lt 4095 t
 
 -- a number named is bad
-unfoldable pub bad_number : Event → Option Refusal
+unfoldable pub bad_number : {A : Type 0} → Event A → Option Refusal
 bad_number e = broken_by BadNumber (smallest (filter is_bad_number (named e)))
 
 -- the class named is not in the model
-unfoldable pub bad_class : {A : Type 0} → Parts A → Event → Option Refusal
+unfoldable pub bad_class : {A : Type 0} → Parts A → Event A → Option Refusal
 bad_class m e = broken_if (option_map_or (nat_le (length m.classes)) (class_named e) false) BadClass
 
 -- the object named is not in the model
-unfoldable pub bad_object : {A : Type 0} → Parts A → Event → Option Refusal
+unfoldable pub bad_object : {A : Type 0} → Parts A → Event A → Option Refusal
 bad_object m e = broken_if (option_map_or (nat_le (length m.objects)) (object_named e) false) BadObject
+
+-- the transaction that is named twice
+abbrev pub twice_in : List ℕ → Option ℕ
+twice_in (t ∷ u ∷ []) = if t == u then Some t else None
+twice_in _ = None
+
+-- the two transactions of the event are one
+unfoldable pub same_transaction : {A : Type 0} → Event A → Option Refusal
+same_transaction e = broken_by SameTransaction (twice_in (named e))

@@ -1,6 +1,7 @@
 ghost use Rattle.std.specs.Prelude.{◌≡◌, ◌||◌, ◌<◌, ◌^◌, ◌↔◌, false, IfSome, IsSome};
 ghost use Rattle.acta_table.specs.declared.dep.Dep.{Dep};
 ghost use Rattle.acta_table.specs.Dependencies.{code_of, word_of, is_begin_kind, has_dep};
+ghost use Rattle.acta_table.specs.Edges.{same_edge, is_among};
 
 use crate::event::TxnId;
 use bitflags::{Flag, Flags, bitflag_items};
@@ -228,6 +229,27 @@ pub struct Edge {
     pub kind: Dep,
     pub j: TxnId,
     pub i: TxnId,
+}
+
+impl Edge {
+    /// Whether the two are one: of the same kind, between the same transactions.
+    pub fn is_same(&self, other: &Edge) -> bool
+        ensures { result ≡ same_edge self.now other.now }
+    {
+        self.kind.code() == other.kind.code() && self.j.0 == other.j.0 && self.i.0 == other.i.0
+    }
+
+    /// Whether the edge is among these.
+    pub fn is_among(&self, edges: &[Edge]) -> bool
+        ensures { result ≡ is_among edges.now self.now }
+    {
+        for edge in edges {
+            if self.is_same(edge) {
+                return true;
+            }
+        }
+        false
+    }
 }
 
 /// The number of an edge among those in force, in order of forming, from 1.

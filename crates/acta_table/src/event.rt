@@ -1,5 +1,9 @@
-ghost use Rattle.std.specs.Prelude.{◌≡◌};
+ghost use Rattle.std.specs.Prelude.{◌≡◌, IfOk};
 ghost use Rattle.acta_table.specs.Events.{kind_of};
+
+use crate::dep::Dep;
+use crate::op_set::OpSet;
+use std::alloc::{AllocError, Allocator};
 
 /// The number of a transaction: from 1 to `TxnId::LAST` where it is one of a history.
 #[derive(Clone, Copy, PartialEq, Eq, Debug)]
@@ -69,10 +73,15 @@ pub enum EventKind {
 }
 
 /// What happens in a history (ACTA's event).
-#[derive(Clone, Copy, PartialEq, Eq, Debug)]
-pub enum Event {
+#[derive(Drop)]
+pub enum Event<A: Allocator> {
     /// The transaction begins, with the class.
     Begin(TxnId, ClassId),
+    /// The first transaction hands the operations to the second, which holds them from then on (ACTA's
+    /// delegation).
+    Delegate(TxnId, TxnId, OpSet<A>),
+    /// A dependency is formed: of this kind, of the first transaction on the second (ACTA's t_j and t_i).
+    Form(Dep, TxnId, TxnId),
     /// The transaction does an operation on the object.
     Operate(TxnId, ObjId, Op),
     /// The transaction commits.
@@ -81,13 +90,15 @@ pub enum Event {
     Abort(TxnId),
 }
 
-impl Event {
+impl<A: Allocator> Event<A> {
     /// The kind of the event.
     pub fn kind(&self) -> EventKind
         ensures { result ≡ kind_of self.now }
     {
         match self {
             Event::Begin(_, _) => EventKind::Begin,
+            Event::Delegate(_, _, _) => EventKind::Delegate,
+            Event::Form(_, _, _) => EventKind::Form,
             Event::Operate(_, _, _) => EventKind::Operate,
             Event::Commit(_) => EventKind::Commit,
             Event::Abort(_) => EventKind::Abort,
@@ -95,9 +106,37 @@ impl Event {
     }
 }
 
+impl<A: Allocator + Copy> Event<A> {
+    /// The same event, in memory of its own. `Err` where there is no memory.
+    pub fn copy(&self) -> Result<Event<A>, AllocError>
+        ensures { IfOk result (λ event. event ≡ self.now) }
+    {
+        Ok(match self {
+            Event::Begin(t, class) => Event::Begin(*t, *class),
+            Event::Delegate(t, u, ops) => Event::Delegate(*t, *u, ops.copy()?),
+            Event::Form(kind, j, i) => Event::Form(*kind, *j, *i),
+            Event::Operate(t, ob, op) => Event::Operate(*t, *ob, *op),
+            Event::Commit(t) => Event::Commit(*t),
+            Event::Abort(t) => Event::Abort(*t),
+        })
+    }
+}
+
 /// An admitted event, with what it returned: `Some` for an operation, and `None` otherwise.
-#[derive(Clone, Copy, PartialEq, Eq, Debug)]
-pub struct Kept {
-    pub event: Event,
+#[derive(Drop)]
+pub struct Kept<A: Allocator> {
+    pub event: Event<A>,
     pub ret: Option<Ret>,
+}
+
+impl<A: Allocator + Copy> Kept<A> {
+    /// The same item, in memory of its own. `Err` where there is no memory.
+    pub fn copy(&self) -> Result<Kept<A>, AllocError>
+        ensures { IfOk result (λ kept. kept ≡ self.now) }
+    {
+        Ok(Kept {
+            event: self.event.copy()?,
+            ret: self.ret,
+        })
+    }
 }

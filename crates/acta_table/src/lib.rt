@@ -8,10 +8,12 @@ mod event;
 mod items;
 mod kinds;
 mod model;
+mod op_set;
 
 pub use answer::{Answer, Fate, Refusal, Rule, Status};
 pub use dep::{Dep, DepKinds, Edge, EdgeNo, Missing, Owed};
 pub use event::{ClassId, Event, EventKind, Kept, ObjId, Op, OpNo, Ret, TxnId};
 pub use items::Items;
 pub use kinds::Kinds;
-pub use model::{Class, Kind, Model, ModelFault, Object, Parts, Starts};
+pub use model::{Class, Extent, Kind, Model, ModelFault, Object, Parts, Starts};
+pub use op_set::OpSet;

@@ -16,6 +16,15 @@ pub struct Starts {
     pub split: bool,
 }
 
+/// How much a transaction has to hand over where it delegates (ACTA's delegation; the choice is ours).
+#[derive(Clone, Copy, PartialEq, Eq, Debug)]
+pub enum Extent {
+    /// All that it holds in progress.
+    Whole,
+    /// Any part of it.
+    Any,
+}
+
 /// The kind of an object, with its first value.
 #[derive(Clone, Copy, PartialEq, Eq, Debug)]
 pub enum Kind {
@@ -40,6 +49,7 @@ pub struct Class<A: Allocator> {
     pub name: Items<u8, A>,
     pub starts: Starts,
     pub may: Kinds,
+    pub extent: Extent,
 }
 
 /// The objects and classes of which a model is made.
@@ -233,6 +243,7 @@ impl<A: Allocator + Copy> Class<A> {
             name: self.name.copy()?,
             starts: self.starts,
             may: self.may,
+            extent: self.extent,
         })
     }
 }

@@ -1,5 +1,6 @@
 use crate::models::{FLAT, atomic, parts};
-use acta_table::{Event, EventKind, Kinds, Model, ModelFault, Rule, TxnId};
+use acta_table::{Event, EventKind, Kinds, Model, ModelFault, OpNo, OpSet, Rule, TxnId};
+use std::alloc::Global;
 use std::test::Fail;
 
 // The lowest fault is answered, or none.
@@ -95,5 +96,17 @@ fn numbers_and_kinds(rt: HostRuntime) {
     assert_eq!(rt; Rule::Full.number(), 1);
     assert_eq!(rt; Rule::Conflict.number(), 14);
     assert_eq!(rt; Rule::NoHeir.number(), 28);
-    assert_eq!(rt; Event::Begin(TxnId(1), FLAT).kind(), EventKind::Begin);
+    let begin: Event<Global> = Event::Begin(TxnId(1), FLAT);
+    assert_eq!(rt; begin.kind(), EventKind::Begin);
+}
+
+// A set of operations has each once, ascending.
+#[test]
+fn sets(rt: HostRuntime) -> Result<(), Fail> {
+    let given = [OpNo(9), OpNo(2), OpNo(9), OpNo(0)];
+    let set = OpSet::of(rt.alloc(), &given)?;
+    assert_eq!(rt; set.as_slice(), [OpNo(0), OpNo(2), OpNo(9)].as_slice());
+    assert_eq!(rt; set.copy()?.as_slice(), set.as_slice());
+    assert!(rt; OpSet::of(rt.alloc(), &[])?.as_slice().is_empty());
+    Ok(())
 }

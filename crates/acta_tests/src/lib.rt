@@ -5,6 +5,10 @@
 #[cfg(test)]
 mod checking;
 #[cfg(test)]
+mod delegation;
+#[cfg(test)]
+mod dependencies;
+#[cfg(test)]
 mod memory;
 #[cfg(test)]
 mod models;
@@ -12,3 +16,5 @@ mod models;
 mod places;
 #[cfg(test)]
 mod runs;
+#[cfg(test)]
+mod steps;

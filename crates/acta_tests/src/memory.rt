@@ -1,10 +1,14 @@
 ghost use Rattle.std.specs.Prelude.{◌≤◌, length};
 
-use crate::models::{FLAT, S, X, atomic, parts};
+use crate::models::{FLAT, S, X, atomic, contingent, delegating, parts};
+use crate::steps::{Step, events};
 use acta_axioms::Places;
 use acta_machine::{Machine, Run};
 use acta_objects::{ObjectState, replay};
-use acta_table::{Answer, Event, Items, Kept, Kind, Model, Op, OpNo, Ret, Status, TxnId};
+use acta_table::{
+    Answer, Dep, Event, Extent, Items, Kept, Kind, Missing, Model, Op, OpNo, OpSet, Ret, Status,
+    TxnId,
+};
 use refusing::Refusing;
 use std::alloc::{AllocError, Allocator};
 use std::process::Abort;
@@ -17,9 +21,11 @@ const TWO: TxnId = TxnId(2);
 // More allocations than any of these calls makes.
 const MOST: u64 = 40;
 
-const WRITE: Event = Event::Operate(ONE, X, Op::Write(5));
+const WRITE: Step = Step::Operate(ONE, X, Op::Write(5));
 
-const INSERT: Event = Event::Operate(ONE, S, Op::Insert(3));
+const INSERT: Step = Step::Operate(ONE, S, Op::Insert(3));
+
+const FORM: Step = Step::Form(Dep::Scd, TWO, ONE);
 
 // Refuses the first allocation of the call, then the second, and so on, until it succeeds. Each refused
 // call has to answer `Err`. Gives what the call answers in the end, and how many calls were refused.
@@ -43,16 +49,18 @@ macro_rules! refuse_each {
 }
 
 // Takes the event; where that fails, the machine has to be as it was.
-fn take<B: Allocator>(
+fn take<'a, B: Allocator>(
     rt: &impl Abort,
-    machine: &mut Machine<&Refusing<B>>,
-    event: &Event,
+    machine: &mut Machine<&'a Refusing<B>>,
+    event: &Event<&'a Refusing<B>>,
 ) -> Result<Answer, AllocError> {
     let kept = machine.history().len();
+    let edges = machine.edges().len();
     let status = machine.status(ONE);
     let taken = machine.take(event);
     if taken.is_err() {
         assert_eq!(rt; machine.history().len(), kept);
+        assert_eq!(rt; machine.edges().len(), edges);
         assert_eq!(rt; machine.status(ONE), status);
     }
     taken
@@ -70,7 +78,7 @@ fn copied_machine<A: Allocator + Copy>(
 fn copied_run<A: Allocator + Copy>(
     alloc: A,
     model: &Model<A>,
-    events: &[Event],
+    events: &[Event<A>],
 ) -> Result<Run<A>, AllocError> {
     Machine::run(alloc, model.copy()?, events)
 }
@@ -94,20 +102,25 @@ fn of_new(rt: HostRuntime) -> Result<(), Fail> {
     Ok(())
 }
 
-// The growths of taking one event after another: of the lists, and of the set.
+// The growths of taking one event after another: of the history, of the edges, of the operations, of a set
+// that is an object, and of one that is handed over.
 #[test]
 fn of_take(rt: HostRuntime) -> Result<(), Fail> {
     let heap = Refusing::new(rt.alloc());
     let rows = [
-        (Event::Begin(ONE, FLAT), None, 2),
-        (WRITE, Some(Ret::Done), 0),
-        (INSERT, Some(Ret::Flag(true)), 1),
+        (Step::Begin(ONE, FLAT), None, 1),
+        (FORM, None, 1),
+        (Step::Begin(TWO, FLAT), None, 0),
+        (WRITE, Some(Ret::Done), 1),
+        (INSERT, Some(Ret::Flag(true)), 2),
+        (Step::Delegate(ONE, TWO, &[OpNo(2)]), None, 1),
     ];
-    let mut machine = Machine::new(&heap, atomic(&heap)?)?;
+    let mut machine = Machine::new(&heap, delegating(&heap, Extent::Any)?)?;
     let mut place = 0u32;
     for (event, ret, growths) in rows {
         place = place.saturating_add(1);
-        let (answer, refused) = refuse_each!(rt, heap, take(&rt, &mut machine, &event));
+        let taken = event.event(&heap)?;
+        let (answer, refused) = refuse_each!(rt, heap, take(&rt, &mut machine, &taken));
         assert_eq!(rt; answer, Some(Answer::Admitted { place, ret }));
         assert_eq!(rt; refused, growths, "at {event:?}");
     }
@@ -119,7 +132,7 @@ fn of_take(rt: HostRuntime) -> Result<(), Fail> {
 fn of_run(rt: HostRuntime) -> Result<(), Fail> {
     let heap = Refusing::new(rt.alloc());
     let model = atomic(&heap)?;
-    let events = [Event::Begin(ONE, FLAT), INSERT, Event::Commit(ONE)];
+    let events = events(&heap, &[Step::Begin(ONE, FLAT), INSERT, Step::Commit(ONE)])?;
     let (run, refused) = refuse_each!(rt, heap, copied_run(&heap, &model, &events));
     assert!(rt; refused > 9);
     let Some(run) = run else {
@@ -134,7 +147,7 @@ fn of_run(rt: HostRuntime) -> Result<(), Fail> {
 fn first_start<A: Allocator + Copy>(
     alloc: A,
     model: &Model<A>,
-    kept: &[Kept],
+    kept: &[Kept<A>],
 ) -> Result<Option<u32>, AllocError>
     requires { length kept.now ≤ 65536 }
 {
@@ -145,13 +158,13 @@ fn first_start<A: Allocator + Copy>(
 #[test]
 fn of_places(rt: HostRuntime) -> Result<(), Fail> {
     let heap = Refusing::new(rt.alloc());
-    let model = atomic(&heap)?;
-    let events = [Event::Begin(ONE, FLAT), INSERT];
+    let model = contingent(&heap)?;
+    let events = events(&heap, &[Step::Begin(ONE, FLAT), INSERT, FORM])?;
     let machine = Machine::run(&heap, model.copy()?, &events)?.machine;
     let kept = machine.history();
     let (start, refused) = refuse_each!(rt, heap, first_start(&heap, &model, kept));
     assert_eq!(rt; start, Some(Some(1)));
-    assert_eq!(rt; refused, 2);
+    assert_eq!(rt; refused, 4);
     Ok(())
 }
 
@@ -159,7 +172,7 @@ fn of_places(rt: HostRuntime) -> Result<(), Fail> {
 #[test]
 fn of_readers(rt: HostRuntime) -> Result<(), Fail> {
     let heap = Refusing::new(rt.alloc());
-    let events = [Event::Begin(ONE, FLAT), INSERT];
+    let events = events(&heap, &[Step::Begin(ONE, FLAT), INSERT])?;
     let machine = Machine::run(&heap, atomic(&heap)?, &events)?.machine;
     let sets = [machine.access_set(ONE)?, machine.conflict_set(TWO)?];
     for set in &sets {
@@ -177,6 +190,26 @@ fn of_readers(rt: HostRuntime) -> Result<(), Fail> {
     let (copied, refused) = refuse_each!(rt, heap, machine.copy());
     assert!(rt; copied.is_some());
     assert_eq!(rt; refused, 11);
+    Ok(())
+}
+
+// The growths of the list of debts, and of a copy that has an edge.
+#[test]
+fn of_debts(rt: HostRuntime) -> Result<(), Fail> {
+    let heap = Refusing::new(rt.alloc());
+    let events = events(&heap, &[FORM, Step::Begin(ONE, FLAT), Step::Commit(ONE)])?;
+    let machine = Machine::run(&heap, contingent(&heap)?, &events)?.machine;
+    let (owed, refused) = refuse_each!(rt, heap, machine.owed());
+    assert_eq!(rt; refused, 1);
+    let (copied, refused) = refuse_each!(rt, heap, machine.copy());
+    assert_eq!(rt; refused, 11);
+    let (Some(owed), Some(copied)) = (owed, copied) else {
+        return Ok(());
+    };
+    let missing = owed.first().map(|debt| debt.missing);
+    assert_eq!(rt; missing, Some(Missing::Commit));
+    assert_eq!(rt; copied.owed()?.as_slice(), owed.as_slice());
+    assert_eq!(rt; copied.edges(), machine.edges());
     Ok(())
 }
 
@@ -218,6 +251,29 @@ fn of_copies(rt: HostRuntime) -> Result<(), Fail> {
     let (copied, refused) = refuse_each!(rt, heap, list.copy());
     assert!(rt; copied.is_some());
     assert_eq!(rt; refused, 1);
+    Ok(())
+}
+
+// How many operations a set of these names, and the copy of a delegation of it.
+fn named<A: Allocator + Copy>(alloc: A, ops: &[OpNo]) -> Result<usize, AllocError> {
+    let kept = Kept {
+        event: Event::Delegate(ONE, TWO, OpSet::of(alloc, ops)?),
+        ret: None,
+    };
+    match kept.copy()?.event {
+        Event::Delegate(_, _, ops) => Ok(ops.as_slice().len()),
+        _ => Ok(0),
+    }
+}
+
+// The growths of a set of operations, and of the copy of an item that has one.
+#[test]
+fn of_sets(rt: HostRuntime) -> Result<(), Fail> {
+    let heap = Refusing::new(rt.alloc());
+    let ops = [OpNo(9), OpNo(2), OpNo(9), OpNo(0)];
+    let (count, refused) = refuse_each!(rt, heap, named(&heap, &ops));
+    assert_eq!(rt; count, Some(3));
+    assert_eq!(rt; refused, 3);
     Ok(())
 }
 

@@ -1,4 +1,4 @@
-use acta_table::{Class, ClassId, Items, Kind, Kinds, Model, ObjId, Object, Parts, Starts};
+use acta_table::{Class, ClassId, Extent, Items, Kind, Kinds, Model, ObjId, Object, Parts, Starts};
 use std::alloc::{AllocError, Allocator};
 use std::test::Fail;
 
@@ -11,7 +11,7 @@ pub const N: ObjId = ObjId(1);
 /// The set of the standard models.
 pub const S: ObjId = ObjId(3);
 
-/// The class of the model of flat transactions.
+/// The class of the model of flat transactions, and of the model of contingent ones.
 pub const FLAT: ClassId = ClassId(0);
 
 fn object<A: Allocator>(alloc: A, name: &str, kind: Kind) -> Result<Object<A>, AllocError> {
@@ -21,8 +21,13 @@ fn object<A: Allocator>(alloc: A, name: &str, kind: Kind) -> Result<Object<A>, A
     })
 }
 
-// A class that may begin, operate, commit and abort.
-fn flat<A: Allocator>(alloc: A, name: &str) -> Result<Class<A>, AllocError> {
+// A class that may begin, operate, commit and abort, and these kinds of event.
+fn class<A: Allocator>(
+    alloc: A,
+    name: &str,
+    more: Kinds,
+    extent: Extent,
+) -> Result<Class<A>, AllocError> {
     Ok(Class {
         name: Items::of(Vec::from_slice(alloc, name.as_bytes())?),
         starts: Starts {
@@ -30,7 +35,11 @@ fn flat<A: Allocator>(alloc: A, name: &str) -> Result<Class<A>, AllocError> {
             spawned: false,
             split: false,
         },
-        may: Kinds::OPERATE.union(Kinds::COMMIT).union(Kinds::ABORT),
+        may: Kinds::OPERATE
+            .union(Kinds::COMMIT)
+            .union(Kinds::ABORT)
+            .union(more),
+        extent,
     })
 }
 
@@ -47,7 +56,7 @@ pub fn parts<A: Allocator + Copy>(
     }
     let mut flats = Vec::new(alloc);
     for name in classes.split(' ').filter(|_| !classes.is_empty()) {
-        flats.push(flat(alloc, name)?)?;
+        flats.push(class(alloc, name, Kinds::none(), Extent::Whole)?)?;
     }
     Ok(Parts {
         objects: Items::of(registers),
@@ -55,8 +64,8 @@ pub fn parts<A: Allocator + Copy>(
     })
 }
 
-/// The standard model of flat transactions: the objects `x`, `n`, `m`, `s` and the class `flat`.
-pub fn atomic<A: Allocator + Copy>(alloc: A) -> Result<Model<A>, Fail> {
+// A model of the objects `x`, `n`, `m`, `s` and this class.
+fn standard<A: Allocator + Copy>(alloc: A, class: Class<A>) -> Result<Model<A>, Fail> {
     let mut objects = Vec::new(alloc);
     let named = [
         ("x", Kind::Register(0)),
@@ -68,7 +77,7 @@ pub fn atomic<A: Allocator + Copy>(alloc: A) -> Result<Model<A>, Fail> {
         objects.push(object(alloc, name, kind)?)?;
     }
     let mut classes = Vec::new(alloc);
-    classes.push(flat(alloc, "flat")?)?;
+    classes.push(class)?;
     let parts = Parts {
         objects: Items::of(objects),
         classes: Items::of(classes),
@@ -77,4 +86,23 @@ pub fn atomic<A: Allocator + Copy>(alloc: A) -> Result<Model<A>, Fail> {
         Ok(model) => Ok(model),
         Err(_) => Err("a standard model has no fault")?,
     }
+}
+
+/// The standard model of flat transactions: the objects `x`, `n`, `m`, `s` and the class `flat`.
+pub fn atomic<A: Allocator + Copy>(alloc: A) -> Result<Model<A>, Fail> {
+    standard(alloc, class(alloc, "flat", Kinds::none(), Extent::Whole)?)
+}
+
+/// The standard model of contingent transactions: the same objects, and the class `try`, which may also form
+/// edges.
+pub fn contingent<A: Allocator + Copy>(alloc: A) -> Result<Model<A>, Fail> {
+    standard(alloc, class(alloc, "try", Kinds::FORM, Extent::Whole)?)
+}
+
+/// The model of flat transactions whose class may also form edges, and delegate as much as this asks of it.
+pub fn delegating<A: Allocator + Copy>(alloc: A, extent: Extent) -> Result<Model<A>, Fail> {
+    standard(
+        alloc,
+        class(alloc, "part", Kinds::DELEGATE.union(Kinds::FORM), extent)?,
+    )
 }

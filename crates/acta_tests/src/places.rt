@@ -1,7 +1,8 @@
 use crate::models::{FLAT, N, S, X, atomic};
+use crate::steps::{Step, take};
 use acta_axioms::Places;
 use acta_machine::Machine;
-use acta_table::{ClassId, Event, Fate, Op, OpNo, Status, TxnId};
+use acta_table::{ClassId, Fate, Op, OpNo, Status, TxnId};
 use std::alloc::{AllocError, Allocator};
 use std::process::Abort;
 use std::test::Fail;
@@ -54,31 +55,31 @@ fn compare<A: Allocator + Copy>(
     Ok(())
 }
 
-const ROWS: [Event; 24] = [
-    Event::Begin(ONE, FLAT),
-    Event::Operate(ONE, X, Op::Write(5)),
-    Event::Begin(ONE, FLAT),
-    Event::Commit(TWO),
-    Event::Begin(TWO, FLAT),
-    Event::Operate(TWO, N, Op::Add(5)),
-    Event::Operate(ONE, N, Op::Add(7)),
-    Event::Operate(TWO, N, Op::Get),
-    Event::Abort(ONE),
-    Event::Operate(TWO, N, Op::Get),
-    Event::Operate(TWO, X, Op::Read),
-    Event::Begin(TxnId(3), FLAT),
-    Event::Operate(TxnId(3), S, Op::Insert(3)),
-    Event::Operate(TWO, S, Op::Has(3)),
-    Event::Operate(TWO, S, Op::Has(4)),
-    Event::Commit(TxnId(3)),
-    Event::Operate(TWO, S, Op::Size),
-    Event::Commit(TWO),
-    Event::Commit(TWO),
-    Event::Abort(TWO),
-    Event::Begin(ONE, FLAT),
-    Event::Begin(TxnId(9), ClassId(1)),
-    Event::Operate(TxnId(9), X, Op::Read),
-    Event::Abort(TxnId(9)),
+const ROWS: [Step; 24] = [
+    Step::Begin(ONE, FLAT),
+    Step::Operate(ONE, X, Op::Write(5)),
+    Step::Begin(ONE, FLAT),
+    Step::Commit(TWO),
+    Step::Begin(TWO, FLAT),
+    Step::Operate(TWO, N, Op::Add(5)),
+    Step::Operate(ONE, N, Op::Add(7)),
+    Step::Operate(TWO, N, Op::Get),
+    Step::Abort(ONE),
+    Step::Operate(TWO, N, Op::Get),
+    Step::Operate(TWO, X, Op::Read),
+    Step::Begin(TxnId(3), FLAT),
+    Step::Operate(TxnId(3), S, Op::Insert(3)),
+    Step::Operate(TWO, S, Op::Has(3)),
+    Step::Operate(TWO, S, Op::Has(4)),
+    Step::Commit(TxnId(3)),
+    Step::Operate(TWO, S, Op::Size),
+    Step::Commit(TWO),
+    Step::Commit(TWO),
+    Step::Abort(TWO),
+    Step::Begin(ONE, FLAT),
+    Step::Begin(TxnId(9), ClassId(1)),
+    Step::Operate(TxnId(9), X, Op::Read),
+    Step::Abort(TxnId(9)),
 ];
 
 // After each event of a run, refused ones too, the machine and the places of its history agree.
@@ -87,7 +88,7 @@ fn after_each_event(rt: HostRuntime) -> Result<(), Fail> {
     let model = atomic(rt.alloc())?;
     let mut machine = Machine::new(rt.alloc(), model.copy()?)?;
     for event in &ROWS {
-        machine.take(event)?;
+        take(rt.alloc(), &mut machine, *event)?;
         let places = Places::of(rt.alloc(), &model, machine.history())?;
         compare(&rt, &machine, &places)?;
     }

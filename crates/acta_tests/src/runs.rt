@@ -1,8 +1,9 @@
 use crate::models::{FLAT, N, S, X, atomic};
+use crate::steps::{Step, events, take};
 use acta_machine::Machine;
 use acta_objects::{ObjectState, replay};
-use acta_table::{Answer, ClassId, Event, Kind, ObjId, Op, OpNo, Ret, Rule, Status, TxnId};
-use std::alloc::{Allocator, Global};
+use acta_table::{Answer, ClassId, Kind, ObjId, Op, OpNo, Ret, Rule, Status, TxnId};
+use std::alloc::Global;
 use std::process::Abort;
 use std::test::Fail;
 
@@ -29,18 +30,18 @@ fn no_by(rule: Rule, by: u32) -> Answer {
     Answer::Refused { rule, by: Some(by) }
 }
 
-fn on(t: TxnId, ob: ObjId, op: Op) -> Event {
-    Event::Operate(t, ob, op)
+fn on(t: TxnId, ob: ObjId, op: Op) -> Step {
+    Step::Operate(t, ob, op)
 }
 
 // The machine answers each event so.
-fn takes<A: Allocator + Copy>(
-    rt: &impl Abort,
-    machine: &mut Machine<A>,
-    rows: &[(Event, Answer)],
+fn takes(
+    rt: &(impl Abort + AllocGlobal),
+    machine: &mut Machine<Global>,
+    rows: &[(Step, Answer)],
 ) -> Result<(), Fail> {
     for (event, answer) in rows {
-        assert_eq!(rt; machine.take(event)?, *answer, "at {event:?}");
+        assert_eq!(rt; take(rt.alloc(), machine, *event)?, *answer, "at {event:?}");
     }
     Ok(())
 }
@@ -49,8 +50,8 @@ fn takes<A: Allocator + Copy>(
 fn begun(rt: &(impl Abort + AllocGlobal)) -> Result<Machine<Global>, Fail> {
     let mut machine = Machine::new(rt.alloc(), atomic(rt.alloc())?)?;
     let rows = [
-        (Event::Begin(ONE, FLAT), ok(1)),
-        (Event::Begin(TWO, FLAT), ok(2)),
+        (Step::Begin(ONE, FLAT), ok(1)),
+        (Step::Begin(TWO, FLAT), ok(2)),
     ];
     takes(rt, &mut machine, &rows)?;
     Ok(machine)
@@ -61,9 +62,9 @@ fn begun(rt: &(impl Abort + AllocGlobal)) -> Result<Machine<Global>, Fail> {
 fn a_write_stays(rt: HostRuntime) -> Result<(), Fail> {
     let mut machine = Machine::new(rt.alloc(), atomic(rt.alloc())?)?;
     let rows = [
-        (Event::Begin(ONE, FLAT), ok(1)),
+        (Step::Begin(ONE, FLAT), ok(1)),
         (on(ONE, X, Op::Write(5)), ok_with(2, Ret::Done)),
-        (Event::Commit(ONE), ok(3)),
+        (Step::Commit(ONE), ok(3)),
     ];
     takes(&rt, &mut machine, &rows)?;
     let copied = machine.copy()?;
@@ -83,23 +84,20 @@ fn a_write_stays(rt: HostRuntime) -> Result<(), Fail> {
 fn refusals(rt: HostRuntime) -> Result<(), Fail> {
     let mut machine = Machine::new(rt.alloc(), atomic(rt.alloc())?)?;
     let rows = [
-        (Event::Begin(ONE, FLAT), ok(1)),
-        (Event::Begin(ONE, FLAT), no_by(Rule::AlreadyBegun, 1)),
-        (Event::Commit(TWO), no_by(Rule::NotInProgress, 2)),
-        (Event::Commit(ONE), ok(2)),
-        (Event::Abort(ONE), no_by(Rule::NotInProgress, 1)),
-        (Event::Begin(ONE, ClassId(1)), no(Rule::BadClass)),
-        (
-            Event::Begin(TxnId(0), ClassId(1)),
-            no_by(Rule::BadNumber, 0),
-        ),
-        (Event::Commit(TxnId(4096)), no_by(Rule::BadNumber, 4096)),
+        (Step::Begin(ONE, FLAT), ok(1)),
+        (Step::Begin(ONE, FLAT), no_by(Rule::AlreadyBegun, 1)),
+        (Step::Commit(TWO), no_by(Rule::NotInProgress, 2)),
+        (Step::Commit(ONE), ok(2)),
+        (Step::Abort(ONE), no_by(Rule::NotInProgress, 1)),
+        (Step::Begin(ONE, ClassId(1)), no(Rule::BadClass)),
+        (Step::Begin(TxnId(0), ClassId(1)), no_by(Rule::BadNumber, 0)),
+        (Step::Commit(TxnId(4096)), no_by(Rule::BadNumber, 4096)),
         (on(ONE, ObjId(4), Op::Read), no(Rule::BadObject)),
         (on(ONE, X, Op::Add(5)), no(Rule::BadOperation)),
         (on(ONE, N, Op::Read), no(Rule::BadOperation)),
         (on(ONE, S, Op::Get), no(Rule::BadOperation)),
         (on(ONE, X, Op::Read), no_by(Rule::NotInProgress, 1)),
-        (Event::Begin(TxnId(4095), FLAT), ok(3)),
+        (Step::Begin(TxnId(4095), FLAT), ok(3)),
     ];
     takes(&rt, &mut machine, &rows)?;
     assert!(rt; machine.value(ObjId(4))?.is_none());
@@ -115,7 +113,7 @@ fn sums_commute(rt: HostRuntime) -> Result<(), Fail> {
         (on(ONE, N, Op::Add(5)), ok_with(3, Ret::Done)),
         (on(TWO, N, Op::Add(7)), ok_with(4, Ret::Done)),
         (on(TWO, N, Op::Get), no_by(Rule::Conflict, 1)),
-        (Event::Abort(ONE), ok(5)),
+        (Step::Abort(ONE), ok(5)),
         (on(TWO, N, Op::Get), ok_with(6, Ret::Value(7))),
     ];
     takes(&rt, &mut machine, &rows)?;
@@ -158,7 +156,7 @@ fn elements_of_a_set(rt: HostRuntime) -> Result<(), Fail> {
         (on(TWO, S, Op::Has(3)), no_by(Rule::Conflict, 1)),
         (on(ONE, S, Op::Size), ok_with(5, Ret::Value(1))),
         (on(TWO, S, Op::Insert(4)), no_by(Rule::Conflict, 3)),
-        (Event::Abort(ONE), ok(6)),
+        (Step::Abort(ONE), ok(6)),
         (on(TWO, S, Op::Size), ok_with(7, Ret::Value(0))),
     ];
     takes(&rt, &mut machine, &rows)
@@ -167,11 +165,12 @@ fn elements_of_a_set(rt: HostRuntime) -> Result<(), Fail> {
 // A run answers as one event after another does, and a run of nothing has no answer.
 #[test]
 fn a_run(rt: HostRuntime) -> Result<(), Fail> {
-    let events = [
-        Event::Begin(ONE, FLAT),
+    let steps = [
+        Step::Begin(ONE, FLAT),
         on(ONE, X, Op::Read),
-        Event::Begin(ONE, FLAT),
+        Step::Begin(ONE, FLAT),
     ];
+    let events = events(rt.alloc(), &steps)?;
     let run = Machine::run(rt.alloc(), atomic(rt.alloc())?, &events)?;
     let answers = [
         ok(1),

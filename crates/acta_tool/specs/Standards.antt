@@ -3,6 +3,7 @@ use Rattle.std.specs.Prelude.{◌≡◌, Bool, true, false, [], ◌∷◌, pos, 
 use Rattle.acta_table.specs.declared.event.EventKind.{EventKind}
 use Rattle.acta_table.specs.declared.event.EventKind.TheVariants.{Begin, Spawn, Split, Join, Delegate, Form, Operate, Commit, Abort}
 use Rattle.acta_table.specs.declared.model.Class.{Class}
+use Rattle.acta_table.specs.declared.model.Extent.TheVariants.{Whole}
 use Rattle.acta_table.specs.declared.model.Object.{Object}
 use Rattle.acta_table.specs.declared.model.Parts.{Parts}
 use Rattle.acta_table.specs.declared.model.Kind.TheVariants.{Register}
@@ -22,12 +23,13 @@ flat_may Join = false
 flat_may Delegate = false
 flat_may Form = false
 
--- the class `flat`: it starts by begin alone
+-- the class `flat`: it starts by begin alone, and hands over the whole
 abbrev pub IsFlat : {A : Type 0} → Class A → Type 0
 IsFlat class =
     (class.name ≡ codes "flat")
     × (class.starts ≡ record { begin = true; spawned = false; split = false })
     × ((kind : EventKind) → has_kind class.may kind ≡ flat_may kind)
+    × (class.extent ≡ Whole)
 
 -- the register `x`, 0 at first
 abbrev pub IsRegisterX : {A : Type 0} → Object A → Type 0

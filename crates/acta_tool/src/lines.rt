@@ -121,7 +121,7 @@ fn object<A: Allocator>(model: &Model<A>, name: &[u8]) -> Result<ObjId, LineFaul
 }
 
 /// The event that the line says, or the lowest fault of the line. Takes no memory.
-pub fn read_event<A: Allocator>(model: &Model<A>, line: &[u8]) -> Result<Event, LineFault> {
+pub fn read_event<A: Allocator>(model: &Model<A>, line: &[u8]) -> Result<Event<A>, LineFault> {
     match Words::of(line).as_slice() {
         [] => Err(LineFault::Empty),
         [b"begin", t, name] => {

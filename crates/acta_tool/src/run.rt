@@ -49,7 +49,7 @@ struct BadLine {
 // The events of the lines up to the first that says none.
 #[derive(Drop)]
 struct Script<A: Allocator> {
-    events: Vec<Event, A>,
+    events: Vec<Event<A>, A>,
     stop: Option<BadLine>,
 }
 

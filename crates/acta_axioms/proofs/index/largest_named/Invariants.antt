@@ -5,4 +5,4 @@ use Rattle.acta_axioms.proofs.index.largest_named.Given as goal
 
 -- no number named so far is larger
 abbrev pub invariant-loop-item : goal.invariant-loop-item
-invariant-loop-item l = All (λ k. All (λ t. t ≤ l.largest) (named k.event)) (take l.item-index l.kept)
+invariant-loop-item g l = All (λ k. All (λ t. t ≤ l.largest) (named k.event)) (take l.item-index l.kept)

@@ -2,7 +2,7 @@ use Rattle.std.proofs.Common.{◌≡◌, drop, map, filter}
 use Rattle.acta_deps.specs.Deps.{status_in}
 use Rattle.acta_deps.specs.Statuses.{with_status}
 use Rattle.acta_deps.specs.Debts.{clashes_by, clashing}
-use Rattle.acta_deps.proofs.Clashes.{least_from}
+use Rattle.acta_table.proofs.Smallest.{least_from}
 use Rattle.acta_deps.proofs.deps.Deps.clashing.Given as goal
 
 -- the least so far, with what is left, gives the least of all

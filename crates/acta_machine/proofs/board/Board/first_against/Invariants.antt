@@ -8,5 +8,5 @@ abbrev pub invariant-loop-item : goal.invariant-loop-item
 invariant-loop-item g l =
     record {
       next : l.number ≡ l.item-index + 1;
-      rest : position_from (stands_against l.self.model l.t.0 l.ob l.op) l.number (drop l.item-index l.self.operations.items) ≡ position_from (stands_against l.self.model l.t.0 l.ob l.op) 1 l.self.operations.items;
+      rest : position_from (stands_against l.self.model l.t.0 l.ob l.op) l.number (drop l.item-index l.self.operations) ≡ position_from (stands_against l.self.model l.t.0 l.ob l.op) 1 l.self.operations;
     }

@@ -1,20 +1,68 @@
 use Rattle.std.proofs.Common.{◌≡◌, sym, ◌∙◌, ap, subst, ◌++◌, ◌∷◌, [], List, length, length-append, arith, None}
 use Rattle.acta_table.specs.declared.event.Kept.{Kept}
-use Rattle.acta_machine.specs.Summary.{Summary}
-use Rattle.acta_machine.specs.Changes.{effect, summary_of}
+use Rattle.acta_machine.specs.Summary.{Summary, linked, counted}
+use Rattle.acta_machine.specs.Changes.{edges_due, changed, summary_of}
 use Rattle.acta_machine.specs.Values.{return_due}
 use Rattle.acta_machine.specs.Rules.{lowest_broken}
+use Rattle.acta_machine.specs.Shown.{shown}
 use Rattle.acta_machine.specs.Table.{State, kept_as}
 use Rattle.acta_machine.specs.Places.{FollowsPlaces}
-use Rattle.acta_machine.proofs.Histories.{summary_more, operations_within}
+use Rattle.acta_table.specs.Events.{operations_named}
+use Rattle.acta_sets.specs.Operations.{are_open}
+use Rattle.acta_machine.proofs.Handing.{event-open}
+use Rattle.acta_machine.proofs.Histories.{summary_more, operations_few}
+use Rattle.acta_machine.proofs.Unbroken.{unbroken, none-earlier, still-admissible, linked-none}
 use Rattle.acta_machine.proofs.Steps.{follows-push}
 use Rattle.acta_machine.proofs.machine.Machine.take.Goals as goal
 
-pub refusal-requires : goal.refusal-requires
-refusal-requires g c = operations_within _ _ c.self.invariant.agrees c.self.invariant.within
+pub admit-requires-clause-few : goal.admit-requires-clause-few
+admit-requires-clause-few g c =
+    let before = c.self.inside.board.kept.items in
+    let few = operations_few before in
+    let count = ap (λ (s : Summary). length s.operations) c.self.invariant.agrees in
+    let linked = ap (λ b. length b.operations) c.link.ensures.others in
+    let roomy = ap (λ b. length b.operations) c.make_room.ensures.others in
+    let room = c.next_place-place.ensures.room in
+    omega (arith, few, count, linked, roomy, room)
 
-pub return_of-requires : goal.return_of-requires
-return_of-requires g c = operations_within _ _ c.self.invariant.agrees c.self.invariant.within
+pub admit-requires-clause-named : goal.admit-requires-clause-named
+admit-requires-clause-named g c =
+    let event = c.args.event.now in
+    let model = c.self.inside.board.model in
+    let s = shown c.self.inside.board in
+    ap (λ items. are_open (operations_named event) items) (ap (λ b. b.operations) c.link.ensures.others ∙ ap (λ b. b.operations) c.make_room.ensures.others)
+    ∙ event-open model s event (unbroken model s event (none-earlier model s event (sym c.in_default.ensures)))
+
+pub admit-requires-clause-progress : goal.admit-requires-clause-progress
+admit-requires-clause-progress g c =
+    (still-admissible _ _ _ _ _ (sym c.in_default.ensures) c.make_room.ensures.shows c.in_ok-link.ensures.shows).progress
+
+pub admit-requires-clause-new : goal.admit-requires-clause-new
+admit-requires-clause-new g c =
+    (still-admissible _ _ _ _ _ (sym c.in_default.ensures) c.make_room.ensures.shows c.in_ok-link.ensures.shows).begun
+
+pub admit-requires-clause-allowed : goal.admit-requires-clause-allowed
+admit-requires-clause-allowed g c =
+    (still-admissible _ _ _ _ _ (sym c.in_default.ensures) c.make_room.ensures.shows c.in_ok-link.ensures.shows).allowed
+
+-- where there is no memory for an operation, no edge was formed either
+pub invariant_of-self-in_err-admit : goal.invariant_of-self-in_err-admit
+invariant_of-self-in_err-admit g c =
+    let event = c.args.event.now in
+    let model = c.self.inside.board.model in
+    let before = c.self.inside.board.kept.items in
+    let agrees = c.self.invariant.agrees in
+    let same_kept : c.admit.new.self.kept.items ≡ before = c.in_err-admit.ensures.as_it_was ∙ ap (λ b. b.kept.items) c.link.ensures.others ∙ c.make_room.ensures.kept in
+    let same_model = c.admit.ensures.model ∙ ap (λ b. b.model) c.link.ensures.others ∙ ap (λ b. b.model) c.make_room.ensures.others in
+    let count = ap (length {A = Kept g.row.A.Denot}) same_kept in
+    let within = c.self.invariant.within in
+    record {
+      agrees = c.in_err-admit.ensures.err ∙ c.in_ok-link.ensures.shows ∙ linked-none _ event c.in_err-admit.ensures.edgeless
+          ∙ c.make_room.ensures.shows ∙ agrees ∙ ap summary_of (sym same_kept);
+      classes = c.admit.ensures.classes;
+      within = omega (arith, count, within);
+      follows = subst (λ (x : State g.row.A.Denot). FollowsPlaces x) (λ i. record { model = sym same_model i; kept = sym same_kept i }) c.self.invariant.follows;
+    }
 
 pub invariant_of-self-2 : goal.invariant_of-self-2
 invariant_of-self-2 g c =
@@ -22,26 +70,27 @@ invariant_of-self-2 g c =
     let model = c.self.inside.board.model in
     let before = c.self.inside.board.kept.items in
     let agrees = c.self.invariant.agrees in
-    let kept : Kept = record { event = event; ret = c.in_ok-ret.ret } in
-    let longer : c.admit.new.self.kept.items ≡ before ++ kept ∷ [] =
-    c.admit.ensures.kept ∙ ap (λ (h : List Kept). h ++ kept ∷ []) c.make_room.ensures.kept in
-    let count = ap (length {A = Kept}) longer ∙ length-append before (kept ∷ []) in
-    let room = c.next_place-place.ensures.room in
-    let unbroken : lowest_broken model (summary_of before) event ≡ None =
-    ap (λ (s : Summary). lowest_broken model s event) (sym agrees) ∙ sym c.in_default.ensures in
     let state : State g.row.A.Denot = record { model = model; kept = before } in
+    let kept : Kept g.row.A.Denot = record { event = event; ret = c.in_ok-ret.ret } in
+    let linked_kept : c.link.new.self.kept.items ≡ before = ap (λ b. b.kept.items) c.link.ensures.others ∙ c.make_room.ensures.kept in
     let due : kept ≡ kept_as state event =
     λ i. record { event = event; ret = (c.in_ok-ret.ensures ∙ ap (λ (s : Summary). return_due model s event) agrees) i } in
-    let same_model = c.admit.ensures.model ∙ c.make_room.ensures.model in
-    let same_kept = longer ∙ ap (λ (k : Kept). before ++ k ∷ []) due in
+    let copied : record { event = c.in_ok-copy.field-0; ret = c.in_ok-ret.ret } ≡ kept = λ i. record { event = c.in_ok-copy.ensures i; ret = c.in_ok-ret.ret } in
+    let longer : c.admit.new.self.kept.items ≡ before ++ kept ∷ [] =
+    c.in_ok-admit.ensures.kept ∙ (λ i. linked_kept i ++ copied i ∷ []) in
+    let count = ap (length {A = Kept g.row.A.Denot}) longer ∙ length-append before (kept ∷ []) in
+    let room = c.next_place-place.ensures.room in
+    let none : lowest_broken model (summary_of before) event ≡ None = ap (λ (s : Summary). lowest_broken model s event) (sym agrees) ∙ sym c.in_default.ensures in
+    let here : shown c.link.new.self ≡ linked (summary_of before) (edges_due event) = c.in_ok-link.ensures.shows ∙ ap (λ (x : Summary). linked x (edges_due event)) (c.make_room.ensures.shows ∙ agrees) in
+    let same_model = c.admit.ensures.model ∙ ap (λ b. b.model) c.link.ensures.others ∙ ap (λ b. b.model) c.make_room.ensures.others in
+    let same_kept = longer ∙ ap (λ (k : Kept g.row.A.Denot). before ++ k ∷ []) due in
     record {
-      agrees = c.admit.ensures.shows
-          ∙ ap (λ (s : Summary). effect s event) (c.make_room.ensures.shows ∙ agrees)
+      agrees = c.in_ok-admit.ensures.shows
+          ∙ ap (λ (s : Summary). counted (changed s event)) here
           ∙ sym (ap summary_of longer ∙ summary_more before kept);
-      statuses = c.admit.ensures.statuses;
       classes = c.admit.ensures.classes;
       within = omega (arith, count, room);
-      follows = subst (λ (x : State g.row.A.Denot). FollowsPlaces x) (λ i. record { model = sym same_model i; kept = sym same_kept i }) (follows-push model before event c.self.invariant.follows unbroken);
+      follows = subst (λ (x : State g.row.A.Denot). FollowsPlaces x) (λ i. record { model = sym same_model i; kept = sym same_kept i }) (follows-push model before event c.self.invariant.follows none);
     }
 
 pub returns-clause-follows : goal.returns-clause-follows

@@ -4,12 +4,8 @@ use Rattle.acta_machine.specs.Summary.{Summary}
 use Rattle.acta_machine.specs.Values.{value_of}
 use Rattle.acta_machine.specs.Table.{State}
 use Rattle.acta_machine.specs.Places.{value_at}
-use Rattle.acta_machine.proofs.Histories.{operations_within}
 use Rattle.acta_machine.proofs.SetTies.{values-places}
 use Rattle.acta_machine.proofs.machine.Machine.value.Goals as goal
-
-pub value-requires : goal.value-requires
-value-requires g c = operations_within _ _ c.self.invariant.agrees c.self.invariant.within
 
 pub returns-clause-places : goal.returns-clause-places
 returns-clause-places g c =

@@ -1,0 +1,22 @@
+-- The edges that a history forms: which depend on which, in order of forming, each once.
+use Rattle.std.specs.Prelude.{List, [], ◌∷◌, flat_map}
+use Rattle.acta_table.specs.declared.dep.Edge.{Edge}
+use Rattle.acta_table.specs.declared.event.Event.{Event}
+use Rattle.acta_table.specs.declared.event.Event.TheVariants.{Form}
+use Rattle.acta_table.specs.declared.event.Kept.{Kept}
+use Rattle.acta_table.specs.declared.model.Parts.{Parts}
+use Rattle.acta_table.specs.Edges.{formed}
+use Rattle.acta_axioms.specs.History.{Place, places}
+
+-- the edges that an event forms, which stands behind these items
+abbrev pub formed_by : {A : Type 0} → Parts A → List (Kept A) → Event A → List Edge
+formed_by m before (Form kind j i) = (record { kind = kind; j = j; i = i }) ∷ []
+formed_by m before _ = []
+
+-- the edges that are formed at a place
+abbrev pub formed_at : {A : Type 0} → Parts A → Place A → List Edge
+formed_at m p = formed_by m p.before p.kept.event
+
+-- the edges in force: all that the events form, legal or not; the nth has the number n
+abbrev pub edges : {A : Type 0} → Parts A → List (Kept A) → List Edge
+edges m h = formed [] (flat_map (formed_at m) (places h))

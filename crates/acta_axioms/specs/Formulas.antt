@@ -1,0 +1,56 @@
+-- The formula of each kind of dependency, of j on i, over the first places of the two transactions.
+use Rattle.std.specs.Prelude.{ℕ, Bool, false, ◌&&◌, ◌||◌, not, nat_lt, Option, Some, None, is_some, is_none, if◌then◌else◌}
+use Rattle.acta_table.specs.declared.dep.Dep.{Dep}
+use Rattle.acta_table.specs.declared.dep.Dep.TheVariants.{Cd, Scd, Ad, Wd, Td, Ed, Cmd, Bd, Sd, Bcd, Bad, Wcd}
+use Rattle.acta_table.specs.declared.dep.Missing.{Missing}
+use Rattle.acta_table.specs.declared.dep.Missing.TheVariants.{Commit, Abort}
+use Rattle.acta_axioms.specs.History.{Course, least, end}
+
+-- whether both places are there, and the first is the smaller
+abbrev pub is_before : Option ℕ → Option ℕ → Bool
+is_before None n = false
+is_before (Some m) None = false
+is_before (Some m) (Some n) = nat_lt m n
+
+-- whether the transaction has committed or aborted before the place
+abbrev pub is_decided_before : Course → Option ℕ → Bool
+is_decided_before c n = is_before c.commit n || is_before c.abort n
+
+-- whether the formula of this kind is false. Commit: both committed, and i not first. Strong-commit: i
+-- committed, and j has not. Abort: i aborted, and j has not. Weak-abort: the same, and j did not
+-- commit before. Termination: j has committed or aborted, and i had not before. Exclusion: i
+-- committed, j began, and j has not aborted. Force-commit-on-abort: i aborted, and j has not committed.
+-- Begin, serial, begin-on-commit, begin-on-abort: j began, and i had not begun, ended, committed,
+-- aborted before. Weak-begin-on-commit: i committed and j began, and the commit was not first.
+unfoldable pub is_false : Dep → Course → Course → Bool
+is_false Cd j i = is_some i.commit && is_some j.commit && not (is_before i.commit j.commit)
+is_false Scd j i = is_some i.commit && is_none j.commit
+is_false Ad j i = is_some i.abort && is_none j.abort
+is_false Wd j i = is_some i.abort && is_none j.abort && not (is_before j.commit i.abort)
+is_false Td j i =
+    let decided = least j.commit j.abort in
+    is_some decided && not (is_decided_before i decided)
+is_false Ed j i = is_some i.commit && is_some j.start && is_none j.abort
+is_false Cmd j i = is_some i.abort && is_none j.commit
+is_false Bd j i = is_some j.start && not (is_before i.start j.start)
+is_false Sd j i = is_some j.start && not (is_decided_before i j.start)
+is_false Bcd j i = is_some j.start && not (is_before i.commit j.start)
+is_false Bad j i = is_some j.start && not (is_before i.abort j.start)
+is_false Wcd j i = is_some i.commit && is_some j.start && not (is_before i.commit j.start)
+
+-- the one event of j that would make a false formula of this kind true, if there is one
+abbrev pub payment : Dep → Option Missing
+payment Scd = Some Commit
+payment Cmd = Some Commit
+payment Ad = Some Abort
+payment Wd = Some Abort
+payment Ed = Some Abort
+payment _ = None
+
+-- what j owes: the formula is false, and j has not ended
+abbrev pub debt : Dep → Course → Course → Option Missing
+debt kind j i = if is_false kind j i && is_none (end j) then payment kind else None
+
+-- whether the formula is false and nothing is owed for it
+abbrev pub is_broken : Dep → Course → Course → Bool
+is_broken kind j i = is_false kind j i && is_none (debt kind j i)

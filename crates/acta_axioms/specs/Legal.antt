@@ -1,0 +1,52 @@
+-- What is owed by the edges of a history, and whether it is legal.
+use Rattle.std.specs.Prelude.{ℕ, Bool, true, false, ◌&&◌, not, ◌==◌, List, filter_map, Option, Some, option_map}
+use Rattle.std.specs.List.{list_any, enumerate_from}
+use Rattle.acta_table.specs.declared.dep.Edge.{Edge}
+use Rattle.acta_table.specs.declared.dep.Missing.{Missing}
+use Rattle.acta_table.specs.declared.dep.Missing.TheVariants.{Commit, Abort}
+use Rattle.acta_table.specs.declared.dep.Owed.{Owed}
+use Rattle.acta_table.specs.declared.event.Kept.{Kept}
+use Rattle.acta_table.specs.declared.model.Parts.{Parts}
+use Rattle.acta_axioms.specs.History.{course}
+use Rattle.acta_axioms.specs.Edges.{edges}
+use Rattle.acta_axioms.specs.Formulas.{debt, is_broken}
+
+-- what is owed by an edge, in this history
+abbrev pub debt_in : {A : Type 0} → List (Kept A) → Edge → Option Missing
+debt_in h e = debt e.kind (course h e.j.0) (course h e.i.0)
+
+-- whether the formula of an edge is false and not owed, in this history
+abbrev pub is_broken_in : {A : Type 0} → List (Kept A) → Edge → Bool
+is_broken_in h e = is_broken e.kind (course h e.j.0) (course h e.i.0)
+
+-- the debt by an edge of this number
+abbrev pub owed_on : ℕ × Edge → Missing → Owed
+owed_on e missing = record { edge = record { 0 = e.0 }; txn = e.1.j; missing = missing }
+
+-- all that is owed, by edge number
+unfoldable pub owed : {A : Type 0} → Parts A → List (Kept A) → List Owed
+owed m h = filter_map (λ e. option_map (owed_on e) (debt_in h e.1)) (enumerate_from 1 (edges m h))
+
+-- whether a commit is owed by the edge, and whether t owes an abort by it
+abbrev pub is_commit : Option Missing → Bool
+is_commit (Some Commit) = true
+is_commit _ = false
+
+abbrev pub is_abort : Option Missing → Bool
+is_abort (Some Abort) = true
+is_abort _ = false
+
+abbrev pub owes_abort_in : {A : Type 0} → List (Kept A) → ℕ → Edge → Bool
+owes_abort_in h t e = (e.j.0 == t) && is_abort (debt_in h e)
+
+-- whether j of this edge owes a commit by it, and an abort by one of these edges
+abbrev pub clashes_in : {A : Type 0} → List (Kept A) → List Edge → Edge → Bool
+clashes_in h es e = is_commit (debt_in h e) && list_any (owes_abort_in h e.j.0) es
+
+-- whether some transaction owes both a commit and an abort
+abbrev pub has_clash : {A : Type 0} → Parts A → List (Kept A) → Bool
+has_clash m h = list_any (clashes_in h (edges m h)) (edges m h)
+
+-- legal: each formula holds or is owed, and no transaction owes both a commit and an abort
+unfoldable pub is_legal : {A : Type 0} → Parts A → List (Kept A) → Bool
+is_legal m h = not (list_any (is_broken_in h) (edges m h)) && not (has_clash m h)

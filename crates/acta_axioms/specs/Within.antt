@@ -1,0 +1,14 @@
+-- That the places of a course are among the first n.
+use Rattle.std.specs.Prelude.{ℕ, ◌≤◌, Option, Some, None, ⊤}
+use Rattle.acta_axioms.specs.History.{Course}
+
+-- the place is at most n, if there is one
+abbrev pub within : ℕ → Option ℕ → Type 0
+within n None = ⊤
+within n (Some m) = m ≤ n
+
+-- each place of the course that is there is at most n
+pub record IsWithin (n : ℕ) (c : Course) : Type 0 where
+  pub start : within n c.start
+  pub commit : within n c.commit
+  pub abort : within n c.abort

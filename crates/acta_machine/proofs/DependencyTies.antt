@@ -1,0 +1,330 @@
+-- The rules on dependencies, read from the statuses, against the formulas of the edges, read from the courses.
+use Rattle.std.proofs.Common.{◌≡◌, ℕ, ◌+◌, Bool, true, false, ◌&&◌, ◌||◌, not, ◌==◌, nat_le, if◌then◌else◌, List, [], ◌∷◌, ◌++◌, map, filter, Option, Some, None, is_some, is_none, option_map, refl, sym, ap, ◌∙◌, inl, inr, eq-eqb, arith}
+use Rattle.std.specs.List.{list_any, list_all, filter_map, cons_option, position_from, enumerate_from}
+use Rattle.std.specs.Option.{option_or}
+use Rattle.std.proofs.lemmas.Bool.{eqb-true, ne_eqb, cases_eq, and_parts, or_parts}
+use Rattle.std.proofs.lemmas.Bool.Decides.{nat_tests}
+use Rattle.std.proofs.lemmas.List.Folds.{list_any-append}
+use Rattle.acta_table.specs.declared.answer.Status.{Status}
+use Rattle.acta_table.specs.declared.answer.Status.TheVariants.{NotBegun, InProgress, Committed, Aborted}
+use Rattle.acta_table.specs.declared.answer.Rule.{Rule}
+use Rattle.acta_table.specs.declared.answer.Rule.TheVariants.{Clash}
+use Rattle.acta_table.specs.declared.answer.Refusal.{Refusal}
+use Rattle.acta_table.specs.declared.dep.Dep.{Dep}
+use Rattle.acta_table.specs.declared.dep.Edge.{Edge}
+use Rattle.acta_table.specs.declared.dep.Missing.{Missing}
+use Rattle.acta_table.specs.declared.dep.Owed.{Owed}
+use Rattle.acta_table.specs.Numbers.{rule_number}
+use Rattle.acta_table.specs.Numbered.{first_number, smallest}
+use Rattle.acta_table.specs.Refusals.{broken_by}
+use Rattle.acta_deps.specs.Statuses.{with_status}
+use Rattle.acta_deps.specs.Debts.{debt_by as debt_in, debt_of, owes_commit, owes_abort, owed_at, owed_from, owed_in, clashes_by as clashes_in}
+use Rattle.acta_deps.specs.Dependencies.{awaits_begin, awaits_end, awaits_commit, awaits_abort, ends_after, committed_first, began_first, cannot_pay_commit, cannot_pay_abort, depends, is_awaited, begin_dep, serial_dep, begin_on_commit, begin_on_abort, termination_dep, owing_abort, owing_commit, commit_order, weak_begin, unpayable_commit, unpayable_abort, clash, start_refusal, commit_refusal, abort_refusal}
+use Rattle.acta_axioms.specs.History.{Course, end}
+use Rattle.acta_axioms.specs.Formulas.{is_false, is_broken, payment}
+use Rattle.acta_axioms.specs.Claims.{status_in, is_orderly, is_apart}
+use Rattle.acta_axioms.specs.Legal.{owed_on, is_commit, is_abort}
+use Rattle.acta_axioms.specs.Within.{IsWithin}
+use Rattle.acta_machine.specs.Places.{is_dependency_rule}
+use Rattle.acta_machine.proofs.Courses.{debt_by, is_broken_by, owes_abort_by, clashes_by, is_legal_by}
+use Rattle.acta_machine.proofs.EdgeSteps.{begun, committed, aborted, begin-j, begin-i, commit-j, commit-i, abort-j, abort-i, debts-tie}
+
+-- a rule on edges is broken where some edge passes its test
+some_first : (rule : Rule) (test : Edge → Bool) (n : ℕ) (es : List Edge) → is_some (broken_by rule (position_from test n es)) ≡ list_any test es
+some_first rule test n [] = refl
+some_first rule test n (e ∷ es) = by (test e) (some_first rule test (n + 1) es)
+  where
+    by : (b : Bool) → is_some (broken_by rule (position_from test (n + 1) es)) ≡ list_any test es
+        → is_some (broken_by rule (if b then Some n else position_from test (n + 1) es)) ≡ (b || list_any test es)
+    by true h = refl
+    by false h = h
+
+some_rule : (rule : Rule) (test : Edge → Bool) (es : List Edge) → is_some (broken_by rule (first_number test es)) ≡ list_any test es
+some_rule rule test es = some_first rule test 1 es
+
+-- some number is the smallest where there is one
+some_smallest : (rule : Rule) (test : Edge → Bool) (es : List Edge) → is_some (broken_by rule (smallest (map (λ e. e.j.0) (filter test es)))) ≡ list_any test es
+some_smallest rule test [] = refl
+some_smallest rule test (e ∷ es) = by (test e) (some_smallest rule test es)
+  where
+    by : (b : Bool) → is_some (broken_by rule (smallest (map (λ e. e.j.0) (filter test es)))) ≡ list_any test es
+        → is_some (broken_by rule (smallest (map (λ e. e.j.0) (if b then e ∷ filter test es else filter test es)))) ≡ (b || list_any test es)
+    by true h = refl
+    by false h = h
+
+-- one of two tests passes at some edge
+any-or : (f g : Edge → Bool) (es : List Edge) → (list_any f es || list_any g es) ≡ list_any (λ e. f e || g e) es
+any-or f g [] = refl
+any-or f g (e ∷ es) = regroup (f e) (list_any f es) (g e) (list_any g es) ∙ ap (λ b. (f e || g e) || b) (any-or f g es)
+  where
+    regroup : (a b c d : Bool) → ((a || b) || (c || d)) ≡ ((a || c) || (b || d))
+    regroup true b c d = refl
+    regroup false true true d = refl
+    regroup false true false d = refl
+    regroup false false c d = refl
+
+-- one of two rules is broken
+or_more : (o p : Option Refusal) (a b : Bool) → is_some o ≡ a → is_some p ≡ b → is_some (option_or o p) ≡ (a || b)
+or_more None p a b e d = rw (sym e, sym d) refl
+or_more (Some r) p a b e d = rw (sym e) refl
+
+or_tests : (o p : Option Refusal) (f g : Edge → Bool) (es : List Edge) → is_some o ≡ list_any f es → is_some p ≡ list_any g es → is_some (option_or o p) ≡ list_any (λ e. f e || g e) es
+or_tests o p f g es e d = or_more o p (list_any f es) (list_any g es) e d ∙ any-or f g es
+
+-- whether an edge bars the start, the commit or the abort of t
+abbrev bars_start : (ℕ → Status) → ℕ → Edge → Bool
+bars_start status t e = depends awaits_begin status t e || depends awaits_end status t e || depends awaits_commit status t e || depends awaits_abort status t e
+
+abbrev bars_commit : (ℕ → Status) → ℕ → Edge → Bool
+bars_commit status t e = depends ends_after status t e || owes_abort status t e || is_awaited committed_first status t e || is_awaited began_first status t e || is_awaited cannot_pay_commit status t e
+
+abbrev bars_abort : (ℕ → Status) → ℕ → Edge → Bool
+bars_abort status t e = depends ends_after status t e || owes_commit status t e || is_awaited cannot_pay_abort status t e
+
+-- whether two debts of one transaction clash once t stands so
+abbrev clash_then : (ℕ → Status) → List Edge → ℕ → Status → Bool
+clash_then status es t s = list_any (clashes_in (with_status status t s) es) es
+
+some_clash : (status : ℕ → Status) (es : List Edge) (t : ℕ) (s : Status) → is_some (clash status es t s) ≡ clash_then status es t s
+unfolding clash
+some_clash status es t s = some_smallest Clash (clashes_in (with_status status t s) es) es
+
+-- an event is refused where an edge bars it or debts would clash
+start_tests : (status : ℕ → Status) (es : List Edge) (t : ℕ) → is_some (start_refusal status es t) ≡ (list_any (bars_start status t) es || clash_then status es t InProgress)
+unfolding start_refusal begin_dep serial_dep begin_on_commit begin_on_abort
+start_tests status es t =
+    or_more _ _ _ _
+    (or_tests _ _ _ _ es
+    (or_tests _ _ _ _ es
+    (or_tests _ _ _ _ es (some_rule _ _ es) (some_rule _ _ es))
+    (some_rule _ _ es))
+    (some_rule _ _ es))
+    (some_clash status es t InProgress)
+
+commit_tests : (status : ℕ → Status) (es : List Edge) (t : ℕ) → is_some (commit_refusal status es t) ≡ (list_any (bars_commit status t) es || clash_then status es t Committed)
+unfolding commit_refusal termination_dep owing_abort commit_order weak_begin unpayable_commit
+commit_tests status es t =
+    or_more _ _ _ _
+    (or_tests _ _ _ _ es
+    (or_tests _ _ _ _ es
+    (or_tests _ _ _ _ es
+    (or_tests _ _ _ _ es (some_rule _ _ es) (some_rule _ _ es))
+    (some_rule _ _ es))
+    (some_rule _ _ es))
+    (some_rule _ _ es))
+    (some_clash status es t Committed)
+
+abort_tests : (status : ℕ → Status) (es : List Edge) (t : ℕ) → is_some (abort_refusal status es t) ≡ (list_any (bars_abort status t) es || clash_then status es t Aborted)
+unfolding abort_refusal termination_dep owing_commit unpayable_abort
+abort_tests status es t =
+    or_more _ _ _ _
+    (or_tests _ _ _ _ es
+    (or_tests _ _ _ _ es (some_rule _ _ es) (some_rule _ _ es))
+    (some_rule _ _ es))
+    (some_clash status es t Aborted)
+
+-- two tests that agree at each edge that is apart and unbroken agree on a list of such edges
+any_alike : (f g broken : Edge → Bool) → ((e : Edge) → is_apart e ≡ true → broken e ≡ false → f e ≡ g e) → (es : List Edge) → list_all is_apart es ≡ true → list_any broken es ≡ false → list_any f es ≡ list_any g es
+any_alike f g broken same [] apart whole = refl
+any_alike f g broken same (e ∷ es) apart whole =
+    let a = and_parts (is_apart e) (list_all is_apart es) apart in
+    let w = or_parts (broken e) (list_any broken es) whole in
+    λ i. same e a.0 w.0 i || any_alike f g broken same es a.1 w.1 i
+
+-- what is owed by an edge is the same by the statuses and by the courses
+owes_alike : (status : ℕ → Status) (courses : ℕ → Course) → ((u : ℕ) → status u ≡ status_in (courses u)) → ((u : ℕ) → is_orderly (courses u) ≡ true) → (e : Edge) → debt_of status e ≡ debt_by courses e
+owes_alike status courses shows orderly e =
+    (λ x. debt_in e.kind (shows e.i.0 x) (shows e.j.0 x))
+    ∙ debts-tie e.kind (courses e.j.0) (courses e.i.0) (orderly e.j.0) (orderly e.i.0)
+
+clashes_alike : (status : ℕ → Status) (courses : ℕ → Course) → ((u : ℕ) → status u ≡ status_in (courses u)) → ((u : ℕ) → is_orderly (courses u) ≡ true) → (es : List Edge)
+    → list_any (clashes_in status es) es ≡ list_any (clashes_by courses es) es
+clashes_alike status courses shows orderly es =
+    let same = owes_alike status courses shows orderly in
+    λ x. list_any (λ e. is_commit (same e x) && list_any (λ f. (f.j.0 == e.j.0) && is_abort (same f x)) es) es
+
+-- the edge joins two, so that only one of them is t
+not_both : (j i t : ℕ) → not (j == i) ≡ true → ((j == t) && (i == t)) ≡ false
+not_both j i t apart = grind (arith, nat_tests)
+
+or-false : (b : Bool) → (b || false) ≡ b
+or-false true = refl
+or-false false = refl
+
+-- one edge that is unbroken: it is barred exactly where the event, of its j or its i or of neither, breaks its formula
+module _ (kind : Dep) (n : ℕ) (cj ci : Course) (orderly_j : is_orderly cj ≡ true) (orderly_i : is_orderly ci ≡ true) (within_j : IsWithin n cj) (within_i : IsWithin n ci) (whole : is_broken kind cj ci ≡ false) where
+  start_edge : (of_j of_i : Bool) → (of_j && of_i) ≡ false → (of_j ≡ true → status_in cj ≡ NotBegun) → (of_i ≡ true → status_in ci ≡ NotBegun)
+      → ((of_j && awaits_begin kind (status_in ci)) || (of_j && awaits_end kind (status_in ci)) || (of_j && awaits_commit kind (status_in ci)) || (of_j && awaits_abort kind (status_in ci)))
+      ≡ is_broken kind (if of_j then begun (n + 1) cj else cj) (if of_i then begun (n + 1) ci else ci)
+  start_edge true true one new_j new_i = cc
+  start_edge true false one new_j new_i = sym (begin-j kind n cj ci orderly_j orderly_i within_i (new_j refl))
+  start_edge false true one new_j new_i = sym (begin-i kind n cj ci orderly_j orderly_i (new_i refl) whole)
+  start_edge false false one new_j new_i = sym whole
+
+  commit_edge : (of_j of_i : Bool) → (of_j && of_i) ≡ false → (of_j ≡ true → status_in cj ≡ InProgress) → (of_i ≡ true → status_in ci ≡ InProgress)
+      → ((of_j && ends_after kind (status_in ci)) || (of_j && is_abort (debt_in kind (status_in ci) (status_in cj))) || (of_i && committed_first kind (status_in cj)) || (of_i && began_first kind (status_in cj)) || (of_i && cannot_pay_commit kind (status_in cj)))
+      ≡ is_broken kind (if of_j then committed (n + 1) cj else cj) (if of_i then committed (n + 1) ci else ci)
+  commit_edge true true one on_j on_i = cc
+  commit_edge true false one on_j on_i =
+      or-false _ ∙ or-false _ ∙ or-false _
+      ∙ (λ x. ends_after kind (status_in ci) || is_abort (debt_in kind (status_in ci) (on_j refl x)))
+      ∙ sym (commit-j kind n cj ci orderly_j orderly_i within_i (on_j refl) whole)
+  commit_edge false true one on_j on_i = sym (commit-i kind n cj ci orderly_j orderly_i within_j (on_i refl) whole)
+  commit_edge false false one on_j on_i = sym whole
+
+  abort_edge : (of_j of_i : Bool) → (of_j && of_i) ≡ false → (of_j ≡ true → status_in cj ≡ InProgress) → (of_i ≡ true → status_in ci ≡ InProgress)
+      → ((of_j && ends_after kind (status_in ci)) || (of_j && is_commit (debt_in kind (status_in ci) (status_in cj))) || (of_i && cannot_pay_abort kind (status_in cj)))
+      ≡ is_broken kind (if of_j then aborted (n + 1) cj else cj) (if of_i then aborted (n + 1) ci else ci)
+  abort_edge true true one on_j on_i = cc
+  abort_edge true false one on_j on_i =
+      or-false _
+      ∙ (λ x. ends_after kind (status_in ci) || is_commit (debt_in kind (status_in ci) (on_j refl x)))
+      ∙ sym (abort-j kind n cj ci orderly_j orderly_i within_i (on_j refl) whole)
+  abort_edge false true one on_j on_i = sym (abort-i kind n cj ci orderly_j orderly_i within_j (on_i refl) whole)
+  abort_edge false false one on_j on_i = sym whole
+
+-- not neither of two
+neither : (a b : Bool) → (a || b) ≡ not (not a && not b)
+neither true b = refl
+neither false true = refl
+neither false false = refl
+
+-- an event of t, which lengthens t's course alone, is refused exactly where it would leave a formula broken or debts that clash
+module _ (status : ℕ → Status) (courses later : ℕ → Course) (es : List Edge) (n t : ℕ)
+    (shows : (u : ℕ) → status u ≡ status_in (courses u)) (orderly : (u : ℕ) → is_orderly (courses u) ≡ true) (within : (u : ℕ) → IsWithin n (courses u))
+    (apart : list_all is_apart es ≡ true) (unbroken : list_any (is_broken_by courses) es ≡ false)
+    (others : (u : ℕ) → (u ≡ t → ⊥) → later u ≡ courses u) (orderly_later : (u : ℕ) → is_orderly (later u) ≡ true) where
+  -- each course after the event
+  moved : (g : Course → Course) → later t ≡ g (courses t) → (u : ℕ) → (if u == t then g (courses u) else courses u) ≡ later u
+  moved g here u =
+      elim (cases_eq u t) [
+        | inl e ↦ ap (λ b. if b then g (courses u) else courses u) (eq-eqb u t e) ∙ ap (λ v. g (courses v)) e ∙ sym here ∙ sym (ap later e)
+        | inr ne ↦ ap (λ b. if b then g (courses u) else courses u) (ne_eqb u t ne) ∙ sym (others u ne)
+      ]
+
+  -- how t stood before
+  stands : (s : Status) → status t ≡ s → (u : ℕ) → (u == t) ≡ true → status_in (courses u) ≡ s
+  stands s at u same = sym (shows u) ∙ ap status (eqb-true u t same) ∙ at
+
+  -- the tests of edges, and then of debts, are those of legality
+  exact : (bars : ℕ → Edge → Bool) (s : Status) (refusal : Option Refusal) → is_some refusal ≡ (list_any (bars t) es || clash_then status es t s)
+      → ((e : Edge) → is_apart e ≡ true → is_broken_by courses e ≡ false → bars t e ≡ is_broken_by later e)
+      → ((u : ℕ) → with_status status t s u ≡ status_in (later u))
+      → is_some refusal ≡ not (is_legal_by later es)
+  exact bars s refusal tests each shows_later =
+      tests
+      ∙ (λ x. any_alike (bars t) (is_broken_by later) (is_broken_by courses) each es apart unbroken x || clashes_alike (with_status status t s) later shows_later orderly_later es x)
+      ∙ neither (list_any (is_broken_by later) es) (list_any (clashes_by later es) es)
+
+  pub starts-exact : status t ≡ NotBegun → later t ≡ begun (n + 1) (courses t) → ((u : ℕ) → with_status status t InProgress u ≡ status_in (later u))
+      → is_some (start_refusal status es t) ≡ not (is_legal_by later es)
+  starts-exact at here shows_later = exact (bars_start status) InProgress (start_refusal status es t) (start_tests status es t) each shows_later
+    where
+      each : (e : Edge) → is_apart e ≡ true → is_broken_by courses e ≡ false → bars_start status t e ≡ is_broken_by later e
+      each e two whole =
+          let at_i = shows e.i.0 in
+          let new = moved (begun (n + 1)) here in
+          (λ x. ((e.j.0 == t) && awaits_begin e.kind (at_i x)) || ((e.j.0 == t) && awaits_end e.kind (at_i x)) || ((e.j.0 == t) && awaits_commit e.kind (at_i x)) || ((e.j.0 == t) && awaits_abort e.kind (at_i x)))
+          ∙ start_edge e.kind n (courses e.j.0) (courses e.i.0) (orderly e.j.0) (orderly e.i.0) (within e.j.0) (within e.i.0) whole (e.j.0 == t) (e.i.0 == t) (not_both e.j.0 e.i.0 t two) (stands NotBegun at e.j.0) (stands NotBegun at e.i.0)
+          ∙ (λ x. is_broken e.kind (new e.j.0 x) (new e.i.0 x))
+
+  pub commits-exact : status t ≡ InProgress → later t ≡ committed (n + 1) (courses t) → ((u : ℕ) → with_status status t Committed u ≡ status_in (later u))
+      → is_some (commit_refusal status es t) ≡ not (is_legal_by later es)
+  commits-exact at here shows_later = exact (bars_commit status) Committed (commit_refusal status es t) (commit_tests status es t) each shows_later
+    where
+      each : (e : Edge) → is_apart e ≡ true → is_broken_by courses e ≡ false → bars_commit status t e ≡ is_broken_by later e
+      each e two whole =
+          let at_i = shows e.i.0 in
+          let at_j = shows e.j.0 in
+          let new = moved (committed (n + 1)) here in
+          (λ x. ((e.j.0 == t) && ends_after e.kind (at_i x)) || ((e.j.0 == t) && is_abort (debt_in e.kind (at_i x) (at_j x))) || ((e.i.0 == t) && committed_first e.kind (at_j x)) || ((e.i.0 == t) && began_first e.kind (at_j x)) || ((e.i.0 == t) && cannot_pay_commit e.kind (at_j x)))
+          ∙ commit_edge e.kind n (courses e.j.0) (courses e.i.0) (orderly e.j.0) (orderly e.i.0) (within e.j.0) (within e.i.0) whole (e.j.0 == t) (e.i.0 == t) (not_both e.j.0 e.i.0 t two) (stands InProgress at e.j.0) (stands InProgress at e.i.0)
+          ∙ (λ x. is_broken e.kind (new e.j.0 x) (new e.i.0 x))
+
+  pub aborts-exact : status t ≡ InProgress → later t ≡ aborted (n + 1) (courses t) → ((u : ℕ) → with_status status t Aborted u ≡ status_in (later u))
+      → is_some (abort_refusal status es t) ≡ not (is_legal_by later es)
+  aborts-exact at here shows_later = exact (bars_abort status) Aborted (abort_refusal status es t) (abort_tests status es t) each shows_later
+    where
+      each : (e : Edge) → is_apart e ≡ true → is_broken_by courses e ≡ false → bars_abort status t e ≡ is_broken_by later e
+      each e two whole =
+          let at_i = shows e.i.0 in
+          let at_j = shows e.j.0 in
+          let new = moved (aborted (n + 1)) here in
+          (λ x. ((e.j.0 == t) && ends_after e.kind (at_i x)) || ((e.j.0 == t) && is_commit (debt_in e.kind (at_i x) (at_j x))) || ((e.i.0 == t) && cannot_pay_abort e.kind (at_j x)))
+          ∙ abort_edge e.kind n (courses e.j.0) (courses e.i.0) (orderly e.j.0) (orderly e.i.0) (within e.j.0) (within e.i.0) whole (e.j.0 == t) (e.i.0 == t) (not_both e.j.0 e.i.0 t two) (stands InProgress at e.j.0) (stands InProgress at e.i.0)
+          ∙ (λ x. is_broken e.kind (new e.j.0 x) (new e.i.0 x))
+
+owed_from-tie : (status : ℕ → Status) (courses : ℕ → Course) → ((u : ℕ) → status u ≡ status_in (courses u)) → ((u : ℕ) → is_orderly (courses u) ≡ true) → (n : ℕ) (es : List Edge)
+    → owed_from status n es ≡ filter_map (λ e. option_map (owed_on e) (debt_by courses e.1)) (enumerate_from n es)
+owed_from-tie status courses shows orderly n [] = refl
+owed_from-tie status courses shows orderly n (e ∷ es) =
+    λ x. cons_option ((ap (owed_at n e) (owes_alike status courses shows orderly e) ∙ mapped (debt_by courses e)) x) (owed_from-tie status courses shows orderly (n + 1) es x)
+  where
+    mapped : (o : Option Missing) → owed_at n e o ≡ option_map (owed_on (n, e)) o
+    mapped None = refl
+    mapped (Some missing) = refl
+
+-- the debts by the statuses are those by the courses
+pub owed-tie : (status : ℕ → Status) (courses : ℕ → Course) (es : List Edge) → ((u : ℕ) → status u ≡ status_in (courses u)) → ((u : ℕ) → is_orderly (courses u) ≡ true)
+    → owed_in status es ≡ filter_map (λ e. option_map (owed_on e) (debt_by courses e.1)) (enumerate_from 1 es)
+owed-tie status courses es shows orderly = owed_from-tie status courses shows orderly 1 es
+
+-- an edge at the end that does not pass makes no difference
+any-push : (test : Edge → Bool) (es : List Edge) (f : Edge) → test f ≡ false → list_any test (es ++ f ∷ []) ≡ list_any test es
+any-push test es f e = list_any-append test es (f ∷ []) ∙ (λ x. list_any test es || (e x || false)) ∙ or-false (list_any test es)
+
+and-false : (b : Bool) → (b && false) ≡ false
+and-false true = refl
+and-false false = refl
+
+-- by a new edge whose formula holds nothing is owed, and the edges are legal as before
+pub forms-legal : (courses : ℕ → Course) (es : List Edge) (f : Edge) → is_legal_by courses es ≡ true → is_false f.kind (courses f.j.0) (courses f.i.0) ≡ false → is_legal_by courses (es ++ f ∷ []) ≡ true
+forms-legal courses es f legal holds =
+    let whole : is_broken_by courses f ≡ false = ap (λ b. b && is_none (if b && is_none (end (courses f.j.0)) then payment f.kind else None)) holds in
+    let none : debt_by courses f ≡ None = ap (λ b. if b && is_none (end (courses f.j.0)) then payment f.kind else None) holds in
+    let calm = λ (e : Edge). ap (λ b. is_commit (debt_by courses e) && b) (any-push (owes_abort_by courses e.j.0) es f (ap (λ o. (f.j.0 == e.j.0) && is_abort o) none ∙ and-false (f.j.0 == e.j.0))) in
+    let unclashed : clashes_by courses es f ≡ false = ap (λ o. is_commit o && list_any (owes_abort_by courses f.j.0) es) none in
+    (λ x. not (any-push (is_broken_by courses) es f whole x) && not (list_any (λ e. calm e x) (es ++ f ∷ [])))
+    ∙ (λ x. not (list_any (is_broken_by courses) es) && not (any-push (clashes_by courses es) es f unclashed x))
+    ∙ legal
+
+-- whether what is broken, if anything is, is such a rule
+is_on_dependencies : Option Refusal → Bool
+is_on_dependencies None = true
+is_on_dependencies (Some r) = is_dependency_rule r.rule
+
+on_dependencies : (rule : Rule) (n : Option ℕ) → is_dependency_rule rule ≡ true → is_on_dependencies (broken_by rule n) ≡ true
+unfolding is_on_dependencies
+on_dependencies rule None e = refl
+on_dependencies rule (Some n) e = e
+
+either_on : (o p : Option Refusal) → is_on_dependencies o ≡ true → is_on_dependencies p ≡ true → is_on_dependencies (option_or o p) ≡ true
+unfolding is_on_dependencies
+either_on None p e d = d
+either_on (Some r) p e d = e
+
+rule_in : (o : Option Refusal) (r : Refusal) → is_on_dependencies o ≡ true → o ≡ Some r → is_dependency_rule r.rule ≡ true
+unfolding is_on_dependencies
+rule_in o r on is = sym (ap is_on_dependencies is) ∙ on
+
+-- a start, a commit or an abort is refused by a rule on dependencies
+pub start-rule : (status : ℕ → Status) (es : List Edge) (t : ℕ) (r : Refusal) → start_refusal status es t ≡ Some r → is_dependency_rule r.rule ≡ true
+unfolding start_refusal begin_dep serial_dep begin_on_commit begin_on_abort clash
+start-rule status es t r is =
+    rule_in (start_refusal status es t) r
+    (either_on _ _ (either_on _ _ (either_on _ _ (either_on _ _ (on_dependencies _ _ refl) (on_dependencies _ _ refl)) (on_dependencies _ _ refl)) (on_dependencies _ _ refl)) (on_dependencies _ _ refl))
+    is
+
+pub commit-rule : (status : ℕ → Status) (es : List Edge) (t : ℕ) (r : Refusal) → commit_refusal status es t ≡ Some r → is_dependency_rule r.rule ≡ true
+unfolding commit_refusal termination_dep owing_abort commit_order weak_begin unpayable_commit clash
+commit-rule status es t r is =
+    rule_in (commit_refusal status es t) r
+    (either_on _ _ (either_on _ _ (either_on _ _ (either_on _ _ (either_on _ _ (on_dependencies _ _ refl) (on_dependencies _ _ refl)) (on_dependencies _ _ refl)) (on_dependencies _ _ refl)) (on_dependencies _ _ refl)) (on_dependencies _ _ refl))
+    is
+
+pub abort-rule : (status : ℕ → Status) (es : List Edge) (t : ℕ) (r : Refusal) → abort_refusal status es t ≡ Some r → is_dependency_rule r.rule ≡ true
+unfolding abort_refusal termination_dep owing_commit unpayable_abort clash
+abort-rule status es t r is =
+    rule_in (abort_refusal status es t) r
+    (either_on _ _ (either_on _ _ (either_on _ _ (on_dependencies _ _ refl) (on_dependencies _ _ refl)) (on_dependencies _ _ refl)) (on_dependencies _ _ refl))
+    is

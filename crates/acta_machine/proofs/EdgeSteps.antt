@@ -1,0 +1,297 @@
+-- What a start, a commit or an abort does to the formula of one edge.
+use Rattle.std.proofs.Common.{◌≡◌, ℕ, ◌+◌, Bool, true, false, ◌&&◌, ◌||◌, not, Option, Some, None, is_some, is_none, refl, sym, ap, subst, ◌∙◌, arith, if◌then◌else◌}
+use Rattle.std.proofs.lemmas.Bool.{lt-ltb, le-ltb}
+use Rattle.acta_table.specs.declared.answer.Status.{Status}
+use Rattle.acta_table.specs.declared.answer.Status.TheVariants.{NotBegun, InProgress}
+use Rattle.acta_table.specs.declared.dep.Dep.{Dep}
+use Rattle.acta_table.specs.declared.dep.Dep.TheVariants.{Cd, Wd, Td, Bd, Sd, Bcd, Bad, Wcd}
+use Rattle.acta_table.specs.declared.dep.Missing.{Missing}
+use Rattle.acta_table.specs.declared.dep.Missing.TheVariants.{Abort}
+use Rattle.acta_table.specs.Dependencies.{is_begin_kind}
+use Rattle.acta_deps.specs.Debts.{debt_by, is_commit, is_abort}
+use Rattle.acta_deps.specs.Dependencies.{awaits_begin, awaits_end, awaits_commit, awaits_abort, ends_after, committed_first, began_first, cannot_pay_commit, cannot_pay_abort}
+use Rattle.acta_axioms.specs.History.{Course, end}
+use Rattle.acta_axioms.specs.Formulas.{is_before, is_false, is_broken, debt}
+use Rattle.acta_axioms.specs.Claims.{status_in, is_orderly}
+use Rattle.acta_axioms.specs.Within.{IsWithin}
+
+-- a course with one event more, at this place
+abbrev pub begun : ℕ → Course → Course
+begun p c = record c { start = Some p }
+
+abbrev pub committed : ℕ → Course → Course
+committed p c = record c { commit = Some p }
+
+abbrev pub aborted : ℕ → Course → Course
+aborted p c = record c { abort = Some p }
+
+-- the four shapes of an orderly course
+data Shape : Type 0 where
+  Fresh : Shape
+  Begun : ℕ → Shape
+  Done : ℕ → ℕ → Shape
+  Undone : ℕ → ℕ → Shape
+
+abbrev course_of : Shape → Course
+course_of Fresh = record { start = None; commit = None; abort = None }
+course_of (Begun a) = record { start = Some a; commit = None; abort = None }
+course_of (Done a b) = record { start = Some a; commit = Some b; abort = None }
+course_of (Undone a b) = record { start = Some a; commit = None; abort = Some b }
+
+shape : (c : Course) → is_orderly c ≡ true → (s : Shape) × (course_of s ≡ c)
+shape c = of c.start c.commit c.abort
+  where
+    of : (s d a : Option ℕ) → is_orderly (record { start = s; commit = d; abort = a }) ≡ true → (x : Shape) × (course_of x ≡ record { start = s; commit = d; abort = a })
+    of None None None e = (Fresh, refl)
+    of None None (Some b) e = cc
+    of None (Some b) a e = cc
+    of (Some a) None None e = (Begun a, refl)
+    of (Some a) (Some b) None e = (Done a b, refl)
+    of (Some a) None (Some b) e = (Undone a b, refl)
+    of (Some a) (Some b) (Some d) e = cc
+
+-- what holds of two shapes holds of courses of these shapes
+of_shapes : (P : Course → Course → Type 0) {cj ci : Course} (j i : Shape) → course_of j ≡ cj → course_of i ≡ ci → P (course_of j) (course_of i) → P cj ci
+of_shapes P {cj} j i is_j is_i h = subst (P cj) is_i (subst (λ c. P c (course_of i)) is_j h)
+
+fresh_shape : (s : Shape) → status_in (course_of s) ≡ NotBegun → s ≡ Fresh
+fresh_shape Fresh e = refl
+fresh_shape (Begun a) e = cc
+fresh_shape (Done a b) e = cc
+fresh_shape (Undone a b) e = cc
+
+fresh_course : (c : Course) → is_orderly c ≡ true → status_in c ≡ NotBegun → course_of Fresh ≡ c
+fresh_course c orderly fresh =
+    let s = shape c orderly in
+    sym (ap course_of (fresh_shape s.0 (ap status_in s.1 ∙ fresh))) ∙ s.1
+
+begun_shape : (s : Shape) → status_in (course_of s) ≡ InProgress → (a : ℕ) × (s ≡ Begun a)
+begun_shape Fresh e = cc
+begun_shape (Begun a) e = (a, refl)
+begun_shape (Done a b) e = cc
+begun_shape (Undone a b) e = cc
+
+begun_course : (c : Course) → is_orderly c ≡ true → status_in c ≡ InProgress → (a : ℕ) × (course_of (Begun a) ≡ c)
+begun_course c orderly on =
+    let s = shape c orderly in
+    let b = begun_shape s.0 (ap status_in s.1 ∙ on) in
+    (b.0, sym (ap course_of b.1) ∙ s.1)
+
+-- whether the formula of an edge is broken by a start, a commit or an abort of j, where i stands so
+abbrev bars_begin : Dep → Status → Bool
+bars_begin kind i = awaits_begin kind i || awaits_end kind i || awaits_commit kind i || awaits_abort kind i
+
+abbrev bars_commit : Dep → Status → Bool
+bars_commit kind i = ends_after kind i || is_abort (debt_by kind i InProgress)
+
+abbrev bars_abort : Dep → Status → Bool
+bars_abort kind i = ends_after kind i || is_commit (debt_by kind i InProgress)
+
+-- whether it is broken by a commit of i, where j stands so
+abbrev is_late_commit : Dep → Status → Bool
+is_late_commit kind j = committed_first kind j || began_first kind j || cannot_pay_commit kind j
+
+begin_j-at : (kind : Dep) (n : ℕ) (i : Shape) → IsWithin n (course_of i) → is_broken kind (begun (n + 1) (course_of Fresh)) (course_of i) ≡ bars_begin kind (status_in (course_of i))
+unfolding is_false
+begin_j-at Bd n (Begun a) w = rw (lt-ltb a (n + 1) (omega (arith, w.start))) refl
+begin_j-at Bd n (Done a b) w = rw (lt-ltb a (n + 1) (omega (arith, w.start))) refl
+begin_j-at Bd n (Undone a b) w = rw (lt-ltb a (n + 1) (omega (arith, w.start))) refl
+begin_j-at Sd n (Done a b) w = rw (lt-ltb b (n + 1) (omega (arith, w.commit))) refl
+begin_j-at Sd n (Undone a b) w = rw (lt-ltb b (n + 1) (omega (arith, w.abort))) refl
+begin_j-at Bcd n (Done a b) w = rw (lt-ltb b (n + 1) (omega (arith, w.commit))) refl
+begin_j-at Bad n (Undone a b) w = rw (lt-ltb b (n + 1) (omega (arith, w.abort))) refl
+begin_j-at Wcd n (Done a b) w = rw (lt-ltb b (n + 1) (omega (arith, w.commit))) refl
+begin_j-at kind n Fresh w = refl
+begin_j-at kind n i w = refl
+
+-- j starts
+pub begin-j : (kind : Dep) (n : ℕ) (cj ci : Course) → is_orderly cj ≡ true → is_orderly ci ≡ true → IsWithin n ci → status_in cj ≡ NotBegun
+    → is_broken kind (begun (n + 1) cj) ci ≡ (awaits_begin kind (status_in ci) || awaits_end kind (status_in ci) || awaits_commit kind (status_in ci) || awaits_abort kind (status_in ci))
+begin-j kind n cj ci orderly_j orderly_i within fresh =
+    let i = shape ci orderly_i in
+    of_shapes (λ j i. IsWithin n i → is_broken kind (begun (n + 1) j) i ≡ bars_begin kind (status_in i))
+    Fresh i.0 (fresh_course cj orderly_j fresh) i.1 (begin_j-at kind n i.0) within
+
+begin_i-at : (kind : Dep) (n : ℕ) (j : Shape) → is_broken kind (course_of j) (course_of Fresh) ≡ false → is_broken kind (course_of j) (begun (n + 1) (course_of Fresh)) ≡ false
+unfolding is_false
+begin_i-at Bd n Fresh e = refl
+begin_i-at Bd n j e = cc
+begin_i-at kind n j e = e
+
+-- i starts
+pub begin-i : (kind : Dep) (n : ℕ) (cj ci : Course) → is_orderly cj ≡ true → is_orderly ci ≡ true → status_in ci ≡ NotBegun
+    → is_broken kind cj ci ≡ false → is_broken kind cj (begun (n + 1) ci) ≡ false
+begin-i kind n cj ci orderly_j orderly_i fresh =
+    let j = shape cj orderly_j in
+    of_shapes (λ j i. is_broken kind j i ≡ false → is_broken kind j (begun (n + 1) i) ≡ false)
+    j.0 Fresh j.1 (fresh_course ci orderly_i fresh) (begin_i-at kind n j.0)
+
+-- where nothing can be owed, it makes no difference whether j has ended
+whether_ended : (b c d : Bool) → (b && is_none {T = Missing} (if b && c then None else None)) ≡ false → (b && is_none {T = Missing} (if b && d then None else None)) ≡ false
+whether_ended true true d e = cc
+whether_ended true false d e = cc
+whether_ended false c d e = refl
+
+commit_j-at : (kind : Dep) (n a : ℕ) (i : Shape) → IsWithin n (course_of i) → is_broken kind (course_of (Begun a)) (course_of i) ≡ false
+    → is_broken kind (committed (n + 1) (course_of (Begun a))) (course_of i) ≡ bars_commit kind (status_in (course_of i))
+unfolding is_false
+commit_j-at Cd n a (Done x y) w e = rw (lt-ltb y (n + 1) (omega (arith, w.commit))) refl
+commit_j-at Wd n a (Undone x y) w e = rw (le-ltb (n + 1) y (omega (arith, w.abort))) refl
+commit_j-at Td n a (Done x y) w e = rw (lt-ltb y (n + 1) (omega (arith, w.commit))) refl
+commit_j-at Td n a (Undone x y) w e = rw (lt-ltb y (n + 1) (omega (arith, w.abort))) refl
+commit_j-at Bd n a i w e = whether_ended (is_false Bd (course_of (Begun a)) (course_of i)) true false e
+commit_j-at Sd n a i w e = whether_ended (is_false Sd (course_of (Begun a)) (course_of i)) true false e
+commit_j-at Bcd n a i w e = whether_ended (is_false Bcd (course_of (Begun a)) (course_of i)) true false e
+commit_j-at Bad n a i w e = whether_ended (is_false Bad (course_of (Begun a)) (course_of i)) true false e
+commit_j-at Wcd n a i w e = whether_ended (is_false Wcd (course_of (Begun a)) (course_of i)) true false e
+commit_j-at kind n a Fresh w e = refl
+commit_j-at kind n a i w e = refl
+
+-- j commits
+pub commit-j : (kind : Dep) (n : ℕ) (cj ci : Course) → is_orderly cj ≡ true → is_orderly ci ≡ true → IsWithin n ci → status_in cj ≡ InProgress
+    → is_broken kind cj ci ≡ false → is_broken kind (committed (n + 1) cj) ci ≡ (ends_after kind (status_in ci) || is_abort (debt_by kind (status_in ci) InProgress))
+commit-j kind n cj ci orderly_j orderly_i within on =
+    let j = begun_course cj orderly_j on in
+    let i = shape ci orderly_i in
+    of_shapes (λ j i. IsWithin n i → is_broken kind j i ≡ false → is_broken kind (committed (n + 1) j) i ≡ bars_commit kind (status_in i))
+    (Begun j.0) i.0 j.1 i.1 (commit_j-at kind n j.0 i.0) within
+
+abort_j-at : (kind : Dep) (n a : ℕ) (i : Shape) → IsWithin n (course_of i) → is_broken kind (course_of (Begun a)) (course_of i) ≡ false
+    → is_broken kind (aborted (n + 1) (course_of (Begun a))) (course_of i) ≡ bars_abort kind (status_in (course_of i))
+unfolding is_false
+abort_j-at Td n a (Done x y) w e = rw (lt-ltb y (n + 1) (omega (arith, w.commit))) refl
+abort_j-at Td n a (Undone x y) w e = rw (lt-ltb y (n + 1) (omega (arith, w.abort))) refl
+abort_j-at Bd n a i w e = whether_ended (is_false Bd (course_of (Begun a)) (course_of i)) true false e
+abort_j-at Sd n a i w e = whether_ended (is_false Sd (course_of (Begun a)) (course_of i)) true false e
+abort_j-at Bcd n a i w e = whether_ended (is_false Bcd (course_of (Begun a)) (course_of i)) true false e
+abort_j-at Bad n a i w e = whether_ended (is_false Bad (course_of (Begun a)) (course_of i)) true false e
+abort_j-at Wcd n a i w e = whether_ended (is_false Wcd (course_of (Begun a)) (course_of i)) true false e
+abort_j-at kind n a Fresh w e = refl
+abort_j-at kind n a i w e = refl
+
+-- j aborts
+pub abort-j : (kind : Dep) (n : ℕ) (cj ci : Course) → is_orderly cj ≡ true → is_orderly ci ≡ true → IsWithin n ci → status_in cj ≡ InProgress
+    → is_broken kind cj ci ≡ false → is_broken kind (aborted (n + 1) cj) ci ≡ (ends_after kind (status_in ci) || is_commit (debt_by kind (status_in ci) InProgress))
+abort-j kind n cj ci orderly_j orderly_i within on =
+    let j = begun_course cj orderly_j on in
+    let i = shape ci orderly_i in
+    of_shapes (λ j i. IsWithin n i → is_broken kind j i ≡ false → is_broken kind (aborted (n + 1) j) i ≡ bars_abort kind (status_in i))
+    (Begun j.0) i.0 j.1 i.1 (abort_j-at kind n j.0 i.0) within
+
+commit_i-at : (kind : Dep) (n x : ℕ) (j : Shape) → IsWithin n (course_of j) → is_broken kind (course_of j) (course_of (Begun x)) ≡ false
+    → is_broken kind (course_of j) (committed (n + 1) (course_of (Begun x))) ≡ is_late_commit kind (status_in (course_of j))
+unfolding is_false
+commit_i-at Cd n x (Done a b) w e = rw (le-ltb (n + 1) b (omega (arith, w.commit))) refl
+commit_i-at Td n x (Done a b) w e = cc
+commit_i-at Td n x (Undone a b) w e = cc
+commit_i-at Bd n x j w e = e
+commit_i-at Sd n x Fresh w e = refl
+commit_i-at Sd n x j w e = cc
+commit_i-at Bcd n x Fresh w e = refl
+commit_i-at Bcd n x j w e = cc
+commit_i-at Bad n x j w e = e
+commit_i-at Wcd n x (Begun a) w e = rw (le-ltb (n + 1) a (omega (arith, w.start))) refl
+commit_i-at Wcd n x (Done a b) w e = rw (le-ltb (n + 1) a (omega (arith, w.start))) refl
+commit_i-at Wcd n x (Undone a b) w e = rw (le-ltb (n + 1) a (omega (arith, w.start))) refl
+commit_i-at kind n x Fresh w e = refl
+commit_i-at kind n x j w e = refl
+
+-- i commits
+pub commit-i : (kind : Dep) (n : ℕ) (cj ci : Course) → is_orderly cj ≡ true → is_orderly ci ≡ true → IsWithin n cj → status_in ci ≡ InProgress
+    → is_broken kind cj ci ≡ false → is_broken kind cj (committed (n + 1) ci) ≡ (committed_first kind (status_in cj) || began_first kind (status_in cj) || cannot_pay_commit kind (status_in cj))
+commit-i kind n cj ci orderly_j orderly_i within on =
+    let j = shape cj orderly_j in
+    let i = begun_course ci orderly_i on in
+    of_shapes (λ j i. IsWithin n j → is_broken kind j i ≡ false → is_broken kind j (committed (n + 1) i) ≡ is_late_commit kind (status_in j))
+    j.0 (Begun i.0) j.1 i.1 (commit_i-at kind n i.0 j.0) within
+
+abort_i-at : (kind : Dep) (n x : ℕ) (j : Shape) → IsWithin n (course_of j) → is_broken kind (course_of j) (course_of (Begun x)) ≡ false
+    → is_broken kind (course_of j) (aborted (n + 1) (course_of (Begun x))) ≡ cannot_pay_abort kind (status_in (course_of j))
+unfolding is_false
+abort_i-at Wd n x (Done a b) w e = rw (lt-ltb b (n + 1) (omega (arith, w.commit))) refl
+abort_i-at Td n x (Done a b) w e = cc
+abort_i-at Td n x (Undone a b) w e = cc
+abort_i-at Bd n x j w e = e
+abort_i-at Sd n x Fresh w e = refl
+abort_i-at Sd n x j w e = cc
+abort_i-at Bcd n x j w e = e
+abort_i-at Bad n x Fresh w e = refl
+abort_i-at Bad n x j w e = cc
+abort_i-at kind n x Fresh w e = refl
+abort_i-at kind n x j w e = refl
+
+-- i aborts
+pub abort-i : (kind : Dep) (n : ℕ) (cj ci : Course) → is_orderly cj ≡ true → is_orderly ci ≡ true → IsWithin n cj → status_in ci ≡ InProgress
+    → is_broken kind cj ci ≡ false → is_broken kind cj (aborted (n + 1) ci) ≡ cannot_pay_abort kind (status_in cj)
+abort-i kind n cj ci orderly_j orderly_i within on =
+    let j = shape cj orderly_j in
+    let i = begun_course ci orderly_i on in
+    of_shapes (λ j i. IsWithin n j → is_broken kind j i ≡ false → is_broken kind j (aborted (n + 1) i) ≡ cannot_pay_abort kind (status_in j))
+    j.0 (Begun i.0) j.1 i.1 (abort_i-at kind n i.0 j.0) within
+
+-- where nothing can be owed, nothing is
+nothing : (b : Bool) → ◌≡◌ {A = Option Missing} None (if b then None else None)
+nothing true = refl
+nothing false = refl
+
+-- where j has ended, nothing is owed
+ended_owes : (b : Bool) (missing : Option Missing) → None ≡ (if b && false then missing else None)
+ended_owes true missing = refl
+ended_owes false missing = refl
+
+debts-at : (kind : Dep) (j i : Shape) → debt_by kind (status_in (course_of i)) (status_in (course_of j)) ≡ debt kind (course_of j) (course_of i)
+unfolding is_false
+debts-at Cd j i = nothing (is_false Cd (course_of j) (course_of i) && is_none (end (course_of j)))
+debts-at Wd (Done a b) (Undone x y) = ended_owes (is_false Wd (course_of (Done a b)) (course_of (Undone x y))) (Some Abort)
+debts-at Td j i = nothing (is_false Td (course_of j) (course_of i) && is_none (end (course_of j)))
+debts-at Bd j i = nothing (is_false Bd (course_of j) (course_of i) && is_none (end (course_of j)))
+debts-at Sd j i = nothing (is_false Sd (course_of j) (course_of i) && is_none (end (course_of j)))
+debts-at Bcd j i = nothing (is_false Bcd (course_of j) (course_of i) && is_none (end (course_of j)))
+debts-at Bad j i = nothing (is_false Bad (course_of j) (course_of i) && is_none (end (course_of j)))
+debts-at Wcd j i = nothing (is_false Wcd (course_of j) (course_of i) && is_none (end (course_of j)))
+debts-at kind Fresh Fresh = refl
+debts-at kind j Fresh = refl
+debts-at kind j i = refl
+
+-- the debt by the statuses is the debt by the courses
+pub debts-tie : (kind : Dep) (cj ci : Course) → is_orderly cj ≡ true → is_orderly ci ≡ true → debt_by kind (status_in ci) (status_in cj) ≡ debt kind cj ci
+debts-tie kind cj ci orderly_j orderly_i =
+    let j = shape cj orderly_j in
+    let i = shape ci orderly_i in
+    of_shapes (λ j i. debt_by kind (status_in i) (status_in j) ≡ debt kind j i) j.0 i.0 j.1 i.1 (debts-at kind j.0 i.0)
+
+-- an edge that is formed while j has not begun, or while neither has ended, has a formula that holds
+pub formed-begin : (kind : Dep) (cj ci : Course) → is_begin_kind kind ≡ true → is_some cj.start ≡ false → is_false kind cj ci ≡ false
+unfolding is_false
+formed-begin Bd cj ci e fresh = rw fresh refl
+formed-begin Sd cj ci e fresh = rw fresh refl
+formed-begin Bcd cj ci e fresh = rw fresh refl
+formed-begin Bad cj ci e fresh = rw fresh refl
+formed-begin Wcd cj ci e fresh = rw fresh (nor_either (is_some ci.commit) (not (is_before ci.commit cj.start)))
+  where
+    nor_either : (b c : Bool) → (b && false && c) ≡ false
+    nor_either true c = refl
+    nor_either false c = refl
+formed-begin kind cj ci e fresh = cc
+
+-- where neither has ended, the course has no commit and no abort
+endless : (c : Course) → is_some (end c) ≡ false → ◌≡◌ {A = Course} c (record { start = c.start; commit = None; abort = None })
+endless c = of c.commit c.abort
+  where
+    of : (d a : Option ℕ) → is_some (end (record { start = c.start; commit = d; abort = a })) ≡ false → ◌≡◌ {A = Course} (record { start = c.start; commit = d; abort = a }) (record { start = c.start; commit = None; abort = None })
+    of None None e = refl
+    of None (Some b) e = cc
+    of (Some b) a e = cc
+
+formed_other-at : (kind : Dep) (s t : Option ℕ) → is_begin_kind kind ≡ false → is_false kind (record { start = s; commit = None; abort = None }) (record { start = t; commit = None; abort = None }) ≡ false
+unfolding is_false
+formed_other-at Bd s t e = cc
+formed_other-at Sd s t e = cc
+formed_other-at Bcd s t e = cc
+formed_other-at Bad s t e = cc
+formed_other-at Wcd s t e = cc
+formed_other-at kind s t e = refl
+
+pub formed-other : (kind : Dep) (cj ci : Course) → is_begin_kind kind ≡ false → is_some (end cj) ≡ false → is_some (end ci) ≡ false → is_false kind cj ci ≡ false
+formed-other kind cj ci e open_j open_i =
+    (λ x. is_false kind (endless cj open_j x) (endless ci open_i x)) ∙ formed_other-at kind cj.start ci.start e

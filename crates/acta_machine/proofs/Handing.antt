@@ -1,0 +1,143 @@
+-- What is handed over: the rules on it and the axioms on it say the same.
+use Rattle.std.proofs.Common.{◌≡◌, ℕ, zero, suc, ◌+◌, ◌<◌, Bool, true, false, ◌&&◌, ◌||◌, not, ◌==◌, List, [], ◌∷◌, map, filter, find, Option, Some, None, is_none, slice_get, refl, sym, ap, ◌∙◌, arith, eq-eqb}
+use Rattle.std.specs.Prelude.{if◌then◌else◌}
+use Rattle.std.specs.List.{list_any, list_all, AllByRecursion}
+use Rattle.std.specs.Option.{option_map_or}
+use Rattle.std.proofs.lemmas.Bool.{true≢false, ne_eqb, eqb-true}
+use Rattle.acta_table.specs.declared.answer.Fate.{Fate}
+use Rattle.acta_table.specs.declared.answer.Fate.TheVariants.{InProgress, Committed, Aborted}
+use Rattle.acta_table.specs.declared.answer.Rule.TheVariants.{NotResponsible, BadSet}
+use Rattle.acta_table.specs.declared.event.Event.{Event}
+use Rattle.acta_table.specs.declared.event.Event.TheVariants.{Begin, Delegate, Form, Operate, Commit, Abort}
+use Rattle.acta_table.specs.declared.event.OpNo.{OpNo}
+use Rattle.acta_table.specs.declared.model.Parts.{Parts}
+use Rattle.acta_table.specs.Events.{operations_named}
+use Rattle.acta_table.specs.Numbered.{numbers_from, numbers_where, smallest}
+use Rattle.acta_table.specs.Sets.{numbers_of, is_named}
+use Rattle.acta_axioms.specs.Faults.{has_number}
+use Rattle.acta_sets.specs.declared.item.Item.{Item}
+use Rattle.acta_sets.specs.Operations.{is_open, is_held, operation_at, is_open_in, are_open}
+use Rattle.acta_machine.specs.Summary.{Summary}
+use Rattle.acta_machine.specs.Rules.{is_of_another, not_held, unknown_in, left_out, not_responsible, bad_set}
+use Rattle.acta_machine.proofs.Broken.{by_none}
+use Rattle.acta_machine.proofs.Unbroken.{Unbroken}
+
+-- whether t holds operation n in progress
+abbrev pub holds : List Item → ℕ → ℕ → Bool
+holds items t n = option_map_or (is_held t) (operation_at items n) false
+
+-- where there is no smallest there is none
+none-smallest : (ns : List ℕ) → smallest ns ≡ None → ns ≡ []
+none-smallest [] e = refl
+none-smallest (n ∷ ns) e = cc
+
+none-here : {X : Type 0} (test : X → Bool) (x : X) (xs : List X) → filter test (x ∷ xs) ≡ [] → (test x ≡ false) × (filter test xs ≡ [])
+none-here test x xs e = of (test x) refl e
+  where
+    of : (b : Bool) → test x ≡ b → (if b then x ∷ filter test xs else filter test xs) ≡ [] → (test x ≡ false) × (filter test xs ≡ [])
+    of true is e = cc
+    of false is e = (is, e)
+
+not_false : (b : Bool) → not b ≡ false → b ≡ true
+not_false true e = refl
+not_false false e = cc
+
+-- an operation that is there, and is not of another, is held
+held-there : (t : ℕ) (i : Option Item) → option_map_or (λ x. not (is_held t x)) i false ≡ false → is_none i ≡ false → option_map_or (is_held t) i false ≡ true
+held-there t None e there = absurd (true≢false there)
+held-there t (Some i) e there = not_false (is_held t i) e
+
+all-held : (s : Summary) (t : ℕ) (ns : List ℕ) → filter (is_of_another s t) ns ≡ [] → filter (λ n. is_none (operation_at s.operations n)) ns ≡ [] → AllByRecursion (λ n. holds s.operations t n ≡ true) ns
+all-held s t [] others none = tt
+all-held s t (n ∷ ns) others none =
+    let here = none-here (is_of_another s t) n ns others in
+    let there = none-here (λ k. is_none (operation_at s.operations k)) n ns none in
+    (held-there t (operation_at s.operations n) here.0 there.0, all-held s t ns here.1 there.1)
+
+-- where nothing that is named is of another or unknown, t holds all that is named
+pub named-held : (s : Summary) (ops : List OpNo) (t : ℕ) → not_held s ops t ≡ None → unknown_in s ops ≡ None → AllByRecursion (λ n. holds s.operations t n ≡ true) (numbers_of ops)
+named-held s ops t others none =
+    all-held s t (numbers_of ops) (none-smallest _ others) (none-smallest _ none)
+
+open-held : (t : ℕ) (i : Option Item) → option_map_or (is_held t) i false ≡ true → option_map_or (λ x. is_open x.fate) i false ≡ true
+open-held t None e = absurd (true≢false (sym e))
+open-held t (Some i) e = of (i.holder.0 == t) e
+  where
+    of : (b : Bool) → (b && is_open i.fate) ≡ true → is_open i.fate ≡ true
+    of true is = is
+    of false is = absurd (true≢false (sym is))
+
+-- so all that is named is in progress
+pub named-open : (items : List Item) (t : ℕ) (ops : List OpNo) → AllByRecursion (λ n. holds items t n ≡ true) (numbers_of ops) → are_open ops items ≡ true
+named-open items t [] all = refl
+named-open items t (o ∷ ops) all = λ i. open-held t (operation_at items o.0) all.0 i && named-open items t ops all.1 i
+
+-- an operation that is named is one of those
+pub held-named : (items : List Item) (t : ℕ) (ops : List OpNo) → AllByRecursion (λ n. holds items t n ≡ true) (numbers_of ops) → (n : ℕ) → is_named ops n ≡ true → holds items t n ≡ true
+held-named items t [] all n named = absurd (true≢false (sym named))
+held-named items t (o ∷ ops) all n named = of (o.0 == n) refl named (held-named items t ops all.1 n)
+  where
+    of : (b : Bool) → (o.0 == n) ≡ b → (b || is_named ops n) ≡ true → (is_named ops n ≡ true → holds items t n ≡ true) → holds items t n ≡ true
+    of true is e later = ap (holds items t) (sym (eqb-true o.0 n is)) ∙ all.0
+    of false is e later = later e
+
+-- the numbers of the operations that pass have a number where the operation of that number passes
+
+below : (test : Item → Bool) (k n : ℕ) (items : List Item) → n < k → has_number (numbers_from test k items) n ≡ false
+below test k n [] low = refl
+below test k n (i ∷ items) low = of (test i) (below test (k + 1) n items (omega (arith, low)))
+  where
+    of : (b : Bool) → has_number (numbers_from test (k + 1) items) n ≡ false → has_number (if b then k ∷ numbers_from test (k + 1) items else numbers_from test (k + 1) items) n ≡ false
+    of true later = (λ i. ne_eqb k n (λ e. omega (arith, low, e)) i || later i)
+    of false later = later
+
+from : (test : Item → Bool) (k i : ℕ) (items : List Item) → has_number (numbers_from test k items) (k + i) ≡ option_map_or test (slice_get items i) false
+from test k i [] = refl
+from test k zero (x ∷ items) = of (test x) (below test (k + 1) (k + 0) items (omega arith))
+  where
+    of : (b : Bool) → has_number (numbers_from test (k + 1) items) (k + 0) ≡ false → has_number (if b then k ∷ numbers_from test (k + 1) items else numbers_from test (k + 1) items) (k + 0) ≡ b
+    of true later = ap (λ c. c || has_number (numbers_from test (k + 1) items) (k + 0)) (eq-eqb k (k + 0) (omega arith))
+    of false later = later
+from test k (suc i) (x ∷ items) =
+    let same : k + suc i ≡ (k + 1) + i = omega arith in
+    of (test x) (ap (has_number (numbers_from test (k + 1) items)) same ∙ from test (k + 1) i items)
+  where
+    of : (b : Bool) → has_number (numbers_from test (k + 1) items) (k + suc i) ≡ option_map_or test (slice_get items i) false → has_number (if b then k ∷ numbers_from test (k + 1) items else numbers_from test (k + 1) items) (k + suc i) ≡ option_map_or test (slice_get items i) false
+    of true later = ap (λ c. c || has_number (numbers_from test (k + 1) items) (k + suc i)) (ne_eqb k (k + suc i) (λ e. omega (arith, e))) ∙ later
+    of false later = later
+
+has-held : (items : List Item) (t n : ℕ) → has_number (numbers_where (is_held t) items) n ≡ holds items t n
+has-held items t zero = below (is_held t) 1 0 items (omega arith)
+has-held items t (suc n) =
+    let same : suc n ≡ 1 + n = omega arith in
+    ap (has_number (numbers_where (is_held t) items)) same ∙ from (is_held t) 1 n items
+
+-- where t holds all that is named, nothing that is named is not among what it holds
+pub none-unheld : (items : List Item) (t : ℕ) (ns : List ℕ) → AllByRecursion (λ n. holds items t n ≡ true) ns → filter (λ n. not (has_number (numbers_where (is_held t) items) n)) ns ≡ []
+none-unheld items t [] all = refl
+none-unheld items t (n ∷ ns) all =
+    λ i. if not ((has-held items t n ∙ all.0) i) then n ∷ filter (λ k. not (has_number (numbers_where (is_held t) items) k)) ns else none-unheld items t ns all.1 i
+
+-- where no first is found there is none
+none-found : (test : ℕ → Bool) (ns : List ℕ) → find test ns ≡ None → filter test ns ≡ []
+none-found test [] e = refl
+none-found test (n ∷ ns) e = of (test n) e (none-found test ns)
+  where
+    of : (b : Bool) → (if b then Some n else find test ns) ≡ None → (find test ns ≡ None → filter test ns ≡ []) → (if b then n ∷ filter test ns else filter test ns) ≡ []
+    of true e later = cc
+    of false e later = later e
+
+-- where nothing that has to be handed over is left out by the table, nothing is by places
+pub none-left : (s : Summary) (ops : List OpNo) (t : ℕ) (b : Bool) → (if b then left_out s ops t else None) ≡ None → (if b then filter (λ n. not (is_named ops n)) (numbers_where (is_held t) s.operations) else []) ≡ []
+none-left s ops t true none = none-found (λ n. not (is_named ops n)) (numbers_where (is_held t) s.operations) none
+none-left s ops t false none = refl
+
+-- so for each event that breaks none of the earlier rules
+pub event-open : {A : Type 0} (m : Parts A) (s : Summary) (e : Event A) → Unbroken m s e → are_open (operations_named e) s.operations ≡ true
+unfolding not_responsible bad_set
+event-open m s (Begin t class) u = refl
+event-open m s (Delegate t v ops) u = named-open s.operations t.0 ops (named-held s ops t.0 (by_none NotResponsible _ u.responsible) (by_none BadSet _ u.set))
+event-open m s (Form kind j i) u = refl
+event-open m s (Operate t ob op) u = refl
+event-open m s (Commit t) u = refl
+event-open m s (Abort t) u = refl

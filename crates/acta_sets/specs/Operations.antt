@@ -1,0 +1,92 @@
+-- The operations of a history, numbered from 1 on: the sets of them, and what changes them.
+use Rattle.std.specs.Prelude.{ℕ, zero, suc, ◌+◌, Bool, true, false, ◌&&◌, not, ◌==◌, List, [], ◌∷◌, ◌++◌, map, if◌then◌else◌, Option, None, slice_get}
+use Rattle.std.specs.List.{list_any, list_all}
+use Rattle.std.specs.Option.{option_map_or}
+use Rattle.acta_table.specs.declared.event.TxnId.{TxnId}
+use Rattle.acta_table.specs.declared.event.ObjId.{ObjId}
+use Rattle.acta_table.specs.declared.event.OpNo.{OpNo}
+use Rattle.acta_table.specs.declared.event.Op.{Op}
+use Rattle.acta_table.specs.declared.answer.Fate.{Fate}
+use Rattle.acta_table.specs.declared.answer.Fate.TheVariants.{InProgress, Aborted}
+use Rattle.acta_table.specs.Numbered.{numbers_where}
+use Rattle.acta_table.specs.Sets.{is_named}
+use Rattle.acta_sets.specs.declared.item.Item.{Item}
+
+-- still in progress
+abbrev pub is_open : Fate → Bool
+is_open InProgress = true
+is_open _ = false
+
+-- aborted
+abbrev pub is_aborted : Fate → Bool
+is_aborted Aborted = true
+is_aborted _ = false
+
+-- whether t holds the operation in progress
+abbrev pub is_held : ℕ → Item → Bool
+is_held t i = (i.holder.0 == t) && is_open i.fate
+
+-- whether the transaction is among these
+abbrev pub is_among : List TxnId → TxnId → Bool
+is_among ts t = list_any (λ u. u.0 == t.0) ts
+
+-- whether the operation is in progress, and held by none of t and these ancestors of t
+abbrev pub is_of_others : ℕ → List TxnId → Item → Bool
+is_of_others t ancestors i =
+    is_open i.fate && not (i.holder.0 == t) && not (is_among ancestors i.holder)
+
+-- whether the operation counts: whether it is not aborted
+abbrev pub is_live : Item → Bool
+is_live i = not (is_aborted i.fate)
+
+-- the operations that pass, by number, ascending
+abbrev pub operations_where : (Item → Bool) → List Item → List OpNo
+operations_where test items = map (λ n. record { 0 = n }) (numbers_where test items)
+
+-- the access set: the operations that t holds in progress
+abbrev pub access_set : ℕ → List Item → List OpNo
+access_set t items = operations_where (is_held t) items
+
+-- the conflict set: the operations in progress that others hold, where these ancestors of t are no
+-- others
+abbrev pub conflict_set : ℕ → List TxnId → List Item → List OpNo
+conflict_set t ancestors items = operations_where (is_of_others t ancestors) items
+
+-- the view: the operations that are not aborted
+abbrev pub view_set : List Item → List OpNo
+view_set items = operations_where is_live items
+
+-- one more operation, in progress, held by t
+abbrev pub added : List Item → TxnId → ObjId → Op → List Item
+added items t ob op = items ++ (record { ob = ob; op = op; holder = t; fate = InProgress }) ∷ []
+
+-- the operation of this number; there is no number 0
+abbrev pub operation_at : List Item → ℕ → Option Item
+operation_at items zero = None
+operation_at items (suc k) = slice_get items k
+
+-- whether there is an operation of this number, in progress
+abbrev pub is_open_in : List Item → OpNo → Bool
+is_open_in items o = option_map_or (λ i. is_open i.fate) (operation_at items o.0) false
+
+-- whether all that are named are there and in progress
+abbrev pub are_open : List OpNo → List Item → Bool
+are_open ops items = list_all (is_open_in items) ops
+
+-- the same as below, where the first item has the number n
+abbrev pub moved_from : ℕ → List OpNo → TxnId → List Item → List Item
+moved_from n ops u [] = []
+moved_from n ops u (i ∷ items) =
+    (if is_named ops n then record i { holder = u } else i) ∷ moved_from (n + 1) ops u items
+
+-- the operations, where u holds those that are named
+abbrev pub moved : List OpNo → TxnId → List Item → List Item
+moved ops u items = moved_from 1 ops u items
+
+-- the operation, with this fate where t holds it in progress
+abbrev pub ended_item : ℕ → Fate → Item → Item
+ended_item t fate i = if is_held t i then record i { fate = fate } else i
+
+-- the operations, where all that t holds in progress have this fate
+abbrev pub ended : ℕ → Fate → List Item → List Item
+ended t fate items = map (ended_item t fate) items

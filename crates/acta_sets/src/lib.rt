@@ -1,0 +1,15 @@
+//! Who holds which operation of a history, and what became of each. `OpTable` is the list of
+//! operations, numbered from 1 in the order in which they were added. It answers ACTA's sets of a
+//! transaction: its access set, its conflict set and its view. A transaction may hand operations to
+//! another, and when it ends, those that it holds in progress end with it.
+#![tactic(auto)]
+
+mod item;
+mod selection;
+mod table;
+
+pub use item::Item;
+pub use table::OpTable;
+
+#[cfg(test)]
+mod tests;

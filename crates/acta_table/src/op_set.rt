@@ -1,0 +1,85 @@
+ghost use Rattle.std.specs.Prelude.{◌≡◌, [], fold, IfOk};
+ghost use Rattle.std.specs.BTreeSet.{insert_key};
+ghost use Rattle.std.specs.List.Sorted.{IsStrictlySortedBy};
+ghost use Rattle.std.specs.Ordering.{nat_cmp};
+ghost use Rattle.acta_table.specs.Sets.{numbers_of, numbered, each_once};
+
+use crate::event::OpNo;
+use crate::items::Items;
+use std::alloc::{AllocError, Allocator};
+use std::collections::BTreeSet;
+
+/// A set of operation numbers, which contracts see as the numbers, ascending, each once.
+#[derive(Drop)]
+pub struct OpSet<A: Allocator> {
+    ops: Items<OpNo, A>,
+}
+
+impl<A: Allocator> std::marker::Model for OpSet<A> {
+    ghost use Rattle.std.specs.Prelude.{List};
+    ghost use Rattle.std.specs.List.Sorted.{IsStrictlySortedBy};
+    ghost use Rattle.std.specs.Ordering.{nat_cmp};
+    ghost use Rattle.acta_table.specs.declared.event.OpNo.{OpNo};
+    ghost use Rattle.acta_table.specs.Sets.{numbers_of};
+
+    ghost Value = { List OpNo };
+
+    ghost view = { λ s. s.ops };
+
+    ghost invariant = { λ s. IsStrictlySortedBy nat_cmp (numbers_of s.ops) };
+}
+
+// The numbers as an ordered set.
+fn ordered<A: Allocator + Copy>(alloc: A, ops: &[OpNo]) -> Result<BTreeSet<u32, A>, AllocError>
+    ensures { IfOk result (λ set. set.keys ≡ fold (insert_key nat_cmp) [] (numbers_of ops.now)) }
+{
+    let mut set = BTreeSet::new(alloc);
+    for op in ops {
+        set.insert(op.0)?;
+    }
+    Ok(set)
+}
+
+// The elements of such a set, in order.
+fn listed<A: Allocator + Copy>(alloc: A, set: &BTreeSet<u32, A>) -> Result<Vec<OpNo, A>, AllocError>
+    ensures listed { IfOk result (λ ops. ops.items ≡ numbered set.now.keys) }
+    ensures ascending { IsStrictlySortedBy nat_cmp set.now.keys }
+{
+    let mut ops = Vec::with_capacity(alloc, set.len())?;
+    for number in set.iter() {
+        ops.push(OpNo(*number))?;
+    }
+    Ok(ops)
+}
+
+impl<A: Allocator> OpSet<A> {
+    /// The numbers, ascending, each once.
+    pub fn as_slice(&self) -> &[OpNo]
+        ensures items { result.now ≡ self.now }
+        ensures ascending { IsStrictlySortedBy nat_cmp (numbers_of self.now) }
+    {
+        self.ops.as_slice()
+    }
+}
+
+impl<A: Allocator + Copy> OpSet<A> {
+    /// The set of these numbers (ours). Any number may stand in it, also one that no operation has.
+    /// `Err` where there is no memory.
+    pub fn of(alloc: A, ops: &[OpNo]) -> Result<OpSet<A>, AllocError>
+        ensures { IfOk result (λ set. set ≡ each_once ops.now) }
+    {
+        let set = ordered(alloc, ops)?;
+        Ok(OpSet {
+            ops: Items::of(listed(alloc, &set)?),
+        })
+    }
+
+    /// The same set, in memory of its own. `Err` where there is no memory.
+    pub fn copy(&self) -> Result<OpSet<A>, AllocError>
+        ensures { IfOk result (λ set. set ≡ self.now) }
+    {
+        Ok(OpSet {
+            ops: self.ops.copy()?,
+        })
+    }
+}
