@@ -1,7 +1,8 @@
 -- What the edges and the courses become when one kept item is put at the end of a history.
-use Rattle.std.proofs.Common.{if◌then◌else◌, ◌==◌, ◌≡◌, ℕ, ◌+◌, ◌≤◌, Bool, true, false, ◌&&◌, not, List, [], ◌∷◌, ◌++◌, length, Option, Some, None, option_map, refl, sym, ap, ◌∙◌, arith}
+use Rattle.std.proofs.Common.{if◌then◌else◌, ◌==◌, ◌≡◌, ℕ, ◌+◌, ◌≤◌, Bool, true, false, ◌&&◌, ◌||◌, not, List, [], ◌∷◌, ◌++◌, length, Option, Some, None, option_map, refl, sym, ap, ◌∙◌, arith}
 use Rattle.std.specs.Prelude.{⊤}
 use Rattle.std.specs.List.{flat_map, list_all}
+use Rattle.std.specs.Option.{option_map_or}
 use Rattle.std.proofs.lemmas.Bool.{true≢false, false≢true, eqb-true, eq-eqb}
 use Rattle.std.proofs.lemmas.List.{append-nil}
 use Rattle.std.proofs.lemmas.List.Folds.{list_all-append}
@@ -13,19 +14,27 @@ use Rattle.acta_table.specs.declared.dep.Dep.{Dep}
 use Rattle.acta_table.specs.declared.dep.Edge.{Edge}
 use Rattle.acta_table.specs.declared.event.ClassId.{ClassId}
 use Rattle.acta_table.specs.declared.event.Event.{Event}
-use Rattle.acta_table.specs.declared.event.Event.TheVariants.{Begin, Form, Commit, Abort}
+use Rattle.acta_table.specs.declared.event.Event.TheVariants.{Begin, Split, Join, Form, Commit, Abort}
 use Rattle.acta_table.specs.declared.event.Kept.{Kept}
+use Rattle.acta_table.specs.declared.event.OpNo.{OpNo}
 use Rattle.acta_table.specs.declared.event.Ret.{Ret}
 use Rattle.acta_table.specs.declared.event.TxnId.{TxnId}
+use Rattle.acta_table.specs.declared.model.Class.{Class}
 use Rattle.acta_table.specs.declared.model.Parts.{Parts}
+use Rattle.acta_table.specs.declared.start_edges.Dependent.{Dependent}
+use Rattle.acta_table.specs.declared.start_edges.Dependent.TheVariants.{Starter, Started}
+use Rattle.acta_table.specs.declared.start_edges.StartEdge.{StartEdge}
+use Rattle.acta_table.specs.Classes.{class_at}
 use Rattle.acta_table.specs.Edges.{is_among, with_edge, formed}
 use Rattle.acta_table.specs.Refusals.{broken_by}
+use Rattle.acta_table.specs.Starts.{directed, edge_between, edges_between}
 use Rattle.acta_table.specs.WellFormed.{same_transaction}
-use Rattle.acta_axioms.specs.History.{Place, number, places, first, starts, commits, aborts, course}
+use Rattle.acta_axioms.specs.History.{Place, number, places, first, starts, commits, aborts, joins, course}
 use Rattle.acta_axioms.specs.Edges.{formed_by, formed_at, edges}
 use Rattle.acta_axioms.specs.Claims.{is_orderly, is_apart, IsOrderly, status_in, status_at}
 use Rattle.acta_axioms.specs.Within.{within, IsWithin}
 use Rattle.acta_axioms.proofs.Growth.{found-passes, at_end, places-push, places_within, or_here, course-push}
+use Rattle.acta_axioms.proofs.ValueGrowth.{eqb-turned}
 
 -- the edges
 
@@ -52,11 +61,36 @@ apart_with es e all here = of_test (is_among es e)
     of_test true = all
     of_test false = list_all-append is_apart es (e ∷ []) ∙ (λ i. all i && (here i && true))
 
+-- and so do those of a split, in either direction
+apart_split : (A : Type 0) (t u : TxnId) (class : ClassId) (ops : List OpNo) → same_transaction {A = A} (Split t u class ops) ≡ None → not (t.0 == u.0) ≡ true
+unfolding same_transaction
+apart_split A t u class ops apart = of_test (t.0 == u.0) apart
+  where
+    of_test : (b : Bool) → broken_by SameTransaction (if b then Some t.0 else None) ≡ None → not b ≡ true
+    of_test true is = absurd (none-some _ (sym is))
+    of_test false is = refl
+
+apart_between : (t u : TxnId) (e : StartEdge) → not (t.0 == u.0) ≡ true → is_apart (edge_between t u e) ≡ true
+apart_between t u e apart = of_dependent e.dependent
+  where
+    of_dependent : (d : Dependent) → is_apart (directed e.kind t u d) ≡ true
+    of_dependent Starter = apart
+    of_dependent Started = ap not (eqb-turned u.0 t.0) ∙ apart
+
+apart_all : (t u : TxnId) (es : List Edge) (more : List StartEdge) → not (t.0 == u.0) ≡ true → list_all is_apart es ≡ true → list_all is_apart (formed es (edges_between t u more)) ≡ true
+apart_all t u es [] apart all = all
+apart_all t u es (e ∷ more) apart all = apart_all t u (with_edge es (edge_between t u e)) more apart (apart_with es (edge_between t u e) all (apart_between t u e apart))
+
 -- an event that names no transaction twice leaves each edge between two
 pub apart-push : {A : Type 0} (m : Parts A) (h : List (Kept A)) (k : Kept A) → list_all is_apart (edges m h) ≡ true → same_transaction k.event ≡ None → list_all is_apart (edges m (h ++ k ∷ [])) ≡ true
 apart-push {A} m h k all apart = ap (list_all is_apart) (edges-push m h k) ∙ of_event k.event apart
   where
     of_event : (e : Event A) → same_transaction e ≡ None → list_all is_apart (formed (edges m h) (formed_by m h e)) ≡ true
+    of_event (Split t u class ops) two = of_class (class_at m class.0)
+      where
+        of_class : (k : Option (Class A)) → list_all is_apart (formed (edges m h) (option_map_or (λ c. edges_between t u c.split_edges) k [])) ≡ true
+        of_class None = all
+        of_class (Some c) = apart_all t u (edges m h) c.split_edges (apart_split _ t u class ops two) all
     of_event (Form kind j i) two = apart_with (edges m h) (record { kind = kind; j = j; i = i }) all (apart_edge _ kind j i two)
     of_event _ two = all
 
@@ -75,6 +109,7 @@ course-within h t = record {
   start = first_within (starts t) h;
   commit = first_within (commits t) h;
   abort = first_within (aborts t) h;
+  join = first_within (joins t) h;
 }
 
 or_none : {A : Type 0} (h : List (Kept A)) (o : Option ℕ) (b : Bool) → b ≡ false → or_here h o b ≡ o
@@ -86,23 +121,35 @@ or_new : {A : Type 0} (h : List (Kept A)) (o : Option ℕ) (b : Bool) → o ≡ 
 or_new h o b none here = λ i. or_here h (none i) (here i)
 
 -- an event that neither starts nor ends u leaves its course
-pub course-other : {A : Type 0} (h : List (Kept A)) (k : Kept A) (u : ℕ) → starts u k.event ≡ false → commits u k.event ≡ false → aborts u k.event ≡ false → course (h ++ k ∷ []) u ≡ course h u
-course-other h k u no_start no_commit no_abort = course-push h k u ∙ (λ i. record {
+pub course-other : {A : Type 0} (h : List (Kept A)) (k : Kept A) (u : ℕ) → starts u k.event ≡ false → commits u k.event ≡ false → aborts u k.event ≡ false → joins u k.event ≡ false → course (h ++ k ∷ []) u ≡ course h u
+course-other h k u no_start no_commit no_abort no_join = course-push h k u ∙ (λ i. record {
   start = or_none h (course h u).start (starts u k.event) no_start i;
   commit = or_none h (course h u).commit (commits u k.event) no_commit i;
   abort = or_none h (course h u).abort (aborts u k.event) no_abort i;
+  join = or_none h (course h u).join (joins u k.event) no_join i;
 })
 
 same_number : (t : ℕ) → (t == t) ≡ true
 same_number t = eq-eqb t t refl
 
--- the first begin of t is its start, the first commit its commit, and the first abort its abort
+-- the first begin or split of t is its start, the first commit its commit, the first abort its abort, and the
+-- first join its join
 pub course-begin : {A : Type 0} (h : List (Kept A)) (t : TxnId) (class : ClassId) (ret : Option Ret) → (course h t.0).start ≡ None →
     course (h ++ record { event = Begin t class; ret = ret } ∷ []) t.0 ≡ record (course h t.0) { start = Some (length h + 1) }
 course-begin h t class ret none = course-push h (record { event = Begin t class; ret = ret }) t.0 ∙ (λ i. record {
   start = or_new h (course h t.0).start (t.0 == t.0) none (same_number t.0) i;
   commit = or_none h (course h t.0).commit false refl i;
   abort = or_none h (course h t.0).abort false refl i;
+  join = or_none h (course h t.0).join false refl i;
+})
+
+pub course-split : {A : Type 0} (h : List (Kept A)) (t u : TxnId) (class : ClassId) (ops : List OpNo) (ret : Option Ret) → (course h u.0).start ≡ None →
+    course (h ++ record { event = Split t u class ops; ret = ret } ∷ []) u.0 ≡ record (course h u.0) { start = Some (length h + 1) }
+course-split h t u class ops ret none = course-push h (record { event = Split t u class ops; ret = ret }) u.0 ∙ (λ i. record {
+  start = or_new h (course h u.0).start (u.0 == u.0) none (same_number u.0) i;
+  commit = or_none h (course h u.0).commit false refl i;
+  abort = or_none h (course h u.0).abort false refl i;
+  join = or_none h (course h u.0).join false refl i;
 })
 
 pub course-commit : {A : Type 0} (h : List (Kept A)) (t : TxnId) (ret : Option Ret) → (course h t.0).commit ≡ None →
@@ -111,6 +158,7 @@ course-commit h t ret none = course-push h (record { event = Commit t; ret = ret
   start = or_none h (course h t.0).start false refl i;
   commit = or_new h (course h t.0).commit (t.0 == t.0) none (same_number t.0) i;
   abort = or_none h (course h t.0).abort false refl i;
+  join = or_none h (course h t.0).join false refl i;
 })
 
 pub course-abort : {A : Type 0} (h : List (Kept A)) (t : TxnId) (ret : Option Ret) → (course h t.0).abort ≡ None →
@@ -119,6 +167,16 @@ course-abort h t ret none = course-push h (record { event = Abort t; ret = ret }
   start = or_none h (course h t.0).start false refl i;
   commit = or_none h (course h t.0).commit false refl i;
   abort = or_new h (course h t.0).abort (t.0 == t.0) none (same_number t.0) i;
+  join = or_none h (course h t.0).join false refl i;
+})
+
+pub course-join : {A : Type 0} (h : List (Kept A)) (t u : TxnId) (ret : Option Ret) → (course h t.0).join ≡ None →
+    course (h ++ record { event = Join t u; ret = ret } ∷ []) t.0 ≡ record (course h t.0) { join = Some (length h + 1) }
+course-join h t u ret none = course-push h (record { event = Join t u; ret = ret }) t.0 ∙ (λ i. record {
+  start = or_none h (course h t.0).start false refl i;
+  commit = or_none h (course h t.0).commit false refl i;
+  abort = or_none h (course h t.0).abort false refl i;
+  join = or_new h (course h t.0).join (t.0 == t.0) none (same_number t.0) i;
 })
 
 -- orderly courses and edges
@@ -128,30 +186,39 @@ pub orderly-none : {A : Type 0} (m : Parts A) → IsOrderly m []
 orderly-none m = record { courses = λ t. refl; edges = refl }
 
 -- a course stays orderly where nothing ends
-orderly_begun : {A : Type 0} (h : List (Kept A)) (s c a : Option ℕ) (b : Bool) → is_orderly (record { start = s; commit = c; abort = a }) ≡ true →
-    is_orderly (record { start = or_here h s b; commit = or_here h c false; abort = or_here h a false }) ≡ true
-orderly_begun h (Some i) None None b is = refl
-orderly_begun h (Some i) None (Some l) b is = refl
-orderly_begun h (Some i) (Some j) None b is = refl
-orderly_begun h (Some i) (Some j) (Some l) b is = absurd (false≢true is)
-orderly_begun h None None None true is = refl
-orderly_begun h None None None false is = refl
-orderly_begun h None None (Some l) b is = absurd (false≢true is)
-orderly_begun h None (Some j) a b is = absurd (false≢true is)
+orderly_begun : {A : Type 0} (h : List (Kept A)) (s c a j : Option ℕ) (b : Bool) → is_orderly (record { start = s; commit = c; abort = a; join = j }) ≡ true →
+    is_orderly (record { start = or_here h s b; commit = or_here h c false; abort = or_here h a false; join = or_here h j false }) ≡ true
+orderly_begun h (Some i) None None None b is = refl
+orderly_begun h (Some i) None None (Some l) b is = refl
+orderly_begun h (Some i) None (Some l) None b is = refl
+orderly_begun h (Some i) (Some l) None None b is = refl
+orderly_begun h (Some i) None (Some k) (Some l) b is = absurd (false≢true is)
+orderly_begun h (Some i) (Some k) None (Some l) b is = absurd (false≢true is)
+orderly_begun h (Some i) (Some k) (Some l) j b is = absurd (false≢true is)
+orderly_begun h None None None None true is = refl
+orderly_begun h None None None None false is = refl
+orderly_begun h None None None (Some l) b is = absurd (false≢true is)
+orderly_begun h None None (Some l) j b is = absurd (false≢true is)
+orderly_begun h None (Some l) a j b is = absurd (false≢true is)
 
 -- and where one in progress ends in one way
-orderly_ended : {A : Type 0} (h : List (Kept A)) (s c a : Option ℕ) (b d : Bool) → (b && d) ≡ false → status_in (record { start = s; commit = c; abort = a }) ≡ InProgress →
-    is_orderly (record { start = or_here h s false; commit = or_here h c b; abort = or_here h a d }) ≡ true
-orderly_ended h (Some i) None None true true one is = absurd (true≢false one)
-orderly_ended h (Some i) None None true false one is = refl
-orderly_ended h (Some i) None None false true one is = refl
-orderly_ended h (Some i) None None false false one is = refl
-orderly_ended h None None None b d one is = absurd (cc)
-orderly_ended h s None (Some l) b d one is = absurd (cc)
-orderly_ended h s (Some j) a b d one is = absurd (cc)
+orderly_ended : {A : Type 0} (h : List (Kept A)) (s c a j : Option ℕ) (b d f : Bool) → ((b && d) || ((b && f) || (d && f))) ≡ false → status_in (record { start = s; commit = c; abort = a; join = j }) ≡ InProgress →
+    is_orderly (record { start = or_here h s false; commit = or_here h c b; abort = or_here h a d; join = or_here h j f }) ≡ true
+orderly_ended h (Some i) None None None true true f one is = absurd (true≢false one)
+orderly_ended h (Some i) None None None true false true one is = absurd (true≢false one)
+orderly_ended h (Some i) None None None true false false one is = refl
+orderly_ended h (Some i) None None None false true true one is = absurd (true≢false one)
+orderly_ended h (Some i) None None None false true false one is = refl
+orderly_ended h (Some i) None None None false false true one is = refl
+orderly_ended h (Some i) None None None false false false one is = refl
+orderly_ended h None None None None b d f one is = absurd (cc)
+orderly_ended h s None None (Some l) b d f one is = absurd (cc)
+orderly_ended h s None (Some l) j b d f one is = absurd (cc)
+orderly_ended h s (Some l) a j b d f one is = absurd (cc)
 
 -- the one that the event ends, if it ends one, is in progress
 abbrev pub EndsInProgress : {A : Type 0} → List (Kept A) → Event A → Type 0
+EndsInProgress h (Join t u) = status_at h t.0 ≡ InProgress
 EndsInProgress h (Commit t) = status_at h t.0 ≡ InProgress
 EndsInProgress h (Abort t) = status_at h t.0 ≡ InProgress
 EndsInProgress h _ = ⊤
@@ -160,19 +227,29 @@ EndsInProgress h _ = ⊤
 pub course-orderly-push : {A : Type 0} (h : List (Kept A)) (k : Kept A) → ((t : ℕ) → is_orderly (course h t) ≡ true) → EndsInProgress h k.event → (t : ℕ) → is_orderly (course (h ++ k ∷ []) t) ≡ true
 course-orderly-push {A} h k all ending t = ap is_orderly (course-push h k t) ∙ of_event k.event ending
   where
+    begun : (b : Bool) → is_orderly (record { start = or_here h (course h t).start b; commit = or_here h (course h t).commit false; abort = or_here h (course h t).abort false; join = or_here h (course h t).join false }) ≡ true
+    begun b = orderly_begun h (course h t).start (course h t).commit (course h t).abort (course h t).join b (all t)
+
+    joined : (b : Bool) → (b ≡ true → status_at h t ≡ InProgress) →
+        is_orderly (record { start = or_here h (course h t).start false; commit = or_here h (course h t).commit false; abort = or_here h (course h t).abort false; join = or_here h (course h t).join b }) ≡ true
+    joined true is = orderly_ended h (course h t).start (course h t).commit (course h t).abort (course h t).join false false true refl (is refl)
+    joined false is = begun false
+
     committed : (b : Bool) → (b ≡ true → status_at h t ≡ InProgress) →
-        is_orderly (record { start = or_here h (course h t).start false; commit = or_here h (course h t).commit b; abort = or_here h (course h t).abort false }) ≡ true
-    committed true is = orderly_ended h (course h t).start (course h t).commit (course h t).abort true false refl (is refl)
-    committed false is = orderly_begun h (course h t).start (course h t).commit (course h t).abort false (all t)
+        is_orderly (record { start = or_here h (course h t).start false; commit = or_here h (course h t).commit b; abort = or_here h (course h t).abort false; join = or_here h (course h t).join false }) ≡ true
+    committed true is = orderly_ended h (course h t).start (course h t).commit (course h t).abort (course h t).join true false false refl (is refl)
+    committed false is = begun false
 
     aborted : (b : Bool) → (b ≡ true → status_at h t ≡ InProgress) →
-        is_orderly (record { start = or_here h (course h t).start false; commit = or_here h (course h t).commit false; abort = or_here h (course h t).abort b }) ≡ true
-    aborted true is = orderly_ended h (course h t).start (course h t).commit (course h t).abort false true refl (is refl)
-    aborted false is = orderly_begun h (course h t).start (course h t).commit (course h t).abort false (all t)
+        is_orderly (record { start = or_here h (course h t).start false; commit = or_here h (course h t).commit false; abort = or_here h (course h t).abort b; join = or_here h (course h t).join false }) ≡ true
+    aborted true is = orderly_ended h (course h t).start (course h t).commit (course h t).abort (course h t).join false true false refl (is refl)
+    aborted false is = begun false
 
     of_event : (e : Event A) → EndsInProgress h e →
-        is_orderly (record { start = or_here h (course h t).start (starts t e); commit = or_here h (course h t).commit (commits t e); abort = or_here h (course h t).abort (aborts t e) }) ≡ true
-    of_event (Begin u class) is = orderly_begun h (course h t).start (course h t).commit (course h t).abort (u.0 == t) (all t)
+        is_orderly (record { start = or_here h (course h t).start (starts t e); commit = or_here h (course h t).commit (commits t e); abort = or_here h (course h t).abort (aborts t e); join = or_here h (course h t).join (joins t e) }) ≡ true
+    of_event (Begin u class) is = begun (u.0 == t)
+    of_event (Split v u class ops) is = begun (u.0 == t)
+    of_event (Join u v) is = joined (u.0 == t) (λ same. ap (status_at h) (sym (eqb-true u.0 t same)) ∙ is)
     of_event (Commit u) is = committed (u.0 == t) (λ same. ap (status_at h) (sym (eqb-true u.0 t same)) ∙ is)
     of_event (Abort u) is = aborted (u.0 == t) (λ same. ap (status_at h) (sym (eqb-true u.0 t same)) ∙ is)
-    of_event _ is = orderly_begun h (course h t).start (course h t).commit (course h t).abort false (all t)
+    of_event _ is = begun false

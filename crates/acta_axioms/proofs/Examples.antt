@@ -6,7 +6,7 @@ use Rattle.acta_table.specs.declared.event.Kept.{Kept}
 use Rattle.acta_table.specs.declared.event.Op.TheVariants.{Read, Write, Get, Add, Insert}
 use Rattle.acta_table.specs.declared.event.Ret.TheVariants.{Done, Value, Flag}
 use Rattle.acta_table.specs.declared.answer.Fate.TheVariants.{InProgress, Committed, Aborted}
-use Rattle.acta_table.specs.declared.answer.Status.TheVariants.{NotBegun, InProgress as in_progress, Committed as committed, Aborted as aborted}
+use Rattle.acta_table.specs.declared.answer.Status.TheVariants.{NotBegun, InProgress as in_progress, Committed as committed, Aborted as aborted, Joined}
 use Rattle.acta_table.specs.WellFormed.{bad_number, bad_class, bad_object, same_transaction}
 use Rattle.acta_objects.specs.WellFormed.{bad_operation}
 use Rattle.acta_axioms.specs.declared.fault.Axiom.TheVariants.{BegunOnce, EndedAfterBegun, EndedOnce, OperatesInProgress, FormOfEvent, Allowed, PartiesInProgress, Responsible, HandsWhole, Conflict, Return, FormedInTime}
@@ -18,13 +18,13 @@ use Rattle.acta_axioms.specs.Formulas.{is_false}
 use Rattle.acta_axioms.specs.Legal.{is_broken_in, owed, has_clash, is_legal}
 use Rattle.acta_axioms.specs.Faults.{breaches, faults_in_places}
 use Rattle.acta_axioms.specs.Claims.{status_at}
-use Rattle.acta_axioms.proofs.Histories.{begin, delegate, form, operate, commit, abort, edge, owes, fault, plain, model, edgeless, said, holds, is_due, breaks}
+use Rattle.acta_axioms.proofs.Histories.{begin, split, join, delegate, form, operate, commit, abort, edge, owes, fault, plain, model, edgeless, parting, said, holds, is_due, breaks}
 
 -- one that writes and commits
 abbrev written : List (Kept (Unit {0}))
 written = begin 1 0 ∷ operate 1 0 (Write (pos 5)) Done ∷ commit 1 ∷ []
 
-written_course : course written 1 ≡ record { start = Some 1; commit = Some 3; abort = None }
+written_course : course written 1 ≡ record { start = Some 1; commit = Some 3; abort = None; join = None }
 written_course = refl
 
 written_class : map (class_number written) (1 ∷ 2 ∷ []) ≡ Some 0 ∷ None ∷ []
@@ -124,7 +124,7 @@ unruly_faults = refl
 unruly_fates : map (λ o. fate_at model unruly o 9) (1 ∷ 2 ∷ 3 ∷ 4 ∷ []) ≡ Some InProgress ∷ Some Committed ∷ Some Committed ∷ Some Committed ∷ []
 unruly_fates = refl
 
-unruly_course : course unruly 1 ≡ record { start = Some 1; commit = Some 7; abort = Some 8 }
+unruly_course : course unruly 1 ≡ record { start = Some 1; commit = Some 7; abort = Some 8; join = None }
 unruly_course = refl
 
 unruly_class : class_number unruly 1 ≡ Some 0
@@ -442,3 +442,77 @@ undelegated = begin 1 0 ∷ begin 2 4 ∷ delegate 1 2 [] ∷ []
 undelegated_faults : faults_in_places model undelegated ≡ fault Allowed 3 1 ∷ []
 unfolding breaches bad_number bad_class bad_object bad_operation same_transaction
 undelegated_faults = refl
+
+-- and a delegation of one to itself that is not in progress names it once
+own_idle_faults : faults_in_places model (delegate 1 1 [] ∷ []) ≡ fault FormOfEvent 1 1 ∷ fault PartiesInProgress 1 1 ∷ []
+unfolding breaches bad_number bad_class bad_object bad_operation same_transaction
+own_idle_faults = refl
+
+-- one that splits off another with the first of its two operations, and then joins it, which commits both
+abbrev parted : List (Kept (Unit {0}))
+parted =
+    begin 1 0 ∷ operate 1 0 (Write (pos 5)) Done ∷ operate 1 1 (Add (pos 5)) Done ∷ split 1 2 0 (1 ∷ [])
+    ∷ join 1 2 ∷ commit 2 ∷ []
+
+parted_courses : map (course parted) (1 ∷ 2 ∷ []) ≡
+    record { start = Some 1; commit = None; abort = None; join = Some 5 }
+    ∷ record { start = Some 4; commit = Some 6; abort = None; join = None } ∷ []
+parted_courses = refl
+
+parted_class : class_number parted 2 ≡ Some 0
+parted_class = refl
+
+parted_holders : map (λ o. map (holder_at parting parted o) (3 ∷ 4 ∷ 5 ∷ 6 ∷ [])) (1 ∷ 2 ∷ []) ≡
+    (Some 1 ∷ Some 2 ∷ Some 2 ∷ Some 2 ∷ []) ∷ (Some 1 ∷ Some 1 ∷ Some 2 ∷ Some 2 ∷ []) ∷ []
+parted_holders = refl
+
+parted_fates : map (λ o. map (fate_at parting parted o) (4 ∷ 5 ∷ 6 ∷ [])) (1 ∷ 2 ∷ []) ≡
+    (Some InProgress ∷ Some InProgress ∷ Some Committed ∷ []) ∷ (Some InProgress ∷ Some InProgress ∷ Some Committed ∷ []) ∷ []
+parted_fates = refl
+
+parted_statuses : map (λ n. map (status_at (take n parted)) (1 ∷ 2 ∷ [])) (4 ∷ 5 ∷ 6 ∷ []) ≡
+    (in_progress ∷ in_progress ∷ []) ∷ (Joined ∷ in_progress ∷ []) ∷ (Joined ∷ committed ∷ []) ∷ []
+parted_statuses = refl
+
+-- the split forms the edges of its class, in both directions
+parted_edges : edges parting parted ≡ edge Cd 1 2 ∷ edge Ad 2 1 ∷ []
+parted_edges = refl
+
+parted_faults : faults_in_places parting parted ≡ []
+unfolding breaches bad_number bad_class bad_object bad_operation same_transaction
+parted_faults = refl
+
+parted_legal : is_legal parting parted ≡ true
+unfolding is_false is_legal
+parted_legal = refl
+
+-- a class that is not in the model wants no edges
+unknown_edges : edges parting (split 1 2 9 [] ∷ []) ≡ []
+unknown_edges = refl
+
+-- a split by one that is not in progress, of an operation that it doesn't hold, and a join by one that never
+-- began to one that is not in progress; still the one that is split off has begun, and the one that joins has ended
+abbrev adrift : List (Kept (Unit {0}))
+adrift = split 1 2 0 (1 ∷ []) ∷ join 3 1 ∷ begin 3 0 ∷ commit 3 ∷ begin 2 0 ∷ []
+
+adrift_faults : faults_in_places parting adrift ≡
+    fault PartiesInProgress 1 1 ∷ fault Responsible 1 1 ∷ fault EndedAfterBegun 2 3 ∷ fault PartiesInProgress 2 1
+    ∷ fault EndedOnce 4 3 ∷ fault BegunOnce 5 2 ∷ []
+unfolding breaches bad_number bad_class bad_object bad_operation same_transaction
+adrift_faults = refl
+
+-- a split by one whose class may not, one with a class that may not start so, and a join by one whose class may not
+abbrev unparted : List (Kept (Unit {0}))
+unparted = begin 1 1 ∷ begin 2 0 ∷ split 1 3 0 [] ∷ split 2 4 1 [] ∷ join 1 2 ∷ []
+
+unparted_faults : faults_in_places parting unparted ≡ fault Allowed 3 1 ∷ fault Allowed 4 2 ∷ fault Allowed 5 1 ∷ []
+unfolding breaches bad_number bad_class bad_object bad_operation same_transaction
+unparted_faults = refl
+
+-- a split that leaves something out, by one that has to hand over all
+abbrev halved : List (Kept (Unit {0}))
+halved = begin 1 2 ∷ operate 1 0 (Write (pos 5)) Done ∷ operate 1 1 (Add (pos 5)) Done ∷ split 1 2 0 (1 ∷ []) ∷ []
+
+halved_faults : faults_in_places parting halved ≡ fault HandsWhole 4 2 ∷ []
+unfolding breaches bad_number bad_class bad_object bad_operation same_transaction
+halved_faults = refl

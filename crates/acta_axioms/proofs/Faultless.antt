@@ -1,11 +1,11 @@
 -- A history that grows by items without fault meets the axioms, and what makes an item faultless.
-use Rattle.std.proofs.Common.{◌≡◌, ℕ, Bool, true, false, ◌&&◌, ◌||◌, not, cond, List, [], ◌∷◌, ◌++◌, map, Some, None, is_some, refl, ap, ◌∙◌}
+use Rattle.std.proofs.Common.{if◌then◌else◌, ◌==◌, filter, ◌≡◌, ℕ, Bool, true, false, ◌&&◌, ◌||◌, not, cond, List, [], ◌∷◌, ◌++◌, map, Some, None, is_some, refl, ap, ◌∙◌}
 use Rattle.std.proofs.lemmas.Bool.Decides.{Decides-int_eq}
 use Rattle.acta_table.specs.declared.answer.Status.TheVariants.{NotBegun, InProgress}
 use Rattle.acta_table.specs.declared.dep.Dep.{Dep}
 use Rattle.acta_table.specs.declared.event.ClassId.{ClassId}
 use Rattle.acta_table.specs.declared.event.Event.{Event}
-use Rattle.acta_table.specs.declared.event.Event.TheVariants.{Begin, Delegate, Form, Operate, Commit, Abort}
+use Rattle.acta_table.specs.declared.event.Event.TheVariants.{Begin, Split, Join, Delegate, Form, Operate, Commit, Abort}
 use Rattle.acta_table.specs.declared.event.Kept.{Kept}
 use Rattle.acta_table.specs.declared.event.ObjId.{ObjId}
 use Rattle.acta_table.specs.declared.event.Op.{Op}
@@ -128,6 +128,45 @@ faultless-form m h kind j i form allowed in_time =
       formed_in_time = in_time;
     }
 
+-- a split by one in progress of one that has not begun, of operations that it holds, and of all where it has to
+pub faultless-split : {A : Type 0} (m : Parts A) (h : List (Kept A)) (t u : TxnId) (class : ClassId) (ops : List OpNo) → status_at h t.0 ≡ InProgress → status_at h u.0 ≡ NotBegun →
+    ill_formed m (Split t u class ops) ≡ [] → not_allowed m h (Split t u class ops) ≡ [] → handed_unheld m h (Split t u class ops) ≡ [] → left_out m h (Split t u class ops) ≡ [] →
+    IsFaultless m h (record { event = Split t u class ops; ret = None })
+faultless-split m h t u class ops status status_of_other form allowed held whole =
+    record {
+      begun_once = ap (λ b. cond b (u.0 ∷ []) []) (not_begun h u.0 status_of_other);
+      ended_after_begun = refl;
+      ended_once = refl;
+      operates_in_progress = refl;
+      form_of_event = form;
+      allowed = allowed;
+      parties_in_progress = ap (λ b. cond (not b) (t.0 ∷ []) []) (under_way h t.0 status);
+      responsible = held;
+      hands_whole = whole;
+      conflict = refl;
+      return = refl;
+      formed_in_time = refl;
+    }
+
+-- a join by one in progress of one in progress
+pub faultless-join : {A : Type 0} (m : Parts A) (h : List (Kept A)) (t u : TxnId) → status_at h t.0 ≡ InProgress → status_at h u.0 ≡ InProgress →
+    ill_formed m (Join t u) ≡ [] → not_allowed m h (Join t u) ≡ [] → IsFaultless m h (record { event = Join t u; ret = None })
+faultless-join m h t u status status_of_other form allowed =
+    record {
+      begun_once = refl;
+      ended_after_begun = ap (λ b. cond (not b) (t.0 ∷ []) []) (begun h t.0 status);
+      ended_once = ap (λ b. cond b (t.0 ∷ []) []) (not_ended h t.0 status);
+      operates_in_progress = refl;
+      form_of_event = form;
+      allowed = allowed;
+      parties_in_progress = ap (λ b. cond (not b) (u.0 ∷ []) []) (under_way h u.0 status_of_other);
+      responsible = refl;
+      hands_whole = refl;
+      conflict = refl;
+      return = refl;
+      formed_in_time = refl;
+    }
+
 -- a delegation by one in progress to one in progress, of operations that it holds, and of all where it has to
 pub faultless-delegate : {A : Type 0} (m : Parts A) (h : List (Kept A)) (t u : TxnId) (ops : List OpNo) → status_at h t.0 ≡ InProgress → status_at h u.0 ≡ InProgress →
     ill_formed m (Delegate t u ops) ≡ [] → not_allowed m h (Delegate t u ops) ≡ [] → handed_unheld m h (Delegate t u ops) ≡ [] → left_out m h (Delegate t u ops) ≡ [] →
@@ -140,13 +179,17 @@ faultless-delegate m h t u ops status status_of_other form allowed held whole =
       operates_in_progress = refl;
       form_of_event = form;
       allowed = allowed;
-      parties_in_progress = λ i. let others = cond (not (under_way h u.0 status_of_other i)) (u.0 ∷ []) [] in cond (not (under_way h t.0 status i)) (t.0 ∷ others) others;
+      parties_in_progress = of_test (t.0 == u.0);
       responsible = held;
       hands_whole = whole;
       conflict = refl;
       return = refl;
       formed_in_time = refl;
     }
+  where
+    of_test : (b : Bool) → filter (λ v. not (is_in_progress h v)) (if b then t.0 ∷ [] else t.0 ∷ u.0 ∷ []) ≡ []
+    of_test true = ap (λ b. cond (not b) (t.0 ∷ []) []) (under_way h t.0 status)
+    of_test false = λ i. let others = cond (not (under_way h u.0 status_of_other i)) (u.0 ∷ []) [] in cond (not (under_way h t.0 status i)) (t.0 ∷ others) others
 
 -- an end of one in progress
 pub faultless-commit : {A : Type 0} (m : Parts A) (h : List (Kept A)) (t : TxnId) → status_at h t.0 ≡ InProgress →

@@ -15,7 +15,7 @@ use Rattle.acta_table.specs.declared.model.Class.{Class}
 use Rattle.acta_table.specs.declared.model.Parts.{Parts}
 use Rattle.acta_table.specs.Events.{class_named}
 use Rattle.acta_table.specs.Classes.{class_at}
-use Rattle.acta_axioms.specs.History.{Place, number, places_behind, places, first, starts, commits, aborts, course, least, has_begun, has_ended, is_in_progress, class_number, class_of}
+use Rattle.acta_axioms.specs.History.{Place, number, places_behind, places, first, starts, commits, aborts, joins, Course, course, least, end, has_begun, has_ended, is_in_progress, class_number, class_of}
 use Rattle.acta_axioms.specs.Operations.{Operation, is_operate, number_after, operation_in, operation_at, operations, Standing, held_by, carried, standing, standing_of, is_held_by, access_set, is_of_others, conflict_set, is_in_view, view_set}
 use Rattle.acta_axioms.specs.Faults.{faults_at, faults_in_places}
 
@@ -78,20 +78,25 @@ pub course-push : {A : Type 0} (h : List (Kept A)) (k : Kept A) (t : ℕ) → co
   start = or_here h (course h t).start (starts t k.event);
   commit = or_here h (course h t).commit (commits t k.event);
   abort = or_here h (course h t).abort (aborts t k.event);
+  join = or_here h (course h t).join (joins t k.event);
 }
 course-push h k t = λ i. record {
   start = first_place-push (starts t) h k i;
   commit = first_place-push (commits t) h k i;
   abort = first_place-push (aborts t) h k i;
+  join = first_place-push (joins t) h k i;
 }
 
 -- whether the event ends t
 abbrev pub ends : {A : Type 0} → ℕ → Event A → Bool
-ends t e = commits t e || aborts t e
+ends t e = commits t e || (aborts t e || joins t e)
 
 is_some-least : (m n : Option ℕ) → is_some (least m n) ≡ (is_some m || is_some n)
 is_some-least None n = refl
 is_some-least (Some m) n = refl
+
+is_some-end : (c : Course) → is_some (end c) ≡ (is_some c.commit || (is_some c.abort || is_some c.join))
+is_some-end c = is_some-least c.commit (least c.abort c.join) ∙ ap (λ b. is_some c.commit || b) (is_some-least c.abort c.join)
 
 or_exchange : (a b x y : Bool) → ((a || x) || (b || y)) ≡ ((a || b) || (x || y))
 or_exchange true b x y = refl
@@ -105,10 +110,11 @@ has_begun-push h k t = ap is_some (first_place-push (starts t) h k) ∙ is_some-
 pub has_ended-push : {A : Type 0} (h : List (Kept A)) (k : Kept A) (t : ℕ) → has_ended (h ++ k ∷ []) t ≡ (has_ended h t || ends t k.event)
 has_ended-push {A} h k t =
     let there = λ (test : Event A → Bool). ap is_some (first_place-push test h k) ∙ is_some-or (option_map number (first test h)) (test k.event) (length h + 1) in
-    is_some-least (course (h ++ k ∷ []) t).commit (course (h ++ k ∷ []) t).abort
-    ∙ (λ i. there (commits t) i || there (aborts t) i)
-    ∙ or_exchange (is_some (course h t).commit) (is_some (course h t).abort) (commits t k.event) (aborts t k.event)
-    ∙ ap (λ b. b || ends t k.event) (sym (is_some-least (course h t).commit (course h t).abort))
+    is_some-end (course (h ++ k ∷ []) t)
+    ∙ (λ i. there (commits t) i || (there (aborts t) i || there (joins t) i))
+    ∙ ap (λ b. (is_some (course h t).commit || commits t k.event) || b) (or_exchange (is_some (course h t).abort) (is_some (course h t).join) (aborts t k.event) (joins t k.event))
+    ∙ or_exchange (is_some (course h t).commit) (is_some (course h t).abort || is_some (course h t).join) (commits t k.event) (aborts t k.event || joins t k.event)
+    ∙ ap (λ b. b || ends t k.event) (sym (is_some-end (course h t)))
 
 pub is_in_progress-push : {A : Type 0} (h : List (Kept A)) (k : Kept A) (t : ℕ) → is_in_progress (h ++ k ∷ []) t ≡ ((has_begun h t || starts t k.event) && not (has_ended h t || ends t k.event))
 is_in_progress-push h k t = λ i. has_begun-push h k t i && not (has_ended-push h k t i)

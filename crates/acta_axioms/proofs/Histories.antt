@@ -1,19 +1,21 @@
 -- Short words for the histories and models of the examples.
 use Rattle.std.specs.Prelude.{ℕ, pos, true, false, Bool, List, [], ◌∷◌, Option, Some, None}
 use Rattle.acta_table.specs.declared.dep.Dep.{Dep}
+use Rattle.acta_table.specs.declared.dep.Dep.TheVariants.{Cd, Ad}
 use Rattle.acta_table.specs.declared.dep.Edge.{Edge}
 use Rattle.acta_table.specs.declared.dep.Missing.{Missing}
 use Rattle.acta_table.specs.declared.dep.Owed.{Owed}
 use Rattle.acta_table.specs.declared.event.Op.{Op}
 use Rattle.acta_table.specs.declared.event.Ret.{Ret}
 use Rattle.acta_table.specs.declared.event.Event.{Event}
-use Rattle.acta_table.specs.declared.event.Event.TheVariants.{Begin, Delegate, Form, Operate, Commit, Abort}
+use Rattle.acta_table.specs.declared.event.Event.TheVariants.{Begin, Split, Join, Delegate, Form, Operate, Commit, Abort}
 use Rattle.acta_table.specs.declared.event.Kept.{Kept}
 use Rattle.acta_table.specs.declared.model.Class.{Class}
 use Rattle.acta_table.specs.declared.model.Extent.TheVariants.{Whole, Any}
 use Rattle.acta_table.specs.declared.model.Kind.TheVariants.{Register, Counter, Elements}
 use Rattle.acta_table.specs.declared.model.Object.{Object}
 use Rattle.acta_table.specs.declared.model.Parts.{Parts}
+use Rattle.acta_table.specs.declared.start_edges.Dependent.TheVariants.{Starter, Started}
 use Rattle.acta_table.specs.Sets.{numbered}
 use Rattle.acta_axioms.specs.declared.fault.Fault.{Fault}
 use Rattle.acta_axioms.specs.declared.fault.Axiom.{Axiom}
@@ -27,6 +29,12 @@ plain e = record { event = e; ret = None }
 
 abbrev pub begin : ℕ → ℕ → Kept (Unit {0})
 begin t class = plain (Begin (record { 0 = t }) (record { 0 = class }))
+
+abbrev pub split : ℕ → ℕ → ℕ → List ℕ → Kept (Unit {0})
+split t u class ops = plain (Split (record { 0 = t }) (record { 0 = u }) (record { 0 = class }) (numbered ops))
+
+abbrev pub join : ℕ → ℕ → Kept (Unit {0})
+join t u = plain (Join (record { 0 = t }) (record { 0 = u }))
 
 abbrev pub delegate : ℕ → ℕ → List ℕ → Kept (Unit {0})
 delegate t u ops = plain (Delegate (record { 0 = t }) (record { 0 = u }) (numbered ops))
@@ -59,7 +67,7 @@ objects = record { name = []; kind = Register (pos 0) } ∷ record { name = []; 
 -- a class, by whether it starts by begin and the bits of what it may do: 8 is to delegate, 16 to form,
 -- 32 to operate, 64 to commit and 128 to abort
 abbrev pub class : Bool → ℕ → Class (Unit {0})
-class begins may = record { name = []; starts = record { begin = begins; spawned = false; split = false }; may = may; extent = Any }
+class begins may = record { name = []; starts = record { begin = begins; spawned = false; split = false }; may = may; extent = Any; split_edges = [] }
 
 -- class 0 may all but delegate and form, class 1 may not operate either, class 2 may not start, class 3 may
 -- all but delegate, and classes 4 and 5 all but form: 4 delegates any part, and 5 all that it holds
@@ -73,6 +81,20 @@ model = record {
 -- the same with no class that may form
 abbrev pub edgeless : Parts (Unit {0})
 edgeless = record { objects = objects; classes = class true 224 ∷ [] }
+
+-- a class that starts by begin and by split, and may split, join, operate, commit and abort: a transaction that
+-- is split off with it depends by abort on the one that splits, which depends by commit on it
+abbrev pub parting_class : Class (Unit {0})
+parting_class =
+    record (class true 230) {
+      starts = record { begin = true; spawned = false; split = true };
+      split_edges = record { kind = Cd; dependent = Starter } ∷ record { kind = Ad; dependent = Started } ∷ [];
+    }
+
+-- class 0 is such a class, class 1 may neither split nor join, nor start by a split, and class 2 splits by handing
+-- over all that it holds
+abbrev pub parting : Parts (Unit {0})
+parting = record { objects = objects; classes = parting_class ∷ class true 224 ∷ record parting_class { extent = Whole } ∷ [] }
 
 -- what is said of an edge of 2 on 1, in a history that forms it first: whether its formula is false, what
 -- is owed by it, whether it is broken, and whether the history is legal

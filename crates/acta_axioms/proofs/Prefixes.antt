@@ -13,7 +13,7 @@ use Rattle.acta_table.specs.declared.event.Event.TheVariants.{Operate}
 use Rattle.acta_table.specs.declared.event.Kept.{Kept}
 use Rattle.acta_table.specs.declared.model.Parts.{Parts}
 use Rattle.acta_table.specs.Events.{class_named}
-use Rattle.acta_axioms.specs.History.{Place, number, places_behind, places, first, starts, commits, aborts, course, has_begun, class_number}
+use Rattle.acta_axioms.specs.History.{Place, number, places_behind, places, first, starts, commits, aborts, joins, course, has_begun, class_number}
 use Rattle.acta_axioms.specs.Operations.{Operation, operation_in, operation_at, operations, held_by, carried, standing, standing_of, holder_at, fate_at}
 use Rattle.acta_axioms.specs.Faults.{faults_at, faults_in_places}
 use Rattle.acta_axioms.specs.Legal.{is_legal}
@@ -90,11 +90,13 @@ pub course-take : {A : Type 0} (h : List (Kept A)) (n t : ℕ) → course (take 
   start = among n (course h t).start;
   commit = among n (course h t).commit;
   abort = among n (course h t).abort;
+  join = among n (course h t).join;
 }
 course-take h n t = λ i. record {
   start = first-take (starts t) h n i;
   commit = first-take (commits t) h n i;
   abort = first-take (aborts t) h n i;
+  join = first-take (joins t) h n i;
 }
 
 -- one that began among the first n items has the class that the whole history gives it

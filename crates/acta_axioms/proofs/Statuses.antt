@@ -2,15 +2,16 @@
 use Rattle.std.proofs.Common.{◌≡◌, ℕ, ◌==◌, Bool, true, false, ◌&&◌, not, if◌then◌else◌, List, [], ◌∷◌, ◌++◌, Option, Some, None, is_some, refl, ap, ◌∙◌}
 use Rattle.std.proofs.lemmas.Bool.{true≢false}
 use Rattle.acta_table.specs.declared.answer.Status.{Status}
-use Rattle.acta_table.specs.declared.answer.Status.TheVariants.{NotBegun, InProgress, Committed, Aborted}
+use Rattle.acta_table.specs.declared.answer.Status.TheVariants.{NotBegun, InProgress, Committed, Aborted, Joined}
 use Rattle.acta_table.specs.declared.event.Event.{Event}
-use Rattle.acta_table.specs.declared.event.Event.TheVariants.{Begin, Commit, Abort}
+use Rattle.acta_table.specs.declared.event.Event.TheVariants.{Begin, Split, Join, Commit, Abort}
 use Rattle.acta_table.specs.declared.event.Kept.{Kept}
-use Rattle.acta_axioms.specs.History.{starts, commits, aborts, course, least, has_begun, has_ended, is_in_progress}
+use Rattle.acta_axioms.specs.History.{starts, commits, aborts, joins, course, least, has_begun, has_ended, is_in_progress}
 use Rattle.acta_axioms.specs.Claims.{status_in, status_at}
 use Rattle.acta_axioms.proofs.Growth.{or_here, course-push}
 
--- a status after a begin, and after an abort; after a commit it is committed
+-- a status after a begin or split of the transaction, after an abort, and after a join; after a commit it is
+-- committed
 abbrev pub when_begun : Status → Status
 when_begun NotBegun = InProgress
 when_begun s = s
@@ -19,56 +20,82 @@ abbrev pub when_aborted : Status → Status
 when_aborted Committed = Committed
 when_aborted s = Aborted
 
+abbrev pub when_joined : Status → Status
+when_joined Committed = Committed
+when_joined Aborted = Aborted
+when_joined s = Joined
+
 -- the status of t after an event
 abbrev pub status_after : {A : Type 0} → ℕ → Event A → Status → Status
 status_after t (Begin u class) s = if u.0 == t then when_begun s else s
+status_after t (Split v u class ops) s = if u.0 == t then when_begun s else s
+status_after t (Join u v) s = if u.0 == t then when_joined s else s
 status_after t (Commit u) s = if u.0 == t then Committed else s
 status_after t (Abort u) s = if u.0 == t then when_aborted s else s
 status_after t _ s = s
 
-begun_in : {A : Type 0} (h : List (Kept A)) (s c a : Option ℕ) (b : Bool) →
-    status_in (record { start = or_here h s b; commit = or_here h c false; abort = or_here h a false }) ≡ (if b then when_begun (status_in (record { start = s; commit = c; abort = a })) else status_in (record { start = s; commit = c; abort = a }))
-begun_in h None None None true = refl
-begun_in h None None None false = refl
-begun_in h (Some i) None None true = refl
-begun_in h (Some i) None None false = refl
-begun_in h None None (Some j) true = refl
-begun_in h None None (Some j) false = refl
-begun_in h (Some i) None (Some j) true = refl
-begun_in h (Some i) None (Some j) false = refl
-begun_in h None (Some j) a true = refl
-begun_in h None (Some j) a false = refl
-begun_in h (Some i) (Some j) a true = refl
-begun_in h (Some i) (Some j) a false = refl
+begun_in : {A : Type 0} (h : List (Kept A)) (s c a j : Option ℕ) (b : Bool) →
+    status_in (record { start = or_here h s b; commit = or_here h c false; abort = or_here h a false; join = or_here h j false }) ≡ (if b then when_begun (status_in (record { start = s; commit = c; abort = a; join = j })) else status_in (record { start = s; commit = c; abort = a; join = j }))
+begun_in h s (Some i) a j true = refl
+begun_in h s (Some i) a j false = refl
+begun_in h s None (Some i) j true = refl
+begun_in h s None (Some i) j false = refl
+begun_in h s None None (Some i) true = refl
+begun_in h s None None (Some i) false = refl
+begun_in h None None None None true = refl
+begun_in h None None None None false = refl
+begun_in h (Some i) None None None true = refl
+begun_in h (Some i) None None None false = refl
 
-committed_in : {A : Type 0} (h : List (Kept A)) (s c a : Option ℕ) (b : Bool) →
-    status_in (record { start = or_here h s false; commit = or_here h c b; abort = or_here h a false }) ≡ (if b then Committed else status_in (record { start = s; commit = c; abort = a }))
-committed_in h s None a true = refl
-committed_in h s (Some i) a true = refl
-committed_in h s (Some i) a false = refl
-committed_in h s None (Some j) false = refl
-committed_in h None None None false = refl
-committed_in h (Some i) None None false = refl
+joined_in : {A : Type 0} (h : List (Kept A)) (s c a j : Option ℕ) (b : Bool) →
+    status_in (record { start = or_here h s false; commit = or_here h c false; abort = or_here h a false; join = or_here h j b }) ≡ (if b then when_joined (status_in (record { start = s; commit = c; abort = a; join = j })) else status_in (record { start = s; commit = c; abort = a; join = j }))
+joined_in h s (Some i) a j true = refl
+joined_in h s (Some i) a j false = refl
+joined_in h s None (Some i) j true = refl
+joined_in h s None (Some i) j false = refl
+joined_in h s None None (Some i) true = refl
+joined_in h s None None (Some i) false = refl
+joined_in h None None None None true = refl
+joined_in h None None None None false = refl
+joined_in h (Some i) None None None true = refl
+joined_in h (Some i) None None None false = refl
 
-aborted_in : {A : Type 0} (h : List (Kept A)) (s c a : Option ℕ) (b : Bool) →
-    status_in (record { start = or_here h s false; commit = or_here h c false; abort = or_here h a b }) ≡ (if b then when_aborted (status_in (record { start = s; commit = c; abort = a })) else status_in (record { start = s; commit = c; abort = a }))
-aborted_in h s (Some i) a true = refl
-aborted_in h s (Some i) a false = refl
-aborted_in h s None (Some j) true = refl
-aborted_in h s None (Some j) false = refl
-aborted_in h None None None true = refl
-aborted_in h None None None false = refl
-aborted_in h (Some i) None None true = refl
-aborted_in h (Some i) None None false = refl
+committed_in : {A : Type 0} (h : List (Kept A)) (s c a j : Option ℕ) (b : Bool) →
+    status_in (record { start = or_here h s false; commit = or_here h c b; abort = or_here h a false; join = or_here h j false }) ≡ (if b then Committed else status_in (record { start = s; commit = c; abort = a; join = j }))
+committed_in h s (Some i) a j true = refl
+committed_in h s (Some i) a j false = refl
+committed_in h s None (Some i) j true = refl
+committed_in h s None (Some i) j false = refl
+committed_in h s None None (Some i) true = refl
+committed_in h s None None (Some i) false = refl
+committed_in h None None None None true = refl
+committed_in h None None None None false = refl
+committed_in h (Some i) None None None true = refl
+committed_in h (Some i) None None None false = refl
+
+aborted_in : {A : Type 0} (h : List (Kept A)) (s c a j : Option ℕ) (b : Bool) →
+    status_in (record { start = or_here h s false; commit = or_here h c false; abort = or_here h a b; join = or_here h j false }) ≡ (if b then when_aborted (status_in (record { start = s; commit = c; abort = a; join = j })) else status_in (record { start = s; commit = c; abort = a; join = j }))
+aborted_in h s (Some i) a j true = refl
+aborted_in h s (Some i) a j false = refl
+aborted_in h s None (Some i) j true = refl
+aborted_in h s None (Some i) j false = refl
+aborted_in h s None None (Some i) true = refl
+aborted_in h s None None (Some i) false = refl
+aborted_in h None None None None true = refl
+aborted_in h None None None None false = refl
+aborted_in h (Some i) None None None true = refl
+aborted_in h (Some i) None None None false = refl
 
 pub status_at-push : {A : Type 0} (h : List (Kept A)) (k : Kept A) (t : ℕ) → status_at (h ++ k ∷ []) t ≡ status_after t k.event (status_at h t)
 status_at-push {A} h k t = ap status_in (course-push h k t) ∙ of_event k.event
   where
-    of_event : (e : Event A) → status_in (record { start = or_here h (course h t).start (starts t e); commit = or_here h (course h t).commit (commits t e); abort = or_here h (course h t).abort (aborts t e) }) ≡ status_after t e (status_at h t)
-    of_event (Begin u class) = begun_in h (course h t).start (course h t).commit (course h t).abort (u.0 == t)
-    of_event (Commit u) = committed_in h (course h t).start (course h t).commit (course h t).abort (u.0 == t)
-    of_event (Abort u) = aborted_in h (course h t).start (course h t).commit (course h t).abort (u.0 == t)
-    of_event _ = committed_in h (course h t).start (course h t).commit (course h t).abort false
+    of_event : (e : Event A) → status_in (record { start = or_here h (course h t).start (starts t e); commit = or_here h (course h t).commit (commits t e); abort = or_here h (course h t).abort (aborts t e); join = or_here h (course h t).join (joins t e) }) ≡ status_after t e (status_at h t)
+    of_event (Begin u class) = begun_in h (course h t).start (course h t).commit (course h t).abort (course h t).join (u.0 == t)
+    of_event (Split v u class ops) = begun_in h (course h t).start (course h t).commit (course h t).abort (course h t).join (u.0 == t)
+    of_event (Join u v) = joined_in h (course h t).start (course h t).commit (course h t).abort (course h t).join (u.0 == t)
+    of_event (Commit u) = committed_in h (course h t).start (course h t).commit (course h t).abort (course h t).join (u.0 == t)
+    of_event (Abort u) = aborted_in h (course h t).start (course h t).commit (course h t).abort (course h t).join (u.0 == t)
+    of_event _ = committed_in h (course h t).start (course h t).commit (course h t).abort (course h t).join false
 
 -- whether this is the status of one in progress
 abbrev pub is_under_way : Status → Bool
@@ -77,38 +104,41 @@ is_under_way _ = false
 
 -- one is in progress exactly where its status says so
 pub in_progress-status : {A : Type 0} (h : List (Kept A)) (t : ℕ) → is_in_progress h t ≡ is_under_way (status_at h t)
-in_progress-status h t = of_course (course h t).start (course h t).commit (course h t).abort
+in_progress-status h t = of_course (course h t).start (course h t).commit (course h t).abort (course h t).join
   where
-    of_course : (s c a : Option ℕ) → (is_some s && not (is_some (least c a))) ≡ is_under_way (status_in (record { start = s; commit = c; abort = a }))
-    of_course None None None = refl
-    of_course None None (Some j) = refl
-    of_course None (Some j) a = refl
-    of_course (Some i) None None = refl
-    of_course (Some i) None (Some j) = refl
-    of_course (Some i) (Some j) a = refl
+    of_course : (s c a j : Option ℕ) → (is_some s && not (is_some (least c (least a j)))) ≡ is_under_way (status_in (record { start = s; commit = c; abort = a; join = j }))
+    of_course None None None None = refl
+    of_course None None None (Some l) = refl
+    of_course None None (Some l) j = refl
+    of_course None (Some l) a j = refl
+    of_course (Some i) None None None = refl
+    of_course (Some i) None None (Some l) = refl
+    of_course (Some i) None (Some l) j = refl
+    of_course (Some i) (Some l) a j = refl
 
 -- the start and the end of one, by its status; of one that has ended the start may be missing
 abbrev pub is_ended_status : Status → Bool
 is_ended_status Committed = true
 is_ended_status Aborted = true
+is_ended_status Joined = true
 is_ended_status _ = false
 
 pub has_ended-status : {A : Type 0} (h : List (Kept A)) (t : ℕ) → has_ended h t ≡ is_ended_status (status_at h t)
-has_ended-status h t = of_course (course h t).start (course h t).commit (course h t).abort
+has_ended-status h t = of_course (course h t).start (course h t).commit (course h t).abort (course h t).join
   where
-    of_course : (s c a : Option ℕ) → is_some (least c a) ≡ is_ended_status (status_in (record { start = s; commit = c; abort = a }))
-    of_course None None None = refl
-    of_course (Some i) None None = refl
-    of_course s None (Some j) = refl
-    of_course s (Some j) a = refl
+    of_course : (s c a j : Option ℕ) → is_some (least c (least a j)) ≡ is_ended_status (status_in (record { start = s; commit = c; abort = a; join = j }))
+    of_course None None None None = refl
+    of_course (Some i) None None None = refl
+    of_course s None None (Some l) = refl
+    of_course s None (Some l) j = refl
+    of_course s (Some l) a j = refl
 
 pub has_begun-status : {A : Type 0} (h : List (Kept A)) (t : ℕ) → is_ended_status (status_at h t) ≡ false → has_begun h t ≡ is_under_way (status_at h t)
-has_begun-status h t open_still = of_course (course h t).start (course h t).commit (course h t).abort open_still
+has_begun-status h t open_still = of_course (course h t).start (course h t).commit (course h t).abort (course h t).join open_still
   where
-    of_course : (s c a : Option ℕ) → is_ended_status (status_in (record { start = s; commit = c; abort = a })) ≡ false → is_some s ≡ is_under_way (status_in (record { start = s; commit = c; abort = a }))
-    of_course None None None e = refl
-    of_course (Some i) None None e = refl
-    of_course None None (Some j) e = absurd (true≢false e)
-    of_course (Some i) None (Some j) e = absurd (true≢false e)
-    of_course None (Some j) a e = absurd (true≢false e)
-    of_course (Some i) (Some j) a e = absurd (true≢false e)
+    of_course : (s c a j : Option ℕ) → is_ended_status (status_in (record { start = s; commit = c; abort = a; join = j })) ≡ false → is_some s ≡ is_under_way (status_in (record { start = s; commit = c; abort = a; join = j }))
+    of_course None None None None e = refl
+    of_course (Some i) None None None e = refl
+    of_course s None None (Some l) e = absurd (true≢false e)
+    of_course s None (Some l) j e = absurd (true≢false e)
+    of_course s (Some l) a j e = absurd (true≢false e)

@@ -17,7 +17,7 @@ use Rattle.acta_table.specs.declared.model.Parts.{Parts}
 use Rattle.acta_axioms.specs.declared.index.Firsts.{Firsts}
 use Rattle.acta_axioms.specs.declared.index.Onward.{Onward}
 use Rattle.acta_axioms.specs.declared.index.Traced.{Traced}
-use Rattle.acta_axioms.specs.History.{Place, number, places_behind, places, starts, commits, aborts, Course, course}
+use Rattle.acta_axioms.specs.History.{Place, number, places_behind, places, starts, commits, aborts, joins, Course, course}
 use Rattle.acta_axioms.specs.Operations.{is_operate, number_after, operation_in, operation_at, Standing, held_by, carried, standing, standing_of}
 use Rattle.acta_axioms.specs.Edges.{edges}
 use Rattle.acta_axioms.specs.Index.{nowhere, course_in, course_from, with_event, turn_in, turn_from, with_turn, traced_in, traced_from, onward_in, onward_from, held_from, numbered, IsIndex}
@@ -33,7 +33,7 @@ get_or-blank (suc n) (suc t) x = get_or-blank n t x
 pub courses-blank : {A : Type 0} (rows : List Firsts) (n p t : ℕ) (ks : List (Kept A)) → rows ≡ replicate n nowhere → ks ≡ [] → course_in rows t ≡ course_from p ks t
 courses-blank {A} rows n p t ks blank none =
     ap (λ (xs : List Firsts). course_in xs t) blank
-    ∙ ap (λ (row : Firsts). let c : Course = record { start = row.start; commit = row.commit; abort = row.abort } in c) (get_or-blank n t nowhere)
+    ∙ ap (λ (row : Firsts). let c : Course = record { start = row.start; commit = row.commit; abort = row.abort; join = row.join } in c) (get_or-blank n t nowhere)
     ∙ ap (λ (xs : List (Kept A)). course_from p xs t) (sym none)
 
 -- nor a turn
@@ -60,6 +60,7 @@ course-from h t = λ i. record {
   start = sym (first_from (starts t) [] h) i;
   commit = sym (first_from (commits t) [] h) i;
   abort = sym (first_from (aborts t) [] h) i;
+  join = sym (first_from (joins t) [] h) i;
 }
 
 -- one item more, in a pass from the back

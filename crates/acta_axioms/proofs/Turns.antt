@@ -8,7 +8,7 @@ use Rattle.std.proofs.lemmas.Option.{none-some, same_Some}
 use Rattle.acta_table.specs.declared.answer.Fate.{Fate}
 use Rattle.acta_table.specs.declared.answer.Fate.TheVariants.{Committed, Aborted}
 use Rattle.acta_table.specs.declared.event.Event.{Event}
-use Rattle.acta_table.specs.declared.event.Event.TheVariants.{Delegate, Commit, Abort}
+use Rattle.acta_table.specs.declared.event.Event.TheVariants.{Split, Join, Delegate, Commit, Abort}
 use Rattle.acta_table.specs.declared.event.Kept.{Kept}
 use Rattle.acta_table.specs.declared.event.TxnId.{TxnId}
 use Rattle.acta_table.specs.declared.model.Parts.{Parts}
@@ -79,6 +79,8 @@ onward-there n (suc i) (k ∷ ks) w d within =
 
 -- one that is no turn of t leaves it
 followed-quiet : {A : Type 0} (m : Parts A) (before : List (Kept A)) (o t : ℕ) (e : Event A) → turns t e ≡ false → followed m before o t e ≡ held_by t
+followed-quiet m before o t (Split s u class ops) quiet = λ i. if quiet i && is_named ops o then held_by u.0 else held_by t
+followed-quiet m before o t (Join s u) quiet = λ i. if quiet i then held_by u.0 else held_by t
 followed-quiet m before o t (Delegate s u ops) quiet = λ i. if quiet i && is_named ops o then held_by u.0 else held_by t
 followed-quiet m before o t (Commit s) quiet = λ i. if quiet i then ended_by t Committed else held_by t
 followed-quiet m before o t (Abort s) quiet = λ i. if quiet i then ended_by t Aborted else held_by t
@@ -90,6 +92,12 @@ stands_behind t (On u next) = held_by u.0
 stands_behind t (Ended fate) = ended_by t.0 fate
 
 followed-turn : {A : Type 0} (m : Parts A) (before : List (Kept A)) (behind : Onward) (o : ℕ) (t : TxnId) (e : Event A) → turns t.0 e ≡ true → followed m before o t.0 e ≡ stands_behind t (turned_by behind o t e)
+followed-turn m before behind o t (Split s u class ops) is = (λ i. if is i && is_named ops o then held_by u.0 else held_by t.0) ∙ of_test (is_named ops o)
+  where
+    of_test : (b : Bool) → (if b then held_by u.0 else held_by t.0) ≡ stands_behind t (if b then On u behind.partner else On t behind.own)
+    of_test true = refl
+    of_test false = refl
+followed-turn m before behind o t (Join s u) is = λ i. if is i then held_by u.0 else held_by t.0
 followed-turn m before behind o t (Delegate s u ops) is = (λ i. if is i && is_named ops o then held_by u.0 else held_by t.0) ∙ of_test (is_named ops o)
   where
     of_test : (b : Bool) → (if b then held_by u.0 else held_by t.0) ≡ stands_behind t (if b then On u behind.partner else On t behind.own)
@@ -105,6 +113,12 @@ GoesOn turn (On u next) = next ≡ turn u.0
 GoesOn turn (Ended fate) = is_open fate ≡ false
 
 turned-on : {A : Type 0} (turn : ℕ → Option ℕ) (o : ℕ) (t : TxnId) (e : Event A) → turns t.0 e ≡ true → GoesOn turn (turned_by (onward_in turn e) o t e)
+turned-on turn o t (Split s u class ops) is = of_test (is_named ops o)
+  where
+    of_test : (b : Bool) → GoesOn turn (if b then On u (turn u.0) else On t (turn s.0))
+    of_test true = refl
+    of_test false = ap turn (eqb-true s.0 t.0 is)
+turned-on turn o t (Join s u) is = refl
 turned-on turn o t (Delegate s u ops) is = of_test (is_named ops o)
   where
     of_test : (b : Bool) → GoesOn turn (if b then On u (turn u.0) else On t (turn s.0))

@@ -11,7 +11,7 @@ use Rattle.std.proofs.lemmas.Bool.{true≢false, cases_eq, eq-eqb, ne_eqb}
 use Rattle.acta_table.specs.declared.answer.Fate.{Fate}
 use Rattle.acta_table.specs.declared.answer.Fate.TheVariants.{InProgress, Committed, Aborted}
 use Rattle.acta_table.specs.declared.event.Event.{Event}
-use Rattle.acta_table.specs.declared.event.Event.TheVariants.{Delegate, Commit, Abort}
+use Rattle.acta_table.specs.declared.event.Event.TheVariants.{Split, Join, Delegate, Commit, Abort}
 use Rattle.acta_table.specs.declared.event.Kept.{Kept}
 use Rattle.acta_table.specs.declared.model.Kind.{Kind}
 use Rattle.acta_table.specs.declared.model.Parts.{Parts}
@@ -44,6 +44,16 @@ unaborted m h o t (Commit s) not_abort = of_commit (s.0 == t)
     of_commit : (b : Bool) → is_in_view (if b then ended_by t Committed else held_by t) ≡ true
     of_commit true = refl
     of_commit false = refl
+unaborted m h o t (Split s u class ops) not_abort = of_split ((s.0 == t) && is_named ops o)
+  where
+    of_split : (b : Bool) → is_in_view (if b then held_by u.0 else held_by t) ≡ true
+    of_split true = refl
+    of_split false = refl
+unaborted m h o t (Join s u) not_abort = of_join (s.0 == t)
+  where
+    of_join : (b : Bool) → is_in_view (if b then held_by u.0 else held_by t) ≡ true
+    of_join true = refl
+    of_join false = refl
 unaborted m h o t (Delegate s u ops) not_abort = of_delegate ((s.0 == t) && is_named ops o)
   where
     of_delegate : (b : Bool) → is_in_view (if b then held_by u.0 else held_by t) ≡ true

@@ -4,7 +4,7 @@ use Rattle.std.specs.List.{list_all}
 use Rattle.acta_table.specs.declared.dep.Edge.{Edge}
 use Rattle.acta_table.specs.declared.event.Kept.{Kept}
 use Rattle.acta_table.specs.declared.answer.Status.{Status}
-use Rattle.acta_table.specs.declared.answer.Status.TheVariants.{NotBegun, InProgress, Committed, Aborted}
+use Rattle.acta_table.specs.declared.answer.Status.TheVariants.{NotBegun, InProgress, Committed, Aborted, Joined}
 use Rattle.acta_table.specs.declared.model.Parts.{Parts}
 use Rattle.acta_axioms.specs.History.{Course, course, end}
 use Rattle.acta_axioms.specs.Edges.{edges}
@@ -16,9 +16,11 @@ pub record MeetsAxioms {A : Type 0} (m : Parts A) (h : List (Kept A)) : Type 0 w
   pub faultless : faults_in_places m h ≡ []
   pub legal : is_legal m h ≡ true
 
--- whether a course that has an end has a start, and has not both a commit and an abort
+-- whether a course that has an end has a start, and has at most one of commit, abort and join
 abbrev pub is_orderly : Course → Bool
-is_orderly c = (is_some c.start || not (is_some (end c))) && not (is_some c.commit && is_some c.abort)
+is_orderly c =
+    (is_some c.start || not (is_some (end c))) && not (is_some c.commit && is_some c.abort)
+    && not (is_some c.commit && is_some c.join) && not (is_some c.abort && is_some c.join)
 
 -- whether the edge joins two transactions
 abbrev pub is_apart : Edge → Bool
@@ -34,6 +36,7 @@ abbrev pub status_in : Course → Status
 status_in c =
     if is_some c.commit then Committed
     else if is_some c.abort then Aborted
+    else if is_some c.join then Joined
     else if is_some c.start then InProgress
     else NotBegun
 

@@ -9,7 +9,7 @@ use Rattle.acta_table.specs.declared.event.Ret.TheVariants.{Done, Value, Flag}
 use Rattle.acta_table.specs.declared.event.EventKind.{EventKind}
 use Rattle.acta_table.specs.declared.event.EventKind.TheVariants.{Form as form_kind}
 use Rattle.acta_table.specs.declared.event.Event.{Event}
-use Rattle.acta_table.specs.declared.event.Event.TheVariants.{Delegate, Form, Operate, Commit, Abort}
+use Rattle.acta_table.specs.declared.event.Event.TheVariants.{Split, Join, Delegate, Form, Operate, Commit, Abort}
 use Rattle.acta_table.specs.declared.event.Kept.{Kept}
 use Rattle.acta_table.specs.declared.model.Parts.{Parts}
 use Rattle.acta_table.specs.Events.{kind_of, named, acting, started, class_named, operations_named, hands_over}
@@ -36,6 +36,7 @@ first_named e = get_or (named e) 0 0
 
 -- the transaction that the event ends
 abbrev pub ended : {A : Type 0} → Event A → List ℕ
+ended (Join t u) = t.0 ∷ []
 ended (Commit t) = t.0 ∷ []
 ended (Abort t) = t.0 ∷ []
 ended _ = []
@@ -73,7 +74,7 @@ lacks_start m e =
 abbrev pub lacks_kind : {A : Type 0} → Parts A → List (Kept A) → EventKind → ℕ → Bool
 lacks_kind m before kind t = has_class (λ k. not (can_do kind k)) m before t
 
--- whether an edge is formed where no class may form any, or of one whose class may not
+-- whether an edge is formed, by an event of its own, where no class may form any, or of one whose class may not
 abbrev pub cannot_form : {A : Type 0} → Parts A → List (Kept A) → Event A → Bool
 cannot_form m before (Form kind j i) =
     not (list_any (can_do form_kind) m.classes)
@@ -87,12 +88,14 @@ not_allowed m before e =
     let lacks_its_kind = option_map_or (lacks_kind m before (kind_of e)) (acting e) false in
     when (lacks_start m e || (lacks_its_kind || cannot_form m before e)) (first_named e)
 
--- the transactions that take part in an event beside ending, and have to be in progress
+-- the transactions that take part in an event beside ending, and have to be in progress, each once
 abbrev pub party : {A : Type 0} → Event A → List ℕ
-party (Delegate t u ops) = t.0 ∷ u.0 ∷ []
+party (Split t u class ops) = t.0 ∷ []
+party (Join t u) = u.0 ∷ []
+party (Delegate t u ops) = if t.0 == u.0 then t.0 ∷ [] else t.0 ∷ u.0 ∷ []
 party _ = []
 
--- parties in progress: one that delegates, or is handed something, is not in progress
+-- parties in progress: one that splits or delegates, or is joined or handed something, is not in progress
 abbrev pub idle_party : {A : Type 0} → List (Kept A) → Event A → List ℕ
 idle_party before e = filter (λ t. not (is_in_progress before t)) (party e)
 
@@ -145,7 +148,8 @@ wrong_return m before ret (Operate t object op) =
     when (is_well_formed m object.0 op && is_wrong) (number_after before)
 wrong_return m before ret _ = when (is_some ret) 0
 
--- formed in time: an edge of a begin kind where j has begun, or of another where j or i has ended
+-- formed in time: an edge that an event of its own forms is of a begin kind where j has begun, or of another
+-- where j or i has ended
 abbrev pub formed_late : {A : Type 0} → List (Kept A) → Event A → List ℕ
 formed_late before (Form kind j i) =
     if is_begin_kind kind

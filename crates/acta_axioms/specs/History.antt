@@ -4,7 +4,7 @@
 use Rattle.std.specs.Prelude.{ℕ, ◌+◌, Bool, false, ◌&&◌, not, ◌==◌, min, List, [], ◌∷◌, ◌++◌, length, find, Option, Some, None, option_map, is_some}
 use Rattle.std.specs.Option.{option_map_or, option_and_then}
 use Rattle.acta_table.specs.declared.event.Event.{Event}
-use Rattle.acta_table.specs.declared.event.Event.TheVariants.{Commit, Abort}
+use Rattle.acta_table.specs.declared.event.Event.TheVariants.{Join, Commit, Abort}
 use Rattle.acta_table.specs.declared.event.Kept.{Kept}
 use Rattle.acta_table.specs.declared.model.Class.{Class}
 use Rattle.acta_table.specs.declared.model.Parts.{Parts}
@@ -48,11 +48,17 @@ abbrev pub aborts : {A : Type 0} → ℕ → Event A → Bool
 aborts t (Abort u) = u.0 == t
 aborts t _ = false
 
--- the first places of a transaction's start, commit and abort
+-- whether by the event t joins another
+abbrev pub joins : {A : Type 0} → ℕ → Event A → Bool
+joins t (Join u v) = u.0 == t
+joins t _ = false
+
+-- the first places of a transaction's start, commit and abort, and of its joining another
 pub record Course : Type 0 where
   pub start : Option ℕ
   pub commit : Option ℕ
   pub abort : Option ℕ
+  pub join : Option ℕ
 
 -- the course of t in a history
 abbrev pub course : {A : Type 0} → List (Kept A) → ℕ → Course
@@ -60,6 +66,7 @@ course h t = record {
   start = option_map number (first (starts t) h);
   commit = option_map number (first (commits t) h);
   abort = option_map number (first (aborts t) h);
+  join = option_map number (first (joins t) h);
 }
 
 -- the smaller of two places, of those that are there
@@ -69,7 +76,7 @@ least (Some m) n = Some (option_map_or (min m) n m)
 
 -- where the transaction first ended, in any way
 abbrev pub end : Course → Option ℕ
-end c = least c.commit c.abort
+end c = least c.commit (least c.abort c.join)
 
 -- whether t has started
 abbrev pub has_begun : {A : Type 0} → List (Kept A) → ℕ → Bool

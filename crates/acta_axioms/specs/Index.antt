@@ -4,7 +4,7 @@ use Rattle.std.specs.List.{position_from, cons_option}
 use Rattle.acta_table.specs.declared.dep.Edge.{Edge}
 use Rattle.acta_table.specs.declared.answer.Fate.TheVariants.{Committed, Aborted}
 use Rattle.acta_table.specs.declared.event.Event.{Event}
-use Rattle.acta_table.specs.declared.event.Event.TheVariants.{Delegate, Operate, Commit, Abort}
+use Rattle.acta_table.specs.declared.event.Event.TheVariants.{Split, Join, Delegate, Operate, Commit, Abort}
 use Rattle.acta_table.specs.declared.event.Kept.{Kept}
 use Rattle.acta_table.specs.declared.event.TxnId.{TxnId}
 use Rattle.acta_table.specs.declared.model.Parts.{Parts}
@@ -15,19 +15,19 @@ use Rattle.acta_axioms.specs.declared.follow.Turn.TheVariants.{On, Ended}
 use Rattle.acta_axioms.specs.declared.index.Firsts.{Firsts}
 use Rattle.acta_axioms.specs.declared.index.Onward.{Onward}
 use Rattle.acta_axioms.specs.declared.index.Traced.{Traced}
-use Rattle.acta_axioms.specs.History.{Course, course, places, starts, commits, aborts}
+use Rattle.acta_axioms.specs.History.{Course, course, places, starts, commits, aborts, joins}
 use Rattle.acta_axioms.specs.Operations.{Standing, held_by, carried}
 use Rattle.acta_axioms.specs.Edges.{edges}
 
 -- no place
 abbrev pub nowhere : Firsts
-nowhere = record { start = None; commit = None; abort = None; turn = None }
+nowhere = record { start = None; commit = None; abort = None; join = None; turn = None }
 
 -- the course of t by a table of first places, which has none for those behind its end
 abbrev pub course_in : List Firsts → ℕ → Course
 course_in rows t =
     let row = get_or rows t nowhere in
-    record { start = row.start; commit = row.commit; abort = row.abort }
+    record { start = row.start; commit = row.commit; abort = row.abort; join = row.join }
 
 -- the course of t in items of which the first stands at the place n
 abbrev pub course_from : {A : Type 0} → ℕ → List (Kept A) → ℕ → Course
@@ -35,6 +35,7 @@ course_from n ks t = record {
   start = position_from (λ k. starts t k.event) n ks;
   commit = position_from (λ k. commits t k.event) n ks;
   abort = position_from (λ k. aborts t k.event) n ks;
+  join = position_from (λ k. joins t k.event) n ks;
 }
 
 -- the course with one more event, which stands at the place n before the others
@@ -43,10 +44,13 @@ with_event n e t c = record {
   start = if starts t e then Some n else c.start;
   commit = if commits t e then Some n else c.commit;
   abort = if aborts t e then Some n else c.abort;
+  join = if joins t e then Some n else c.join;
 }
 
--- whether the event is a turn of t: an end of it, or a delegation by it
+-- whether the event is a turn of t: an end of it, or a split or a delegation by it
 abbrev pub turns : {A : Type 0} → ℕ → Event A → Bool
+turns t (Split s u class ops) = s.0 == t
+turns t (Join s u) = s.0 == t
 turns t (Delegate s u ops) = s.0 == t
 turns t (Commit s) = s.0 == t
 turns t (Abort s) = s.0 == t
@@ -75,8 +79,11 @@ traced_from n [] = []
 traced_from n (k ∷ ks) =
     cons_option (traced_in n (turn_from (n + 1) ks) k.event) (traced_from (n + 1) ks)
 
--- the first turns behind a delegation, of the one that delegates and of its partner
+-- the first turns behind a split or a delegation, of the one that splits or delegates and of the one that
+-- is handed the operations; behind a join that of the one that is joined
 abbrev pub onward_in : {A : Type 0} → (ℕ → Option ℕ) → Event A → Onward
+onward_in turn (Split t u class ops) = record { own = turn t.0; partner = turn u.0 }
+onward_in turn (Join t u) = record { own = None; partner = turn u.0 }
 onward_in turn (Delegate t u ops) = record { own = turn t.0; partner = turn u.0 }
 onward_in turn _ = record { own = None; partner = None }
 
@@ -87,6 +94,9 @@ onward_from n (k ∷ ks) = onward_in (turn_from (n + 1) ks) k.event ∷ onward_f
 
 -- what becomes of operation o, which t holds, at a turn of t
 abbrev pub turned_by : {A : Type 0} → Onward → ℕ → TxnId → Event A → Turn
+turned_by behind o t (Split s u class ops) =
+    if is_named ops o then On u behind.partner else On t behind.own
+turned_by behind o t (Join s u) = On u behind.partner
 turned_by behind o t (Delegate s u ops) =
     if is_named ops o then On u behind.partner else On t behind.own
 turned_by behind o t (Commit s) = Ended Committed

@@ -3,7 +3,7 @@ use Rattle.std.specs.Prelude.{ℕ, ◌+◌, Bool, true, false, ◌&&◌, not, �
 use Rattle.acta_table.specs.declared.event.Op.{Op}
 use Rattle.acta_table.specs.declared.event.Ret.{Ret}
 use Rattle.acta_table.specs.declared.event.Event.{Event}
-use Rattle.acta_table.specs.declared.event.Event.TheVariants.{Delegate, Operate, Commit, Abort}
+use Rattle.acta_table.specs.declared.event.Event.TheVariants.{Split, Join, Delegate, Operate, Commit, Abort}
 use Rattle.acta_table.specs.declared.event.Kept.{Kept}
 use Rattle.acta_table.specs.declared.answer.Fate.{Fate}
 use Rattle.acta_table.specs.declared.answer.Fate.TheVariants.{InProgress, Committed, Aborted}
@@ -64,6 +64,9 @@ ended_by t fate = record { holder = t; fate = fate }
 
 -- what becomes of operation o, which t holds in progress, at an event that stands behind these items
 abbrev pub followed : {A : Type 0} → Parts A → List (Kept A) → ℕ → ℕ → Event A → Standing
+followed m before o t (Split s u class ops) =
+    if (s.0 == t) && is_named ops o then held_by u.0 else held_by t
+followed m before o t (Join s u) = if s.0 == t then held_by u.0 else held_by t
 followed m before o t (Delegate s u ops) =
     if (s.0 == t) && is_named ops o then held_by u.0 else held_by t
 followed m before o t (Commit s) = if s.0 == t then ended_by t Committed else held_by t

@@ -12,3 +12,4 @@ pub record IsWithin (n : ℕ) (c : Course) : Type 0 where
   pub start : within n c.start
   pub commit : within n c.commit
   pub abort : within n c.abort
+  pub join : within n c.join

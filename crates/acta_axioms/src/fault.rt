@@ -14,7 +14,7 @@ pub enum Axiom {
     FormOfEvent,
     /// Classes start, act and form edges only as the model lets them.
     Allowed,
-    /// Only transactions in progress hand operations over, and to such.
+    /// Only transactions in progress split or hand operations over, and only such are joined or handed any.
     PartiesInProgress,
     /// A transaction hands over only operations that it holds in progress.
     Responsible,

@@ -1,6 +1,7 @@
-ghost use Rattle.std.specs.Prelude.{◌≡◌, ◌+◌, ◌≤◌, Option, option_map, take, drop};
+ghost use Rattle.std.specs.Prelude.{◌≡◌, ◌+◌, ◌≤◌, if◌then◌else◌, Option, option_map, take, drop};
 ghost use Rattle.acta_table.specs.declared.model.Parts.{Parts};
 ghost use Rattle.acta_table.specs.Sets.{is_named};
+ghost use Rattle.acta_axioms.specs.declared.follow.Turn.TheVariants.{On};
 ghost use Rattle.acta_axioms.specs.Operations.{standing_of};
 ghost use Rattle.acta_axioms.specs.Index.{turn_from, traced_from, onward_from, turned_by, held_from, standing_in};
 
@@ -31,18 +32,25 @@ fn names<A: Allocator>(ops: &OpSet<A>, op: OpNo) -> bool
     ops.as_slice().iter().any(|o| o.0 == op.0)
 }
 
+// What becomes of an operation where its holder hands this set to u, and the next turns behind are known.
+fn handed<A: Allocator>(behind: Onward, op: OpNo, holder: TxnId, u: TxnId, ops: &OpSet<A>) -> Turn
+    ensures { result ≡ (if is_named ops.now op.0 then On u behind.partner else On holder behind.own) }
+{
+    if names(ops, op) {
+        Turn::On(u, behind.partner)
+    } else {
+        Turn::On(holder, behind.own)
+    }
+}
+
 // What becomes of an operation at this event, a turn of its holder, where the next turns behind are known.
 fn turned<A: Allocator>(behind: Onward, op: OpNo, holder: TxnId, event: &Event<A>) -> Turn
     ensures { result ≡ turned_by behind op.0 holder event.now }
 {
     match event {
-        Event::Delegate(_, u, ops) => {
-            if names(ops, op) {
-                Turn::On(*u, behind.partner)
-            } else {
-                Turn::On(holder, behind.own)
-            }
-        }
+        Event::Split(_, u, _, ops) => handed(behind, op, holder, *u, ops),
+        Event::Join(_, u) => Turn::On(*u, behind.partner),
+        Event::Delegate(_, u, ops) => handed(behind, op, holder, *u, ops),
         Event::Commit(_) => Turn::Ended(Fate::Committed),
         Event::Abort(_) => Turn::Ended(Fate::Aborted),
         _ => Turn::On(holder, None),

@@ -6,13 +6,14 @@ ghost use Rattle.acta_axioms.specs.Index.{nowhere, course_in, course_from, with_
 use acta_table::{Event, Kept, TxnId};
 use std::alloc::{AllocError, Allocator};
 
-/// The first places of a transaction's start, commit and abort, and of its first turn, from 1. A turn of a
-/// transaction is an event by which it ends or delegates.
+/// The first places of a transaction's start, commit, abort and join, and of its first turn, from 1. A turn
+/// of a transaction is an event by which it ends, splits or delegates.
 #[derive(Clone, Copy, PartialEq, Eq, Debug)]
 pub struct Firsts {
     pub start: Option<u32>,
     pub commit: Option<u32>,
     pub abort: Option<u32>,
+    pub join: Option<u32>,
     pub turn: Option<u32>,
 }
 
@@ -24,8 +25,9 @@ pub struct Traced {
     pub turn: Option<u32>,
 }
 
-/// Where to look on from a delegation: the next turn behind it of the one that delegates, and of the one that
-/// is handed the operations. No place follows where there is no delegation.
+/// Where to look on from a split, a join or a delegation: the next turn behind it of the one that splits or
+/// delegates, and of the one that holds the operations then. No place is given for one that joins, nor where
+/// the event is another.
 #[derive(Clone, Copy, PartialEq, Eq, Debug)]
 pub struct Onward {
     pub own: Option<u32>,
@@ -33,7 +35,7 @@ pub struct Onward {
 }
 
 /// What is found in one pass over a history: the first places by the numbers of the transactions, the
-/// operations in order, and by places where to look on from delegations.
+/// operations in order, and by places where to look on from splits, joins and delegations.
 #[derive(Drop)]
 pub struct Index<A: Allocator> {
     pub firsts: Vec<Firsts, A>,
@@ -45,6 +47,7 @@ const NOWHERE: Firsts = Firsts {
     start: None,
     commit: None,
     abort: None,
+    join: None,
     turn: None,
 };
 
@@ -54,6 +57,8 @@ fn largest_in<A: Allocator>(event: &Event<A>) -> u16
 {
     match event {
         Event::Begin(t, _) => t.0,
+        Event::Split(t, u, _, _) => t.0.max(u.0),
+        Event::Join(t, u) => t.0.max(u.0),
         Event::Delegate(t, u, _) => t.0.max(u.0),
         Event::Form(_, j, i) => j.0.max(i.0),
         Event::Operate(t, _, _) => t.0,
@@ -105,8 +110,12 @@ fn look_on<A: Allocator>(rows: &[Firsts], event: &Event<A>) -> Onward
     ensures { result ≡ onward_in (turn_in rows.now) event.now }
 {
     match event {
-        Event::Delegate(t, u, _) => Onward {
+        Event::Split(t, u, _, _) | Event::Delegate(t, u, _) => Onward {
             own: row(rows, *t).turn,
+            partner: row(rows, *u).turn,
+        },
+        Event::Join(_, u) => Onward {
+            own: None,
             partner: row(rows, *u).turn,
         },
         _ => Onward {
@@ -124,6 +133,14 @@ fn note<A: Allocator>(rows: &mut [Firsts], place: u32, event: &Event<A>)
 {
     match event {
         Event::Begin(t, _) => rows[t.0 as usize].start = Some(place),
+        Event::Split(t, u, _, _) => {
+            rows[t.0 as usize].turn = Some(place);
+            rows[u.0 as usize].start = Some(place);
+        }
+        Event::Join(t, _) => {
+            rows[t.0 as usize].join = Some(place);
+            rows[t.0 as usize].turn = Some(place);
+        }
         Event::Delegate(t, _, _) => rows[t.0 as usize].turn = Some(place),
         Event::Form(_, _, _) => {}
         Event::Operate(_, _, _) => {}

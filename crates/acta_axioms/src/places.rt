@@ -12,8 +12,8 @@ use std::alloc::{AllocError, Allocator};
 
 /// A model and a list of kept items, legal or not, to be asked by places, as ACTA speaks of histories.
 /// The list is read once, into an index (ours), and no question goes over it again: one about an operation
-/// goes from turn to turn of those who hold it, where a turn is an end or a delegation. Contracts see the
-/// model and the list.
+/// goes from turn to turn of those who hold it, where a turn is an end, a split or a delegation. Contracts
+/// see the model and the list.
 #[derive(Drop)]
 pub struct Places<'a, A: Allocator> {
     model: &'a Model<A>,
@@ -50,7 +50,7 @@ impl<'a, A: Allocator + Copy> Places<'a, A> {
             traced,
             onward,
         } = index_of(alloc, kept)?;
-        let in_force = edges_of(alloc, kept)?;
+        let in_force = edges_of(alloc, model, kept)?;
         Ok(Places {
             model,
             kept,
@@ -96,6 +96,13 @@ impl<'a, A: Allocator> Places<'a, A> {
         ensures { result ≡ (course self.now.history t.0).abort }
     {
         row(self.firsts.as_slice(), t).abort
+    }
+
+    /// The first place, from 1, at which the transaction joins another (ACTA's join), begun or not.
+    pub fn join(&self, t: TxnId) -> Option<u32>
+        ensures { result ≡ (course self.now.history t.0).join }
+    {
+        row(self.firsts.as_slice(), t).join
     }
 
     /// Who holds the operation (ACTA's responsible transaction) after the first n places, or after all

@@ -1,13 +1,13 @@
 use crate::places::Places;
 use acta_table::{
-    Class, ClassId, Dep, Edge, Event, Extent, Fate, Items, Kept, Kind, Kinds, Model, ObjId, Object,
-    Op, OpNo, OpSet, Parts, Ret, Starts, TxnId,
+    Class, ClassId, Dep, Dependent, Edge, Event, Extent, Fate, Items, Kept, Kind, Kinds, Model,
+    ObjId, Object, Op, OpNo, OpSet, Parts, Ret, StartEdge, StartEdges, Starts, TxnId,
 };
 use std::alloc::Global;
 use std::test::Fail;
 
-// A model of the register x and a class that may all.
-fn atomic(alloc: Global) -> Result<Model<Global>, Fail> {
+// A model of the register x and a class that may all, and wants these edges where it is split off.
+fn model_of(alloc: Global, split_edges: StartEdges<Global>) -> Result<Model<Global>, Fail> {
     let mut objects = Vec::new(alloc);
     objects.push(Object {
         name: Items::of(vec![in alloc; b'x']?),
@@ -19,16 +19,40 @@ fn atomic(alloc: Global) -> Result<Model<Global>, Fail> {
         starts: Starts {
             begin: true,
             spawned: false,
-            split: false,
+            split: true,
         },
-        may: Kinds::OPERATE.union(Kinds::COMMIT).union(Kinds::ABORT),
+        may: Kinds::OPERATE
+            .union(Kinds::SPLIT)
+            .union(Kinds::JOIN)
+            .union(Kinds::COMMIT)
+            .union(Kinds::ABORT),
         extent: Extent::Any,
+        split_edges,
     })?;
     let parts = Parts {
         objects: Items::of(objects),
         classes: Items::of(classes),
     };
     Ok(Model::check(parts)?)
+}
+
+// The same, where the class wants no edges.
+fn atomic(alloc: Global) -> Result<Model<Global>, Fail> {
+    model_of(alloc, StartEdges::new(alloc))
+}
+
+// The same, where it wants an edge in each direction.
+fn parting(alloc: Global) -> Result<Model<Global>, Fail> {
+    let of_starter = StartEdge {
+        kind: Dep::Cd,
+        dependent: Dependent::Starter,
+    };
+    let of_started = StartEdge {
+        kind: Dep::Ad,
+        dependent: Dependent::Started,
+    };
+    let edges = [of_starter, of_started];
+    model_of(alloc, StartEdges::of(alloc, &edges)?)
 }
 
 fn plain(event: Event<Global>) -> Kept<Global> {
@@ -39,12 +63,25 @@ fn begin(t: u16) -> Kept<Global> {
     plain(Event::Begin(TxnId(t), ClassId(0)))
 }
 
-fn delegate(alloc: Global, t: u16, u: u16, ops: &[u32]) -> Result<Kept<Global>, Fail> {
+fn op_set(alloc: Global, ops: &[u32]) -> Result<OpSet<Global>, Fail> {
     let mut numbers = Vec::new(alloc);
     for op in ops {
         numbers.push(OpNo(*op))?;
     }
-    let ops = OpSet::of(alloc, numbers.as_slice())?;
+    Ok(OpSet::of(alloc, numbers.as_slice())?)
+}
+
+fn split(alloc: Global, t: u16, u: u16, class: u8, ops: &[u32]) -> Result<Kept<Global>, Fail> {
+    let ops = op_set(alloc, ops)?;
+    Ok(plain(Event::Split(TxnId(t), TxnId(u), ClassId(class), ops)))
+}
+
+fn join(t: u16, u: u16) -> Kept<Global> {
+    plain(Event::Join(TxnId(t), TxnId(u)))
+}
+
+fn delegate(alloc: Global, t: u16, u: u16, ops: &[u32]) -> Result<Kept<Global>, Fail> {
+    let ops = op_set(alloc, ops)?;
     Ok(plain(Event::Delegate(TxnId(t), TxnId(u), ops)))
 }
 
@@ -274,6 +311,123 @@ fn follows_delegations(rt: HostRuntime) -> Result<(), Fail> {
     Ok(())
 }
 
+// One splits off a second with the first of its operations and joins it, and that joins a third, which commits.
+fn parted(alloc: Global) -> Result<[Kept<Global>; 9], Fail> {
+    let of_first = split(alloc, 1, 2, 0, &[1])?;
+    Ok([
+        begin(1),
+        write(1, 0),
+        write(1, 0),
+        of_first,
+        write(2, 0),
+        join(1, 2),
+        begin(3),
+        join(2, 3),
+        commit(3),
+    ])
+}
+
+// None of these began but by a split. One that doesn't hold the operation splits it off, and one that holds nothing
+// joins; its holder splits it off from itself and joins itself, then splits it off, and joins once more.
+fn adrift(alloc: Global) -> Result<[Kept<Global>; 9], Fail> {
+    let by_another = split(alloc, 8, 9, 0, &[1])?;
+    let from_itself = split(alloc, 7, 7, 0, &[1])?;
+    let of_first = split(alloc, 7, 0, 0, &[2, 1])?;
+    Ok([
+        write(7, 0),
+        by_another,
+        join(9, 8),
+        from_itself,
+        join(7, 7),
+        of_first,
+        join(0, 65535),
+        join(7, 1),
+        abort(65535),
+    ])
+}
+
+#[test]
+fn follows_splits_and_joins(rt: HostRuntime) -> Result<(), Fail> {
+    let model = parting(rt.alloc())?;
+    let kept = parted(rt.alloc())?;
+    let places = Places::of(rt.alloc(), &model, &kept)?;
+    // An operation and a number of places, who holds it there, and its fate.
+    let rows = [
+        (1, 3, 1, Fate::InProgress),
+        (1, 4, 2, Fate::InProgress),
+        (1, 7, 2, Fate::InProgress),
+        (1, 8, 3, Fate::InProgress),
+        (1, 9, 3, Fate::Committed),
+        (2, 5, 1, Fate::InProgress),
+        (2, 6, 2, Fate::InProgress),
+        (2, 9, 3, Fate::Committed),
+        (3, 7, 2, Fate::InProgress),
+        (3, 8, 3, Fate::InProgress),
+    ];
+    for (op, n, t, fate) in rows {
+        assert_eq!(rt; places.holder(OpNo(op), n), Some(TxnId(t)));
+        assert_eq!(rt; places.fate(OpNo(op), n), Some(fate));
+    }
+    Ok(())
+}
+
+#[test]
+fn follows_unruly_splits_and_joins(rt: HostRuntime) -> Result<(), Fail> {
+    let model = parting(rt.alloc())?;
+    let kept = adrift(rt.alloc())?;
+    let places = Places::of(rt.alloc(), &model, &kept)?;
+    let rows = [
+        (3, 7, Fate::InProgress),
+        (5, 7, Fate::InProgress),
+        (6, 0, Fate::InProgress),
+        (8, 65535, Fate::InProgress),
+        (9, 65535, Fate::Aborted),
+    ];
+    for (n, t, fate) in rows {
+        assert_eq!(rt; places.holder(OpNo(1), n), Some(TxnId(t)));
+        assert_eq!(rt; places.fate(OpNo(1), n), Some(fate));
+    }
+    Ok(())
+}
+
+#[test]
+fn finds_joins(rt: HostRuntime) -> Result<(), Fail> {
+    let model = parting(rt.alloc())?;
+    let kept = parted(rt.alloc())?;
+    let places = Places::of(rt.alloc(), &model, &kept)?;
+    // A transaction, and its start, its join and its commit.
+    let rows = [
+        (1, Some(1), Some(6), None),
+        (2, Some(4), Some(8), None),
+        (3, Some(7), None, Some(9)),
+    ];
+    for (t, start, joined, committed) in rows {
+        assert_eq!(rt; places.start(TxnId(t)), start);
+        assert_eq!(rt; places.join(TxnId(t)), joined);
+        assert_eq!(rt; places.commit(TxnId(t)), committed);
+    }
+    Ok(())
+}
+
+#[test]
+fn finds_unruly_joins(rt: HostRuntime) -> Result<(), Fail> {
+    let model = parting(rt.alloc())?;
+    let kept = adrift(rt.alloc())?;
+    let places = Places::of(rt.alloc(), &model, &kept)?;
+    // A transaction, and its start and its join.
+    let rows = [
+        (7, Some(4), Some(5)),
+        (8, None, None),
+        (9, Some(2), Some(3)),
+        (0, Some(6), Some(7)),
+    ];
+    for (t, start, joined) in rows {
+        assert_eq!(rt; places.start(TxnId(t)), start);
+        assert_eq!(rt; places.join(TxnId(t)), joined);
+    }
+    Ok(())
+}
+
 // Whether the edges are the first of these, as many as counted.
 fn are_first(edges: &[Edge], count: usize, of: [Edge; 4]) -> bool {
     edges.len() == count && of.starts_with(edges)
@@ -336,5 +490,43 @@ fn lists_edges(rt: HostRuntime) -> Result<(), Fail> {
         let places = Places::of(rt.alloc(), &model, kept)?;
         assert!(rt; are_first(places.edges(), count, want));
     }
+    Ok(())
+}
+
+// Two splits that form the same edges, one with a class that is not in the model, and one the other way round.
+fn splits(alloc: Global) -> Result<[Kept<Global>; 5], Fail> {
+    let first = split(alloc, 1, 2, 0, &[])?;
+    let again = split(alloc, 1, 2, 0, &[])?;
+    let unknown = split(alloc, 3, 4, 1, &[])?;
+    let back = split(alloc, 2, 1, 0, &[])?;
+    let formed = form(Dep::Ad, 2, 1);
+    Ok([first, formed, again, unknown, back])
+}
+
+#[test]
+fn forms_edges_at_splits(rt: HostRuntime) -> Result<(), Fail> {
+    let model = parting(rt.alloc())?;
+    let kept = splits(rt.alloc())?;
+    let (of_first, of_second) = (edge(Dep::Cd, 1, 2), edge(Dep::Ad, 2, 1));
+    let (turned, other_turned) = (edge(Dep::Cd, 2, 1), edge(Dep::Ad, 1, 2));
+    let want = [of_first, of_second, turned, other_turned];
+    // How many of the events, and how many of these edges they form.
+    let rows = [(0, 0), (1, 2), (4, 2), (5, 4)];
+    for (n, count) in rows {
+        assert!(rt; n <= kept.len());
+        let places = Places::of(rt.alloc(), &model, &kept[..n])?;
+        assert!(rt; are_first(places.edges(), count, want));
+    }
+    Ok(())
+}
+
+// A class that wants no edges leaves the one that is formed by itself.
+#[test]
+fn forms_no_edge_at_plain_splits(rt: HostRuntime) -> Result<(), Fail> {
+    let model = atomic(rt.alloc())?;
+    let kept = splits(rt.alloc())?;
+    let formed = edge(Dep::Ad, 2, 1);
+    let places = Places::of(rt.alloc(), &model, &kept)?;
+    assert!(rt; are_first(places.edges(), 1, [formed; 4]));
     Ok(())
 }

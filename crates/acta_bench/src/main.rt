@@ -6,7 +6,7 @@
 use acta_axioms::Places;
 use acta_table::{
     Class, Event, Extent, Fate, Items, Kept, Kind, Kinds, Model, ObjId, Object, Op, OpNo, Parts,
-    Ret, Starts, TxnId,
+    Ret, StartEdges, Starts, TxnId,
 };
 use anyhow::{Context, Result, anyhow, ensure};
 use std::alloc::Global;
@@ -28,6 +28,7 @@ fn counting(alloc: Global) -> Result<Model<Global>> {
         },
         may: Kinds::OPERATE.union(Kinds::COMMIT),
         extent: Extent::Whole,
+        split_edges: StartEdges::new(alloc),
     };
     let parts = Parts {
         objects: Items::of(vec![in alloc; object]?),

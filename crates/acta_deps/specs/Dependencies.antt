@@ -92,11 +92,11 @@ unfoldable pub termination_dep : (ℕ → Status) → List Edge → ℕ → Opti
 termination_dep status edges t =
     broken_by TerminationDep (first_number (depends ends_after status t) edges)
 
--- t commits and owes an abort
+-- t commits, or joins another, and owes an abort
 unfoldable pub owing_abort : (ℕ → Status) → List Edge → ℕ → Option Refusal
 owing_abort status edges t = broken_by OwesAbort (first_number (owes_abort status t) edges)
 
--- t aborts and owes a commit
+-- t aborts, or joins another, and owes a commit
 unfoldable pub owing_commit : (ℕ → Status) → List Edge → ℕ → Option Refusal
 owing_commit status edges t = broken_by OwesCommit (first_number (owes_commit status t) edges)
 
@@ -153,3 +153,8 @@ abort_refusal status edges t = first_of (
     ∷ unpayable_abort status edges t
     ∷ clash status edges t Aborted
     ∷ [])
+
+-- the lowest rule that its joining another breaks
+unfoldable pub join_refusal : (ℕ → Status) → List Edge → ℕ → Option Refusal
+join_refusal status edges t =
+    first_of (owing_abort status edges t ∷ owing_commit status edges t ∷ [])

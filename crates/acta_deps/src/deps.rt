@@ -2,7 +2,7 @@ ghost use Rattle.std.specs.Prelude.{◌≡◌, ◌<◌, ◌≤◌, ◌+◌, ◌-
 ghost use Rattle.acta_table.specs.Edges.{formed};
 ghost use Rattle.acta_deps.specs.Deps.{status_in};
 ghost use Rattle.acta_deps.specs.Statuses.{with_status};
-ghost use Rattle.acta_deps.specs.Dependencies.{start_refusal, commit_refusal, abort_refusal};
+ghost use Rattle.acta_deps.specs.Dependencies.{start_refusal, commit_refusal, abort_refusal, join_refusal};
 
 use crate::forming::{add_edges, count_new};
 use acta_table::{Edge, Status, TxnId};
@@ -109,6 +109,19 @@ impl<A: Allocator> Deps<A> {
         ensures edges { self.new.edges ≡ self.old.edges }
     {
         self.set(t, Status::Aborted);
+    }
+
+    /// `t`, a number from 1 to 4,095 that is in progress, joins another, and so neither commits nor
+    /// aborts (ACTA's join of split transactions). Ask `may_join` first.
+    pub fn joined(&mut self, t: TxnId)
+        requires low { 0 < t.0 }
+        requires high { t.0 ≤ 4095 }
+        requires stands { status_in self.old t.0 ≡ Status.InProgress }
+        requires allowed { join_refusal (status_in self.old) self.old.edges t.0 ≡ None }
+        ensures status { status_in self.new ≡ with_status (status_in self.old) t.0 Status.Joined }
+        ensures edges { self.new.edges ≡ self.old.edges }
+    {
+        self.set(t, Status::Joined);
     }
 
     /// How many edges `form` would form of these: those not yet in force, each counted once.

@@ -3,7 +3,7 @@ ghost use Rattle.acta_table.specs.Numbered.{first_number};
 ghost use Rattle.acta_table.specs.Refusals.{broken_by};
 ghost use Rattle.acta_deps.specs.Deps.{status_in};
 ghost use Rattle.acta_deps.specs.Bars.{bars};
-ghost use Rattle.acta_deps.specs.Dependencies.{start_refusal, commit_refusal, abort_refusal};
+ghost use Rattle.acta_deps.specs.Dependencies.{start_refusal, commit_refusal, abort_refusal, join_refusal};
 
 use crate::bar::Bar;
 use crate::clash::Change;
@@ -89,5 +89,17 @@ impl<A: Allocator> Deps<A> {
             .or(self.broken(Rule::OwesCommit, Bar::OwesCommit, t))
             .or(self.broken(Rule::Unpayable, Bar::CannotPayAbort, t))
             .or(self.clash(change))
+    }
+
+    /// The lowest rule that `t` would break by joining another, with the smallest number of an edge
+    /// that breaks it. `None` where it breaks none (ACTA's dependencies; that one that joins
+    /// another neither commits nor aborts, and so breaks no other rule on dependencies, is ours).
+    #[tactic(auto, unfolding(crate::specs::Dependencies::join_refusal, crate::specs::Dependencies::owing_abort, crate::specs::Dependencies::owing_commit))]
+    pub fn may_join(&self, t: TxnId) -> Option<Refusal>
+        ensures { result ≡ join_refusal (status_in self.now) self.now.edges t.0 }
+    {
+        let owing_abort = self.broken(Rule::OwesAbort, Bar::OwesAbort, t);
+        let owing_commit = self.broken(Rule::OwesCommit, Bar::OwesCommit, t);
+        owing_abort.or(owing_commit)
     }
 }

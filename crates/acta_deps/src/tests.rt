@@ -9,11 +9,13 @@ enum Step {
     Start(u16),
     Commit(u16),
     Abort(u16),
+    Join(u16),
 }
 
 // Takes the step where it may be taken, and answers the rule that it breaks otherwise.
 fn take<A: Allocator>(deps: &mut Deps<A>, step: Step) -> Option<Refusal> {
-    let (Step::Start(number) | Step::Commit(number) | Step::Abort(number)) = step;
+    let (Step::Start(number) | Step::Commit(number) | Step::Abort(number) | Step::Join(number)) =
+        step;
     let t = TxnId(number);
     if number == 0 || number > 4095 {
         return None;
@@ -22,6 +24,7 @@ fn take<A: Allocator>(deps: &mut Deps<A>, step: Step) -> Option<Refusal> {
         Step::Start(_) => deps.may_start(t),
         Step::Commit(_) => deps.may_commit(t),
         Step::Abort(_) => deps.may_abort(t),
+        Step::Join(_) => deps.may_join(t),
     };
     let status = deps.status(t);
     if refusal.is_none() {
@@ -29,6 +32,7 @@ fn take<A: Allocator>(deps: &mut Deps<A>, step: Step) -> Option<Refusal> {
             Step::Start(_) if status == Status::NotBegun => deps.started(t),
             Step::Commit(_) if status == Status::InProgress => deps.committed(t),
             Step::Abort(_) if status == Status::InProgress => deps.aborted(t),
+            Step::Join(_) if status == Status::InProgress => deps.joined(t),
             _ => {}
         }
     }
@@ -67,9 +71,28 @@ const TWO_COMMITS: &[Step] = &[Step::Start(1), Step::Start(2), Step::Commit(2)];
 
 const TWO_ABORTS: &[Step] = &[Step::Start(1), Step::Start(2), Step::Abort(2)];
 
+const TWO_JOINS: &[Step] = &[Step::Start(1), Step::Start(2), Step::Join(2)];
+
 const COMMITTED_ALONE: &[Step] = &[Step::Start(1), Step::Commit(1)];
 
 const ABORTED_ALONE: &[Step] = &[Step::Start(1), Step::Abort(1)];
+
+// What refuses the step where the second edge is from 2 to 1, after steps that nothing refuses.
+fn refusal_after<A: Allocator + Copy>(
+    alloc: A,
+    kind: Dep,
+    before: &[Step],
+    step: Step,
+) -> Result<Option<Refusal>, AllocError> {
+    let mut deps = Deps::new(alloc)?;
+    form(&mut deps, &[edge(Dep::Ad, 9, 8), edge(kind, 2, 1)])?;
+    for earlier in before {
+        if take(&mut deps, *earlier).is_some() {
+            return Ok(None);
+        }
+    }
+    Ok(take(&mut deps, step))
+}
 
 // After steps that break none, a step breaks the rule by the second edge, from 2 to 1.
 #[test]
@@ -99,12 +122,26 @@ fn names_each_rule(rt: HostRuntime) -> Result<(), Fail> {
         (Dep::Cmd, TWO_ABORTS, Step::Abort(1), Rule::Unpayable),
     ];
     for (kind, before, step, rule) in rows {
-        let mut deps = Deps::new(rt.alloc())?;
-        form(&mut deps, &[edge(Dep::Ad, 9, 8), edge(kind, 2, 1)])?;
-        for earlier in before {
-            assert!(rt; take(&mut deps, *earlier).is_none(), "{kind:?}");
-        }
-        let refusal = take(&mut deps, step);
+        let refusal = refusal_after(rt.alloc(), kind, before, step)?;
+        assert_eq!(rt; refusal, Some(Refusal::by(rule, 2)), "{kind:?}");
+    }
+    Ok(())
+}
+
+// The same where 2 is to join another, or has joined it.
+#[test]
+fn names_each_rule_on_joins(rt: HostRuntime) -> Result<(), Fail> {
+    let rows = [
+        (Dep::Ad, ONE_ABORTS, Step::Join(2), Rule::OwesAbort),
+        (Dep::Scd, ONE_COMMITS, Step::Join(2), Rule::OwesCommit),
+        (Dep::Scd, TWO_JOINS, Step::Commit(1), Rule::Unpayable),
+        (Dep::Ed, TWO_JOINS, Step::Commit(1), Rule::Unpayable),
+        (Dep::Ad, TWO_JOINS, Step::Abort(1), Rule::Unpayable),
+        (Dep::Wd, TWO_JOINS, Step::Abort(1), Rule::Unpayable),
+        (Dep::Cmd, TWO_JOINS, Step::Abort(1), Rule::Unpayable),
+    ];
+    for (kind, before, step, rule) in rows {
+        let refusal = refusal_after(rt.alloc(), kind, before, step)?;
         assert_eq!(rt; refusal, Some(Refusal::by(rule, 2)), "{kind:?}");
     }
     Ok(())
@@ -152,6 +189,19 @@ fn lets_a_commit_go_before_an_abort(rt: HostRuntime) -> Result<(), Fail> {
     }
     assert!(rt; take(&mut deps, Step::Abort(1)).is_none());
     assert_eq!(rt; deps.status(TxnId(1)), Status::Aborted);
+    Ok(())
+}
+
+// One that owes nothing may join another, though by TD it is to end later.
+#[test]
+fn joins_where_nothing_is_owed(rt: HostRuntime) -> Result<(), Fail> {
+    let mut deps = Deps::new(rt.alloc())?;
+    form(&mut deps, &[edge(Dep::Td, 2, 1)])?;
+    for step in TWO_JOINS {
+        assert!(rt; take(&mut deps, *step).is_none());
+    }
+    assert_eq!(rt; deps.status(TxnId(2)), Status::Joined);
+    assert!(rt; take(&mut deps, Step::Commit(1)).is_none());
     Ok(())
 }
 

@@ -2,24 +2,28 @@
 use Rattle.std.proofs.Common.{◌≡◌, ℕ, ◌+◌, Bool, true, false, ◌&&◌, ◌||◌, not, ◌==◌, nat_le, if◌then◌else◌, List, [], ◌∷◌, ◌++◌, map, filter, Option, Some, None, is_some, is_none, option_map, refl, sym, ap, ◌∙◌, inl, inr, eq-eqb, arith}
 use Rattle.std.specs.List.{list_any, list_all, filter_map, cons_option, position_from, enumerate_from}
 use Rattle.std.specs.Option.{option_or}
-use Rattle.std.proofs.lemmas.Bool.{eqb-true, ne_eqb, cases_eq, and_parts, or_parts}
+use Rattle.std.proofs.lemmas.Bool.{true≢false, eqb-true, ne_eqb, cases_eq, and_parts, or_parts}
 use Rattle.std.proofs.lemmas.Bool.Decides.{nat_tests}
 use Rattle.std.proofs.lemmas.List.Folds.{list_any-append}
 use Rattle.acta_table.specs.declared.answer.Status.{Status}
-use Rattle.acta_table.specs.declared.answer.Status.TheVariants.{NotBegun, InProgress, Committed, Aborted}
+use Rattle.acta_table.specs.declared.answer.Status.TheVariants.{NotBegun, InProgress, Committed, Aborted, Joined}
 use Rattle.acta_table.specs.declared.answer.Rule.{Rule}
 use Rattle.acta_table.specs.declared.answer.Rule.TheVariants.{Clash}
 use Rattle.acta_table.specs.declared.answer.Refusal.{Refusal}
 use Rattle.acta_table.specs.declared.dep.Dep.{Dep}
+use Rattle.acta_table.specs.declared.dep.Dep.TheVariants.{Cd, Scd, Ad, Wd, Ed, Cmd, Bd, Sd, Bcd, Bad, Wcd}
 use Rattle.acta_table.specs.declared.dep.Edge.{Edge}
 use Rattle.acta_table.specs.declared.dep.Missing.{Missing}
+use Rattle.acta_table.specs.declared.dep.Missing.TheVariants.{Commit, Abort}
 use Rattle.acta_table.specs.declared.dep.Owed.{Owed}
+use Rattle.acta_table.specs.Dependencies.{is_begin_kind}
+use Rattle.acta_table.specs.Edges.{is_among, with_edge, formed}
 use Rattle.acta_table.specs.Numbers.{rule_number}
 use Rattle.acta_table.specs.Numbered.{first_number, smallest}
 use Rattle.acta_table.specs.Refusals.{broken_by}
-use Rattle.acta_deps.specs.Statuses.{with_status}
-use Rattle.acta_deps.specs.Debts.{debt_by as debt_in, debt_of, owes_commit, owes_abort, owed_at, owed_from, owed_in, clashes_by as clashes_in}
-use Rattle.acta_deps.specs.Dependencies.{awaits_begin, awaits_end, awaits_commit, awaits_abort, ends_after, committed_first, began_first, cannot_pay_commit, cannot_pay_abort, depends, is_awaited, begin_dep, serial_dep, begin_on_commit, begin_on_abort, termination_dep, owing_abort, owing_commit, commit_order, weak_begin, unpayable_commit, unpayable_abort, clash, start_refusal, commit_refusal, abort_refusal}
+use Rattle.acta_deps.specs.Statuses.{with_status, has_committed, has_aborted}
+use Rattle.acta_deps.specs.Debts.{missing_if, debt_by as debt_in, debt_of, owes_commit, owes_abort, owed_at, owed_from, owed_in, clashes_by as clashes_in}
+use Rattle.acta_deps.specs.Dependencies.{awaits_begin, awaits_end, awaits_commit, awaits_abort, ends_after, committed_first, began_first, cannot_pay_commit, cannot_pay_abort, depends, is_awaited, begin_dep, serial_dep, begin_on_commit, begin_on_abort, termination_dep, owing_abort, owing_commit, commit_order, weak_begin, unpayable_commit, unpayable_abort, clash, start_refusal, commit_refusal, abort_refusal, join_refusal}
 use Rattle.acta_axioms.specs.History.{Course, end}
 use Rattle.acta_axioms.specs.Formulas.{is_false, is_broken, payment}
 use Rattle.acta_axioms.specs.Claims.{status_in, is_orderly, is_apart}
@@ -27,7 +31,7 @@ use Rattle.acta_axioms.specs.Legal.{owed_on, is_commit, is_abort}
 use Rattle.acta_axioms.specs.Within.{IsWithin}
 use Rattle.acta_machine.specs.Places.{is_dependency_rule}
 use Rattle.acta_machine.proofs.Courses.{debt_by, is_broken_by, owes_abort_by, clashes_by, is_legal_by}
-use Rattle.acta_machine.proofs.EdgeSteps.{begun, committed, aborted, begin-j, begin-i, commit-j, commit-i, abort-j, abort-i, debts-tie}
+use Rattle.acta_machine.proofs.EdgeSteps.{begun, committed, aborted, joined, begin-j, begin-i, commit-j, commit-i, abort-j, abort-i, join-j, join-i, debts-tie}
 
 -- a rule on edges is broken where some edge passes its test
 some_first : (rule : Rule) (test : Edge → Bool) (n : ℕ) (es : List Edge) → is_some (broken_by rule (position_from test n es)) ≡ list_any test es
@@ -71,7 +75,7 @@ or_more (Some r) p a b e d = rw (sym e) refl
 or_tests : (o p : Option Refusal) (f g : Edge → Bool) (es : List Edge) → is_some o ≡ list_any f es → is_some p ≡ list_any g es → is_some (option_or o p) ≡ list_any (λ e. f e || g e) es
 or_tests o p f g es e d = or_more o p (list_any f es) (list_any g es) e d ∙ any-or f g es
 
--- whether an edge bars the start, the commit or the abort of t
+-- whether an edge bars the start, the commit, the abort or the join of t
 abbrev bars_start : (ℕ → Status) → ℕ → Edge → Bool
 bars_start status t e = depends awaits_begin status t e || depends awaits_end status t e || depends awaits_commit status t e || depends awaits_abort status t e
 
@@ -80,6 +84,9 @@ bars_commit status t e = depends ends_after status t e || owes_abort status t e 
 
 abbrev bars_abort : (ℕ → Status) → ℕ → Edge → Bool
 bars_abort status t e = depends ends_after status t e || owes_commit status t e || is_awaited cannot_pay_abort status t e
+
+abbrev bars_join : (ℕ → Status) → ℕ → Edge → Bool
+bars_join status t e = owes_abort status t e || owes_commit status t e
 
 -- whether two debts of one transaction clash once t stands so
 abbrev clash_then : (ℕ → Status) → List Edge → ℕ → Status → Bool
@@ -122,6 +129,10 @@ abort_tests status es t =
     (or_tests _ _ _ _ es (some_rule _ _ es) (some_rule _ _ es))
     (some_rule _ _ es))
     (some_clash status es t Aborted)
+
+join_tests : (status : ℕ → Status) (es : List Edge) (t : ℕ) → is_some (join_refusal status es t) ≡ list_any (bars_join status t) es
+unfolding join_refusal owing_abort owing_commit
+join_tests status es t = or_tests _ _ _ _ es (some_rule _ _ es) (some_rule _ _ es)
 
 -- two tests that agree at each edge that is apart and unbroken agree on a list of such edges
 any_alike : (f g broken : Edge → Bool) → ((e : Edge) → is_apart e ≡ true → broken e ≡ false → f e ≡ g e) → (es : List Edge) → list_all is_apart es ≡ true → list_any broken es ≡ false → list_any f es ≡ list_any g es
@@ -182,6 +193,77 @@ module _ (kind : Dep) (n : ℕ) (cj ci : Course) (orderly_j : is_orderly cj ≡ 
       ∙ sym (abort-j kind n cj ci orderly_j orderly_i within_i (on_j refl) whole)
   abort_edge false true one on_j on_i = sym (abort-i kind n cj ci orderly_j orderly_i within_j (on_i refl) whole)
   abort_edge false false one on_j on_i = sym whole
+
+  join_edge : (of_j of_i : Bool) → (of_j && of_i) ≡ false → (of_j ≡ true → status_in cj ≡ InProgress)
+      → ((of_j && is_abort (debt_in kind (status_in ci) (status_in cj))) || (of_j && is_commit (debt_in kind (status_in ci) (status_in cj))))
+      ≡ is_broken kind (if of_j then joined (n + 1) cj else cj) (if of_i then joined (n + 1) ci else ci)
+  join_edge true true one on_j = cc
+  join_edge true false one on_j =
+      (λ x. is_abort (debt_in kind (status_in ci) (on_j refl x)) || is_commit (debt_in kind (status_in ci) (on_j refl x)))
+      ∙ sym (join-j kind n cj ci orderly_j orderly_i (on_j refl) whole)
+  join_edge false true one on_j = sym (join-i kind n cj ci ∙ whole)
+  join_edge false false one on_j = sym whole
+
+and-false : (b : Bool) → (b && false) ≡ false
+and-false true = refl
+and-false false = refl
+
+-- a debt that is there after t has joined another was there before
+still_owed : (kind : Dep) (i j : Status) (of_i of_j : Bool) → (of_i ≡ true → i ≡ InProgress) → (test : Option Missing → Bool) → test None ≡ false
+    → test (debt_in kind (if of_i then Joined else i) (if of_j then Joined else j)) ≡ true → test (debt_in kind i j) ≡ true
+still_owed kind i j false false on test none e = e
+still_owed kind i j true of_j on test none e = absurd (true≢false (sym e ∙ ap test (by_joined kind (if of_j then Joined else j)) ∙ none))
+  where
+    by_joined : (kind : Dep) (j : Status) → debt_in kind Joined j ≡ None
+    by_joined Cd j = refl
+    by_joined kind j = refl
+still_owed kind i j false true on test none e = absurd (true≢false (sym e ∙ ap test (of_joined kind i) ∙ none))
+  where
+    of_joined : (kind : Dep) (i : Status) → debt_in kind i Joined ≡ None
+    of_joined Scd i = ap (λ b. missing_if b Commit) (and-false (has_committed i))
+    of_joined Ad i = ap (λ b. missing_if b Abort) (and-false (has_aborted i))
+    of_joined Wd i = ap (λ b. missing_if b Abort) (and-false (has_aborted i))
+    of_joined Ed i = ap (λ b. missing_if b Abort) (and-false (has_committed i))
+    of_joined Cmd i = ap (λ b. missing_if b Commit) (and-false (has_aborted i))
+    of_joined kind i = refl
+
+-- where a test passes no edge, a test that passes fewer does not either
+any-fewer : (f g : Edge → Bool) → ((e : Edge) → f e ≡ true → g e ≡ true) → (es : List Edge) → list_any g es ≡ false → list_any f es ≡ false
+any-fewer f g fewer [] none = refl
+any-fewer f g fewer (e ∷ es) none =
+    let parts = or_parts (g e) (list_any g es) none in
+    (λ x. fewer_here (f e) refl x || any-fewer f g fewer es parts.1 x)
+  where
+    fewer_here : (b : Bool) → f e ≡ b → f e ≡ false
+    fewer_here true is = absurd (true≢false (sym (fewer e is) ∙ (or_parts (g e) (list_any g es) none).0))
+    fewer_here false is = is
+
+-- where some edge passes a test, some edge passes one that passes more
+any-more : (f g : Edge → Bool) → ((e : Edge) → f e ≡ true → g e ≡ true) → (es : List Edge) → list_any f es ≡ true → list_any g es ≡ true
+any-more f g more es some = of (list_any g es) refl
+  where
+    of : (b : Bool) → list_any g es ≡ b → list_any g es ≡ true
+    of true is = is
+    of false is = absurd (true≢false (sym some ∙ any-fewer f g more es is))
+
+-- so where nobody owes both, nobody does after a join
+calm_joined : (status : ℕ → Status) (es : List Edge) (t : ℕ) → status t ≡ InProgress → list_any (clashes_in status es) es ≡ false → clash_then status es t Joined ≡ false
+calm_joined status es t at = any-fewer (clashes_in (with_status status t Joined) es) (clashes_in status es) fewer es
+  where
+    owed_before : (e : Edge) (test : Option Missing → Bool) → test None ≡ false → test (debt_of (with_status status t Joined) e) ≡ true → test (debt_of status e) ≡ true
+    owed_before e test none = still_owed e.kind (status e.i.0) (status e.j.0) (e.i.0 == t) (e.j.0 == t) (λ same. ap status (eqb-true e.i.0 t same) ∙ at) test none
+
+    fewer : (e : Edge) → clashes_in (with_status status t Joined) es e ≡ true → clashes_in status es e ≡ true
+    fewer e both =
+        let parts = and_parts (is_commit (debt_of (with_status status t Joined) e)) (list_any (owes_abort (with_status status t Joined) e.j.0) es) both in
+        let commit = owed_before e is_commit refl parts.0 in
+        let abort = any-more (owes_abort (with_status status t Joined) e.j.0) (owes_abort status e.j.0) fewer_aborts es parts.1 in
+        λ x. commit x && abort x
+      where
+        fewer_aborts : (f : Edge) → owes_abort (with_status status t Joined) e.j.0 f ≡ true → owes_abort status e.j.0 f ≡ true
+        fewer_aborts f is =
+            let parts = and_parts (f.j.0 == e.j.0) (is_abort (debt_of (with_status status t Joined) f)) is in
+            λ x. parts.0 x && owed_before f is_abort refl parts.1 x
 
 -- not neither of two
 neither : (a b : Bool) → (a || b) ≡ not (not a && not b)
@@ -254,6 +336,26 @@ module _ (status : ℕ → Status) (courses later : ℕ → Course) (es : List E
           ∙ abort_edge e.kind n (courses e.j.0) (courses e.i.0) (orderly e.j.0) (orderly e.i.0) (within e.j.0) (within e.i.0) whole (e.j.0 == t) (e.i.0 == t) (not_both e.j.0 e.i.0 t two) (stands InProgress at e.j.0) (stands InProgress at e.i.0)
           ∙ (λ x. is_broken e.kind (new e.j.0 x) (new e.i.0 x))
 
+  -- a join leaves nobody who owes both, where nobody did
+  pub joins-exact : status t ≡ InProgress → later t ≡ joined (n + 1) (courses t) → ((u : ℕ) → with_status status t Joined u ≡ status_in (later u)) → list_any (clashes_by courses es) es ≡ false
+      → is_some (join_refusal status es t) ≡ not (is_legal_by later es)
+  joins-exact at here shows_later calm = exact (bars_join status) Joined (join_refusal status es t) tests each shows_later
+    where
+      calm_then : clash_then status es t Joined ≡ false
+      calm_then = calm_joined status es t at (clashes_alike status courses shows orderly es ∙ calm)
+
+      tests : is_some (join_refusal status es t) ≡ (list_any (bars_join status t) es || clash_then status es t Joined)
+      tests = join_tests status es t ∙ sym ((λ x. list_any (bars_join status t) es || calm_then x) ∙ or-false (list_any (bars_join status t) es))
+
+      each : (e : Edge) → is_apart e ≡ true → is_broken_by courses e ≡ false → bars_join status t e ≡ is_broken_by later e
+      each e two whole =
+          let at_i = shows e.i.0 in
+          let at_j = shows e.j.0 in
+          let new = moved (joined (n + 1)) here in
+          (λ x. ((e.j.0 == t) && is_abort (debt_in e.kind (at_i x) (at_j x))) || ((e.j.0 == t) && is_commit (debt_in e.kind (at_i x) (at_j x))))
+          ∙ join_edge e.kind n (courses e.j.0) (courses e.i.0) (orderly e.j.0) (orderly e.i.0) (within e.j.0) (within e.i.0) whole (e.j.0 == t) (e.i.0 == t) (not_both e.j.0 e.i.0 t two) (stands InProgress at e.j.0)
+          ∙ (λ x. is_broken e.kind (new e.j.0 x) (new e.i.0 x))
+
 owed_from-tie : (status : ℕ → Status) (courses : ℕ → Course) → ((u : ℕ) → status u ≡ status_in (courses u)) → ((u : ℕ) → is_orderly (courses u) ≡ true) → (n : ℕ) (es : List Edge)
     → owed_from status n es ≡ filter_map (λ e. option_map (owed_on e) (debt_by courses e.1)) (enumerate_from n es)
 owed_from-tie status courses shows orderly n [] = refl
@@ -273,10 +375,6 @@ owed-tie status courses es shows orderly = owed_from-tie status courses shows or
 any-push : (test : Edge → Bool) (es : List Edge) (f : Edge) → test f ≡ false → list_any test (es ++ f ∷ []) ≡ list_any test es
 any-push test es f e = list_any-append test es (f ∷ []) ∙ (λ x. list_any test es || (e x || false)) ∙ or-false (list_any test es)
 
-and-false : (b : Bool) → (b && false) ≡ false
-and-false true = refl
-and-false false = refl
-
 -- by a new edge whose formula holds nothing is owed, and the edges are legal as before
 pub forms-legal : (courses : ℕ → Course) (es : List Edge) (f : Edge) → is_legal_by courses es ≡ true → is_false f.kind (courses f.j.0) (courses f.i.0) ≡ false → is_legal_by courses (es ++ f ∷ []) ≡ true
 forms-legal courses es f legal holds =
@@ -287,6 +385,99 @@ forms-legal courses es f legal holds =
     (λ x. not (any-push (is_broken_by courses) es f whole x) && not (list_any (λ e. calm e x) (es ++ f ∷ [])))
     ∙ (λ x. not (list_any (is_broken_by courses) es) && not (any-push (clashes_by courses es) es f unclashed x))
     ∙ legal
+
+-- the same of several new edges
+pub all-legal : (courses : ℕ → Course) (es more : List Edge) → is_legal_by courses es ≡ true → list_all (λ f. not (is_false f.kind (courses f.j.0) (courses f.i.0))) more ≡ true → is_legal_by courses (formed es more) ≡ true
+all-legal courses es [] legal hold = legal
+all-legal courses es (f ∷ more) legal hold =
+    let parts = and_parts (not (is_false f.kind (courses f.j.0) (courses f.i.0))) (list_all (λ g. not (is_false g.kind (courses g.j.0) (courses g.i.0))) more) hold in
+    all-legal courses (with_edge es f) more (of_known (is_among es f) (holds (is_false f.kind (courses f.j.0) (courses f.i.0)) parts.0)) parts.1
+  where
+    holds : (b : Bool) → not b ≡ true → b ≡ false
+    holds true e = absurd (true≢false (sym e))
+    holds false e = refl
+
+    of_known : (b : Bool) → is_false f.kind (courses f.j.0) (courses f.i.0) ≡ false → is_legal_by courses (if b then es else es ++ f ∷ []) ≡ true
+    of_known true held = legal
+    of_known false held = forms-legal courses es f legal held
+
+-- edges that are formed and pass no test, and by which nothing is owed, make no difference to a start
+
+-- where the new edges do not pass, the test passes as before
+any-formed : (test : Edge → Bool) (es more : List Edge) → list_all (λ f. not (test f)) more ≡ true → list_any test (formed es more) ≡ list_any test es
+any-formed test es [] none = refl
+any-formed test es (f ∷ more) none =
+    let parts = and_parts (not (test f)) (list_all (λ g. not (test g)) more) none in
+    any-formed test (with_edge es f) more parts.1 ∙ of_known (is_among es f) (fails (test f) parts.0)
+  where
+    fails : (b : Bool) → not b ≡ true → b ≡ false
+    fails true e = absurd (true≢false (sym e))
+    fails false e = refl
+
+    of_known : (b : Bool) → test f ≡ false → list_any test (if b then es else es ++ f ∷ []) ≡ list_any test es
+    of_known true none = refl
+    of_known false none = any-push test es f none
+
+-- what passes one test passes a weaker one
+all-weaker : (p q : Edge → Bool) → ((f : Edge) → p f ≡ true → q f ≡ true) → (more : List Edge) → list_all p more ≡ true → list_all q more ≡ true
+all-weaker p q weaker [] all = refl
+all-weaker p q weaker (f ∷ more) all =
+    let parts = and_parts (p f) (list_all p more) all in
+    λ x. weaker f parts.0 x && all-weaker p q weaker more parts.1 x
+
+-- by edges on which nothing is owed no debts clash
+clash-formed : (status : ℕ → Status) (es more : List Edge) → list_all (λ f. not (is_commit (debt_of status f)) && not (is_abort (debt_of status f))) more ≡ true
+    → list_any (clashes_in status (formed es more)) (formed es more) ≡ list_any (clashes_in status es) es
+clash-formed status es more calm =
+    (λ x. list_any (λ e. is_commit (debt_of status e) && aborts_alike e.j.0 x) (formed es more))
+    ∙ any-formed (clashes_in status es) es more (all-weaker _ _ no_commit more calm)
+  where
+    no_abort : (u : ℕ) (f : Edge) → (not (is_commit (debt_of status f)) && not (is_abort (debt_of status f))) ≡ true → not (owes_abort status u f) ≡ true
+    no_abort u f e = of (f.j.0 == u) (is_abort (debt_of status f)) (and_parts (not (is_commit (debt_of status f))) (not (is_abort (debt_of status f))) e).1
+      where
+        of : (a b : Bool) → not b ≡ true → not (a && b) ≡ true
+        of true b e = e
+        of false b e = refl
+
+    aborts_alike : (u : ℕ) → list_any (owes_abort status u) (formed es more) ≡ list_any (owes_abort status u) es
+    aborts_alike u = any-formed (owes_abort status u) es more (all-weaker _ _ (no_abort u) more calm)
+
+    no_commit : (f : Edge) → (not (is_commit (debt_of status f)) && not (is_abort (debt_of status f))) ≡ true → not (clashes_in status es f) ≡ true
+    no_commit f e = of (is_commit (debt_of status f)) (list_any (owes_abort status f.j.0) es) (and_parts (not (is_commit (debt_of status f))) (not (is_abort (debt_of status f))) e).0
+      where
+        of : (a b : Bool) → not a ≡ true → not (a && b) ≡ true
+        of true b e = absurd (true≢false (sym e))
+        of false b e = refl
+
+-- whether an edge makes no difference to the start of t
+abbrev pub is_neutral : (ℕ → Status) → ℕ → Edge → Bool
+is_neutral status t f = not (bars_start status t f) && (not (is_commit (debt_of (with_status status t InProgress) f)) && not (is_abort (debt_of (with_status status t InProgress) f)))
+
+pub start-formed : (status : ℕ → Status) (es more : List Edge) (t : ℕ) → list_all (is_neutral status t) more ≡ true → is_some (start_refusal status (formed es more) t) ≡ is_some (start_refusal status es t)
+start-formed status es more t neutral =
+    start_tests status (formed es more) t
+    ∙ (λ x. any-formed (bars_start status t) es more (all-weaker _ _ (λ f e. (and_parts (not (bars_start status t f)) _ e).0) more neutral) x
+    || clash-formed (with_status status t InProgress) es more (all-weaker _ _ (λ f e. (and_parts (not (bars_start status t f)) _ e).1) more neutral) x)
+    ∙ sym (start_tests status es t)
+
+-- an edge of no begin kind between two in progress is such an edge
+pub neutral-edge : (status : ℕ → Status) (t : ℕ) (f : Edge) → is_begin_kind f.kind ≡ false → with_status status t InProgress f.i.0 ≡ InProgress → with_status status t InProgress f.j.0 ≡ InProgress → is_neutral status t f ≡ true
+neutral-edge status t f other at_i at_j =
+    let nothing : debt_of (with_status status t InProgress) f ≡ None = (λ x. debt_in f.kind (at_i x) (at_j x)) ∙ none_running f.kind in
+    λ x. not (bars_none f.kind (f.j.0 == t) (status f.i.0) other x) && (not (is_commit (nothing x)) && not (is_abort (nothing x)))
+  where
+    none_running : (kind : Dep) → debt_in kind InProgress InProgress ≡ None
+    none_running Cd = refl
+    none_running kind = refl
+
+    bars_none : (kind : Dep) (b : Bool) (i : Status) → is_begin_kind kind ≡ false → ((b && awaits_begin kind i) || (b && awaits_end kind i) || (b && awaits_commit kind i) || (b && awaits_abort kind i)) ≡ false
+    bars_none Bd b i e = cc
+    bars_none Sd b i e = cc
+    bars_none Bcd b i e = cc
+    bars_none Bad b i e = cc
+    bars_none Wcd b i e = cc
+    bars_none kind true i e = refl
+    bars_none kind false i e = refl
 
 -- whether what is broken, if anything is, is such a rule
 is_on_dependencies : Option Refusal → Bool
@@ -307,7 +498,7 @@ rule_in : (o : Option Refusal) (r : Refusal) → is_on_dependencies o ≡ true �
 unfolding is_on_dependencies
 rule_in o r on is = sym (ap is_on_dependencies is) ∙ on
 
--- a start, a commit or an abort is refused by a rule on dependencies
+-- a start, a commit, an abort or a join is refused by a rule on dependencies
 pub start-rule : (status : ℕ → Status) (es : List Edge) (t : ℕ) (r : Refusal) → start_refusal status es t ≡ Some r → is_dependency_rule r.rule ≡ true
 unfolding start_refusal begin_dep serial_dep begin_on_commit begin_on_abort clash
 start-rule status es t r is =
@@ -327,4 +518,11 @@ unfolding abort_refusal termination_dep owing_commit unpayable_abort clash
 abort-rule status es t r is =
     rule_in (abort_refusal status es t) r
     (either_on _ _ (either_on _ _ (either_on _ _ (on_dependencies _ _ refl) (on_dependencies _ _ refl)) (on_dependencies _ _ refl)) (on_dependencies _ _ refl))
+    is
+
+pub join-rule : (status : ℕ → Status) (es : List Edge) (t : ℕ) (r : Refusal) → join_refusal status es t ≡ Some r → is_dependency_rule r.rule ≡ true
+unfolding join_refusal owing_abort owing_commit
+join-rule status es t r is =
+    rule_in (join_refusal status es t) r
+    (either_on _ _ (on_dependencies _ _ refl) (on_dependencies _ _ refl))
     is

@@ -1,4 +1,4 @@
--- What a start, a commit or an abort does to the formula of one edge.
+-- What a start, a commit, an abort or a join does to the formula of one edge.
 use Rattle.std.proofs.Common.{◌≡◌, ℕ, ◌+◌, Bool, true, false, ◌&&◌, ◌||◌, not, Option, Some, None, is_some, is_none, refl, sym, ap, subst, ◌∙◌, arith, if◌then◌else◌}
 use Rattle.std.proofs.lemmas.Bool.{lt-ltb, le-ltb}
 use Rattle.acta_table.specs.declared.answer.Status.{Status}
@@ -25,30 +25,39 @@ committed p c = record c { commit = Some p }
 abbrev pub aborted : ℕ → Course → Course
 aborted p c = record c { abort = Some p }
 
--- the four shapes of an orderly course
+abbrev pub joined : ℕ → Course → Course
+joined p c = record c { join = Some p }
+
+-- the five shapes of an orderly course
 data Shape : Type 0 where
   Fresh : Shape
   Begun : ℕ → Shape
   Done : ℕ → ℕ → Shape
   Undone : ℕ → ℕ → Shape
+  Merged : ℕ → ℕ → Shape
 
 abbrev course_of : Shape → Course
-course_of Fresh = record { start = None; commit = None; abort = None }
-course_of (Begun a) = record { start = Some a; commit = None; abort = None }
-course_of (Done a b) = record { start = Some a; commit = Some b; abort = None }
-course_of (Undone a b) = record { start = Some a; commit = None; abort = Some b }
+course_of Fresh = record { start = None; commit = None; abort = None; join = None }
+course_of (Begun a) = record { start = Some a; commit = None; abort = None; join = None }
+course_of (Done a b) = record { start = Some a; commit = Some b; abort = None; join = None }
+course_of (Undone a b) = record { start = Some a; commit = None; abort = Some b; join = None }
+course_of (Merged a b) = record { start = Some a; commit = None; abort = None; join = Some b }
 
 shape : (c : Course) → is_orderly c ≡ true → (s : Shape) × (course_of s ≡ c)
-shape c = of c.start c.commit c.abort
+shape c = of c.start c.commit c.abort c.join
   where
-    of : (s d a : Option ℕ) → is_orderly (record { start = s; commit = d; abort = a }) ≡ true → (x : Shape) × (course_of x ≡ record { start = s; commit = d; abort = a })
-    of None None None e = (Fresh, refl)
-    of None None (Some b) e = cc
-    of None (Some b) a e = cc
-    of (Some a) None None e = (Begun a, refl)
-    of (Some a) (Some b) None e = (Done a b, refl)
-    of (Some a) None (Some b) e = (Undone a b, refl)
-    of (Some a) (Some b) (Some d) e = cc
+    of : (s d a j : Option ℕ) → is_orderly (record { start = s; commit = d; abort = a; join = j }) ≡ true → (x : Shape) × (course_of x ≡ record { start = s; commit = d; abort = a; join = j })
+    of None None None None e = (Fresh, refl)
+    of None None None (Some b) e = cc
+    of None None (Some b) j e = cc
+    of None (Some b) a j e = cc
+    of (Some a) None None None e = (Begun a, refl)
+    of (Some a) (Some b) None None e = (Done a b, refl)
+    of (Some a) None (Some b) None e = (Undone a b, refl)
+    of (Some a) None None (Some b) e = (Merged a b, refl)
+    of (Some a) (Some b) (Some d) j e = cc
+    of (Some a) (Some b) None (Some d) e = cc
+    of (Some a) None (Some b) (Some d) e = cc
 
 -- what holds of two shapes holds of courses of these shapes
 of_shapes : (P : Course → Course → Type 0) {cj ci : Course} (j i : Shape) → course_of j ≡ cj → course_of i ≡ ci → P (course_of j) (course_of i) → P cj ci
@@ -59,6 +68,7 @@ fresh_shape Fresh e = refl
 fresh_shape (Begun a) e = cc
 fresh_shape (Done a b) e = cc
 fresh_shape (Undone a b) e = cc
+fresh_shape (Merged a b) e = cc
 
 fresh_course : (c : Course) → is_orderly c ≡ true → status_in c ≡ NotBegun → course_of Fresh ≡ c
 fresh_course c orderly fresh =
@@ -70,6 +80,7 @@ begun_shape Fresh e = cc
 begun_shape (Begun a) e = (a, refl)
 begun_shape (Done a b) e = cc
 begun_shape (Undone a b) e = cc
+begun_shape (Merged a b) e = cc
 
 begun_course : (c : Course) → is_orderly c ≡ true → status_in c ≡ InProgress → (a : ℕ) × (course_of (Begun a) ≡ c)
 begun_course c orderly on =
@@ -87,6 +98,10 @@ bars_commit kind i = ends_after kind i || is_abort (debt_by kind i InProgress)
 abbrev bars_abort : Dep → Status → Bool
 bars_abort kind i = ends_after kind i || is_commit (debt_by kind i InProgress)
 
+-- whether j owes something, where i stands so: by a join it could not pay
+abbrev bars_join : Dep → Status → Bool
+bars_join kind i = is_abort (debt_by kind i InProgress) || is_commit (debt_by kind i InProgress)
+
 -- whether it is broken by a commit of i, where j stands so
 abbrev is_late_commit : Dep → Status → Bool
 is_late_commit kind j = committed_first kind j || began_first kind j || cannot_pay_commit kind j
@@ -96,6 +111,7 @@ unfolding is_false
 begin_j-at Bd n (Begun a) w = rw (lt-ltb a (n + 1) (omega (arith, w.start))) refl
 begin_j-at Bd n (Done a b) w = rw (lt-ltb a (n + 1) (omega (arith, w.start))) refl
 begin_j-at Bd n (Undone a b) w = rw (lt-ltb a (n + 1) (omega (arith, w.start))) refl
+begin_j-at Bd n (Merged a b) w = rw (lt-ltb a (n + 1) (omega (arith, w.start))) refl
 begin_j-at Sd n (Done a b) w = rw (lt-ltb b (n + 1) (omega (arith, w.commit))) refl
 begin_j-at Sd n (Undone a b) w = rw (lt-ltb b (n + 1) (omega (arith, w.abort))) refl
 begin_j-at Bcd n (Done a b) w = rw (lt-ltb b (n + 1) (omega (arith, w.commit))) refl
@@ -193,6 +209,7 @@ commit_i-at Bad n x j w e = e
 commit_i-at Wcd n x (Begun a) w e = rw (le-ltb (n + 1) a (omega (arith, w.start))) refl
 commit_i-at Wcd n x (Done a b) w e = rw (le-ltb (n + 1) a (omega (arith, w.start))) refl
 commit_i-at Wcd n x (Undone a b) w e = rw (le-ltb (n + 1) a (omega (arith, w.start))) refl
+commit_i-at Wcd n x (Merged a b) w e = rw (le-ltb (n + 1) a (omega (arith, w.start))) refl
 commit_i-at kind n x Fresh w e = refl
 commit_i-at kind n x j w e = refl
 
@@ -228,6 +245,32 @@ abort-i kind n cj ci orderly_j orderly_i within on =
     let i = begun_course ci orderly_i on in
     of_shapes (λ j i. IsWithin n j → is_broken kind j i ≡ false → is_broken kind j (aborted (n + 1) i) ≡ cannot_pay_abort kind (status_in j))
     j.0 (Begun i.0) j.1 i.1 (abort_i-at kind n i.0 j.0) within
+
+join_j-at : (kind : Dep) (n a : ℕ) (i : Shape) → is_broken kind (course_of (Begun a)) (course_of i) ≡ false
+    → is_broken kind (joined (n + 1) (course_of (Begun a))) (course_of i) ≡ bars_join kind (status_in (course_of i))
+unfolding is_false
+join_j-at Bd n a i e = whether_ended (is_false Bd (course_of (Begun a)) (course_of i)) true false e
+join_j-at Sd n a i e = whether_ended (is_false Sd (course_of (Begun a)) (course_of i)) true false e
+join_j-at Bcd n a i e = whether_ended (is_false Bcd (course_of (Begun a)) (course_of i)) true false e
+join_j-at Bad n a i e = whether_ended (is_false Bad (course_of (Begun a)) (course_of i)) true false e
+join_j-at Wcd n a i e = whether_ended (is_false Wcd (course_of (Begun a)) (course_of i)) true false e
+join_j-at kind n a Fresh e = refl
+join_j-at kind n a i e = refl
+
+-- j joins another
+pub join-j : (kind : Dep) (n : ℕ) (cj ci : Course) → is_orderly cj ≡ true → is_orderly ci ≡ true → status_in cj ≡ InProgress
+    → is_broken kind cj ci ≡ false → is_broken kind (joined (n + 1) cj) ci ≡ (is_abort (debt_by kind (status_in ci) InProgress) || is_commit (debt_by kind (status_in ci) InProgress))
+join-j kind n cj ci orderly_j orderly_i on =
+    let j = begun_course cj orderly_j on in
+    let i = shape ci orderly_i in
+    of_shapes (λ j i. is_broken kind j i ≡ false → is_broken kind (joined (n + 1) j) i ≡ bars_join kind (status_in i))
+    (Begun j.0) i.0 j.1 i.1 (join_j-at kind n j.0 i.0)
+
+-- i joins another: no formula speaks of it
+pub join-i : (kind : Dep) (n : ℕ) (cj ci : Course) → is_broken kind cj (joined (n + 1) ci) ≡ is_broken kind cj ci
+unfolding is_false
+join-i Cd n cj ci = refl
+join-i kind n cj ci = refl
 
 -- where nothing can be owed, nothing is
 nothing : (b : Bool) → ◌≡◌ {A = Option Missing} None (if b then None else None)
@@ -274,16 +317,17 @@ formed-begin Wcd cj ci e fresh = rw fresh (nor_either (is_some ci.commit) (not (
     nor_either false c = refl
 formed-begin kind cj ci e fresh = cc
 
--- where neither has ended, the course has no commit and no abort
-endless : (c : Course) → is_some (end c) ≡ false → ◌≡◌ {A = Course} c (record { start = c.start; commit = None; abort = None })
-endless c = of c.commit c.abort
+-- where neither has ended, the course has no commit, no abort and no join
+endless : (c : Course) → is_some (end c) ≡ false → ◌≡◌ {A = Course} c (record { start = c.start; commit = None; abort = None; join = None })
+endless c = of c.commit c.abort c.join
   where
-    of : (d a : Option ℕ) → is_some (end (record { start = c.start; commit = d; abort = a })) ≡ false → ◌≡◌ {A = Course} (record { start = c.start; commit = d; abort = a }) (record { start = c.start; commit = None; abort = None })
-    of None None e = refl
-    of None (Some b) e = cc
-    of (Some b) a e = cc
+    of : (d a j : Option ℕ) → is_some (end (record { start = c.start; commit = d; abort = a; join = j })) ≡ false → ◌≡◌ {A = Course} (record { start = c.start; commit = d; abort = a; join = j }) (record { start = c.start; commit = None; abort = None; join = None })
+    of None None None e = refl
+    of None None (Some b) e = cc
+    of None (Some b) j e = cc
+    of (Some b) a j e = cc
 
-formed_other-at : (kind : Dep) (s t : Option ℕ) → is_begin_kind kind ≡ false → is_false kind (record { start = s; commit = None; abort = None }) (record { start = t; commit = None; abort = None }) ≡ false
+formed_other-at : (kind : Dep) (s t : Option ℕ) → is_begin_kind kind ≡ false → is_false kind (record { start = s; commit = None; abort = None; join = None }) (record { start = t; commit = None; abort = None; join = None }) ≡ false
 unfolding is_false
 formed_other-at Bd s t e = cc
 formed_other-at Sd s t e = cc

@@ -2,32 +2,35 @@
 -- debts of the table are those by places.
 use Rattle.std.proofs.Common.{◌≡◌, ℕ, ◌+◌, Bool, true, false, ◌&&◌, not, List, [], ◌∷◌, ◌++◌, filter, length, Option, Some, None, refl, sym, ap, ◌∙◌}
 use Rattle.std.specs.Prelude.{is_some, IfSome, if◌then◌else◌}
-use Rattle.std.specs.List.{list_any}
+use Rattle.std.specs.List.{list_any, list_all}
 use Rattle.std.proofs.lemmas.Bool.{true≢false}
-use Rattle.acta_table.specs.declared.answer.Status.TheVariants.{NotBegun, InProgress, Committed, Aborted}
+use Rattle.acta_table.specs.declared.answer.Status.TheVariants.{NotBegun, InProgress, Committed, Aborted, Joined}
 use Rattle.acta_table.specs.declared.answer.Refusal.{Refusal}
 use Rattle.acta_table.specs.declared.answer.Rule.TheVariants.{NotInProgress, AlreadyBegun, FormTooLate}
 use Rattle.acta_table.specs.declared.dep.Dep.{Dep}
 use Rattle.acta_table.specs.declared.dep.Edge.{Edge}
 use Rattle.acta_table.specs.declared.event.ClassId.{ClassId}
+use Rattle.acta_table.specs.declared.event.OpNo.{OpNo}
+use Rattle.acta_table.specs.declared.answer.Status.{Status}
 use Rattle.acta_table.specs.declared.event.Event.{Event}
-use Rattle.acta_table.specs.declared.event.Event.TheVariants.{Begin, Delegate, Form, Operate, Commit, Abort}
+use Rattle.acta_table.specs.declared.event.Event.TheVariants.{Begin, Split, Join, Delegate, Form, Operate, Commit, Abort}
 use Rattle.acta_table.specs.declared.event.Kept.{Kept}
 use Rattle.acta_table.specs.declared.event.Ret.{Ret}
 use Rattle.acta_table.specs.declared.event.TxnId.{TxnId}
 use Rattle.acta_table.specs.declared.model.Parts.{Parts}
 use Rattle.acta_table.specs.Dependencies.{is_begin_kind}
-use Rattle.acta_table.specs.Edges.{is_among}
+use Rattle.acta_table.specs.Edges.{is_among, formed}
+use Rattle.acta_table.specs.Faults.{lowest_fault}
 use Rattle.acta_table.specs.Numbered.{smallest}
 use Rattle.acta_table.specs.Refusals.{broken_by}
-use Rattle.acta_axioms.specs.History.{Course, course, has_begun, has_ended}
+use Rattle.acta_axioms.specs.History.{Course, course, end, has_begun, has_ended}
 use Rattle.acta_axioms.specs.Edges.{edges}
 use Rattle.acta_axioms.specs.Formulas.{is_false}
 use Rattle.acta_axioms.specs.Legal.{is_legal, owed}
-use Rattle.acta_axioms.specs.Claims.{MeetsAxioms, IsOrderly, status_in, status_at}
-use Rattle.acta_axioms.proofs.EdgeGrowth.{edges-push, course-within, course-other, course-begin, course-commit, course-abort}
+use Rattle.acta_axioms.specs.Claims.{MeetsAxioms, IsOrderly, is_apart, status_in, status_at}
+use Rattle.acta_axioms.proofs.EdgeGrowth.{edges-push, course-within, course-other, course-begin, course-split, course-join, course-commit, course-abort}
 use Rattle.acta_deps.specs.Debts.{owed_in}
-use Rattle.acta_deps.specs.Dependencies.{start_refusal, commit_refusal, abort_refusal}
+use Rattle.acta_deps.specs.Dependencies.{start_refusal, commit_refusal, abort_refusal, join_refusal}
 use Rattle.acta_deps.specs.Statuses as by_status
 use Rattle.acta_machine.specs.Summary.{Summary}
 use Rattle.acta_machine.specs.Changes.{summary_of}
@@ -35,9 +38,10 @@ use Rattle.acta_machine.specs.Rules.{not_in_progress, already_begun, form_too_la
 use Rattle.acta_machine.specs.Places.{ShowsPlaces, is_dependency_rule}
 use Rattle.acta_machine.proofs.Broken.{by_none, in_progress, not_begun}
 use Rattle.acta_machine.proofs.Courses.{is_broken_by, clashes_by, is_legal_by}
-use Rattle.acta_machine.proofs.DependencyTies.{starts-exact, commits-exact, aborts-exact, owed-tie, forms-legal, start-rule, commit-rule, abort-rule}
+use Rattle.acta_machine.proofs.DependencyTies.{starts-exact, commits-exact, aborts-exact, joins-exact, owed-tie, forms-legal, all-legal, start-formed, start-rule, commit-rule, abort-rule, join-rule}
 use Rattle.acta_machine.proofs.EdgeSteps.{formed-begin, formed-other}
-use Rattle.acta_machine.proofs.StatusGrowth.{flipped, statuses-begin, statuses-commit, statuses-abort, ended-places, begun-places}
+use Rattle.acta_machine.proofs.Splitting.{split_due, neutral-due, holding-due}
+use Rattle.acta_machine.proofs.StatusGrowth.{flipped, statuses-begin, statuses-split, statuses-commit, statuses-abort, statuses-join, ended-places, begun-places}
 use Rattle.acta_machine.proofs.Unbroken.{Unbroken}
 
 -- what is broken by a rule on dependencies, if anything is
@@ -48,6 +52,8 @@ if_some (Some r) rule = rule r refl
 
 pub dependency-rule : {A : Type 0} (s : Summary) (e : Event A) → IfSome (dependency s e) (λ r. is_dependency_rule r.rule ≡ true)
 dependency-rule s (Begin t class) = if_some (start_refusal s.status s.edges t.0) (start-rule s.status s.edges t.0)
+dependency-rule s (Split t u class ops) = if_some (start_refusal s.status s.edges u.0) (start-rule s.status s.edges u.0)
+dependency-rule s (Join t u) = if_some (join_refusal s.status s.edges t.0) (join-rule s.status s.edges t.0)
 dependency-rule s (Delegate t u ops) = tt
 dependency-rule s (Form kind j i) = tt
 dependency-rule s (Operate t ob op) = tt
@@ -59,32 +65,47 @@ legal-by : {A : Type 0} (m : Parts A) (h : List (Kept A)) → is_legal m h ≡ i
 unfolding is_legal
 legal-by m h = refl
 
-both_not : (a b : Bool) → (not a && not b) ≡ true → a ≡ false
+both_not : (a b : Bool) → (not a && not b) ≡ true → (a ≡ false) × (b ≡ false)
 both_not true b e = absurd (true≢false (sym e))
-both_not false b e = refl
+both_not false true e = absurd (true≢false (sym e))
+both_not false false e = (refl, refl)
+
+-- of edges that are legal none is broken, and no debts clash
+legal-unbroken : (courses : ℕ → Course) (es : List Edge) → is_legal_by courses es ≡ true → list_any (is_broken_by courses) es ≡ false
+legal-unbroken courses es legal = (both_not (list_any (is_broken_by courses) es) (list_any (clashes_by courses es) es) legal).0
+
+legal-calm : (courses : ℕ → Course) (es : List Edge) → is_legal_by courses es ≡ true → list_any (clashes_by courses es) es ≡ false
+legal-calm courses es legal = (both_not (list_any (is_broken_by courses) es) (list_any (clashes_by courses es) es) legal).1
 
 -- no edge of a legal history is broken
 unbroken-edges : {A : Type 0} (m : Parts A) (h : List (Kept A)) → is_legal m h ≡ true → list_any (is_broken_by (course h)) (edges m h) ≡ false
-unbroken-edges m h legal =
-    both_not (list_any (is_broken_by (course h)) (edges m h)) (list_any (clashes_by (course h) (edges m h)) (edges m h)) (sym (legal-by m h) ∙ legal)
+unbroken-edges m h legal = legal-unbroken (course h) (edges m h) (sym (legal-by m h) ∙ legal)
 
 -- the course of one that has not begun, and of one in progress
 no_start : (c : Course) → status_in c ≡ NotBegun → c.start ≡ None
-no_start c = of c.start c.commit c.abort
+no_start c = of c.start c.commit c.abort c.join
   where
-    of : (s k a : Option ℕ) → status_in (record { start = s; commit = k; abort = a }) ≡ NotBegun → s ≡ None
-    of None k a e = refl
-    of (Some n) (Some x) a e = cc
-    of (Some n) None (Some x) e = cc
-    of (Some n) None None e = cc
+    of : (s k a j : Option ℕ) → status_in (record { start = s; commit = k; abort = a; join = j }) ≡ NotBegun → s ≡ None
+    of None k a j e = refl
+    of (Some n) (Some x) a j e = cc
+    of (Some n) None (Some x) j e = cc
+    of (Some n) None None (Some x) e = cc
+    of (Some n) None None None e = cc
 
-no_end : (c : Course) → status_in c ≡ InProgress → (c.commit ≡ None) × (c.abort ≡ None)
-no_end c = of c.start c.commit c.abort
+-- how one in progress has not ended
+record NoEnd (c : Course) : Type 0 where
+  commit : c.commit ≡ None
+  abort : c.abort ≡ None
+  join : c.join ≡ None
+
+no_end : (c : Course) → status_in c ≡ InProgress → NoEnd c
+no_end c = of c.start c.commit c.abort c.join
   where
-    of : (s k a : Option ℕ) → status_in (record { start = s; commit = k; abort = a }) ≡ InProgress → (k ≡ None) × (a ≡ None)
-    of s (Some x) a e = cc
-    of s None (Some x) e = cc
-    of s None None e = (refl, refl)
+    of : (s k a j : Option ℕ) → status_in (record { start = s; commit = k; abort = a; join = j }) ≡ InProgress → NoEnd (record { start = s; commit = k; abort = a; join = j })
+    of s (Some x) a j e = cc
+    of s None (Some x) j e = cc
+    of s None None (Some x) e = cc
+    of s None None None e = record { commit = refl; abort = refl; join = refl }
 
 -- of two that are so neither is the smallest where none is
 none_of : (a b : Bool) (j i : ℕ) → smallest (if a then j ∷ (if b then i ∷ [] else []) else (if b then i ∷ [] else [])) ≡ None → (a ≡ false) × (b ≡ false)
@@ -93,9 +114,13 @@ none_of true false j i e = cc
 none_of false true j i e = cc
 none_of false false j i e = (refl, refl)
 
-module _ {A : Type 0} (m : Parts A) (h : List (Kept A)) (shows : ShowsPlaces m h (summary_of h)) (meets : MeetsAxioms m h) (orderly : IsOrderly m h) where
+-- the model is checked, if anybody is in progress
+abbrev pub IsChecked : {A : Type 0} → Parts A → Summary → Type 0
+IsChecked m s = (t : ℕ) → s.status t ≡ InProgress → lowest_fault m ≡ None
+
+module _ {A : Type 0} (m : Parts A) (h : List (Kept A)) (shows : ShowsPlaces m h (summary_of m h)) (meets : MeetsAxioms m h) (orderly : IsOrderly m h) where
   abbrev s : Summary
-  s = summary_of h
+  s = summary_of m h
 
   abbrev with_event : Event A → Option Ret → List (Kept A)
   with_event e ret = h ++ (record { event = e; ret = ret }) ∷ []
@@ -113,7 +138,7 @@ module _ {A : Type 0} (m : Parts A) (h : List (Kept A)) (shows : ShowsPlaces m h
       let new = not_begun s AlreadyBegun t.0 u.begun in
       ap (λ es. is_some (start_refusal s.status es t.0)) shows.edges
       ∙ starts-exact s.status (course h) (course (with_event e ret)) (edges m h) (length h) t.0 shows.status orderly.courses (course-within h) orderly.edges (unbroken-edges m h meets.legal)
-      (λ v ne. course-other h (record { event = e; ret = ret }) v (flipped t.0 v ne) refl refl) later.courses
+      (λ v ne. course-other h (record { event = e; ret = ret }) v (flipped t.0 v ne) refl refl refl) later.courses
       new (course-begin h t class ret (no_start (course h t.0) (sym (shows.status t.0) ∙ new))) (statuses-begin s.status h ret t class shows.status new)
       ∙ same-edges e ret (edges-push m h (record { event = e; ret = ret }))
 
@@ -125,8 +150,8 @@ module _ {A : Type 0} (m : Parts A) (h : List (Kept A)) (shows : ShowsPlaces m h
       let on = in_progress s NotInProgress t.0 u.progress in
       ap (λ es. is_some (commit_refusal s.status es t.0)) shows.edges
       ∙ commits-exact s.status (course h) (course (with_event e ret)) (edges m h) (length h) t.0 shows.status orderly.courses (course-within h) orderly.edges (unbroken-edges m h meets.legal)
-      (λ v ne. course-other h (record { event = e; ret = ret }) v refl (flipped t.0 v ne) refl) later.courses
-      on (course-commit h t ret (no_end (course h t.0) (sym (shows.status t.0) ∙ on)).0) (statuses-commit s.status h ret t shows.status)
+      (λ v ne. course-other h (record { event = e; ret = ret }) v refl (flipped t.0 v ne) refl refl) later.courses
+      on (course-commit h t ret (no_end (course h t.0) (sym (shows.status t.0) ∙ on)).commit) (statuses-commit s.status h ret t shows.status)
       ∙ same-edges e ret (edges-push m h (record { event = e; ret = ret }))
 
   exact-abort : (t : TxnId) (ret : Option Ret) → Unbroken m s (Abort t) → IsOrderly m (with_event (Abort t) ret)
@@ -137,9 +162,49 @@ module _ {A : Type 0} (m : Parts A) (h : List (Kept A)) (shows : ShowsPlaces m h
       let on = in_progress s NotInProgress t.0 u.progress in
       ap (λ es. is_some (abort_refusal s.status es t.0)) shows.edges
       ∙ aborts-exact s.status (course h) (course (with_event e ret)) (edges m h) (length h) t.0 shows.status orderly.courses (course-within h) orderly.edges (unbroken-edges m h meets.legal)
-      (λ v ne. course-other h (record { event = e; ret = ret }) v refl refl (flipped t.0 v ne)) later.courses
-      on (course-abort h t ret (no_end (course h t.0) (sym (shows.status t.0) ∙ on)).1) (statuses-abort s.status h ret t shows.status on)
+      (λ v ne. course-other h (record { event = e; ret = ret }) v refl refl (flipped t.0 v ne) refl) later.courses
+      on (course-abort h t ret (no_end (course h t.0) (sym (shows.status t.0) ∙ on)).abort) (statuses-abort s.status h ret t shows.status on)
       ∙ same-edges e ret (edges-push m h (record { event = e; ret = ret }))
+
+  -- one that joins another
+  exact-join : (t v : TxnId) (ret : Option Ret) → Unbroken m s (Join t v) → IsOrderly m (with_event (Join t v) ret)
+      → is_some (dependency {A = A} s (Join t v)) ≡ not (is_legal m (with_event (Join t v) ret))
+  unfolding not_in_progress
+  exact-join t v ret u later =
+      let e : Event A = Join t v in
+      let on = in_progress s NotInProgress t.0 u.progress in
+      ap (λ es. is_some (join_refusal s.status es t.0)) shows.edges
+      ∙ joins-exact s.status (course h) (course (with_event e ret)) (edges m h) (length h) t.0 shows.status orderly.courses (course-within h) orderly.edges (unbroken-edges m h meets.legal)
+      (λ w ne. course-other h (record { event = e; ret = ret }) w refl refl refl (flipped t.0 w ne)) later.courses
+      on (course-join h t v ret (no_end (course h t.0) (sym (shows.status t.0) ∙ on)).join) (statuses-join s.status h ret t v shows.status on)
+      (legal-calm (course h) (edges m h) (sym (legal-by m h) ∙ meets.legal))
+      ∙ same-edges e ret (edges-push m h (record { event = e; ret = ret }))
+
+  -- one that is split off: its edges are formed first, which bar nothing, and then it starts
+  exact-split : IsChecked m s → (t v : TxnId) (class : ClassId) (ops : List OpNo) (ret : Option Ret) → Unbroken m s (Split t v class ops) → IsOrderly m (with_event (Split t v class ops) ret)
+      → is_some (dependency {A = A} s (Split t v class ops)) ≡ not (is_legal m (with_event (Split t v class ops) ret))
+  unfolding already_begun not_in_progress
+  exact-split checked t v class ops ret u later =
+      let e : Event A = Split t v class ops in
+      let k : Kept A = record { event = e; ret = ret } in
+      let on = in_progress s NotInProgress t.0 u.progress in
+      let new = not_begun s AlreadyBegun v.0 u.begun in
+      let faultless = checked t.0 on in
+      let due = split_due m t v class in
+      let grown : edges m (with_event e ret) ≡ formed (edges m h) due = edges-push m h k in
+      let open_t = still_open t.0 InProgress on refl in
+      let open_v = still_open v.0 NotBegun new refl in
+      let linked = all-legal (course h) (edges m h) due (sym (legal-by m h) ∙ meets.legal) (holding-due m (course h) t v class faultless open_t open_v) in
+      ap (λ es. is_some (start_refusal s.status es v.0)) shows.edges
+      ∙ sym (start-formed s.status (edges m h) due v.0 (neutral-due m s.status t v class faultless on))
+      ∙ starts-exact s.status (course h) (course (with_event e ret)) (formed (edges m h) due) (length h) v.0 shows.status orderly.courses (course-within h)
+      (ap (list_all is_apart) (sym grown) ∙ later.edges) (legal-unbroken (course h) (formed (edges m h) due) linked)
+      (λ w ne. course-other h k w (flipped v.0 w ne) refl refl refl) later.courses
+      new (course-split h t v class ops ret (no_start (course h v.0) (sym (shows.status v.0) ∙ new))) (statuses-split s.status h ret t v class ops shows.status new)
+      ∙ ap (λ es. not (is_legal_by (course (with_event e ret)) es)) (sym grown) ∙ ap not (sym (legal-by m (with_event e ret)))
+    where
+      still_open : (w : ℕ) (x : Status) → s.status w ≡ x → by_status.has_ended x ≡ false → is_some (end (course h w)) ≡ false
+      still_open w x is calm = sym (ended-places h w) ∙ ap by_status.has_ended (sym (shows.status w) ∙ is) ∙ calm
 
   -- the formula of an edge that is formed in time holds
   formed-holds : (kind : Dep) (j i : TxnId) → too_late s kind j.0 i.0 ≡ None → is_false kind (course h j.0) (course h i.0) ≡ false
@@ -160,7 +225,7 @@ module _ {A : Type 0} (m : Parts A) (h : List (Kept A)) (shows : ShowsPlaces m h
       let k : Kept A = record { event = Form kind j i; ret = ret } in
       let e : Edge = record { kind = kind; j = j; i = i } in
       legal-by m (h ++ k ∷ [])
-      ∙ (λ n. is_legal_by (λ v. course-other h k v refl refl refl n) (edges-push m h k n))
+      ∙ (λ n. is_legal_by (λ v. course-other h k v refl refl refl refl n) (edges-push m h k n))
       ∙ of_known (is_among (edges m h) e)
     where
       of_known : (b : Bool) → is_legal_by (course h) (if b then edges m h else edges m h ++ (record { kind = kind; j = j; i = i }) ∷ []) ≡ true
@@ -171,28 +236,30 @@ module _ {A : Type 0} (m : Parts A) (h : List (Kept A)) (shows : ShowsPlaces m h
   legal-operate : (t : TxnId) (ob : _) (op : _) (ret : Option Ret) → is_legal m (with_event (Operate t ob op) ret) ≡ true
   legal-operate t ob op ret =
       let k : Kept A = record { event = Operate t ob op; ret = ret } in
-      legal-by m (h ++ k ∷ []) ∙ (λ n. is_legal_by (λ v. course-other h k v refl refl refl n) (edges-push m h k n)) ∙ sym (legal-by m h) ∙ meets.legal
+      legal-by m (h ++ k ∷ []) ∙ (λ n. is_legal_by (λ v. course-other h k v refl refl refl refl n) (edges-push m h k n)) ∙ sym (legal-by m h) ∙ meets.legal
 
   -- and what is handed over
   legal-delegate : (t v : TxnId) (ops : _) (ret : Option Ret) → is_legal m (with_event (Delegate t v ops) ret) ≡ true
   legal-delegate t v ops ret =
       let k : Kept A = record { event = Delegate t v ops; ret = ret } in
-      legal-by m (h ++ k ∷ []) ∙ (λ n. is_legal_by (λ w. course-other h k w refl refl refl n) (edges-push m h k n)) ∙ sym (legal-by m h) ∙ meets.legal
+      legal-by m (h ++ k ∷ []) ∙ (λ n. is_legal_by (λ w. course-other h k w refl refl refl refl n) (edges-push m h k n)) ∙ sym (legal-by m h) ∙ meets.legal
 
-  exact-of : (e : Event A) (ret : Option Ret) → Unbroken m s e → IsOrderly m (with_event e ret) → is_some (dependency s e) ≡ not (is_legal m (with_event e ret))
-  exact-of (Begin t class) ret u later = exact-begin t class ret u later
-  exact-of (Delegate t v ops) ret u later = ap not (sym (legal-delegate t v ops ret))
-  exact-of (Form kind j i) ret u later = ap not (sym (legal-form kind j i ret u))
-  exact-of (Operate t ob op) ret u later = ap not (sym (legal-operate t ob op ret))
-  exact-of (Commit t) ret u later = exact-commit t ret u later
-  exact-of (Abort t) ret u later = exact-abort t ret u later
+  exact-of : IsChecked m s → (e : Event A) (ret : Option Ret) → Unbroken m s e → IsOrderly m (with_event e ret) → is_some (dependency s e) ≡ not (is_legal m (with_event e ret))
+  exact-of checked (Begin t class) ret u later = exact-begin t class ret u later
+  exact-of checked (Split t v class ops) ret u later = exact-split checked t v class ops ret u later
+  exact-of checked (Join t v) ret u later = exact-join t v ret u later
+  exact-of checked (Delegate t v ops) ret u later = ap not (sym (legal-delegate t v ops ret))
+  exact-of checked (Form kind j i) ret u later = ap not (sym (legal-form kind j i ret u))
+  exact-of checked (Operate t ob op) ret u later = ap not (sym (legal-operate t ob op ret))
+  exact-of checked (Commit t) ret u later = exact-commit t ret u later
+  exact-of checked (Abort t) ret u later = exact-abort t ret u later
 
-pub exact-on : {A : Type 0} (m : Parts A) (h : List (Kept A)) (k : Kept A) → ShowsPlaces m h (summary_of h) → MeetsAxioms m h → IsOrderly m h → Unbroken m (summary_of h) k.event → IsOrderly m (h ++ k ∷ [])
-    → is_some (dependency (summary_of h) k.event) ≡ not (is_legal m (h ++ k ∷ []))
-exact-on m h k shows meets orderly u later = exact-of m h shows meets orderly k.event k.ret u later
+pub exact-on : {A : Type 0} (m : Parts A) (h : List (Kept A)) (k : Kept A) → IsChecked m (summary_of m h) → ShowsPlaces m h (summary_of m h) → MeetsAxioms m h → IsOrderly m h → Unbroken m (summary_of m h) k.event → IsOrderly m (h ++ k ∷ [])
+    → is_some (dependency (summary_of m h) k.event) ≡ not (is_legal m (h ++ k ∷ []))
+exact-on m h k checked shows meets orderly u later = exact-of m h shows meets orderly checked k.event k.ret u later
 
 -- what is owed by the table is what is owed by places
-pub owed-places : {A : Type 0} (m : Parts A) (h : List (Kept A)) → ShowsPlaces m h (summary_of h) → IsOrderly m h → owed_in (summary_of h).status (summary_of h).edges ≡ owed m h
+pub owed-places : {A : Type 0} (m : Parts A) (h : List (Kept A)) → ShowsPlaces m h (summary_of m h) → IsOrderly m h → owed_in (summary_of m h).status (summary_of m h).edges ≡ owed m h
 unfolding owed
 owed-places m h shows orderly =
-    ap (owed_in (summary_of h).status) shows.edges ∙ owed-tie (summary_of h).status (course h) (edges m h) shows.status orderly.courses
+    ap (owed_in (summary_of m h).status) shows.edges ∙ owed-tie (summary_of m h).status (course h) (edges m h) shows.status orderly.courses

@@ -6,24 +6,25 @@ use Rattle.acta_table.specs.declared.event.ClassId.{ClassId}
 use Rattle.acta_table.specs.declared.event.OpNo.{OpNo}
 use Rattle.acta_table.specs.declared.event.TxnId.{TxnId}
 use Rattle.acta_sets.specs.Operations.{moved_from}
-use Rattle.acta_table.specs.declared.event.Event.TheVariants.{Begin, Delegate, Form, Operate, Commit, Abort}
+use Rattle.acta_table.specs.declared.model.Parts.{Parts}
+use Rattle.acta_table.specs.declared.event.Event.TheVariants.{Begin, Split, Join, Delegate, Form, Operate, Commit, Abort}
 use Rattle.acta_table.specs.declared.event.Kept.{Kept}
 use Rattle.acta_table.specs.declared.answer.Status.{Status}
 use Rattle.acta_table.specs.declared.answer.Status.TheVariants.{NotBegun}
 use Rattle.acta_deps.specs.Deps.{DepState}
 use Rattle.acta_sets.specs.declared.item.Item.{Item}
-use Rattle.acta_machine.specs.Summary.{Summary, nothing_yet, stood, entered, linked, given, operated, fated, counted}
+use Rattle.acta_machine.specs.Summary.{Summary, nothing_yet, stood, entered, linked, given, inherited, operated, fated, counted}
 use Rattle.acta_machine.specs.Changes.{edges_due, effect, summary_from, summary_of}
 use Rattle.acta_machine.specs.Shown.{summary_in}
 
-summary_from_more : {A : Type 0} (s : Summary) (history : List (Kept A)) (k : Kept A) → summary_from s (history ++ k ∷ []) ≡ effect (summary_from s history) k.event
-summary_from_more s [] k = refl
-summary_from_more s (h ∷ hs) k = summary_from_more (effect s h.event) hs k
+summary_from_more : {A : Type 0} (m : Parts A) (s : Summary) (history : List (Kept A)) (k : Kept A) → summary_from m s (history ++ k ∷ []) ≡ effect m (summary_from m s history) k.event
+summary_from_more m s [] k = refl
+summary_from_more m s (h ∷ hs) k = summary_from_more m (effect m s h.event) hs k
 
 -- one more event has its effect on the summary
-pub summary_more : {A : Type 0} (history : List (Kept A)) (k : Kept A) → summary_of (history ++ k ∷ []) ≡ effect (summary_of history) k.event
+pub summary_more : {A : Type 0} (m : Parts A) (history : List (Kept A)) (k : Kept A) → summary_of m (history ++ k ∷ []) ≡ effect m (summary_of m history) k.event
 unfolding summary_of
-summary_more history k = summary_from_more nothing_yet history k
+summary_more m history k = summary_from_more m nothing_yet history k
 
 fresh_entry : {X : Type 0} (x : X) (n u : ℕ) → get_or (replicate n x) u x ≡ x
 fresh_entry x n u = grind (arith, get_or-replicate, get_or_past, length-replicate)
@@ -34,14 +35,14 @@ fresh_table {X} x table is_fresh u =
     ∙ unwrap_or-slice_get (replicate 4096 x) u x ∙ fresh_entry x 4096 u
 
 -- fresh tables with nothing kept show the summary before any event
-pub fresh_summary : {A : Type 0} (deps : DepState) (classes : List (Option ClassId)) (operations : List Item) (kept : List (Kept A)) → deps ≡ record { statuses = replicate 4096 NotBegun; edges = [] } → classes ≡ replicate 4096 None → operations ≡ [] → kept ≡ [] → summary_in deps classes operations kept ≡ summary_of kept
+pub fresh_summary : {A : Type 0} (m : Parts A) (deps : DepState) (classes : List (Option ClassId)) (operations : List Item) (kept : List (Kept A)) → deps ≡ record { statuses = replicate 4096 NotBegun; edges = [] } → classes ≡ replicate 4096 None → operations ≡ [] → kept ≡ [] → summary_in deps classes operations kept ≡ summary_of m kept
 unfolding summary_of
-fresh_summary deps classes operations kept new none no_operation empty =
+fresh_summary m deps classes operations kept new none no_operation empty =
     let statuses = ap (λ (d : DepState). d.statuses) new in
     let edges = ap (λ (d : DepState). d.edges) new in
     let shows : summary_in deps classes operations kept ≡ nothing_yet =
     λ i. record { kept = length (empty i); status = λ u. fresh_table NotBegun deps.statuses statuses u i; class = λ u. fresh_table None classes none u i; operations = no_operation i; edges = edges i } in
-    shows ∙ sym (ap (summary_from nothing_yet) empty)
+    shows ∙ sym (ap (summary_from m nothing_yet) empty)
 
 pub fresh_room : {X : Type 0} (x : X) (table : List X) → table ≡ replicate 4096 x → length table ≡ 4096
 fresh_room {X} x table is_fresh = ap (length {A = X}) is_fresh ∙ length-replicate 4096 x
@@ -50,11 +51,13 @@ length-moved : (n : ℕ) (ops : List OpNo) (u : TxnId) (items : List Item) → l
 length-moved n ops u [] = refl
 length-moved n ops u (i ∷ items) = ap suc (length-moved (n + 1) ops u items)
 
-changed_few : {A : Type 0} (s : Summary) (k : Kept A) → length (effect s k.event).operations ≤ length s.operations + 1
-unfolding stood entered linked given operated fated counted
-changed_few s k =
-    elim k.event as (λ e. length (effect s e).operations ≤ length s.operations + 1) [
+changed_few : {A : Type 0} (m : Parts A) (s : Summary) (k : Kept A) → length (effect m s k.event).operations ≤ length s.operations + 1
+unfolding stood entered linked given inherited operated fated counted
+changed_few m s k =
+    elim k.event as (λ e. length (effect m s e).operations ≤ length s.operations + 1) [
       | Begin t class ↦ omega arith
+      | Split t u class ops ↦ let same = length-moved 1 ops u s.operations in omega (arith, same)
+      | Join t u ↦ simp length-map (omega arith)
       | Delegate t u ops ↦ let same = length-moved 1 ops u s.operations in omega (arith, same)
       | Form kind j i ↦ omega arith
       | Operate t ob op ↦ simp length-append (omega arith)
@@ -62,18 +65,18 @@ changed_few s k =
       | Abort t ↦ simp length-map (omega arith)
     ]
 
-few_from : {A : Type 0} (s : Summary) (history : List (Kept A)) → length (summary_from s history).operations ≤ length s.operations + length history
-few_from s [] = omega arith
-few_from s (k ∷ ks) = omega (arith, changed_few s k, few_from (effect s k.event) ks)
+few_from : {A : Type 0} (m : Parts A) (s : Summary) (history : List (Kept A)) → length (summary_from m s history).operations ≤ length s.operations + length history
+few_from m s [] = omega arith
+few_from m s (k ∷ ks) = omega (arith, changed_few m s k, few_from m (effect m s k.event) ks)
 
 -- no more operations than events
-pub operations_few : {A : Type 0} (history : List (Kept A)) → length (summary_of history).operations ≤ length history
+pub operations_few : {A : Type 0} (m : Parts A) (history : List (Kept A)) → length (summary_of m history).operations ≤ length history
 unfolding summary_of
-operations_few history = let h = few_from nothing_yet history in omega (arith, h)
+operations_few m history = let h = few_from m nothing_yet history in omega (arith, h)
 
 -- the lists that show the summary of a history have room for a number of each operation
-pub operations_within : {A : Type 0} (s : Summary) (history : List (Kept A)) → s ≡ summary_of history → length history ≤ 65536 → length s.operations ≤ 65536
-operations_within s history same within =
-    let few = operations_few history in
+pub operations_within : {A : Type 0} (m : Parts A) (s : Summary) (history : List (Kept A)) → s ≡ summary_of m history → length history ≤ 65536 → length s.operations ≤ 65536
+operations_within m s history same within =
+    let few = operations_few m history in
     let count = ap (λ (x : Summary). length x.operations) same in
     omega (arith, few, count, within)

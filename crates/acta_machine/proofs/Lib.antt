@@ -7,6 +7,7 @@ pub mod Handing
 pub mod Histories
 pub mod OperationGrowth
 pub mod SetTies
+pub mod Splitting
 pub mod StatusGrowth
 pub mod Steps
 pub mod Tables

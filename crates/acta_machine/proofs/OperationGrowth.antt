@@ -12,7 +12,7 @@ use Rattle.acta_table.specs.declared.event.ClassId.{ClassId}
 use Rattle.acta_table.specs.declared.event.ObjId.{ObjId}
 use Rattle.acta_table.specs.declared.event.Op.{Op}
 use Rattle.acta_table.specs.declared.event.Ret.{Ret}
-use Rattle.acta_table.specs.declared.event.Event.TheVariants.{Begin, Delegate, Form, Operate, Commit, Abort}
+use Rattle.acta_table.specs.declared.event.Event.TheVariants.{Begin, Split, Join, Delegate, Form, Operate, Commit, Abort}
 use Rattle.acta_table.specs.declared.event.Kept.{Kept}
 use Rattle.acta_table.specs.declared.answer.Fate.{Fate}
 use Rattle.acta_table.specs.declared.answer.Fate.TheVariants.{InProgress, Committed, Aborted}
@@ -24,7 +24,7 @@ use Rattle.acta_axioms.specs.History.{places_behind}
 use Rattle.acta_axioms.specs.Operations.{Operation, Standing, held_by, ended_by, carried, followed, standing, operations, is_operate, number_after, operation_in, operation_at}
 use Rattle.acta_axioms.proofs.Growth.{at_end, shown-push, number_after-push}
 use Rattle.acta_sets.specs.declared.item.Item.{Item}
-use Rattle.acta_sets.specs.Operations.{is_open, is_held, ended_item, ended, moved_from, moved, added}
+use Rattle.acta_sets.specs.Operations.{is_open, is_held, handed_item, handed, ended_item, ended, moved_from, moved, added}
 use Rattle.acta_machine.specs.Places.{item_of, items_at}
 use Rattle.acta_machine.proofs.Handing.{holds}
 
@@ -87,14 +87,14 @@ gives t u true o holder Committed held = absurd (true≢false (sym (held refl) �
 gives t u true o holder Aborted held = absurd (true≢false (sym (held refl) ∙ and_false (holder == t)))
 
 -- the operations behind some items, handed over by number
-handed : {A : Type 0} (show : Operation → Item) (over : Operation → Item) (holding : Item → Bool) (ops : List OpNo) (u : TxnId) →
+named-handed : {A : Type 0} (show : Operation → Item) (over : Operation → Item) (holding : Item → Bool) (ops : List OpNo) (u : TxnId) →
     ((o : Operation) → (is_named ops o.number ≡ true → holding (show o) ≡ true) → over o ≡ (if is_named ops o.number then record (show o) { holder = u } else show o)) →
     (before ks : List (Kept A)) → ((i : ℕ) → is_named ops (number_after before + i) ≡ true → option_map_or holding (slice_get (map show (filter_map operation_at (places_behind before ks))) i) false ≡ true) →
     map over (filter_map operation_at (places_behind before ks)) ≡ moved_from (number_after before) ops u (map show (filter_map operation_at (places_behind before ks)))
-handed show over holding ops u one before [] held = refl
-handed {A} show over holding ops u one before (k ∷ ks) held =
+named-handed show over holding ops u one before [] held = refl
+named-handed {A} show over holding ops u one before (k ∷ ks) held =
     of_event k.event (number_after-push before k) held
-    (handed show over holding ops u one (before ++ k ∷ []) ks)
+    (named-handed show over holding ops u one (before ++ k ∷ []) ks)
   where
     of_event : (e : Event A) → number_after (before ++ k ∷ []) ≡ number_after before + cond (is_operate e) 1 0 →
         ((i : ℕ) → is_named ops (number_after before + i) ≡ true → option_map_or holding (slice_get (map show (cons_option (operation_in (record { before = before; kept = k }) e) (filter_map operation_at (places_behind (before ++ k ∷ []) ks)))) i) false ≡ true) →
@@ -116,9 +116,40 @@ operations-delegate {A} m h ret t u ops held =
     let k : Kept A = record { event = Delegate t u ops; ret = ret } in
     shown-push item_of m h k
     ∙ append-nil (map (λ o. item_of o (carried m o.number (standing m h o) (at_end h k))) (operations h))
-    ∙ handed (λ o. item_of o (standing m h o)) (λ o. item_of o (carried m o.number (standing m h o) (at_end h k))) (is_held t.0) ops u
+    ∙ named-handed (λ o. item_of o (standing m h o)) (λ o. item_of o (carried m o.number (standing m h o) (at_end h k))) (is_held t.0) ops u
     (λ o named. gives t.0 u (is_named ops o.number) o (standing m h o).holder (standing m h o).fate named)
     [] h (λ i named. let same : 1 + i ≡ suc i = omega arith in held (suc i) (sym (ap (is_named ops) same) ∙ named))
+
+-- so does the one that t splits off
+pub operations-split : {A : Type 0} (m : Parts A) (h : List (Kept A)) (ret : Option Ret) (t u : TxnId) (class : ClassId) (ops : List OpNo) →
+    ((n : ℕ) → is_named ops n ≡ true → holds (items_at m h) t.0 n ≡ true) → items_at m (h ++ (record { event = Split t u class ops; ret = ret }) ∷ []) ≡ moved ops u (items_at m h)
+operations-split {A} m h ret t u class ops held =
+    let k : Kept A = record { event = Split t u class ops; ret = ret } in
+    shown-push item_of m h k
+    ∙ append-nil (map (λ o. item_of o (carried m o.number (standing m h o) (at_end h k))) (operations h))
+    ∙ named-handed (λ o. item_of o (standing m h o)) (λ o. item_of o (carried m o.number (standing m h o) (at_end h k))) (is_held t.0) ops u
+    (λ o named. gives t.0 u (is_named ops o.number) o (standing m h o).holder (standing m h o).fate named)
+    [] h (λ i named. let same : 1 + i ≡ suc i = omega arith in held (suc i) (sym (ap (is_named ops) same) ∙ named))
+
+-- what t held when it joins u, by the table and by places
+hands : (t v : ℕ) (u : TxnId) (o : Operation) (old : Fate) →
+    item_of o (if Rattle.acta_axioms.specs.Operations.is_open old then (if t == v then held_by u.0 else held_by v) else record { holder = v; fate = old })
+    ≡ handed_item t u (item_of o (record { holder = v; fate = old }))
+hands t v u o Committed = elim (cases_eq v t) [ inl e ↦ rw (eq-eqb v t e) refl | inr ne ↦ rw (ne_eqb v t ne) refl ]
+hands t v u o Aborted = elim (cases_eq v t) [ inl e ↦ rw (eq-eqb v t e) refl | inr ne ↦ rw (ne_eqb v t ne) refl ]
+hands t v u o InProgress =
+    elim (cases_eq v t) [
+      | inl e ↦ rw (eq-eqb v t e, eq-eqb t v (sym e)) refl
+      | inr ne ↦ let en : t ≡ v → ⊥ = λ e. ne (sym e) in rw (ne_eqb v t ne, ne_eqb t v en) refl
+    ]
+
+pub operations-join : {A : Type 0} (m : Parts A) (h : List (Kept A)) (ret : Option Ret) (t u : TxnId) → items_at m (h ++ (record { event = Join t u; ret = ret }) ∷ []) ≡ handed t.0 u (items_at m h)
+operations-join {A} m h ret t u =
+    let k : Kept A = record { event = Join t u; ret = ret } in
+    shown-push item_of m h k
+    ∙ append-nil (map (λ o. item_of o (carried m o.number (standing m h o) (at_end h k))) (operations h))
+    ∙ map-same _ _ (λ o. hands t.0 (standing m h o).holder u o (standing m h o).fate) (operations h)
+    ∙ sym (map-map (handed_item t.0 u) (λ o. item_of o (standing m h o)) (operations h))
 
 -- the end of t, by the table and by places
 ends : (t u : ℕ) (o : Operation) (fate old : Fate) →

@@ -74,7 +74,7 @@ view-places state follows =
 pub values-places : {A : Type 0} (state : State A) (object : ℕ) → FollowsPlaces state → value_in state object ≡ value_at state object
 values-places {A} state object follows = of (kind_at state.model object)
   where
-    of : (k : Option Kind) → option_map (λ kind. state_after {A = A} (first_state kind) (live_ops kind (Rattle.acta_machine.specs.Changes.summary_of state.kept).operations object)) k
+    of : (k : Option Kind) → option_map (λ kind. state_after {A = A} (first_state kind) (live_ops kind (Rattle.acta_machine.specs.Changes.summary_of state.model state.kept).operations object)) k
         ≡ option_map (Rattle.acta_axioms.specs.Values.value state.model state.kept object) k
     of None = refl
     of (Some kind) = ap Some (value-places state.model state.kept _ object kind follows.shows.operations)

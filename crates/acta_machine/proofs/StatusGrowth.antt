@@ -4,17 +4,18 @@ use Rattle.std.specs.Prelude.{option_map, option_and_then, is_some, if◌then◌
 use Rattle.std.proofs.lemmas.Bool.{ne_eqb, cases_eq}
 use Rattle.acta_table.specs.declared.event.TxnId.{TxnId}
 use Rattle.acta_table.specs.declared.event.ClassId.{ClassId}
+use Rattle.acta_table.specs.declared.event.OpNo.{OpNo}
 use Rattle.acta_table.specs.declared.event.Event.{Event}
-use Rattle.acta_table.specs.declared.event.Event.TheVariants.{Begin, Commit, Abort}
+use Rattle.acta_table.specs.declared.event.Event.TheVariants.{Begin, Split, Join, Commit, Abort}
 use Rattle.acta_table.specs.declared.event.Kept.{Kept}
 use Rattle.acta_table.specs.declared.event.Ret.{Ret}
 use Rattle.acta_table.specs.declared.answer.Status.{Status}
-use Rattle.acta_table.specs.declared.answer.Status.TheVariants.{NotBegun, InProgress, Committed, Aborted}
+use Rattle.acta_table.specs.declared.answer.Status.TheVariants.{NotBegun, InProgress, Committed, Aborted, Joined}
 use Rattle.acta_table.specs.Events.{class_named}
 use Rattle.acta_axioms.specs.History.{Place, number, first, starts, course, has_begun, has_ended, class_number}
 use Rattle.acta_axioms.specs.Claims.{status_at}
 use Rattle.acta_axioms.proofs.Growth.{class_number-push}
-use Rattle.acta_axioms.proofs.Statuses.{is_under_way, is_ended_status, has_begun-status, has_ended-status, when_begun, when_aborted, status_after, status_at-push}
+use Rattle.acta_axioms.proofs.Statuses.{is_under_way, is_ended_status, has_begun-status, has_ended-status, when_begun, when_aborted, when_joined, status_after, status_at-push}
 use Rattle.acta_deps.specs.Statuses.{with_status, has_ended as has_ended_status}
 use Rattle.acta_machine.specs.Summary.{with_entry}
 
@@ -46,6 +47,14 @@ statuses-begin {A} f h ret t class shows new =
     ((λ i. status_after t.0 e (new i)) ∙ ap (λ b. if b then InProgress else NotBegun) (eq-eqb t.0 t.0 refl))
     (λ u ne. ap (λ b. if b then when_begun (status_at h u) else status_at h u) (flipped t.0 u ne))
 
+pub statuses-split : {A : Type 0} (f : ℕ → Status) (h : List (Kept A)) (ret : Option Ret) (t v : TxnId) (class : ClassId) (ops : List OpNo) → ((u : ℕ) → f u ≡ status_at h u) → f v.0 ≡ NotBegun →
+    (u : ℕ) → with_status f v.0 InProgress u ≡ status_at (h ++ (record { event = Split t v class ops; ret = ret }) ∷ []) u
+statuses-split {A} f h ret t v class ops shows new =
+    let e : Event A = Split t v class ops in
+    statuses-tie f h _ v.0 InProgress shows
+    ((λ i. status_after v.0 e (new i)) ∙ ap (λ b. if b then InProgress else NotBegun) (eq-eqb v.0 v.0 refl))
+    (λ u ne. ap (λ b. if b then when_begun (status_at h u) else status_at h u) (flipped v.0 u ne))
+
 pub statuses-commit : {A : Type 0} (f : ℕ → Status) (h : List (Kept A)) (ret : Option Ret) (t : TxnId) → ((u : ℕ) → f u ≡ status_at h u) →
     (u : ℕ) → with_status f t.0 Committed u ≡ status_at (h ++ (record { event = Commit t; ret = ret }) ∷ []) u
 statuses-commit f h ret t shows =
@@ -61,17 +70,23 @@ statuses-abort {A} f h ret t shows on =
     ((λ i. status_after t.0 e (on i)) ∙ ap (λ b. if b then Aborted else InProgress) (eq-eqb t.0 t.0 refl))
     (λ u ne. ap (λ b. if b then when_aborted (status_at h u) else status_at h u) (flipped t.0 u ne))
 
+pub statuses-join : {A : Type 0} (f : ℕ → Status) (h : List (Kept A)) (ret : Option Ret) (t v : TxnId) → ((u : ℕ) → f u ≡ status_at h u) → f t.0 ≡ InProgress →
+    (u : ℕ) → with_status f t.0 Joined u ≡ status_at (h ++ (record { event = Join t v; ret = ret }) ∷ []) u
+statuses-join {A} f h ret t v shows on =
+    let e : Event A = Join t v in
+    statuses-tie f h _ t.0 Joined shows
+    ((λ i. status_after t.0 e (on i)) ∙ ap (λ b. if b then Joined else InProgress) (eq-eqb t.0 t.0 refl))
+    (λ u ne. ap (λ b. if b then when_joined (status_at h u) else status_at h u) (flipped t.0 u ne))
+
 -- what a status tells by places
 
--- one that ended by its status has by places; by places nobody is joined to another
+-- one that ended by its status has by places
 pub ended-places : {A : Type 0} (h : List (Kept A)) (t : ℕ) → has_ended_status (status_at h t) ≡ has_ended h t
-ended-places h t = of_course (is_some (course h t).commit) (is_some (course h t).abort) (is_some (course h t).start) ∙ sym (has_ended-status h t)
+ended-places h t = of_status (status_at h t) ∙ sym (has_ended-status h t)
   where
-    of_course : (c a s : Bool) → has_ended_status (if c then Committed else if a then Aborted else if s then InProgress else NotBegun) ≡ is_ended_status (if c then Committed else if a then Aborted else if s then InProgress else NotBegun)
-    of_course true a s = refl
-    of_course false true s = refl
-    of_course false false true = refl
-    of_course false false false = refl
+    of_status : (s : Status) → has_ended_status s ≡ is_ended_status s
+    of_status NotBegun = refl
+    of_status s = refl
 
 -- one that has not begun by its status has not by places
 pub begun-places : {A : Type 0} (h : List (Kept A)) (t : ℕ) → status_at h t ≡ NotBegun → has_begun h t ≡ false
@@ -98,19 +113,28 @@ class-stays h k u idle =
     ∙ ap (λ b. if has_begun h u then class_number h u else if b then class_named k.event else None) idle
     ∙ branch (has_begun h u) (class_number h u) (class_named k.event) (no_class h u)
 
-pub classes-begin : {A : Type 0} (f : ℕ → Option ClassId) (h : List (Kept A)) (ret : Option Ret) (t : TxnId) (class : ClassId) → ((u : ℕ) → option_map (λ c. c.0) (f u) ≡ class_number h u) → has_begun h t.0 ≡ false →
-    (u : ℕ) → option_map (λ c. c.0) (with_entry f t.0 (Some class) u) ≡ class_number (h ++ (record { event = Begin t class; ret = ret }) ∷ []) u
-classes-begin {A} f h ret t class shows new u =
-    let k : Kept A = record { event = Begin t class; ret = ret } in
+-- an event that starts t with the class gives it this class
+classes-start : {A : Type 0} (f : ℕ → Option ClassId) (h : List (Kept A)) (k : Kept A) (t : TxnId) (class : ClassId) → ((u : ℕ) → starts u k.event ≡ (t.0 == u)) → class_named k.event ≡ Some class.0
+    → ((u : ℕ) → option_map (λ c. c.0) (f u) ≡ class_number h u) → has_begun h t.0 ≡ false →
+    (u : ℕ) → option_map (λ c. c.0) (with_entry f t.0 (Some class) u) ≡ class_number (h ++ k ∷ []) u
+classes-start f h k t class is_start named shows new u =
     elim (cases_eq u t.0) [
       | inl e ↦
           let here = eq-eqb u t.0 e in
-          let there = eq-eqb t.0 u (sym e) in
+          let there = is_start u ∙ eq-eqb t.0 u (sym e) in
           let fresh : has_begun h u ≡ false = ap (has_begun h) e ∙ new in
           ap (λ b. option_map (λ c. c.0) (if b then Some class else f u)) here
-          ∙ sym (class_number-push h k u ∙ (λ i. if fresh i then class_number h u else if there i then Some class.0 else None))
+          ∙ sym (class_number-push h k u ∙ (λ i. if fresh i then class_number h u else if there i then named i else None))
       | inr ne ↦
           let here = ne_eqb u t.0 ne in
-          let there = flipped t.0 u ne in
+          let there = is_start u ∙ flipped t.0 u ne in
           ap (λ b. option_map (λ c. c.0) (if b then Some class else f u)) here ∙ shows u ∙ sym (class-stays h k u there)
     ]
+
+pub classes-begin : {A : Type 0} (f : ℕ → Option ClassId) (h : List (Kept A)) (ret : Option Ret) (t : TxnId) (class : ClassId) → ((u : ℕ) → option_map (λ c. c.0) (f u) ≡ class_number h u) → has_begun h t.0 ≡ false →
+    (u : ℕ) → option_map (λ c. c.0) (with_entry f t.0 (Some class) u) ≡ class_number (h ++ (record { event = Begin t class; ret = ret }) ∷ []) u
+classes-begin f h ret t class = classes-start f h (record { event = Begin t class; ret = ret }) t class (λ u. refl) refl
+
+pub classes-split : {A : Type 0} (f : ℕ → Option ClassId) (h : List (Kept A)) (ret : Option Ret) (t v : TxnId) (class : ClassId) (ops : List OpNo) → ((u : ℕ) → option_map (λ c. c.0) (f u) ≡ class_number h u) → has_begun h v.0 ≡ false →
+    (u : ℕ) → option_map (λ c. c.0) (with_entry f v.0 (Some class) u) ≡ class_number (h ++ (record { event = Split t v class ops; ret = ret }) ∷ []) u
+classes-split f h ret t v class ops = classes-start f h (record { event = Split t v class ops; ret = ret }) v class (λ u. refl) refl

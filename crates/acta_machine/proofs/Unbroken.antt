@@ -1,16 +1,25 @@
 -- An event that breaks none of the rules before those on dependencies, or none at all.
-use Rattle.std.proofs.Common.{◌≡◌, List, [], ◌∷◌, None, refl, ap, ◌∙◌}
+use Rattle.std.proofs.Common.{◌≡◌, ◌<◌, ◌≤◌, false, List, [], ◌∷◌, length, Option, Some, None, is_some, refl, sym, ap, ◌∙◌, arith}
+use Rattle.std.specs.Prelude.{nat_lt}
+use Rattle.std.proofs.lemmas.Bool.{true≢false, lt-ltb}
 use Rattle.acta_table.specs.declared.dep.Edge.{Edge}
 use Rattle.acta_table.specs.declared.event.Event.{Event}
-use Rattle.acta_table.specs.declared.event.Event.TheVariants.{Begin, Delegate, Form, Operate, Commit, Abort}
+use Rattle.acta_table.specs.declared.event.Event.TheVariants.{Begin, Split, Join, Delegate, Form, Operate, Commit, Abort}
 use Rattle.acta_table.specs.declared.model.Parts.{Parts}
+use Rattle.acta_table.specs.declared.answer.Refusal.{Refusal}
+use Rattle.acta_table.specs.declared.answer.Rule.TheVariants.{NotInProgress, EdgesFull}
+use Rattle.acta_table.specs.Edges.{formed}
+use Rattle.acta_table.specs.Faults.{lowest_fault}
+use Rattle.acta_deps.specs.Dependencies.{start_refusal}
 use Rattle.acta_table.specs.Refusals.{first_of}
 use Rattle.acta_table.specs.WellFormed.{bad_number, bad_class, bad_object, same_transaction}
 use Rattle.acta_objects.specs.WellFormed.{bad_operation}
 use Rattle.acta_machine.specs.Summary.{Summary, linked}
 use Rattle.acta_machine.specs.Changes.{edges_due}
 use Rattle.acta_machine.specs.Rules.{full, not_in_progress, already_begun, not_in_model, partner_not_in_progress, not_responsible, partial_delegation, bad_set, conflict, form_too_late, edges_full, earlier_broken, dependency, lowest_broken}
-use Rattle.acta_machine.proofs.Broken.{or_none}
+use Rattle.acta_machine.proofs.Broken.{or_none, if_none, in_progress}
+use Rattle.acta_machine.proofs.DependencyTies.{start-formed}
+use Rattle.acta_machine.proofs.Splitting.{split_due, neutral-due}
 
 -- each of the earlier rules, which the event does not break
 pub record Unbroken {A : Type 0} (m : Parts A) (s : Summary) (e : Event A) : Type 0 where
@@ -28,7 +37,7 @@ pub record Unbroken {A : Type 0} (m : Parts A) (s : Summary) (e : Event A) : Typ
   pub set : bad_set s e ≡ None
   pub conflict : conflict m s e ≡ None
   pub time : form_too_late s e ≡ None
-  pub edges : edges_full s e ≡ None
+  pub edges : edges_full m s e ≡ None
 
 pub unbroken : {A : Type 0} (m : Parts A) (s : Summary) (e : Event A) → earlier_broken m s e ≡ None → Unbroken m s e
 unbroken m s e none =
@@ -47,7 +56,7 @@ unbroken m s e none =
     let a13 = first_of (full s ∷ bad_number e ∷ bad_class m e ∷ bad_object m e ∷ bad_operation m e ∷ same_transaction e ∷ not_in_progress s e ∷ already_begun s e ∷ not_in_model m s e ∷ partner_not_in_progress s e ∷ not_responsible s e ∷ partial_delegation m s e ∷ bad_set s e ∷ []) in
     let a14 = first_of (full s ∷ bad_number e ∷ bad_class m e ∷ bad_object m e ∷ bad_operation m e ∷ same_transaction e ∷ not_in_progress s e ∷ already_begun s e ∷ not_in_model m s e ∷ partner_not_in_progress s e ∷ not_responsible s e ∷ partial_delegation m s e ∷ bad_set s e ∷ conflict m s e ∷ []) in
     let a15 = first_of (full s ∷ bad_number e ∷ bad_class m e ∷ bad_object m e ∷ bad_operation m e ∷ same_transaction e ∷ not_in_progress s e ∷ already_begun s e ∷ not_in_model m s e ∷ partner_not_in_progress s e ∷ not_responsible s e ∷ partial_delegation m s e ∷ bad_set s e ∷ conflict m s e ∷ form_too_late s e ∷ []) in
-    let n16 = or_none a15 (edges_full s e) none in
+    let n16 = or_none a15 (edges_full m s e) none in
     let n15 = or_none a14 (form_too_late s e) n16.0 in
     let n14 = or_none a13 (conflict m s e) n15.0 in
     let n13 = or_none a12 (bad_set s e) n14.0 in
@@ -95,35 +104,51 @@ pub record Admissible {A : Type 0} (s : Summary) (e : Event A) : Type 0 where
 
 -- the edges that an event forms change no rule that looks at statuses
 
-linked-dependency : {A : Type 0} (s : Summary) (e : Event A) → dependency (linked s (edges_due e)) e ≡ dependency s e
-unfolding linked
-linked-dependency s (Begin t class) = refl
-linked-dependency s (Delegate t u ops) = refl
-linked-dependency s (Form kind j i) = refl
-linked-dependency s (Operate t ob op) = refl
-linked-dependency s (Commit t) = refl
-linked-dependency s (Abort t) = refl
+is_nothing : (r : Option Refusal) → is_some r ≡ false → r ≡ None
+is_nothing None e = refl
+is_nothing (Some r) e = cc
 
-linked-progress : {A : Type 0} (s : Summary) (e : Event A) → not_in_progress (linked s (edges_due e)) e ≡ not_in_progress s e
+linked-dependency : {A : Type 0} (m : Parts A) (s : Summary) (e : Event A) → lowest_fault m ≡ None → not_in_progress s e ≡ None → dependency s e ≡ None → dependency (linked s (edges_due m e)) e ≡ None
 unfolding linked not_in_progress
-linked-progress s e = refl
+linked-dependency m s (Begin t class) faultless on none = none
+linked-dependency m s (Split t u class ops) faultless on none =
+    is_nothing (start_refusal s.status (formed s.edges (split_due m t u class)) u.0)
+    (start-formed s.status s.edges (split_due m t u class) u.0 (neutral-due m s.status t u class faultless (in_progress s NotInProgress t.0 on)) ∙ ap is_some none)
+linked-dependency m s (Join t u) faultless on none = none
+linked-dependency m s (Delegate t u ops) faultless on none = refl
+linked-dependency m s (Form kind j i) faultless on none = refl
+linked-dependency m s (Operate t ob op) faultless on none = refl
+linked-dependency m s (Commit t) faultless on none = none
+linked-dependency m s (Abort t) faultless on none = none
 
-linked-begun : {A : Type 0} (s : Summary) (e : Event A) → already_begun (linked s (edges_due e)) e ≡ already_begun s e
+linked-progress : {A : Type 0} (m : Parts A) (s : Summary) (e : Event A) → not_in_progress (linked s (edges_due m e)) e ≡ not_in_progress s e
+unfolding linked not_in_progress
+linked-progress m s e = refl
+
+linked-begun : {A : Type 0} (m : Parts A) (s : Summary) (e : Event A) → already_begun (linked s (edges_due m e)) e ≡ already_begun s e
 unfolding linked already_begun
-linked-begun s e = refl
+linked-begun m s e = refl
 
 -- so an event that breaks no rule is still admissible when its edges are formed
-pub still-admissible : {A : Type 0} (m : Parts A) (s roomy later : Summary) (e : Event A) → lowest_broken m s e ≡ None → roomy ≡ s → later ≡ linked roomy (edges_due e) → Admissible later e
-still-admissible m s roomy later e none same forms =
-    let here : later ≡ linked s (edges_due e) = forms ∙ ap (λ (x : Summary). linked x (edges_due e)) same in
+pub still-admissible : {A : Type 0} (m : Parts A) (s roomy later : Summary) (e : Event A) (due : List Edge) → lowest_fault m ≡ None → lowest_broken m s e ≡ None → due ≡ edges_due m e → roomy ≡ s → later ≡ linked roomy due → Admissible later e
+still-admissible m s roomy later e due faultless none is_due same forms =
+    let here : later ≡ linked s (edges_due m e) = forms ∙ (λ i. linked (same i) (is_due i)) in
     let u = unbroken m s e (none-earlier m s e none) in
     record {
-      progress = ap (λ (x : Summary). not_in_progress x e) here ∙ linked-progress s e ∙ u.progress;
-      begun = ap (λ (x : Summary). already_begun x e) here ∙ linked-begun s e ∙ u.begun;
-      allowed = ap (λ (x : Summary). dependency x e) here ∙ linked-dependency s e ∙ none-dependency m s e none;
+      progress = ap (λ (x : Summary). not_in_progress x e) here ∙ linked-progress m s e ∙ u.progress;
+      begun = ap (λ (x : Summary). already_begun x e) here ∙ linked-begun m s e ∙ u.begun;
+      allowed = ap (λ (x : Summary). dependency x e) here ∙ linked-dependency m s e faultless u.progress (none-dependency m s e none);
     }
 
 -- where an event forms no edge, nothing is changed by forming its edges
-pub linked-none : {A : Type 0} (s : Summary) (e : Event A) → edges_due e ≡ [] → linked s (edges_due e) ≡ s
+pub linked-none : (s : Summary) (due : List Edge) → due ≡ [] → linked s due ≡ s
 unfolding linked
-linked-none s e none = ap (λ (more : List Edge). linked s more) none
+linked-none s due none = ap (λ (more : List Edge). linked s more) none
+
+-- there is room for the edges of an event that breaks none of the earlier rules
+pub linked-room : {A : Type 0} (m : Parts A) (s : Summary) (e : Event A) → edges_full m s e ≡ None → length (formed s.edges (edges_due m e)) ≤ 16384
+unfolding edges_full
+linked-room m s e none =
+    let few = if_none (nat_lt 16384 (length (formed s.edges (edges_due m e)))) EdgesFull none in
+    let many : 16384 < length (formed s.edges (edges_due m e)) → ⊥ = λ l. true≢false (sym (lt-ltb 16384 (length (formed s.edges (edges_due m e))) l) ∙ few) in
+    omega (arith, many)

@@ -50,14 +50,14 @@ is_refused_by_dependency _ = false
 -- where the history with it would not be legal
 abbrev pub RefusesIllegal : {A : Type 0} → State A → Event A → Type 0
 RefusesIllegal state event =
-    earlier_broken state.model (summary_of state.kept) event ≡ None
+    earlier_broken state.model (summary_of state.model state.kept) event ≡ None
     → is_refused_by_dependency (answer_to state event)
     ≡ not (is_legal state.model (state.kept ++ kept_as state event ∷ []))
 
 -- the summary of the history is that by places; the history meets the axioms, and is orderly; and of each
 -- event that may come next the rules on dependencies refuse exactly what would be illegal
 pub record FollowsPlaces {A : Type 0} (state : State A) : Type 0 where
-  pub shows : ShowsPlaces state.model state.kept (summary_of state.kept)
+  pub shows : ShowsPlaces state.model state.kept (summary_of state.model state.kept)
   pub meets : MeetsAxioms state.model state.kept
   pub orderly : IsOrderly state.model state.kept
   pub exact : (event : Event A) → RefusesIllegal state event

@@ -3,9 +3,9 @@ use Rattle.std.specs.Prelude.{ℕ, Bool, false, not, ◌&&◌, ◌==◌, nat_lt,
 use Rattle.std.specs.List.{list_any}
 use Rattle.std.specs.Option.{option_map_or}
 use Rattle.acta_table.specs.declared.event.EventKind.{EventKind}
-use Rattle.acta_table.specs.declared.event.EventKind.TheVariants.{Begin as begin_kind, Delegate as delegate_kind, Form as form_kind, Operate as operate_kind, Commit as commit_kind, Abort as abort_kind}
+use Rattle.acta_table.specs.declared.event.EventKind.TheVariants.{Begin as begin_kind, Split as split_kind, Join as join_kind, Delegate as delegate_kind, Form as form_kind, Operate as operate_kind, Commit as commit_kind, Abort as abort_kind}
 use Rattle.acta_table.specs.declared.event.Event.{Event}
-use Rattle.acta_table.specs.declared.event.Event.TheVariants.{Begin, Delegate, Form, Operate, Commit, Abort}
+use Rattle.acta_table.specs.declared.event.Event.TheVariants.{Begin, Split, Join, Delegate, Form, Operate, Commit, Abort}
 use Rattle.acta_table.specs.declared.event.ObjId.{ObjId}
 use Rattle.acta_table.specs.declared.event.OpNo.{OpNo}
 use Rattle.acta_table.specs.declared.event.Op.{Op}
@@ -25,7 +25,7 @@ use Rattle.acta_table.specs.Refusals.{broken_if, broken_by, first_of}
 use Rattle.acta_table.specs.WellFormed.{bad_number, bad_class, bad_object, same_transaction}
 use Rattle.acta_objects.specs.WellFormed.{bad_operation}
 use Rattle.acta_objects.specs.Conflicts.{conflict_on}
-use Rattle.acta_deps.specs.Dependencies.{start_refusal, commit_refusal, abort_refusal}
+use Rattle.acta_deps.specs.Dependencies.{start_refusal, commit_refusal, abort_refusal, join_refusal}
 use Rattle.acta_deps.specs.Statuses.{is_new, has_begun, is_in_progress, has_ended}
 use Rattle.acta_sets.specs.declared.item.Item.{Item}
 use Rattle.acta_sets.specs.Operations.{operation_at, is_held, is_of_others}
@@ -67,6 +67,8 @@ forms_none m s t = has_begun (s.status t) && not (txn_may m s t form_kind)
 -- whether the classes allow the event
 abbrev pub is_allowed : {A : Type 0} → Parts A → Summary → Event A → Bool
 is_allowed m s (Begin t class) = class_may m class.0 begin_kind
+is_allowed m s (Split t u class ops) = class_may m class.0 split_kind && txn_may m s t.0 split_kind
+is_allowed m s (Join t u) = txn_may m s t.0 join_kind
 is_allowed m s (Delegate t u ops) = txn_may m s t.0 delegate_kind
 is_allowed m s (Form kind j i) =
     list_any (can_do form_kind) m.classes && not (forms_none m s j.0) && not (forms_none m s i.0)
@@ -151,8 +153,8 @@ unfoldable pub form_too_late : {A : Type 0} → Summary → Event A → Option R
 form_too_late s e = broken_by FormTooLate (formed_late s e)
 
 -- more edges would be in force than there may be
-unfoldable pub edges_full : {A : Type 0} → Summary → Event A → Option Refusal
-edges_full s e = broken_if (nat_lt 16384 (length (formed s.edges (edges_due e)))) EdgesFull
+unfoldable pub edges_full : {A : Type 0} → Parts A → Summary → Event A → Option Refusal
+edges_full m s e = broken_if (nat_lt 16384 (length (formed s.edges (edges_due m e)))) EdgesFull
 
 -- the lowest of the rules before those on dependencies that the event breaks
 abbrev pub earlier_broken : {A : Type 0} → Parts A → Summary → Event A → Option Refusal
@@ -172,12 +174,14 @@ earlier_broken m s e = first_of (
     ∷ bad_set s e
     ∷ conflict m s e
     ∷ form_too_late s e
-    ∷ edges_full s e
+    ∷ edges_full m s e
     ∷ [])
 
 -- the lowest rule on dependencies that the event breaks
 abbrev pub dependency : {A : Type 0} → Summary → Event A → Option Refusal
 dependency s (Begin t class) = start_refusal s.status s.edges t.0
+dependency s (Split t u class ops) = start_refusal s.status s.edges u.0
+dependency s (Join t u) = join_refusal s.status s.edges t.0
 dependency s (Commit t) = commit_refusal s.status s.edges t.0
 dependency s (Abort t) = abort_refusal s.status s.edges t.0
 dependency s _ = None

@@ -12,7 +12,7 @@ use Rattle.acta_table.specs.declared.dep.Edge.{Edge}
 use Rattle.acta_table.specs.Edges.{formed}
 use Rattle.acta_deps.specs.Statuses.{with_status}
 use Rattle.acta_sets.specs.declared.item.Item.{Item}
-use Rattle.acta_sets.specs.Operations.{added, moved, ended}
+use Rattle.acta_sets.specs.Operations.{added, moved, handed, ended}
 
 -- kept: how many events; status and class: of each transaction; operations and edges: by number
 pub record Summary : Type 0 where
@@ -49,6 +49,10 @@ operated s t ob op = record s { operations = added s.operations t ob op }
 -- u holds these operations
 unfoldable pub given : Summary → List OpNo → TxnId → Summary
 given s ops u = record s { operations = moved ops u s.operations }
+
+-- u holds all that t holds in progress
+unfoldable pub inherited : Summary → TxnId → TxnId → Summary
+inherited s t u = record s { operations = handed t.0 u s.operations }
 
 -- all that t holds in progress has this fate
 unfoldable pub fated : Summary → TxnId → Fate → Summary

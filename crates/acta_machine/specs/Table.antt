@@ -29,7 +29,7 @@ fresh m = record { model = m; kept = [] }
 -- the event as it is kept
 abbrev pub kept_as : {A : Type 0} → State A → Event A → Kept A
 kept_as state event =
-    record { event = event; ret = return_due state.model (summary_of state.kept) event }
+    record { event = event; ret = return_due state.model (summary_of state.model state.kept) event }
 
 -- the answer, given the rule that is broken, if one is
 abbrev pub answered : {A : Type 0} → State A → Event A → Option Refusal → Answer
@@ -43,11 +43,11 @@ moved_on state event (Some r) = state
 
 -- the answer to an event
 unfoldable pub answer_to : {A : Type 0} → State A → Event A → Answer
-answer_to state event = answered state event (lowest_broken state.model (summary_of state.kept) event)
+answer_to state event = answered state event (lowest_broken state.model (summary_of state.model state.kept) event)
 
 -- the state after an event
 unfoldable pub after : {A : Type 0} → State A → Event A → State A
-after state event = moved_on state event (lowest_broken state.model (summary_of state.kept) event)
+after state event = moved_on state event (lowest_broken state.model (summary_of state.model state.kept) event)
 
 -- the answers to a list of events
 abbrev pub answers_to : {A : Type 0} → State A → List (Event A) → List Answer
@@ -69,28 +69,28 @@ run_state m events = after_all (fresh m) events
 
 -- how a transaction stands, as readers of a machine show it
 abbrev pub status_in : {A : Type 0} → State A → ℕ → Status
-status_in state t = (summary_of state.kept).status t
+status_in state t = (summary_of state.model state.kept).status t
 
 -- the value of an object
 abbrev pub value_in : {A : Type 0} → State A → ℕ → Option (ObjectState A)
-value_in state object = value_of state.model (summary_of state.kept) object
+value_in state object = value_of state.model (summary_of state.model state.kept) object
 
 -- the operations in progress that t holds
 abbrev pub access_set_in : {A : Type 0} → State A → ℕ → List OpNo
-access_set_in state t = access_set t (summary_of state.kept).operations
+access_set_in state t = access_set t (summary_of state.model state.kept).operations
 
 -- the operations in progress that others hold
 abbrev pub conflict_set_in : {A : Type 0} → State A → ℕ → List OpNo
-conflict_set_in state t = conflict_set t [] (summary_of state.kept).operations
+conflict_set_in state t = conflict_set t [] (summary_of state.model state.kept).operations
 
 -- the operations that are not aborted
 abbrev pub view_set_in : {A : Type 0} → State A → List OpNo
-view_set_in state = view_set (summary_of state.kept).operations
+view_set_in state = view_set (summary_of state.model state.kept).operations
 
 -- the edges in force, by number
 abbrev pub edges_in : {A : Type 0} → State A → List Edge
-edges_in state = (summary_of state.kept).edges
+edges_in state = (summary_of state.model state.kept).edges
 
 -- what is owed, by edge number
 abbrev pub debts_in : {A : Type 0} → State A → List Owed
-debts_in state = owed_in (summary_of state.kept).status (summary_of state.kept).edges
+debts_in state = owed_in (summary_of state.model state.kept).status (summary_of state.model state.kept).edges

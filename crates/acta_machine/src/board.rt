@@ -5,9 +5,13 @@ ghost use Rattle.acta_objects.specs.Limits.{IsSmall};
 ghost use Rattle.acta_table.specs.Events.{operations_named};
 ghost use Rattle.acta_deps.specs.Debts.{owed_in};
 ghost use Rattle.acta_sets.specs.Operations.{is_open, are_open};
-ghost use Rattle.acta_machine.specs.Summary.{stood, entered, linked, given, operated, fated, counted};
+ghost use Rattle.acta_table.specs.Faults.{lowest_fault};
+ghost use Rattle.acta_table.specs.Edges.{formed};
+ghost use Rattle.acta_table.specs.Starts.{edges_between};
+ghost use Rattle.acta_deps.specs.Dependencies.{start_refusal, join_refusal};
+ghost use Rattle.acta_machine.specs.Summary.{stood, entered, linked, given, inherited, operated, fated, counted};
 ghost use Rattle.acta_machine.specs.Changes.{edges_due, begun, closed, changed};
-ghost use Rattle.acta_machine.specs.Rules.{not_in_progress, already_begun, edges_full, dependency};
+ghost use Rattle.acta_machine.specs.Rules.{not_in_progress, already_begun, dependency};
 ghost use Rattle.acta_machine.specs.Values.{value_of, return_due};
 ghost use Rattle.acta_machine.specs.Shown.{shown};
 
@@ -16,7 +20,8 @@ use acta_deps::Deps;
 use acta_objects::ObjectState;
 use acta_sets::OpTable;
 use acta_table::{
-    ClassId, Edge, Event, Fate, Kept, Model, ObjId, Op, OpNo, OpSet, Owed, Ret, Status, TxnId,
+    ClassId, Edge, Event, Fate, Kept, Model, ObjId, Op, OpNo, OpSet, Owed, Ret, StartEdge, Status,
+    TxnId,
 };
 use std::alloc::{AllocError, Allocator};
 
@@ -44,6 +49,22 @@ fn copy_all<A: Allocator + Copy>(alloc: A, items: &[Kept<A>]) -> Result<Vec<Kept
     Ok(copied)
 }
 
+// The edges that these start edges mean between the one that starts and the one that is started.
+fn edges_between<A: Allocator>(
+    alloc: A,
+    starter: TxnId,
+    started: TxnId,
+    edges: &[StartEdge],
+) -> Result<Vec<Edge, A>, AllocError>
+    ensures { IfOk result (λ between. between.items ≡ edges_between starter started edges.now) }
+{
+    let mut between = Vec::new(alloc);
+    for edge in edges {
+        between.push(edge.between(starter, started))?;
+    }
+    Ok(between)
+}
+
 impl<A: Allocator + Copy> Board<A> {
     /// The value of an object; nothing for one that is not in the model.
     pub(crate) fn value(&self, ob: ObjId) -> Result<Option<ObjectState<A>>, AllocError>
@@ -69,6 +90,8 @@ impl<A: Allocator + Copy> Board<A> {
                 None => Ok(None),
             },
             Event::Begin(_, _)
+            | Event::Split(_, _, _, _)
+            | Event::Join(_, _)
             | Event::Delegate(_, _, _)
             | Event::Form(_, _, _)
             | Event::Commit(_)
@@ -113,21 +136,39 @@ impl<A: Allocator + Copy> Board<A> {
         self.kept.reserve(1)
     }
 
-    /// Forms the edges that the event forms. `Err` where there is no memory, and then none is formed.
-    #[tactic(auto, unfolding(crate::specs::Summary::linked, crate::specs::Rules::edges_full))]
-    pub(crate) fn link(&mut self, event: &Event<A>) -> Result<(), AllocError>
-        requires { edges_full (shown self.old) event.now ≡ None }
-        ensures shows { OnOk result (shown self.new ≡ linked (shown self.old) (edges_due event.now)) }
+    /// The edges that the event forms, in order. `Err` where there is no memory.
+    pub(crate) fn edges_due(&self, event: &Event<A>) -> Result<Vec<Edge, A>, AllocError>
+        ensures due { IfOk result (λ edges. edges.items ≡ edges_due self.now.model event.now) }
+        ensures faultless { lowest_fault self.now.model ≡ None }
+    {
+        let alloc = *self.kept.allocator();
+        let classes = self.model.classes();
+        match event {
+            Event::Split(t, u, class, _) => match classes.get(class.0 as usize) {
+                Some(class) => edges_between(alloc, *t, *u, class.split_edges.as_slice()),
+                None => Ok(Vec::new(alloc)),
+            },
+            Event::Form(kind, j, i) => {
+                let edge = Edge {
+                    kind: *kind,
+                    j: *j,
+                    i: *i,
+                };
+                Vec::from_slice(alloc, &[edge])
+            }
+            _ => Ok(Vec::new(alloc)),
+        }
+    }
+
+    /// Forms these edges. `Err` where there is no memory, and then none is formed.
+    #[tactic(auto, unfolding(crate::specs::Summary::linked))]
+    pub(crate) fn link(&mut self, due: &[Edge]) -> Result<(), AllocError>
+        requires { length (formed self.old.deps.edges due.now) ≤ 16384 }
+        ensures shows { OnOk result (shown self.new ≡ linked (shown self.old) due.now) }
         ensures err { OnErr result (shown self.new ≡ shown self.old) }
         ensures others { self.new ≡ record self.old { deps = self.new.deps } }
     {
-        if let Event::Form(kind, j, i) = event {
-            self.deps.form(&[Edge {
-                kind: *kind,
-                j: *j,
-                i: *i,
-            }])?;
-        }
+        self.deps.form(due)?;
         Ok(())
     }
 }
@@ -171,6 +212,16 @@ impl<A: Allocator> Board<A> {
         self.operations.move_to(ops.as_slice(), u);
     }
 
+    #[tactic(auto, unfolding(crate::specs::Summary::inherited))]
+    fn hand_all(&mut self, t: TxnId, u: TxnId)
+        requires low { 0 < u.0 }
+        requires high { u.0 ≤ 4095 }
+        ensures shows { shown self.new ≡ inherited (shown self.old) t u }
+        ensures others { self.new ≡ record self.old { operations = self.new.operations } }
+    {
+        self.operations.hand_all(t, u);
+    }
+
     #[tactic(auto, unfolding(crate::specs::Summary::fated))]
     fn end(&mut self, t: TxnId, fate: Fate)
         requires { is_open fate ≡ false }
@@ -192,9 +243,10 @@ impl<A: Allocator> Board<A> {
 
     #[tactic(auto, unfolding(crate::specs::Summary::stood))]
     fn begin(&mut self, t: TxnId, class: ClassId)
-        requires number { bad_number {A = A} (Event.Begin t class) ≡ None }
-        requires stands { already_begun {A = A} (shown self.old) (Event.Begin t class) ≡ None }
-        requires allowed { dependency {A = A} (shown self.old) (Event.Begin t class) ≡ None }
+        requires low { 0 < t.0 }
+        requires high { t.0 ≤ 4095 }
+        requires stands { (shown self.old).status t.0 ≡ Status.NotBegun }
+        requires allowed { start_refusal (shown self.old).status (shown self.old).edges t.0 ≡ None }
         requires classes { length self.old.classes.items ≡ 4096 }
         ensures shows { shown self.new ≡ begun (shown self.old) t class }
         ensures classes { length self.new.classes.items ≡ 4096 }
@@ -202,6 +254,21 @@ impl<A: Allocator> Board<A> {
     {
         self.deps.started(t);
         self.enter(t, Some(class));
+    }
+
+    #[tactic(auto, unfolding(crate::specs::Summary::stood))]
+    fn join(&mut self, t: TxnId, u: TxnId)
+        requires low { 0 < t.0 }
+        requires high { t.0 ≤ 4095 }
+        requires low_partner { 0 < u.0 }
+        requires high_partner { u.0 ≤ 4095 }
+        requires stands { (shown self.old).status t.0 ≡ Status.InProgress }
+        requires allowed { join_refusal (shown self.old).status (shown self.old).edges t.0 ≡ None }
+        ensures shows { shown self.new ≡ inherited (stood (shown self.old) t Status.Joined) t u }
+        ensures others { self.new ≡ record self.old { deps = self.new.deps; operations = self.new.operations } }
+    {
+        self.deps.joined(t);
+        self.hand_all(t, u);
     }
 
     #[tactic(auto, unfolding(crate::specs::Summary::stood))]
@@ -254,12 +321,17 @@ impl<A: Allocator> Board<A> {
         requires named { are_open (operations_named event.now) self.old.operations ≡ true }
         ensures shows { OnOk result (shown self.new ≡ changed (shown self.old) event.now) }
         ensures err { OnErr result (shown self.new ≡ shown self.old) }
-        ensures edgeless { OnErr result (edges_due event.now ≡ []) }
+        ensures edgeless { OnErr result (edges_due self.old.model event.now ≡ []) }
         ensures classes { length self.new.classes.items ≡ 4096 }
         ensures others { self.new ≡ record self.old { deps = self.new.deps; classes = self.new.classes; operations = self.new.operations } }
     {
         match event {
             Event::Begin(t, class) => self.begin(*t, *class),
+            Event::Split(_, u, class, ops) => {
+                self.begin(*u, *class);
+                self.give(ops, *u);
+            }
+            Event::Join(t, u) => self.join(*t, *u),
             Event::Delegate(_, u, ops) => self.give(ops, *u),
             Event::Form(_, _, _) => {}
             Event::Operate(t, ob, op) => return self.operate(*t, *ob, *op),
@@ -285,7 +357,7 @@ impl<A: Allocator> Board<A> {
         ensures model { self.new.model ≡ self.old.model }
         ensures classes { length self.new.classes.items ≡ 4096 }
         ensures err { OnErr result (shown self.new ≡ shown self.old) }
-        ensures edgeless { OnErr result (edges_due event.now ≡ []) }
+        ensures edgeless { OnErr result (edges_due self.old.model event.now ≡ []) }
         ensures as_it_was { OnErr result (self.new.kept.items ≡ self.old.kept.items) }
     {
         self.change(event)?;

@@ -36,7 +36,7 @@ impl<A: Allocator> std::marker::Model for Machine<A> {
     ghost view = { λ m. record { model = m.board.model; kept = m.board.kept.items } };
 
     ghost invariant = { λ m. record {
-      agrees : shown m.board ≡ summary_of m.board.kept.items;
+      agrees : shown m.board ≡ summary_of m.board.model m.board.kept.items;
       classes : length m.board.classes.items ≡ 4096;
       within : length m.board.kept.items ≤ 65536;
       follows : FollowsPlaces (record { model = m.board.model; kept = m.board.kept.items });
@@ -82,7 +82,8 @@ impl<A: Allocator + Copy> Machine<A> {
         // events that may come next the rules on dependencies refuse exactly those that would be illegal.
         ensures follows { FollowsPlaces self.new }
     {
-        if let Some(refusal) = self.board.refusal(event) {
+        let due = self.board.edges_due(event)?;
+        if let Some(refusal) = self.board.refusal(event, &due) {
             return Ok(Answer::Refused {
                 rule: refusal.rule,
                 by: refusal.by,
@@ -95,7 +96,7 @@ impl<A: Allocator + Copy> Machine<A> {
             ret,
         };
         self.board.make_room()?;
-        self.board.link(event)?;
+        self.board.link(&due)?;
         self.board.admit(event, kept)?;
         Ok(Answer::Admitted { place, ret })
     }

@@ -2,11 +2,10 @@ ghost use Rattle.std.specs.Prelude.{◌≡◌, ◌+◌, ◌<◌, ◌≤◌, ◌+
 ghost use Rattle.std.specs.List.{list_any};
 ghost use Rattle.std.specs.Option.{option_map_or};
 ghost use Rattle.acta_table.specs.declared.event.EventKind.{EventKind};
-ghost use Rattle.acta_table.specs.Edges.{formed};
-ghost use Rattle.acta_table.specs.Events.{acting, named};
+ghost use Rattle.acta_table.specs.Events.{acting, started, partner, class_named, named};
 ghost use Rattle.acta_table.specs.Classes.{can_do};
 ghost use Rattle.acta_table.specs.Numbered.{first_number, smallest};
-ghost use Rattle.acta_table.specs.WellFormed.{is_bad_number, bad_number, bad_class, bad_object, same_transaction};
+ghost use Rattle.acta_table.specs.WellFormed.{is_bad_number, bad_number, bad_class, bad_object, twice_in, same_transaction};
 ghost use Rattle.acta_objects.specs.WellFormed.{bad_operation};
 ghost use Rattle.acta_table.specs.Refusals.{broken_by};
 ghost use Rattle.acta_table.specs.Sets.{is_named};
@@ -36,8 +35,42 @@ fn acting_of<A: Allocator>(event: &Event<A>) -> Option<TxnId>
 {
     match event {
         Event::Begin(_, _) | Event::Form(_, _, _) => None,
-        Event::Delegate(t, _, _) | Event::Operate(t, _, _) | Event::Commit(t) | Event::Abort(t) =>
-            Some(*t),
+        Event::Split(t, _, _, _)
+        | Event::Join(t, _)
+        | Event::Delegate(t, _, _)
+        | Event::Operate(t, _, _)
+        | Event::Commit(t)
+        | Event::Abort(t) => Some(*t),
+    }
+}
+
+// The transaction that is started.
+fn started_of<A: Allocator>(event: &Event<A>) -> Option<TxnId>
+    ensures { started event.now ≡ option_map (λ t. t.0) result }
+{
+    match event {
+        Event::Begin(t, _) | Event::Split(_, t, _, _) => Some(*t),
+        _ => None,
+    }
+}
+
+// The transaction that is handed something, and has to be in progress too.
+fn partner_of<A: Allocator>(event: &Event<A>) -> Option<TxnId>
+    ensures { partner event.now ≡ option_map (λ t. t.0) result }
+{
+    match event {
+        Event::Join(_, u) | Event::Delegate(_, u, _) => Some(*u),
+        _ => None,
+    }
+}
+
+// The class that is named.
+fn class_of<A: Allocator>(event: &Event<A>) -> Option<ClassId>
+    ensures { class_named event.now ≡ option_map (λ class. class.0) result }
+{
+    match event {
+        Event::Begin(_, class) | Event::Split(_, _, class, _) => Some(*class),
+        _ => None,
     }
 }
 
@@ -64,9 +97,10 @@ fn smallest_bad<A: Allocator>(event: &Event<A>) -> Option<u32>
     ensures { result ≡ smallest (filter is_bad_number (named event.now)) }
 {
     match event {
-        Event::Delegate(j, i, _) | Event::Form(_, j, i) => {
-            smallest_of(*j, is_bad_number(*j), *i, is_bad_number(*i))
-        }
+        Event::Split(j, i, _, _)
+        | Event::Join(j, i)
+        | Event::Delegate(j, i, _)
+        | Event::Form(_, j, i) => { smallest_of(*j, is_bad_number(*j), *i, is_bad_number(*i)) }
         Event::Begin(t, _) | Event::Operate(t, _, _) | Event::Commit(t) | Event::Abort(t) => {
             smallest_of(*t, is_bad_number(*t), *t, false)
         }
@@ -90,14 +124,26 @@ fn bad_number<A: Allocator>(event: &Event<A>) -> Option<Refusal>
     broken_by(Rule::BadNumber, smallest_bad(event))
 }
 
+// The rule, where the two are one.
+fn one_twice(j: TxnId, i: TxnId) -> Option<Refusal>
+    ensures { result ≡ broken_by Rule.SameTransaction (twice_in (j.0 ∷ i.0 ∷ [])) }
+{
+    if j.0 == i.0 {
+        Some(Refusal::by(Rule::SameTransaction, u32::from(j.0)))
+    } else {
+        None
+    }
+}
+
 #[tactic(auto, unfolding(acta_table::specs::WellFormed::same_transaction))]
 fn same_transaction<A: Allocator>(event: &Event<A>) -> Option<Refusal>
     ensures { result ≡ same_transaction event.now }
 {
     match event {
-        Event::Delegate(j, i, _) | Event::Form(_, j, i) if j.0 == i.0 => {
-            Some(Refusal::by(Rule::SameTransaction, u32::from(j.0)))
-        }
+        Event::Split(j, i, _, _)
+        | Event::Join(j, i)
+        | Event::Delegate(j, i, _)
+        | Event::Form(_, j, i) => one_twice(*j, *i),
         _ => None,
     }
 }
@@ -146,11 +192,11 @@ impl<A: Allocator + Copy> Board<A> {
     fn bad_class(&self, event: &Event<A>) -> Option<Refusal>
         ensures { result ≡ bad_class self.now.model event.now }
     {
-        match event {
-            Event::Begin(_, class) if class.0 as usize >= self.model.classes().len() => {
-                Some(Refusal::of(Rule::BadClass))
-            }
-            _ => None,
+        let class = class_of(event)?;
+        if (class.0 as usize) < self.model.classes().len() {
+            None
+        } else {
+            Some(Refusal::of(Rule::BadClass))
         }
     }
 
@@ -195,11 +241,11 @@ impl<A: Allocator + Copy> Board<A> {
     fn already_begun(&self, event: &Event<A>) -> Option<Refusal>
         ensures { result ≡ already_begun (shown self.now) event.now }
     {
-        match event {
-            Event::Begin(t, _) if self.status(*t) != Status::NotBegun => {
-                Some(Refusal::by(Rule::AlreadyBegun, u32::from(t.0)))
-            }
-            _ => None,
+        let t = started_of(event)?;
+        if self.status(t) == Status::NotBegun {
+            None
+        } else {
+            Some(Refusal::by(Rule::AlreadyBegun, u32::from(t.0)))
         }
     }
 
@@ -209,6 +255,16 @@ impl<A: Allocator + Copy> Board<A> {
     {
         match self.model.classes().get(class.0 as usize) {
             Some(class) => class.starts.begin,
+            None => false,
+        }
+    }
+
+    // Whether the class of this number may start by a split.
+    fn may_be_split(&self, class: ClassId) -> bool
+        ensures { result ≡ class_may self.now.model class.0 EventKind.Split }
+    {
+        match self.model.classes().get(class.0 as usize) {
+            Some(class) => class.starts.split,
             None => false,
         }
     }
@@ -254,6 +310,10 @@ impl<A: Allocator + Copy> Board<A> {
             Event::Form(_, j, i) => {
                 self.may_any_form() && !self.forms_none(*j) && !self.forms_none(*i)
             }
+            Event::Split(t, _, class, _) => {
+                self.may_be_split(*class) && self.may(*t, EventKind::Split)
+            }
+            Event::Join(t, _) => self.may(*t, EventKind::Join),
             Event::Delegate(t, _, _) => self.may(*t, EventKind::Delegate),
             Event::Operate(t, _, _) => self.may(*t, EventKind::Operate),
             Event::Commit(t) => self.may(*t, EventKind::Commit),
@@ -270,11 +330,11 @@ impl<A: Allocator + Copy> Board<A> {
     fn partner_not_in_progress(&self, event: &Event<A>) -> Option<Refusal>
         ensures { result ≡ partner_not_in_progress (shown self.now) event.now }
     {
-        match event {
-            Event::Delegate(_, u, _) if self.status(*u) != Status::InProgress => {
-                Some(Refusal::by(Rule::PartnerNotInProgress, u32::from(u.0)))
-            }
-            _ => None,
+        let u = partner_of(event)?;
+        if self.status(u) == Status::InProgress {
+            None
+        } else {
+            Some(Refusal::by(Rule::PartnerNotInProgress, u32::from(u.0)))
         }
     }
 
@@ -316,10 +376,12 @@ impl<A: Allocator + Copy> Board<A> {
     fn not_responsible(&self, event: &Event<A>) -> Option<Refusal>
         ensures { result ≡ not_responsible (shown self.now) event.now }
     {
-        let Event::Delegate(t, _, ops) = event else {
-            return None;
-        };
-        broken_by(Rule::NotResponsible, self.not_held(ops.as_slice(), *t))
+        match event {
+            Event::Split(t, _, _, ops) | Event::Delegate(t, _, ops) => {
+                broken_by(Rule::NotResponsible, self.not_held(ops.as_slice(), *t))
+            }
+            _ => None,
+        }
     }
 
     // Whether the transaction's class wants all that it holds handed over.
@@ -354,7 +416,7 @@ impl<A: Allocator + Copy> Board<A> {
         ensures { result ≡ partial_delegation self.now.model (shown self.now) event.now }
     {
         match event {
-            Event::Delegate(t, _, ops) if self.wants_whole(*t) => {
+            Event::Split(t, _, _, ops) | Event::Delegate(t, _, ops) if self.wants_whole(*t) => {
                 broken_by(Rule::PartialDelegation, self.left_out(ops.as_slice(), *t))
             }
             _ => None,
@@ -379,10 +441,12 @@ impl<A: Allocator + Copy> Board<A> {
     fn bad_set(&self, event: &Event<A>) -> Option<Refusal>
         ensures { result ≡ bad_set (shown self.now) event.now }
     {
-        let Event::Delegate(_, _, ops) = event else {
-            return None;
-        };
-        broken_by(Rule::BadSet, self.unknown_in(ops.as_slice()))
+        match event {
+            Event::Split(_, _, _, ops) | Event::Delegate(_, _, ops) => {
+                broken_by(Rule::BadSet, self.unknown_in(ops.as_slice()))
+            }
+            _ => None,
+        }
     }
 
     // Whether the operation is in the transaction's conflict set, on the same object, and conflicts.
@@ -446,29 +510,13 @@ impl<A: Allocator + Copy> Board<A> {
         broken_by(Rule::FormTooLate, self.too_late(*kind, *j, *i))
     }
 
-    // How many edges would be in force after the event.
-    fn count_edges(&self, event: &Event<A>) -> usize
-        ensures { result ≡ length (formed (shown self.now).edges (edges_due event.now)) }
-    {
-        let edges = self.deps.edges().len();
-        match event {
-            Event::Form(kind, j, i) => {
-                let edge = Edge {
-                    kind: *kind,
-                    j: *j,
-                    i: *i,
-                };
-                edges + self.deps.lacks(&[edge])
-            }
-            _ => edges,
-        }
-    }
-
+    // More edges would be in force than there may be, where the event forms these.
     #[tactic(auto, unfolding(crate::specs::Rules::edges_full))]
-    fn edges_full(&self, event: &Event<A>) -> Option<Refusal>
-        ensures { result ≡ edges_full (shown self.now) event.now }
+    fn edges_full(&self, event: &Event<A>, due: &[Edge]) -> Option<Refusal>
+        requires { due.now ≡ edges_due self.now.model event.now }
+        ensures { result ≡ edges_full self.now.model (shown self.now) event.now }
     {
-        if self.count_edges(event) > MOST_EDGES {
+        if self.deps.lacks(due) > MOST_EDGES - self.deps.edges().len() {
             Some(Refusal::of(Rule::EdgesFull))
         } else {
             None
@@ -476,7 +524,8 @@ impl<A: Allocator + Copy> Board<A> {
     }
 
     // The lowest of the rules before those on dependencies that the event breaks.
-    fn earlier(&self, event: &Event<A>) -> Option<Refusal>
+    fn earlier(&self, event: &Event<A>, due: &[Edge]) -> Option<Refusal>
+        requires { due.now ≡ edges_due self.now.model event.now }
         ensures { result ≡ earlier_broken self.now.model (shown self.now) event.now }
     {
         self.full()
@@ -494,7 +543,7 @@ impl<A: Allocator + Copy> Board<A> {
             .or(self.bad_set(event))
             .or(self.conflict(event))
             .or(self.form_too_late(event))
-            .or(self.edges_full(event))
+            .or(self.edges_full(event, due))
     }
 
     // The lowest rule on dependencies that the event breaks.
@@ -502,18 +551,20 @@ impl<A: Allocator + Copy> Board<A> {
         ensures { result ≡ dependency (shown self.now) event.now }
     {
         match event {
-            Event::Begin(t, _) => self.deps.may_start(*t),
+            Event::Begin(t, _) | Event::Split(_, t, _, _) => self.deps.may_start(*t),
+            Event::Join(t, _) => self.deps.may_join(*t),
             Event::Commit(t) => self.deps.may_commit(*t),
             Event::Abort(t) => self.deps.may_abort(*t),
             Event::Delegate(_, _, _) | Event::Form(_, _, _) | Event::Operate(_, _, _) => None,
         }
     }
 
-    /// The lowest rule that the event breaks.
-    pub(crate) fn refusal(&self, event: &Event<A>) -> Option<Refusal>
+    /// The lowest rule that the event breaks, where it forms these edges.
+    pub(crate) fn refusal(&self, event: &Event<A>, due: &[Edge]) -> Option<Refusal>
+        requires { due.now ≡ edges_due self.now.model event.now }
         ensures { result ≡ lowest_broken self.now.model (shown self.now) event.now }
     {
-        self.earlier(event).or(self.dependency(event))
+        self.earlier(event, due).or(self.dependency(event))
     }
 
     /// The place that the next event gets, where none is refused for want of room.

@@ -90,3 +90,11 @@ ended_item t fate i = if is_held t i then record i { fate = fate } else i
 -- the operations, where all that t holds in progress have this fate
 abbrev pub ended : ℕ → Fate → List Item → List Item
 ended t fate items = map (ended_item t fate) items
+
+-- the operation, held by u where t holds it in progress
+abbrev pub handed_item : ℕ → TxnId → Item → Item
+handed_item t u i = if is_held t i then record i { holder = u } else i
+
+-- the operations, where u holds all that t holds in progress
+abbrev pub handed : ℕ → TxnId → List Item → List Item
+handed t u items = map (handed_item t u) items

@@ -1,5 +1,5 @@
 ghost use Rattle.std.specs.Prelude.{◌≡◌};
-ghost use Rattle.acta_sets.specs.Operations.{is_among, is_held, is_of_others, is_live, ended_item};
+ghost use Rattle.acta_sets.specs.Operations.{is_among, is_held, is_of_others, is_live, ended_item, handed_item};
 
 use acta_table::{Fate, ObjId, Op, TxnId};
 
@@ -54,6 +54,17 @@ impl Item {
     {
         if self.is_held(t) {
             Item { fate, ..self }
+        } else {
+            self
+        }
+    }
+
+    /// The operation, held by `to` where `from` holds it in progress.
+    pub(crate) fn handed(self, from: TxnId, to: TxnId) -> Item
+        ensures { result ≡ handed_item from.0 to self }
+    {
+        if self.is_held(from) {
+            Item { holder: to, ..self }
         } else {
             self
         }

@@ -1,7 +1,8 @@
 //! Who holds which operation of a history, and what became of each. `OpTable` is the list of
 //! operations, numbered from 1 in the order in which they were added. It answers ACTA's sets of a
 //! transaction: its access set, its conflict set and its view. A transaction may hand operations to
-//! another, and when it ends, those that it holds in progress end with it.
+//! another, some or all that it holds in progress, and when it ends, those that it still holds in
+//! progress end with it.
 #![tactic(auto)]
 
 mod item;

@@ -1,5 +1,5 @@
 ghost use Rattle.std.specs.Prelude.{◌≡◌, ◌<◌, ◌≤◌, ◌+◌, [], true, false, IfOk, OnOk, OnErr, length};
-ghost use Rattle.acta_sets.specs.Operations.{is_open, are_open, access_set, conflict_set, view_set, added, moved, ended};
+ghost use Rattle.acta_sets.specs.Operations.{is_open, are_open, access_set, conflict_set, view_set, added, moved, ended, handed};
 
 use crate::item::Item;
 use crate::selection::{Selection, numbers_of};
@@ -41,6 +41,15 @@ fn end_each(items: &mut [Item], t: TxnId, fate: Fate)
 {
     for item in items.iter_mut() {
         *item = item.ended(t, fate);
+    }
+}
+
+// All that `t` holds in progress is held by `u`.
+fn hand_each(items: &mut [Item], t: TxnId, u: TxnId)
+    ensures { items.new ≡ handed t.0 u items.old }
+{
+    for item in items.iter_mut() {
+        *item = item.handed(t, u);
     }
 }
 
@@ -95,6 +104,16 @@ impl<A: Allocator> OpTable<A> {
         ensures { self.new ≡ moved ops.now u self.old }
     {
         move_all(&mut self.items, ops, u);
+    }
+
+    /// From now on `u`, a number from 1 to 4,095, holds all that `t` holds in progress (ACTA's join
+    /// of split transactions, and a subtransaction's commit to its parent). Takes no memory.
+    pub fn hand_all(&mut self, t: TxnId, u: TxnId)
+        requires low { 0 < u.0 }
+        requires high { u.0 ≤ 4095 }
+        ensures { self.new ≡ handed t.0 u self.old }
+    {
+        hand_each(&mut self.items, t, u);
     }
 
     /// All that `t` holds in progress gets this fate, which is committed or aborted (ACTA's commit

@@ -82,6 +82,25 @@ fn add_one<A: Allocator>(table: &mut OpTable<A>) -> Result<OpNo, AllocError> {
     }
 }
 
+// All that 1 holds in progress goes to 3: neither what 2 holds nor what has ended.
+#[test]
+fn hands_over_what_one_holds(rt: HostRuntime) -> Result<(), Fail> {
+    let mut table = OpTable::new(rt.alloc());
+    table.add(TxnId(2), ObjId(0), Op::Get)?;
+    add_one(&mut table)?;
+    table.end_all(TxnId(1), Fate::Committed);
+    add_one(&mut table)?;
+    table.hand_all(TxnId(1), TxnId(3));
+    for (item, holder) in table.operations().iter().zip([2, 1, 3]) {
+        assert_eq!(rt; item.holder, TxnId(holder));
+    }
+    assert_eq!(rt;
+        table.access_set(TxnId(3))?.as_slice(),
+        [OpNo(3)].as_slice()
+    );
+    Ok(())
+}
+
 // Each growth of the list is refused in turn, and leaves it as it was.
 #[test]
 fn refuses_each_growth(rt: HostRuntime) -> Result<(), Fail> {

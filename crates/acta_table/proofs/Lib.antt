@@ -1,3 +1,4 @@
 pub mod KindSets
 pub mod OpSets
 pub mod Smallest
+pub mod StartOrder

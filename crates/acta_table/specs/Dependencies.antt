@@ -1,5 +1,5 @@
 -- The kinds of dependency: their codes and words, and the sets of them as the bits of a number.
-use Rattle.std.specs.Prelude.{ℕ, Bool, true, false, List, codes}
+use Rattle.std.specs.Prelude.{ℕ, Bool, true, false, List, [], ◌∷◌, codes}
 use Rattle.acta_table.specs.declared.dep.Dep.{Dep}
 use Rattle.acta_table.specs.declared.dep.Dep.TheVariants.{Cd, Scd, Ad, Wd, Td, Ed, Cmd, Bd, Sd, Bcd, Bad, Wcd}
 use Rattle.acta_table.specs.Kinds.{has_bit}
@@ -18,6 +18,10 @@ code_of Sd = 8
 code_of Bcd = 9
 code_of Bad = 10
 code_of Wcd = 11
+
+-- all kinds, by code
+abbrev pub all_kinds : List Dep
+all_kinds = Cd ∷ Scd ∷ Ad ∷ Wd ∷ Td ∷ Ed ∷ Cmd ∷ Bd ∷ Sd ∷ Bcd ∷ Bad ∷ Wcd ∷ []
 
 -- the short name of the kind
 abbrev pub word_of : Dep → List ℕ

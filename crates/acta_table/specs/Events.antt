@@ -2,13 +2,15 @@
 use Rattle.std.specs.Prelude.{ℕ, Bool, true, false, List, [], ◌∷◌, Option, Some, None}
 use Rattle.acta_table.specs.declared.event.OpNo.{OpNo}
 use Rattle.acta_table.specs.declared.event.EventKind.{EventKind}
-use Rattle.acta_table.specs.declared.event.EventKind.TheVariants.{Begin as begin_kind, Delegate as delegate_kind, Form as form_kind, Operate as operate_kind, Commit as commit_kind, Abort as abort_kind}
+use Rattle.acta_table.specs.declared.event.EventKind.TheVariants.{Begin as begin_kind, Split as split_kind, Join as join_kind, Delegate as delegate_kind, Form as form_kind, Operate as operate_kind, Commit as commit_kind, Abort as abort_kind}
 use Rattle.acta_table.specs.declared.event.Event.{Event}
-use Rattle.acta_table.specs.declared.event.Event.TheVariants.{Begin, Delegate, Form, Operate, Commit, Abort}
+use Rattle.acta_table.specs.declared.event.Event.TheVariants.{Begin, Split, Join, Delegate, Form, Operate, Commit, Abort}
 
 -- the kind of the event
 abbrev pub kind_of : {A : Type 0} → Event A → EventKind
 kind_of (Begin t class) = begin_kind
+kind_of (Split t u class ops) = split_kind
+kind_of (Join t u) = join_kind
 kind_of (Delegate t u ops) = delegate_kind
 kind_of (Form kind j i) = form_kind
 kind_of (Operate t ob op) = operate_kind
@@ -18,6 +20,8 @@ kind_of (Abort t) = abort_kind
 -- the transactions named, in order
 abbrev pub named : {A : Type 0} → Event A → List ℕ
 named (Begin t class) = t.0 ∷ []
+named (Split t u class ops) = t.0 ∷ u.0 ∷ []
+named (Join t u) = t.0 ∷ u.0 ∷ []
 named (Delegate t u ops) = t.0 ∷ u.0 ∷ []
 named (Form kind j i) = j.0 ∷ i.0 ∷ []
 named (Operate t ob op) = t.0 ∷ []
@@ -27,6 +31,8 @@ named (Abort t) = t.0 ∷ []
 -- the transaction that acts: one that has to be in progress
 abbrev pub acting : {A : Type 0} → Event A → Option ℕ
 acting (Begin t class) = None
+acting (Split t u class ops) = Some t.0
+acting (Join t u) = Some t.0
 acting (Delegate t u ops) = Some t.0
 acting (Form kind j i) = None
 acting (Operate t ob op) = Some t.0
@@ -36,11 +42,13 @@ acting (Abort t) = Some t.0
 -- the transaction that is started
 abbrev pub started : {A : Type 0} → Event A → Option ℕ
 started (Begin t class) = Some t.0
+started (Split t u class ops) = Some u.0
 started _ = None
 
 -- the class named
 abbrev pub class_named : {A : Type 0} → Event A → Option ℕ
 class_named (Begin t class) = Some class.0
+class_named (Split t u class ops) = Some class.0
 class_named _ = None
 
 -- the object named
@@ -50,15 +58,18 @@ object_named _ = None
 
 -- the transaction that is handed something: one that has to be in progress too
 abbrev pub partner : {A : Type 0} → Event A → Option ℕ
+partner (Join t u) = Some u.0
 partner (Delegate t u ops) = Some u.0
 partner _ = None
 
 -- the operations named
 abbrev pub operations_named : {A : Type 0} → Event A → List OpNo
+operations_named (Split t u class ops) = ops
 operations_named (Delegate t u ops) = ops
 operations_named _ = []
 
 -- whether the event hands operations over by name
 abbrev pub hands_over : {A : Type 0} → Event A → Bool
+hands_over (Split t u class ops) = true
 hands_over (Delegate t u ops) = true
 hands_over _ = false

@@ -4,9 +4,11 @@ use Rattle.std.specs.List.{list_any, list_all}
 use Rattle.std.specs.Option.{option_or}
 use Rattle.std.specs.Str.{bytes_eq}
 use Rattle.std.specs.Char.{is_ascii_alphabetic, is_ascii_alphanumeric}
+use Rattle.acta_table.specs.declared.model.Class.{Class}
 use Rattle.acta_table.specs.declared.model.Parts.{Parts}
 use Rattle.acta_table.specs.declared.model.ModelFault.{ModelFault}
-use Rattle.acta_table.specs.declared.model.ModelFault.TheVariants.{NoClass, TooManyClasses, TooManyObjects, DuplicateName, BadName}
+use Rattle.acta_table.specs.declared.model.ModelFault.TheVariants.{NoClass, TooManyClasses, TooManyObjects, DuplicateName, BadName, BeginKindAtStart}
+use Rattle.acta_table.specs.Dependencies.{is_begin_kind}
 
 -- a name has 1 to 32 bytes: an ASCII letter first, then letters, digits or underscores
 abbrev pub is_name : List ℕ → Bool
@@ -27,6 +29,10 @@ object_names m = map (λ o. o.name) m.objects
 abbrev pub class_names : {A : Type 0} → Parts A → List (List ℕ)
 class_names m = map (λ c. c.name) m.classes
 
+-- whether a start edge of the class is of a begin kind: it would bar the start that forms it
+abbrev pub has_begin_kind : {A : Type 0} → Class A → Bool
+has_begin_kind class = list_any (λ e. is_begin_kind e.kind) class.split_edges
+
 -- the fault, where the test is true
 abbrev pub fault_if : Bool → ModelFault → Option ModelFault
 fault_if test fault = if test then Some fault else None
@@ -39,4 +45,5 @@ lowest_fault m = fold option_or None (
     ∷ fault_if (nat_lt 256 (length m.objects)) TooManyObjects
     ∷ fault_if (has_twice (object_names m) || has_twice (class_names m)) DuplicateName
     ∷ fault_if (not (list_all is_name (object_names m) && list_all is_name (class_names m))) BadName
+    ∷ fault_if (list_any has_begin_kind m.classes) BeginKindAtStart
     ∷ [])

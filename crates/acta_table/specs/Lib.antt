@@ -8,4 +8,5 @@ pub mod Numbered
 pub mod Numbers
 pub mod Refusals
 pub mod Sets
+pub mod Starts
 pub mod WellFormed

@@ -36,6 +36,22 @@ pub enum Dep {
 }
 
 impl Dep {
+    /// All kinds, by code.
+    pub const ALL: [Dep; 12] = [
+        Dep::Cd,
+        Dep::Scd,
+        Dep::Ad,
+        Dep::Wd,
+        Dep::Td,
+        Dep::Ed,
+        Dep::Cmd,
+        Dep::Bd,
+        Dep::Sd,
+        Dep::Bcd,
+        Dep::Bad,
+        Dep::Wcd,
+    ];
+
     /// The code of the kind, from 0 to 11 (our numbering).
     pub fn code(self) -> u8
         ensures { result ≡ code_of self }

@@ -77,6 +77,12 @@ pub enum EventKind {
 pub enum Event<A: Allocator> {
     /// The transaction begins, with the class.
     Begin(TxnId, ClassId),
+    /// The first transaction splits off the second, with the class, and hands it the operations, which
+    /// the second holds from then on (ACTA's split).
+    Split(TxnId, TxnId, ClassId, OpSet<A>),
+    /// The first transaction joins the second, which holds all that the first held in progress; the first
+    /// has ended by it (ACTA's join).
+    Join(TxnId, TxnId),
     /// The first transaction hands the operations to the second, which holds them from then on (ACTA's
     /// delegation).
     Delegate(TxnId, TxnId, OpSet<A>),
@@ -97,6 +103,8 @@ impl<A: Allocator> Event<A> {
     {
         match self {
             Event::Begin(_, _) => EventKind::Begin,
+            Event::Split(_, _, _, _) => EventKind::Split,
+            Event::Join(_, _) => EventKind::Join,
             Event::Delegate(_, _, _) => EventKind::Delegate,
             Event::Form(_, _, _) => EventKind::Form,
             Event::Operate(_, _, _) => EventKind::Operate,
@@ -113,6 +121,8 @@ impl<A: Allocator + Copy> Event<A> {
     {
         Ok(match self {
             Event::Begin(t, class) => Event::Begin(*t, *class),
+            Event::Split(t, u, class, ops) => Event::Split(*t, *u, *class, ops.copy()?),
+            Event::Join(t, u) => Event::Join(*t, *u),
             Event::Delegate(t, u, ops) => Event::Delegate(*t, *u, ops.copy()?),
             Event::Form(kind, j, i) => Event::Form(*kind, *j, *i),
             Event::Operate(t, ob, op) => Event::Operate(*t, *ob, *op),

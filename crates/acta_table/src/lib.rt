@@ -9,6 +9,7 @@ mod items;
 mod kinds;
 mod model;
 mod op_set;
+mod start_edges;
 
 pub use answer::{Answer, Fate, Refusal, Rule, Status};
 pub use dep::{Dep, DepKinds, Edge, EdgeNo, Missing, Owed};
@@ -17,3 +18,4 @@ pub use items::Items;
 pub use kinds::Kinds;
 pub use model::{Class, Extent, Kind, Model, ModelFault, Object, Parts, Starts};
 pub use op_set::OpSet;
+pub use start_edges::{Dependent, StartEdge, StartEdges};

@@ -2,10 +2,11 @@ ghost use Rattle.std.specs.Prelude.{◌≡◌, ◌||◌, ◌==◌, ℕ, List, ma
 ghost use Rattle.std.specs.List.{list_any, list_all};
 ghost use Rattle.std.specs.Str.{bytes_eq};
 ghost use Rattle.std.specs.Char.{is_ascii_alphanumeric};
-ghost use Rattle.acta_table.specs.Faults.{lowest_fault, is_name, has_twice, fault_if};
+ghost use Rattle.acta_table.specs.Faults.{lowest_fault, is_name, has_twice, has_begin_kind, fault_if};
 
 use crate::items::Items;
 use crate::kinds::Kinds;
+use crate::start_edges::StartEdges;
 use std::alloc::{AllocError, Allocator};
 
 /// How transactions of a class may start.
@@ -50,6 +51,8 @@ pub struct Class<A: Allocator> {
     pub starts: Starts,
     pub may: Kinds,
     pub extent: Extent,
+    /// The edges that are formed where a transaction with this class is split off.
+    pub split_edges: StartEdges<A>,
 }
 
 /// The objects and classes of which a model is made.
@@ -72,6 +75,9 @@ pub enum ModelFault {
     DuplicateName = 4,
     /// A name isn't 1 to 32 bytes, an ASCII letter first, then letters, digits or underscores.
     BadName = 5,
+    /// A class wants an edge at a start that would bar this start, or comes after it: one of the kinds that
+    /// limit when a transaction may begin.
+    BeginKindAtStart = 6,
 }
 
 /// A checked model: parts that have no fault.
@@ -175,6 +181,23 @@ fn fault_where(is_there: bool, fault: ModelFault) -> Option<ModelFault>
     if is_there { Some(fault) } else { None }
 }
 
+impl<A: Allocator> Class<A> {
+    // Whether a start edge of the class is of a begin kind.
+    fn has_begin_kind(&self) -> bool
+        ensures { result ≡ has_begin_kind self.now }
+    {
+        let edges = self.split_edges.as_slice();
+        edges.iter().any(|edge| edge.kind.is_begin_kind())
+    }
+}
+
+// Whether a start edge of one of the classes is of a begin kind.
+fn have_begin_kinds<A: Allocator>(classes: &[Class<A>]) -> bool
+    ensures { result ≡ list_any has_begin_kind classes.now }
+{
+    classes.iter().any(|class| class.has_begin_kind())
+}
+
 impl<A: Allocator> Parts<A> {
     // The lowest fault.
     fn fault(&self) -> Option<ModelFault>
@@ -184,11 +207,13 @@ impl<A: Allocator> Parts<A> {
         let classes = self.classes.as_slice();
         let is_doubled = have_name_twice(objects) || have_name_twice(classes);
         let is_well_named = are_named_well(objects) && are_named_well(classes);
+        let is_begun_late = have_begin_kinds(classes);
         fault_where(classes.is_empty(), ModelFault::NoClass)
             .or(fault_where(classes.len() > 16, ModelFault::TooManyClasses))
             .or(fault_where(objects.len() > 256, ModelFault::TooManyObjects))
             .or(fault_where(is_doubled, ModelFault::DuplicateName))
             .or(fault_where(!is_well_named, ModelFault::BadName))
+            .or(fault_where(is_begun_late, ModelFault::BeginKindAtStart))
     }
 }
 
@@ -244,6 +269,7 @@ impl<A: Allocator + Copy> Class<A> {
             starts: self.starts,
             may: self.may,
             extent: self.extent,
+            split_edges: self.split_edges.copy()?,
         })
     }
 }

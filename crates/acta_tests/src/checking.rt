@@ -1,63 +1,121 @@
-use crate::models::{FLAT, atomic, parts};
-use acta_table::{Event, EventKind, Kinds, Model, ModelFault, OpNo, OpSet, Rule, TxnId};
-use std::alloc::Global;
+use crate::models::{FLAT, atomic, parts, wanting};
+use acta_table::{Dep, Event, EventKind, Kinds, Model, ModelFault, OpNo, OpSet, Rule, TxnId};
+use std::alloc::{AllocError, Allocator, Global};
+use std::process::Abort;
 use std::test::Fail;
 
-// The lowest fault is answered, or none.
-#[test]
-fn the_lowest_fault(rt: HostRuntime) -> Result<(), Fail> {
-    let rows = [
-        ("x", "x", None),
-        ("", "a1234567890123456789012345678901", None),
-        ("x", "", Some(ModelFault::NoClass)),
-        ("x x", "", Some(ModelFault::NoClass)),
-        ("x y x", "x", Some(ModelFault::DuplicateName)),
-        ("_ _", "x", Some(ModelFault::DuplicateName)),
-        ("x", "x y y", Some(ModelFault::DuplicateName)),
-        ("_a", "x", Some(ModelFault::BadName)),
-        ("1a", "x", Some(ModelFault::BadName)),
-        ("a-b", "x", Some(ModelFault::BadName)),
-        ("x", "y ", Some(ModelFault::BadName)),
-        (
-            "a12345678901234567890123456789012",
-            "x",
-            Some(ModelFault::BadName),
-        ),
-    ];
-    for (objects, classes, fault) in rows {
-        let checked = Model::check(parts(rt.alloc(), objects, classes)?);
-        assert_eq!(rt; checked.err(), fault, "at {objects:?}, {classes:?}");
+// Models of these registers and classes have this fault, or none; each line has the names of the registers and,
+// after `|`, those of the classes.
+fn have_fault(
+    rt: &(impl Abort + AllocGlobal),
+    lines: &str,
+    fault: Option<ModelFault>,
+) -> Result<(), Fail> {
+    for line in lines.lines() {
+        let (objects, classes) = line.split_once('|').ok_or("a line has no classes")?;
+        assert_eq!(rt;
+            fault_of(rt.alloc(), objects.trim_start(), classes)?,
+            fault,
+            "at {line}"
+        );
     }
     Ok(())
+}
+
+fn fault_of<A: Allocator + Copy>(
+    alloc: A,
+    objects: &str,
+    classes: &str,
+) -> Result<Option<ModelFault>, AllocError> {
+    Ok(Model::check(parts(alloc, objects, classes)?).err())
+}
+
+#[test]
+fn no_fault(rt: HostRuntime) -> Result<(), Fail> {
+    let lines = "x|x
+        |a1234567890123456789012345678901";
+    have_fault(&rt, lines, None)
+}
+
+#[test]
+fn no_class(rt: HostRuntime) -> Result<(), Fail> {
+    let lines = "x|
+        x x|";
+    have_fault(&rt, lines, Some(ModelFault::NoClass))
+}
+
+#[test]
+fn names_alike(rt: HostRuntime) -> Result<(), Fail> {
+    let lines = "x y x|x
+        _ _|x
+        x|x y y";
+    have_fault(&rt, lines, Some(ModelFault::DuplicateName))
+}
+
+#[test]
+fn bad_names(rt: HostRuntime) -> Result<(), Fail> {
+    let lines = "_a|x
+        1a|x
+        a-b|x
+        a12345678901234567890123456789012|x";
+    have_fault(&rt, lines, Some(ModelFault::BadName))?;
+    have_fault(&rt, "x|y ", Some(ModelFault::BadName))
+}
+
+// An edge of a begin kind at a split is a fault, and none of another kind is.
+fn fault_at_a_split<A: Allocator + Copy>(
+    alloc: A,
+    kind: Dep,
+) -> Result<Option<ModelFault>, AllocError> {
+    Ok(Model::check(wanting(alloc, kind)?).err())
+}
+
+#[test]
+fn begin_kinds_at_a_split(rt: HostRuntime) -> Result<(), Fail> {
+    for kind in Dep::ALL {
+        let fault = if kind.is_begin_kind() {
+            Some(ModelFault::BeginKindAtStart)
+        } else {
+            None
+        };
+        assert_eq!(rt; fault_at_a_split(rt.alloc(), kind)?, fault, "with {kind:?}");
+    }
+    Ok(())
+}
+
+// So many times the one name.
+fn names<A: Allocator>(alloc: A, count: u16) -> Result<String<A>, AllocError> {
+    let mut names = String::from_str(alloc, "x")?;
+    for _ in 1..count {
+        names.push_str(" x")?;
+    }
+    Ok(names)
+}
+
+// The fault of a model of so many objects and classes, each of one name.
+fn fault_of_many<A: Allocator + Copy>(
+    alloc: A,
+    objects: u16,
+    classes: u16,
+) -> Result<Option<ModelFault>, AllocError> {
+    let (objects, classes) = (names(alloc, objects)?, names(alloc, classes)?);
+    fault_of(alloc, objects.as_str(), classes.as_str())
 }
 
 // One object or class more than there may be, each of one name, so that the next fault is there too.
 #[test]
 fn too_many(rt: HostRuntime) -> Result<(), Fail> {
-    let rows = [
-        (256, 16, ModelFault::DuplicateName),
-        (257, 16, ModelFault::TooManyObjects),
-        (257, 17, ModelFault::TooManyClasses),
-    ];
-    for (objects, classes, fault) in rows {
-        let mut names = String::from_str(rt.alloc(), "x")?;
-        for _ in 1..objects {
-            names.push_str(" x")?;
-        }
-        let mut kinds = String::from_str(rt.alloc(), "x")?;
-        for _ in 1..classes {
-            kinds.push_str(" x")?;
-        }
-        let checked = Model::check(parts(rt.alloc(), names.as_str(), kinds.as_str())?);
-        assert_eq!(rt; checked.err(), Some(fault));
-    }
+    let most = fault_of_many(rt.alloc(), 256, 16)?;
+    assert_eq!(rt; most, Some(ModelFault::DuplicateName));
+    let objects = fault_of_many(rt.alloc(), 257, 16)?;
+    assert_eq!(rt; objects, Some(ModelFault::TooManyObjects));
+    let classes = fault_of_many(rt.alloc(), 257, 17)?;
+    assert_eq!(rt; classes, Some(ModelFault::TooManyClasses));
     Ok(())
 }
 
-// A model shows the parts that were checked, and so does its copy.
-#[test]
-fn a_copy(rt: HostRuntime) -> Result<(), Fail> {
-    let model = atomic(rt.alloc())?.copy()?;
+// The model shows the parts of the standard model of flat transactions.
+fn shows_flat<A: Allocator>(rt: &impl Abort, model: &Model<A>) {
     assert_eq!(rt; model.objects().len(), 4);
     assert_eq!(rt; model.classes().len(), 1);
     for class in model.classes() {
@@ -66,6 +124,14 @@ fn a_copy(rt: HostRuntime) -> Result<(), Fail> {
         assert!(rt; !class.may.has(EventKind::Split));
         assert!(rt; !class.may.has(EventKind::Begin));
     }
+}
+
+// A model shows the parts that were checked, and so does its copy.
+#[test]
+fn a_copy(rt: HostRuntime) -> Result<(), Fail> {
+    let model = atomic(rt.alloc())?;
+    shows_flat(&rt, &model);
+    shows_flat(&rt, &model.copy()?);
     Ok(())
 }
 

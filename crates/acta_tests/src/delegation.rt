@@ -1,10 +1,9 @@
-use crate::models::{FLAT, N, X, atomic, delegating};
-use crate::steps::{Step, take};
+use crate::models::{N, X, atomic, delegating};
+use crate::script::{counter, played, plays, register};
 use acta_axioms::Places;
 use acta_machine::Machine;
-use acta_objects::ObjectState;
-use acta_table::{Answer, Extent, Fate, Op, OpNo, Ret, Rule, TxnId};
-use std::alloc::Global;
+use acta_table::{Extent, Fate, Model, OpNo, TxnId};
+use std::alloc::Allocator;
 use std::process::Abort;
 use std::test::Fail;
 
@@ -12,70 +11,55 @@ const ONE: TxnId = TxnId(1);
 
 const TWO: TxnId = TxnId(2);
 
-// What a machine is to say of an event.
-#[derive(Clone, Copy)]
-enum Say {
-    Ok(u32),
-    Done(u32),
-    No(Rule, u32),
+const HANDED: &str = "begin 1 part : ok 1
+    begin 2 part : ok 2
+    do 1 x write 5 : ok 3 done
+    delegate 1 2 1 : ok 4
+    delegate 1 2 1 : no 11 by 1";
+
+const ENDS: &str = "abort 1 : ok 5
+    commit 2 : ok 6";
+
+// A machine on which one hands over what it wrote, before either of the two ends.
+fn handed<A: Allocator + Copy>(
+    rt: &impl Abort,
+    alloc: A,
+    model: &Model<A>,
+) -> Result<Machine<A>, Fail> {
+    played(rt, alloc, model, HANDED)
 }
 
-impl Say {
-    fn answer(self) -> Answer {
-        match self {
-            Say::Ok(place) => Answer::Admitted { place, ret: None },
-            Say::Done(place) => Answer::Admitted {
-                place,
-                ret: Some(Ret::Done),
-            },
-            Say::No(rule, by) => Answer::Refused { rule, by: Some(by) },
-        }
-    }
-}
-
-// The machine answers each event so.
-fn play(
-    rt: &(impl Abort + AllocGlobal),
-    machine: &mut Machine<Global>,
-    rows: &[(Step, Say)],
+// The one that handed over aborts, and then the other commits.
+fn ended<A: Allocator + Copy>(
+    rt: &impl Abort,
+    alloc: A,
+    model: &Model<A>,
+    machine: &mut Machine<A>,
 ) -> Result<(), Fail> {
-    for (step, say) in rows {
-        let answer = take(rt.alloc(), machine, *step)?;
-        assert_eq!(rt; answer, say.answer(), "at {step:?}");
-    }
+    assert_eq!(rt; plays(alloc, model, machine, ENDS)?, None);
     Ok(())
 }
 
-const STARTS: [(Step, Say); 3] = [
-    (Step::Begin(ONE, FLAT), Say::Ok(1)),
-    (Step::Begin(TWO, FLAT), Say::Ok(2)),
-    (Step::Operate(ONE, X, Op::Write(5)), Say::Done(3)),
-];
+// The second transaction holds the one operation.
+fn is_held<A: Allocator + Copy>(rt: &impl Abort, machine: &Machine<A>) -> Result<(), Fail> {
+    let held = machine.access_set(TWO)?;
+    assert_eq!(rt; held.as_slice(), [OpNo(1)].as_slice());
+    Ok(())
+}
 
-const HANDED: [(Step, Say); 2] = [
-    (Step::Delegate(ONE, TWO, &[OpNo(1)]), Say::Ok(4)),
-    (
-        Step::Delegate(ONE, TWO, &[OpNo(1)]),
-        Say::No(Rule::NotResponsible, 1),
-    ),
-];
-
-const ENDS: [(Step, Say); 2] = [
-    (Step::Abort(ONE), Say::Ok(5)),
-    (Step::Commit(TWO), Say::Ok(6)),
-];
+// One hands over what it wrote and aborts, and the other commits. Gives the value that is left.
+fn left<A: Allocator + Copy>(rt: &impl Abort, alloc: A) -> Result<Option<i32>, Fail> {
+    let model = delegating(alloc, Extent::Any)?;
+    let mut machine = handed(rt, alloc, &model)?;
+    is_held(rt, &machine)?;
+    ended(rt, alloc, &model, &mut machine)?;
+    Ok(register(&machine, X)?)
+}
 
 // What is handed over stays when the one that did it aborts, and is committed with the one that holds it.
 #[test]
 fn handed_over(rt: HostRuntime) -> Result<(), Fail> {
-    let model = delegating(rt.alloc(), Extent::Any)?;
-    let mut machine = Machine::new(rt.alloc(), model)?;
-    play(&rt, &mut machine, &STARTS)?;
-    play(&rt, &mut machine, &HANDED)?;
-    let held = machine.access_set(TWO)?;
-    assert_eq!(rt; held.as_slice(), [OpNo(1)].as_slice());
-    play(&rt, &mut machine, &ENDS)?;
-    assert!(rt; matches!(machine.value(X)?, Some(ObjectState::Register(5))));
+    assert_eq!(rt; left(&rt, rt.alloc())?, Some(5));
     Ok(())
 }
 
@@ -83,10 +67,8 @@ fn handed_over(rt: HostRuntime) -> Result<(), Fail> {
 #[test]
 fn handed_over_by_places(rt: HostRuntime) -> Result<(), Fail> {
     let model = delegating(rt.alloc(), Extent::Any)?;
-    let mut machine = Machine::new(rt.alloc(), model.copy()?)?;
-    play(&rt, &mut machine, &STARTS)?;
-    play(&rt, &mut machine, &HANDED)?;
-    play(&rt, &mut machine, &ENDS)?;
+    let mut machine = handed(&rt, rt.alloc(), &model)?;
+    ended(&rt, rt.alloc(), &model, &mut machine)?;
     let places = Places::of(rt.alloc(), &model, machine.history())?;
     let rows = [
         (3u32, ONE, Fate::InProgress),
@@ -101,93 +83,56 @@ fn handed_over_by_places(rt: HostRuntime) -> Result<(), Fail> {
     Ok(())
 }
 
-const ADDITIONS: [(Step, Say); 4] = [
-    (Step::Begin(ONE, FLAT), Say::Ok(1)),
-    (Step::Begin(TWO, FLAT), Say::Ok(2)),
-    (Step::Operate(ONE, N, Op::Add(1)), Say::Done(3)),
-    (Step::Operate(ONE, N, Op::Add(2)), Say::Done(4)),
-];
+const ADDITIONS: &str = "begin 1 part : ok 1
+    begin 2 part : ok 2
+    do 1 n add 1 : ok 3 done
+    do 1 n add 2 : ok 4 done";
 
-// A machine on which a transaction that has to hand over the whole has added twice.
-fn added(rt: &(impl Abort + AllocGlobal)) -> Result<Machine<Global>, Fail> {
-    let model = delegating(rt.alloc(), Extent::Whole)?;
-    let mut machine = Machine::new(rt.alloc(), model)?;
-    play(rt, &mut machine, &ADDITIONS)?;
+// A machine on which a transaction that has to hand over the whole has added twice, and that then answers as the
+// lines say.
+fn added<A: Allocator + Copy>(rt: &impl Abort, alloc: A, text: &str) -> Result<Machine<A>, Fail> {
+    let model = delegating(alloc, Extent::Whole)?;
+    let mut machine = played(rt, alloc, &model, ADDITIONS)?;
+    assert_eq!(rt; plays(alloc, &model, &mut machine, text)?, None);
     Ok(machine)
 }
-
-const BAD_SETS: [(Step, Say); 4] = [
-    (
-        Step::Delegate(TWO, ONE, &[OpNo(1)]),
-        Say::No(Rule::NotResponsible, 1),
-    ),
-    (
-        Step::Delegate(ONE, TWO, &[OpNo(1)]),
-        Say::No(Rule::PartialDelegation, 2),
-    ),
-    (
-        Step::Delegate(ONE, TWO, &[OpNo(9), OpNo(2), OpNo(1)]),
-        Say::No(Rule::BadSet, 9),
-    ),
-    (
-        Step::Delegate(ONE, TWO, &[OpNo(0), OpNo(2), OpNo(1)]),
-        Say::No(Rule::BadSet, 0),
-    ),
-];
 
 // Each rule on the operations that are named.
 #[test]
 fn what_is_named(rt: HostRuntime) -> Result<(), Fail> {
-    let mut machine = added(&rt)?;
-    play(&rt, &mut machine, &BAD_SETS)
+    let text = "delegate 2 1 1 : no 11 by 1
+        delegate 1 2 1 : no 12 by 2
+        delegate 1 2 9 2 1 : no 13 by 9
+        delegate 1 2 0 2 1 : no 13 by 0";
+    added(&rt, rt.alloc(), text)?;
+    Ok(())
 }
-
-const BAD_PARTIES: [(Step, Say); 2] = [
-    (
-        Step::Delegate(ONE, ONE, &[]),
-        Say::No(Rule::SameTransaction, 1),
-    ),
-    (
-        Step::Delegate(ONE, TxnId(3), &[OpNo(1), OpNo(2)]),
-        Say::No(Rule::PartnerNotInProgress, 3),
-    ),
-];
 
 // Each rule on the two transactions.
 #[test]
 fn the_two(rt: HostRuntime) -> Result<(), Fail> {
-    let mut machine = added(&rt)?;
-    play(&rt, &mut machine, &BAD_PARTIES)
+    let text = "delegate 1 1 : no 6 by 1
+        delegate 1 3 1 2 : no 10 by 3";
+    added(&rt, rt.alloc(), text)?;
+    Ok(())
 }
-
-const WHOLE: [(Step, Say); 3] = [
-    (
-        Step::Delegate(ONE, TWO, &[OpNo(2), OpNo(1), OpNo(2)]),
-        Say::Ok(5),
-    ),
-    (Step::Delegate(ONE, TWO, &[]), Say::Ok(6)),
-    (Step::Abort(TWO), Say::Ok(7)),
-];
 
 // The whole is handed over, then nothing is left to hand over, and the abort of the other takes it back.
 #[test]
 fn the_whole(rt: HostRuntime) -> Result<(), Fail> {
-    let mut machine = added(&rt)?;
-    play(&rt, &mut machine, &WHOLE)?;
-    assert!(rt; matches!(machine.value(N)?, Some(ObjectState::Counter(0))));
+    let text = "delegate 1 2 2 1 2 : ok 5
+        delegate 1 2 : ok 6
+        abort 2 : ok 7";
+    let machine = added(&rt, rt.alloc(), text)?;
+    assert_eq!(rt; counter(&machine, N)?, Some(0));
     Ok(())
 }
 
 // A class that may not delegate does not.
 #[test]
 fn where_the_class_may_not(rt: HostRuntime) -> Result<(), Fail> {
-    let mut machine = Machine::new(rt.alloc(), atomic(rt.alloc())?)?;
-    take(rt.alloc(), &mut machine, Step::Begin(ONE, FLAT))?;
-    let refused = Answer::Refused {
-        rule: Rule::NotInModel,
-        by: None,
-    };
-    let answer = take(rt.alloc(), &mut machine, Step::Delegate(ONE, TWO, &[]))?;
-    assert_eq!(rt; answer, refused);
+    let text = "begin 1 flat : ok 1
+        delegate 1 2 : no 9";
+    played(&rt, rt.alloc(), &atomic(rt.alloc())?, text)?;
     Ok(())
 }

@@ -1,8 +1,8 @@
 use crate::models::{FLAT, atomic, contingent};
-use crate::steps::{Step, take};
+use crate::script::{KINDS, has_edges, played};
 use acta_axioms::Places;
 use acta_machine::Machine;
-use acta_table::{Answer, Dep, Edge, EdgeNo, Kept, Missing, Model, Owed, Rule, TxnId};
+use acta_table::{Answer, Dep, Edge, EdgeNo, Event, Kept, Missing, Model, Owed, Rule, TxnId};
 use std::alloc::{AllocError, Allocator};
 use std::process::Abort;
 use std::test::Fail;
@@ -13,336 +13,223 @@ const TWO: TxnId = TxnId(2);
 
 const THREE: TxnId = TxnId(3);
 
-const BEGINS: [Step; 3] = [
-    Step::Begin(ONE, FLAT),
-    Step::Begin(TWO, FLAT),
-    Step::Begin(THREE, FLAT),
-];
-
-// What a machine is to say of an event.
-#[derive(Clone, Copy)]
-enum Say {
-    Ok(u32),
-    No(Rule, u32),
-}
-
-impl Say {
-    fn answer(self) -> Answer {
-        match self {
-            Say::Ok(place) => Answer::Admitted { place, ret: None },
-            Say::No(rule, by) => Answer::Refused { rule, by: Some(by) },
-        }
-    }
-}
-
-// A debt, by the number of its edge.
-type Debt = (u64, TxnId, Missing);
-
-fn owed_by(debt: Debt) -> Owed {
-    let (edge, txn, missing) = debt;
-    Owed {
-        edge: EdgeNo(edge),
+// What a transaction owes by the first edge.
+fn debt(txn: TxnId, missing: Missing) -> Option<Owed> {
+    Some(Owed {
+        edge: EdgeNo(1),
         txn,
         missing,
-    }
+    })
 }
 
-// A machine that forms these edges, and on which the first so many transactions then begin.
-fn after<A: Allocator + Copy>(
+// The one debt on a machine, or none.
+fn debt_on<A: Allocator + Copy>(
     rt: &impl Abort,
-    model: Model<A>,
-    alloc: A,
-    edges: &[(Dep, TxnId, TxnId)],
-    begun: usize,
-) -> Result<Machine<A>, Fail> {
-    let mut machine = Machine::new(alloc, model)?;
-    let mut place = 0u32;
-    let forms = edges.iter().map(|(kind, j, i)| Step::Form(*kind, *j, *i));
-    for event in forms.chain(BEGINS.iter().copied().take(begun)) {
-        place = place.saturating_add(1);
-        assert_eq!(rt;
-            take(alloc, &mut machine, event)?,
-            Say::Ok(place).answer(),
-            "at {event:?}"
-        );
-    }
-    Ok(machine)
-}
-
-// A machine that forms the edges takes the events with these answers, and these debts are left.
-#[derive(Clone, Copy)]
-struct Row<'a> {
-    edges: &'a [(Dep, TxnId, TxnId)],
-    begun: usize,
-    events: &'a [(Step, Say)],
-    owed: &'a [Debt],
-}
-
-// The machine answers so, and these debts are left.
-fn play(rt: &(impl Abort + AllocGlobal), row: Row<'_>) -> Result<(), Fail> {
-    let model = contingent(rt.alloc())?;
-    let mut machine = after(rt, model, rt.alloc(), row.edges, row.begun)?;
-    for (event, say) in row.events {
-        assert_eq!(rt;
-            take(rt.alloc(), &mut machine, *event)?,
-            say.answer(),
-            "at {event:?}"
-        );
-    }
+    machine: &Machine<A>,
+) -> Result<Option<Owed>, AllocError> {
     let owed = machine.owed()?;
-    assert_eq!(rt; owed.len(), row.owed.len());
-    for (debt, expected) in owed.iter().zip(row.owed) {
-        assert_eq!(rt; *debt, owed_by(*expected));
-    }
-    Ok(())
+    assert!(rt; owed.len() < 2);
+    Ok(owed.first().copied())
+}
+
+// What is owed on a machine of the model of contingent transactions, which answers as the lines say.
+fn left(rt: &(impl Abort + AllocGlobal), text: &str) -> Result<Option<Owed>, Fail> {
+    let model = contingent(rt.alloc())?;
+    let machine = played(rt, rt.alloc(), &model, text)?;
+    Ok(debt_on(rt, &machine)?)
 }
 
 // One commits only before those that were to commit later.
 #[test]
 fn one_commits_before_another(rt: HostRuntime) -> Result<(), Fail> {
-    let row = Row {
-        edges: &[(Dep::Cd, TWO, ONE), (Dep::Cd, THREE, ONE)],
-        begun: 3,
-        events: &[
-            (Step::Commit(THREE), Say::Ok(6)),
-            (Step::Commit(TWO), Say::Ok(7)),
-            (Step::Commit(ONE), Say::No(Rule::CommitOrder, 1)),
-            (Step::Abort(ONE), Say::Ok(8)),
-        ],
-        owed: &[],
-    };
-    play(&rt, row)
-}
-
-// An abort that another, committed, would have to follow; by WD it need not.
-#[test]
-fn an_abort_that_another_would_have_to_follow(rt: HostRuntime) -> Result<(), Fail> {
-    let rows = [
-        Row {
-            edges: &[(Dep::Ad, TWO, ONE)],
-            begun: 2,
-            events: &[
-                (Step::Commit(TWO), Say::Ok(4)),
-                (Step::Abort(ONE), Say::No(Rule::Unpayable, 1)),
-            ],
-            owed: &[],
-        },
-        Row {
-            edges: &[(Dep::Wd, TWO, ONE)],
-            begun: 2,
-            events: &[
-                (Step::Commit(TWO), Say::Ok(4)),
-                (Step::Abort(ONE), Say::Ok(5)),
-            ],
-            owed: &[],
-        },
-    ];
-    for row in rows {
-        play(&rt, row)?;
-    }
+    let text = "form CD 2 1 : ok 1
+        form CD 3 1 : ok 2
+        begin 1 try : ok 3
+        begin 2 try : ok 4
+        begin 3 try : ok 5
+        commit 3 : ok 6
+        commit 2 : ok 7
+        commit 1 : no 24 by 1
+        abort 1 : ok 8";
+    assert_eq!(rt; left(&rt, text)?, None);
     Ok(())
 }
 
-// One would owe both.
-// A start after which one would owe both is refused for good.
+// An abort that another, committed, would have to follow.
+#[test]
+fn an_abort_that_another_would_have_to_follow(rt: HostRuntime) -> Result<(), Fail> {
+    let text = "form AD 2 1 : ok 1
+        begin 1 try : ok 2
+        begin 2 try : ok 3
+        commit 2 : ok 4
+        abort 1 : no 26 by 1";
+    assert_eq!(rt; left(&rt, text)?, None);
+    Ok(())
+}
+
+// By WD, one that has committed need not follow an abort.
+#[test]
+fn an_abort_that_another_need_not_follow(rt: HostRuntime) -> Result<(), Fail> {
+    let text = "form WD 2 1 : ok 1
+        begin 1 try : ok 2
+        begin 2 try : ok 3
+        commit 2 : ok 4
+        abort 1 : ok 5";
+    assert_eq!(rt; left(&rt, text)?, None);
+    Ok(())
+}
+
+// A commit after which another would owe both is refused.
 #[test]
 fn nobody_comes_to_owe_both(rt: HostRuntime) -> Result<(), Fail> {
-    let rows = [
-        Row {
-            edges: &[(Dep::Scd, TWO, ONE), (Dep::Ed, TWO, ONE)],
-            begun: 2,
-            events: &[(Step::Commit(ONE), Say::No(Rule::Clash, 2))],
-            owed: &[],
-        },
-        Row {
-            edges: &[(Dep::Scd, THREE, ONE), (Dep::Ed, THREE, TWO)],
-            begun: 2,
-            events: &[
-                (Step::Commit(ONE), Say::Ok(5)),
-                (Step::Commit(TWO), Say::Ok(6)),
-                (Step::Begin(THREE, FLAT), Say::No(Rule::Clash, 3)),
-            ],
-            owed: &[(1, THREE, Missing::Commit)],
-        },
-    ];
-    for row in rows {
-        play(&rt, row)?;
-    }
+    let text = "form SCD 2 1 : ok 1
+        form ED 2 1 : ok 2
+        begin 1 try : ok 3
+        begin 2 try : ok 4
+        commit 1 : no 27 by 2";
+    assert_eq!(rt; left(&rt, text)?, None);
+    Ok(())
+}
+
+// A start after which one would owe both is refused for good.
+#[test]
+fn nobody_starts_to_owe_both(rt: HostRuntime) -> Result<(), Fail> {
+    let text = "form SCD 3 1 : ok 1
+        form ED 3 2 : ok 2
+        begin 1 try : ok 3
+        begin 2 try : ok 4
+        commit 1 : ok 5
+        commit 2 : ok 6
+        begin 3 try : no 27 by 3";
+    assert_eq!(rt; left(&rt, text)?, debt(THREE, Missing::Commit));
+    Ok(())
+}
+
+// A debt, before it is paid.
+#[test]
+fn a_debt(rt: HostRuntime) -> Result<(), Fail> {
+    let text = "form SCD 2 1 : ok 1
+        begin 1 try : ok 2
+        begin 2 try : ok 3
+        commit 1 : ok 4";
+    assert_eq!(rt; left(&rt, text)?, debt(TWO, Missing::Commit));
     Ok(())
 }
 
 // A debt, which only the event that is missing pays.
 #[test]
 fn a_debt_is_paid(rt: HostRuntime) -> Result<(), Fail> {
-    let rows = [
-        Row {
-            edges: &[(Dep::Scd, TWO, ONE)],
-            begun: 2,
-            events: &[(Step::Commit(ONE), Say::Ok(4))],
-            owed: &[(1, TWO, Missing::Commit)],
-        },
-        Row {
-            edges: &[(Dep::Scd, TWO, ONE)],
-            begun: 2,
-            events: &[
-                (Step::Commit(ONE), Say::Ok(4)),
-                (Step::Abort(TWO), Say::No(Rule::OwesCommit, 1)),
-                (Step::Commit(TWO), Say::Ok(5)),
-            ],
-            owed: &[],
-        },
-    ];
-    for row in rows {
-        play(&rt, row)?;
-    }
+    let text = "form SCD 2 1 : ok 1
+        begin 1 try : ok 2
+        begin 2 try : ok 3
+        commit 1 : ok 4
+        abort 2 : no 23 by 1
+        commit 2 : ok 5";
+    assert_eq!(rt; left(&rt, text)?, None);
     Ok(())
 }
 
 // A debt of one that hasn't begun.
 #[test]
 fn a_debt_before_the_start(rt: HostRuntime) -> Result<(), Fail> {
-    let rows = [
-        Row {
-            edges: &[(Dep::Ad, TWO, ONE)],
-            begun: 1,
-            events: &[(Step::Abort(ONE), Say::Ok(3))],
-            owed: &[(1, TWO, Missing::Abort)],
-        },
-        Row {
-            edges: &[(Dep::Ad, TWO, ONE)],
-            begun: 1,
-            events: &[
-                (Step::Abort(ONE), Say::Ok(3)),
-                (Step::Begin(TWO, FLAT), Say::Ok(4)),
-                (Step::Commit(TWO), Say::No(Rule::OwesAbort, 1)),
-                (Step::Abort(TWO), Say::Ok(5)),
-            ],
-            owed: &[],
-        },
-    ];
-    for row in rows {
-        play(&rt, row)?;
-    }
+    let text = "form AD 2 1 : ok 1
+        begin 1 try : ok 2
+        abort 1 : ok 3";
+    assert_eq!(rt; left(&rt, text)?, debt(TWO, Missing::Abort));
+    Ok(())
+}
+
+// One that owes as it begins pays after that.
+#[test]
+fn a_debt_is_paid_after_the_start(rt: HostRuntime) -> Result<(), Fail> {
+    let text = "form AD 2 1 : ok 1
+        begin 1 try : ok 2
+        abort 1 : ok 3
+        begin 2 try : ok 4
+        commit 2 : no 22 by 1
+        abort 2 : ok 5";
+    assert_eq!(rt; left(&rt, text)?, None);
     Ok(())
 }
 
 // The begin kinds.
 #[test]
 fn begin_on_abort(rt: HostRuntime) -> Result<(), Fail> {
-    let row = Row {
-        edges: &[(Dep::Bad, TWO, ONE)],
-        begun: 1,
-        events: &[
-            (Step::Begin(TWO, FLAT), Say::No(Rule::BeginOnAbort, 1)),
-            (Step::Abort(ONE), Say::Ok(3)),
-            (Step::Begin(TWO, FLAT), Say::Ok(4)),
-            (
-                Step::Form(Dep::Bad, TWO, ONE),
-                Say::No(Rule::FormTooLate, 2),
-            ),
-        ],
-        owed: &[],
-    };
-    play(&rt, row)
+    let text = "form BAD 2 1 : ok 1
+        begin 1 try : ok 2
+        begin 2 try : no 20 by 1
+        abort 1 : ok 3
+        begin 2 try : ok 4
+        form BAD 2 1 : no 15 by 2";
+    assert_eq!(rt; left(&rt, text)?, None);
+    Ok(())
 }
 
 #[test]
-fn begin_kinds(rt: HostRuntime) -> Result<(), Fail> {
-    let rows = [
-        Row {
-            edges: &[(Dep::Bd, TWO, ONE)],
-            begun: 0,
-            events: &[(Step::Begin(TWO, FLAT), Say::No(Rule::BeginDep, 1))],
-            owed: &[],
-        },
-        Row {
-            edges: &[(Dep::Sd, TWO, ONE)],
-            begun: 1,
-            events: &[(Step::Begin(TWO, FLAT), Say::No(Rule::SerialDep, 1))],
-            owed: &[],
-        },
-        Row {
-            edges: &[(Dep::Bcd, TWO, ONE)],
-            begun: 1,
-            events: &[(Step::Begin(TWO, FLAT), Say::No(Rule::BeginOnCommit, 1))],
-            owed: &[],
-        },
-        Row {
-            edges: &[(Dep::Wcd, TWO, ONE)],
-            begun: 2,
-            events: &[(Step::Commit(ONE), Say::No(Rule::WeakBegin, 1))],
-            owed: &[],
-        },
-    ];
-    for row in rows {
-        play(&rt, row)?;
-    }
+fn begin_dependency(rt: HostRuntime) -> Result<(), Fail> {
+    let text = "form BD 2 1 : ok 1
+        begin 2 try : no 17 by 1";
+    assert_eq!(rt; left(&rt, text)?, None);
+    Ok(())
+}
+
+#[test]
+fn serial_dependency(rt: HostRuntime) -> Result<(), Fail> {
+    let text = "form SD 2 1 : ok 1
+        begin 1 try : ok 2
+        begin 2 try : no 18 by 1";
+    assert_eq!(rt; left(&rt, text)?, None);
+    Ok(())
+}
+
+#[test]
+fn begin_on_commit(rt: HostRuntime) -> Result<(), Fail> {
+    let text = "form BCD 2 1 : ok 1
+        begin 1 try : ok 2
+        begin 2 try : no 19 by 1";
+    assert_eq!(rt; left(&rt, text)?, None);
+    Ok(())
+}
+
+#[test]
+fn weak_begin_on_commit(rt: HostRuntime) -> Result<(), Fail> {
+    let text = "form WCD 2 1 : ok 1
+        begin 1 try : ok 2
+        begin 2 try : ok 3
+        commit 1 : no 25 by 1";
+    assert_eq!(rt; left(&rt, text)?, None);
     Ok(())
 }
 
 // What may not be formed: one with itself, bad numbers, too late; an edge in force is no new one.
 #[test]
 fn what_may_not_be_formed(rt: HostRuntime) -> Result<(), Fail> {
-    let row = Row {
-        edges: &[(Dep::Td, TWO, ONE)],
-        begun: 2,
-        events: &[
-            (
-                Step::Form(Dep::Ad, ONE, ONE),
-                Say::No(Rule::SameTransaction, 1),
-            ),
-            (
-                Step::Form(Dep::Ad, TxnId(5000), TxnId(0)),
-                Say::No(Rule::BadNumber, 0),
-            ),
-            (Step::Form(Dep::Td, TWO, ONE), Say::Ok(4)),
-            (Step::Commit(TWO), Say::No(Rule::TerminationDep, 1)),
-            (Step::Commit(ONE), Say::Ok(5)),
-            (Step::Abort(TWO), Say::Ok(6)),
-            (Step::Form(Dep::Td, TWO, ONE), Say::No(Rule::FormTooLate, 1)),
-            (
-                Step::Form(Dep::Td, TWO, THREE),
-                Say::No(Rule::FormTooLate, 2),
-            ),
-            (Step::Form(Dep::Bd, THREE, TWO), Say::Ok(7)),
-        ],
-        owed: &[],
-    };
-    play(&rt, row)
+    let text = "form TD 2 1 : ok 1
+        begin 1 try : ok 2
+        begin 2 try : ok 3
+        form AD 1 1 : no 6 by 1
+        form AD 5000 0 : no 2 by 0
+        form TD 2 1 : ok 4
+        commit 2 : no 21 by 1
+        commit 1 : ok 5
+        abort 2 : ok 6
+        form TD 2 1 : no 15 by 1
+        form TD 2 3 : no 15 by 2
+        form BD 3 2 : ok 7";
+    assert_eq!(rt; left(&rt, text)?, None);
+    Ok(())
 }
 
 // No class may form edges, so none is formed.
 #[test]
 fn where_no_class_may(rt: HostRuntime) -> Result<(), Fail> {
-    let mut machine = after(&rt, atomic(rt.alloc())?, rt.alloc(), &[], 1)?;
-    let refused = Answer::Refused {
-        rule: Rule::NotInModel,
-        by: None,
-    };
-    for (j, i) in [(ONE, TWO), (THREE, TWO)] {
-        assert_eq!(rt;
-            take(rt.alloc(), &mut machine, Step::Form(Dep::Cd, j, i))?,
-            refused
-        );
-    }
-    assert!(rt; machine.edges().is_empty());
+    let text = "begin 1 flat : ok 1
+        form CD 1 2 : no 9
+        form CD 3 2 : no 9";
+    let machine = played(&rt, rt.alloc(), &atomic(rt.alloc())?, text)?;
+    assert!(rt; has_edges(&machine, &[]));
     Ok(())
 }
-
-const KINDS: [Dep; 12] = [
-    Dep::Cd,
-    Dep::Scd,
-    Dep::Ad,
-    Dep::Wd,
-    Dep::Td,
-    Dep::Ed,
-    Dep::Cmd,
-    Dep::Bd,
-    Dep::Sd,
-    Dep::Bcd,
-    Dep::Bad,
-    Dep::Wcd,
-];
 
 // The first places of a transaction.
 #[derive(Clone, Copy)]
@@ -419,33 +306,56 @@ fn finding_of<A: Allocator>(kind: Dep, places: &Places<'_, A>) -> Finding {
 fn with<A: Allocator + Copy>(
     alloc: A,
     history: &[Kept<A>],
-    step: Step,
+    event: &Event<A>,
 ) -> Result<Vec<Kept<A>, A>, AllocError> {
     let mut longer = Vec::new(alloc);
     for kept in history {
         longer.push(kept.copy()?)?;
     }
-    let event = step.event(alloc)?;
+    let event = event.copy()?;
     longer.push(Kept { event, ret: None })?;
     Ok(longer)
 }
 
-// The orders of the starts (false) and ends (true) of two transactions.
-const ORDERS: [[(TxnId, bool); 4]; 6] = [
-    [(ONE, false), (ONE, true), (TWO, false), (TWO, true)],
-    [(ONE, false), (TWO, false), (ONE, true), (TWO, true)],
-    [(ONE, false), (TWO, false), (TWO, true), (ONE, true)],
-    [(TWO, false), (ONE, false), (ONE, true), (TWO, true)],
-    [(TWO, false), (ONE, false), (TWO, true), (ONE, true)],
-    [(TWO, false), (TWO, true), (ONE, false), (ONE, true)],
-];
+// What the machine owes is what was found.
+fn admits<A: Allocator + Copy>(
+    rt: &impl Abort,
+    machine: &Machine<A>,
+    kind: Dep,
+    found: Finding,
+) -> Result<bool, AllocError> {
+    let expected = match found {
+        Finding::Owed(missing) => debt(TWO, missing),
+        _ => None,
+    };
+    assert!(rt; found != Finding::Broken, "admitted under {kind:?}");
+    assert_eq!(rt; debt_on(rt, machine)?, expected, "under {kind:?}");
+    Ok(expected.is_some())
+}
 
-fn event_of(t: TxnId, ends: bool, commits: bool) -> Step {
-    match (ends, commits) {
-        (false, _) => Step::Begin(t, FLAT),
-        (true, true) => Step::Commit(t),
-        (true, false) => Step::Abort(t),
-    }
+// A refusal is by a rule on dependencies, where the edge would be broken, or of one that is not in progress. Gives
+// whether it is by a rule on dependencies.
+fn refuses(rt: &impl Abort, rule: Rule, by: Option<u32>, found: Finding) -> bool {
+    let is_dependency = (17..=27).contains(&rule.number());
+    let is_idle = rule == Rule::NotInProgress;
+    assert!(rt; is_dependency || is_idle, "{rule:?}");
+    assert!(rt; is_idle || found == Finding::Broken, "{rule:?}");
+    assert!(rt; is_idle || by == Some(1), "{rule:?}");
+    is_dependency
+}
+
+// What would be found in the history of the machine, were the event added.
+fn found_after<A: Allocator + Copy>(
+    rt: &impl Abort,
+    alloc: A,
+    model: &Model<A>,
+    machine: &Machine<A>,
+    kind: Dep,
+    event: &Event<A>,
+) -> Result<Finding, AllocError> {
+    let longer = with(alloc, machine.history(), event)?;
+    assert!(rt; longer.len() <= 65536);
+    Ok(finding_of(kind, &Places::of(alloc, model, longer.as_slice())?))
 }
 
 // A machine with one edge takes an event, and what it says is what the places of its history say: an answer by a
@@ -457,63 +367,131 @@ fn agrees<A: Allocator + Copy>(
     model: &Model<A>,
     machine: &mut Machine<A>,
     kind: Dep,
-    event: Step,
+    event: &Event<A>,
+) -> Result<(bool, bool), AllocError> {
+    let found = found_after(rt, alloc, model, machine, kind, event)?;
+    match machine.take(event)? {
+        Answer::Admitted { .. } => Ok((false, admits(rt, machine, kind, found)?)),
+        Answer::Refused { rule, by } => Ok((refuses(rt, rule, by, found), false)),
+    }
+}
+
+// A machine on a copy of the model, with one edge of this kind, of the second transaction on the first.
+fn with_edge<A: Allocator + Copy>(
+    rt: &impl Abort,
+    alloc: A,
+    model: &Model<A>,
+    kind: Dep,
+) -> Result<Machine<A>, AllocError> {
+    let mut machine = Machine::new(alloc, model.copy()?)?;
+    let formed = Answer::Admitted {
+        place: 1,
+        ret: None,
+    };
+    assert_eq!(rt; machine.take(&Event::Form(kind, TWO, ONE))?, formed);
+    Ok(machine)
+}
+
+// A machine with one edge agrees along one order. Gives whether it refused an event by a rule on dependencies, and
+// whether there was a debt.
+fn along<A: Allocator + Copy>(
+    rt: &impl Abort,
+    alloc: A,
+    model: &Model<A>,
+    kind: Dep,
+    events: &[Event<A>],
+) -> Result<(bool, bool), AllocError> {
+    let (mut refused, mut owed) = (false, false);
+    let mut machine = with_edge(rt, alloc, model, kind)?;
+    for event in events {
+        let said = agrees(rt, alloc, model, &mut machine, kind, event)?;
+        refused |= said.0;
+        owed |= said.1;
+    }
+    let (j, i) = (TWO, ONE);
+    assert!(rt;
+        has_edges(&machine, &[Edge { kind, j, i }]),
+        "under {kind:?}"
+    );
+    Ok((refused, owed))
+}
+
+// The orders of the starts and ends of two transactions.
+const ORDERS: &str = "begin 1, end 1, begin 2, end 2
+    begin 1, begin 2, end 1, end 2
+    begin 1, begin 2, end 2, end 1
+    begin 2, begin 1, end 1, end 2
+    begin 2, begin 1, end 2, end 1
+    begin 2, end 2, begin 1, end 1";
+
+// The event that is said, where the end of a transaction is a commit or an abort.
+fn event_of<A: Allocator>(
+    said: &str,
+    one_commits: bool,
+    two_commits: bool,
+) -> Result<Event<A>, Fail> {
+    Ok(match said {
+        "begin 1" => Event::Begin(ONE, FLAT),
+        "begin 2" => Event::Begin(TWO, FLAT),
+        "end 1" => end_of(ONE, one_commits),
+        "end 2" => end_of(TWO, two_commits),
+        _ => Err("an order says no event")?,
+    })
+}
+
+fn end_of<A: Allocator>(t: TxnId, commits: bool) -> Event<A> {
+    if commits {
+        Event::Commit(t)
+    } else {
+        Event::Abort(t)
+    }
+}
+
+// The events of an order with these ends.
+fn events_of<A: Allocator + Copy>(
+    alloc: A,
+    order: &str,
+    one_commits: bool,
+    two_commits: bool,
+) -> Result<Vec<Event<A>, A>, Fail> {
+    let mut events = Vec::new(alloc);
+    for words in order.split(',') {
+        events.push(event_of(words.trim(), one_commits, two_commits)?)?;
+    }
+    Ok(events)
+}
+
+// Machines with an edge of one kind agree along each order, whichever of the two commit. Gives whether one refused
+// an event by a rule on dependencies, and whether there was a debt.
+fn through_each_order<A: Allocator + Copy>(
+    rt: &impl Abort,
+    alloc: A,
+    model: &Model<A>,
+    kind: Dep,
 ) -> Result<(bool, bool), Fail> {
-    let longer = with(alloc, machine.history(), event)?;
-    assert!(rt; longer.len() <= 65536);
-    let found = finding_of(kind, &Places::of(alloc, model, longer.as_slice())?);
-    match take(alloc, machine, event)? {
-        Answer::Admitted { .. } => {
-            assert!(rt;
-                found != Finding::Broken,
-                "admitted {event:?} under {kind:?}"
-            );
-            let owed = machine.owed()?;
-            let expected = match found {
-                Finding::Owed(missing) => Some(owed_by((1, TWO, missing))),
-                _ => None,
-            };
-            assert_eq!(rt; owed.first().copied(), expected);
-            assert!(rt; owed.len() < 2);
-            Ok((false, expected.is_some()))
-        }
-        Answer::Refused { rule, by } => {
-            let is_dependency = (17..=27).contains(&rule.number());
-            let is_idle = rule == Rule::NotInProgress;
-            assert!(rt; is_dependency || is_idle, "{rule:?} at {event:?}");
-            assert!(rt;
-                is_idle || found == Finding::Broken,
-                "refused {event:?} under {kind:?}"
-            );
-            assert!(rt; is_idle || by == Some(1));
-            Ok((is_dependency, false))
+    let (mut refused, mut owed) = (false, false);
+    for order in ORDERS.lines() {
+        for (one_commits, two_commits) in [
+            (true, true),
+            (true, false),
+            (false, true),
+            (false, false),
+        ] {
+            let events = events_of(alloc, order, one_commits, two_commits)?;
+            let said = along(rt, alloc, model, kind, &events)?;
+            refused |= said.0;
+            owed |= said.1;
         }
     }
+    Ok((refused, owed))
 }
 
 // Each kind, through each order of start, commit and abort of its two transactions.
 #[test]
 fn each_kind_in_each_order(rt: HostRuntime) -> Result<(), Fail> {
     let model = contingent(rt.alloc())?;
-    let ends = [(true, true), (true, false), (false, true), (false, false)];
     for kind in KINDS {
-        let (mut refused, mut owed) = (false, false);
-        for (order, (one_commits, two_commits)) in ORDERS
-            .iter()
-            .flat_map(|order| ends.map(|end| (order, end)))
-        {
-            let edges = [(kind, TWO, ONE)];
-            let mut machine = after(&rt, model.copy()?, rt.alloc(), &edges, 0)?;
-            for (t, end) in order {
-                let commits = if *t == ONE { one_commits } else { two_commits };
-                let event = event_of(*t, *end, commits);
-                let said = agrees(&rt, rt.alloc(), &model, &mut machine, kind, event)?;
-                refused |= said.0;
-                owed |= said.1;
-            }
-            let (j, i) = (TWO, ONE);
-            assert_eq!(rt; machine.edges(), [Edge { kind, j, i }].as_slice());
-        }
+        let (refused, owed) = through_each_order(&rt, rt.alloc(), &model, kind)?;
         assert!(rt; refused, "{kind:?} refuses something");
         assert_eq!(rt; owed, payment(kind).is_some(), "{kind:?} is owed");
     }

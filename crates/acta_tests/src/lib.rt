@@ -17,4 +17,6 @@ mod places;
 #[cfg(test)]
 mod runs;
 #[cfg(test)]
-mod steps;
+mod script;
+#[cfg(test)]
+mod splitting;

@@ -1,13 +1,11 @@
-ghost use Rattle.std.specs.Prelude.{◌≤◌, length};
-
-use crate::models::{FLAT, S, X, atomic, contingent, delegating, parts};
-use crate::steps::{Step, events};
+use crate::models::{S, atomic, contingent, delegating, parting, parts};
+use crate::script::{event, events, has_edges, has_value, is_due, parted, run_on};
 use acta_axioms::Places;
 use acta_machine::{Machine, Run};
 use acta_objects::{ObjectState, replay};
 use acta_table::{
-    Answer, Dep, Event, Extent, Items, Kept, Kind, Missing, Model, Op, OpNo, OpSet, Ret, Status,
-    TxnId,
+    Answer, Dep, Dependent, Event, Extent, Items, Kept, Kind, Missing, Model, Op, OpNo, OpSet, Ret,
+    StartEdge, StartEdges, Status, TxnId,
 };
 use refusing::Refusing;
 use std::alloc::{AllocError, Allocator};
@@ -21,38 +19,33 @@ const TWO: TxnId = TxnId(2);
 // More allocations than any of these calls makes.
 const MOST: u64 = 40;
 
-const WRITE: Step = Step::Operate(ONE, X, Op::Write(5));
-
-const INSERT: Step = Step::Operate(ONE, S, Op::Insert(3));
-
-const FORM: Step = Step::Form(Dep::Scd, TWO, ONE);
-
 // Refuses the first allocation of the call, then the second, and so on, until it succeeds. Each refused
 // call has to answer `Err`. Gives what the call answers in the end, and how many calls were refused.
-macro_rules! refuse_each {
-    ($rt:expr, $heap:expr, $call:expr) => {{
-        let mut outcome = None;
-        let mut refused = 0u64;
-        for nth in 1..MOST {
-            $heap.refuse(nth);
-            let result = $call;
-            if $heap.is_waiting() {
-                outcome = result.ok();
-                break;
-            }
-            assert!($rt; result.is_err());
-            refused = nth;
+fn refuse_each<T: Drop, B: Allocator, F: FnMut() -> Result<T, AllocError>>(
+    rt: &impl Abort,
+    heap: &Refusing<B>,
+    mut call: F,
+) -> (Option<T>, u64)
+    requires { F.IsAlwaysCallable call }
+{
+    for nth in 1..MOST {
+        heap.refuse(nth);
+        let result = call();
+        if heap.is_waiting() {
+            heap.refuse(0);
+            return (result.ok(), nth.saturating_sub(1));
         }
-        $heap.refuse(0);
-        (outcome, refused)
-    }};
+        assert!(rt; result.is_err());
+    }
+    heap.refuse(0);
+    (None, MOST)
 }
 
 // Takes the event; where that fails, the machine has to be as it was.
-fn take<'a, B: Allocator>(
+fn take<A: Allocator + Copy>(
     rt: &impl Abort,
-    machine: &mut Machine<&'a Refusing<B>>,
-    event: &Event<&'a Refusing<B>>,
+    machine: &mut Machine<A>,
+    event: &Event<A>,
 ) -> Result<Answer, AllocError> {
     let kept = machine.history().len();
     let edges = machine.edges().len();
@@ -74,143 +67,307 @@ fn copied_machine<A: Allocator + Copy>(
     Machine::new(alloc, model.copy()?)
 }
 
-// A run on a copy of the model.
-fn copied_run<A: Allocator + Copy>(
-    alloc: A,
-    model: &Model<A>,
-    events: &[Event<A>],
-) -> Result<Run<A>, AllocError> {
-    Machine::run(alloc, model.copy()?, events)
-}
-
 // The growth of an operation that puts the first element into a set.
 fn inserted<A: Allocator + Copy>(alloc: A) -> Result<Ret, AllocError> {
     ObjectState::new(alloc, &Kind::Elements).apply(&Op::Insert(3))
 }
 
+// Makes a machine, each growth refused in turn.
+fn making<A: Allocator + Copy, B: Allocator>(
+    rt: &impl Abort,
+    heap: &Refusing<B>,
+    alloc: A,
+    model: &Model<A>,
+) -> (Option<Machine<A>>, u64) {
+    refuse_each(rt, heap, || copied_machine(alloc, model))
+}
+
 // The growths of a model's copy and of a new machine.
-#[test]
-fn of_new(rt: HostRuntime) -> Result<(), Fail> {
-    let heap = Refusing::new(rt.alloc());
-    let model = atomic(&heap)?;
-    let (copied, in_copy) = refuse_each!(rt, heap, model.copy());
+fn grow_new<A: Allocator + Copy, B: Allocator>(
+    rt: &impl Abort,
+    heap: &Refusing<B>,
+    alloc: A,
+) -> Result<(), Fail> {
+    let model = atomic(alloc)?;
+    let (copied, in_copy) = refuse_each(rt, heap, || model.copy());
     assert!(rt; copied.is_some());
     assert_eq!(rt; in_copy, 7);
-    let (made, in_both) = refuse_each!(rt, heap, copied_machine(&heap, &model));
+    let (made, in_both) = making(rt, heap, alloc, &model);
     assert!(rt; made.is_some());
     assert_eq!(rt; in_both, 9);
     Ok(())
 }
 
+#[test]
+fn of_new(rt: HostRuntime) -> Result<(), Fail> {
+    let heap = Refusing::new(rt.alloc());
+    grow_new(&rt, &heap, &heap)
+}
+
+// Takes the event of the line, each growth refused in turn, and answers in the end as the line says. Gives how many
+// growths were refused.
+fn growths_of<A: Allocator + Copy, B: Allocator>(
+    rt: &impl Abort,
+    heap: &Refusing<B>,
+    alloc: A,
+    model: &Model<A>,
+    machine: &mut Machine<A>,
+    line: &str,
+) -> Result<u64, Fail> {
+    let (said, due) = parted(line)?;
+    let event = event(alloc, model, said)?;
+    let (answer, refused) = refuse_each(rt, heap, || take(rt, machine, &event));
+    assert!(rt;
+        answer.is_some_and(|answer| is_due(answer, due)),
+        "at {line}"
+    );
+    Ok(refused)
+}
+
 // The growths of taking one event after another: of the history, of the edges, of the operations, of a set
 // that is an object, and of one that is handed over.
-#[test]
-fn of_take(rt: HostRuntime) -> Result<(), Fail> {
-    let heap = Refusing::new(rt.alloc());
-    let rows = [
-        (Step::Begin(ONE, FLAT), None, 1),
-        (FORM, None, 1),
-        (Step::Begin(TWO, FLAT), None, 0),
-        (WRITE, Some(Ret::Done), 1),
-        (INSERT, Some(Ret::Flag(true)), 2),
-        (Step::Delegate(ONE, TWO, &[OpNo(2)]), None, 1),
-    ];
-    let mut machine = Machine::new(&heap, delegating(&heap, Extent::Any)?)?;
-    let mut place = 0u32;
-    for (event, ret, growths) in rows {
-        place = place.saturating_add(1);
-        let taken = event.event(&heap)?;
-        let (answer, refused) = refuse_each!(rt, heap, take(&rt, &mut machine, &taken));
-        assert_eq!(rt; answer, Some(Answer::Admitted { place, ret }));
-        assert_eq!(rt; refused, growths, "at {event:?}");
+fn grow_take<A: Allocator + Copy, B: Allocator>(
+    rt: &impl Abort,
+    heap: &Refusing<B>,
+    alloc: A,
+) -> Result<(), Fail> {
+    let text = "begin 1 part : ok 1
+        form SCD 2 1 : ok 2
+        begin 2 part : ok 3
+        do 1 x write 5 : ok 4 done
+        do 1 s insert 3 : ok 5 yes
+        delegate 1 2 2 : ok 6";
+    let growths = [1u64, 2, 0, 1, 2, 1];
+    let model = delegating(alloc, Extent::Any)?;
+    let mut machine = copied_machine(alloc, &model)?;
+    for (line, growths) in text.lines().zip(growths.iter()) {
+        let refused = growths_of(rt, heap, alloc, &model, &mut machine, line)?;
+        assert_eq!(rt; refused, *growths, "at {line}");
     }
     Ok(())
 }
 
-// The growths of a whole run.
 #[test]
-fn of_run(rt: HostRuntime) -> Result<(), Fail> {
+fn of_take(rt: HostRuntime) -> Result<(), Fail> {
     let heap = Refusing::new(rt.alloc());
-    let model = atomic(&heap)?;
-    let events = events(&heap, &[Step::Begin(ONE, FLAT), INSERT, Step::Commit(ONE)])?;
-    let (run, refused) = refuse_each!(rt, heap, copied_run(&heap, &model, &events));
+    grow_take(&rt, &heap, &heap)
+}
+
+const LATER: StartEdge = StartEdge {
+    kind: Dep::Cd,
+    dependent: Dependent::Starter,
+};
+
+const EARLIER: StartEdge = StartEdge {
+    kind: Dep::Wd,
+    dependent: Dependent::Started,
+};
+
+// The growths of a split with two edges: of the edges that are due, of the set that is kept, and of the edges in
+// force. A join has none.
+fn grow_splits<A: Allocator + Copy, B: Allocator>(
+    rt: &impl Abort,
+    heap: &Refusing<B>,
+    alloc: A,
+) -> Result<(), Fail> {
+    let text = "begin 1 part : ok 1
+        do 1 x write 5 : ok 2 done
+        split 1 2 part 1 : ok 3
+        join 1 2 : ok 4";
+    let growths = [1u64, 1, 3, 0];
+    let model = parting(alloc, &[LATER, EARLIER])?;
+    let mut machine = copied_machine(alloc, &model)?;
+    for (line, growths) in text.lines().zip(growths.iter()) {
+        let refused = growths_of(rt, heap, alloc, &model, &mut machine, line)?;
+        assert_eq!(rt; refused, *growths, "at {line}");
+    }
+    Ok(())
+}
+
+#[test]
+fn of_splits(rt: HostRuntime) -> Result<(), Fail> {
+    let heap = Refusing::new(rt.alloc());
+    grow_splits(&rt, &heap, &heap)
+}
+
+// Runs, each growth refused in turn.
+fn running<A: Allocator + Copy, B: Allocator>(
+    rt: &impl Abort,
+    heap: &Refusing<B>,
+    alloc: A,
+    model: &Model<A>,
+    events: &[Event<A>],
+) -> (Option<Run<A>>, u64) {
+    refuse_each(rt, heap, || run_on(alloc, model, events))
+}
+
+// The growths of a whole run.
+fn grow_run<A: Allocator + Copy, B: Allocator>(
+    rt: &impl Abort,
+    heap: &Refusing<B>,
+    alloc: A,
+) -> Result<(), Fail> {
+    let model = atomic(alloc)?;
+    let text = "begin 1 flat
+        do 1 s insert 3
+        commit 1";
+    let events = events(alloc, &model, text)?;
+    let (run, refused) = running(rt, heap, alloc, &model, &events);
     assert!(rt; refused > 9);
-    let Some(run) = run else {
-        return Ok(());
-    };
+    let run = run.ok_or("a run with memory ends")?;
     assert_eq!(rt; run.answers.as_slice().len(), 3);
     assert_eq!(rt; run.machine.status(ONE), Status::Committed);
     Ok(())
+}
+
+#[test]
+fn of_run(rt: HostRuntime) -> Result<(), Fail> {
+    let heap = Refusing::new(rt.alloc());
+    grow_run(&rt, &heap, &heap)
 }
 
 // Where the first transaction starts, by an index of its own.
 fn first_start<A: Allocator + Copy>(
     alloc: A,
     model: &Model<A>,
-    kept: &[Kept<A>],
-) -> Result<Option<u32>, AllocError>
-    requires { length kept.now ≤ 65536 }
-{
-    Ok(Places::of(alloc, model, kept)?.start(ONE))
+    machine: &Machine<A>,
+) -> Result<Option<u32>, AllocError> {
+    Ok(Places::of(alloc, model, machine.history())?.start(ONE))
+}
+
+// Finds the first start, each growth refused in turn.
+fn finding<A: Allocator + Copy, B: Allocator>(
+    rt: &impl Abort,
+    heap: &Refusing<B>,
+    alloc: A,
+    model: &Model<A>,
+    machine: &Machine<A>,
+) -> (Option<Option<u32>>, u64) {
+    refuse_each(rt, heap, || first_start(alloc, model, machine))
 }
 
 // The growths of the index of a history by its places.
-#[test]
-fn of_places(rt: HostRuntime) -> Result<(), Fail> {
-    let heap = Refusing::new(rt.alloc());
-    let model = contingent(&heap)?;
-    let events = events(&heap, &[Step::Begin(ONE, FLAT), INSERT, FORM])?;
-    let machine = Machine::run(&heap, model.copy()?, &events)?.machine;
-    let kept = machine.history();
-    let (start, refused) = refuse_each!(rt, heap, first_start(&heap, &model, kept));
+fn grow_places<A: Allocator + Copy, B: Allocator>(
+    rt: &impl Abort,
+    heap: &Refusing<B>,
+    alloc: A,
+) -> Result<(), Fail> {
+    let model = contingent(alloc)?;
+    let text = "begin 1 try
+        do 1 s insert 3
+        form SCD 2 1";
+    let events = events(alloc, &model, text)?;
+    let machine = run_on(alloc, &model, &events)?.machine;
+    let (start, refused) = finding(rt, heap, alloc, &model, &machine);
     assert_eq!(rt; start, Some(Some(1)));
     assert_eq!(rt; refused, 4);
     Ok(())
 }
 
+#[test]
+fn of_places(rt: HostRuntime) -> Result<(), Fail> {
+    let heap = Refusing::new(rt.alloc());
+    grow_places(&rt, &heap, &heap)
+}
+
+// The one operation is in the set of the transaction that does it, and in that of another.
+fn has_sets<A: Allocator + Copy>(rt: &impl Abort, machine: &Machine<A>) -> Result<(), AllocError> {
+    let access = machine.access_set(ONE)?;
+    assert_eq!(rt; access.as_slice(), [OpNo(1)].as_slice());
+    let others = machine.conflict_set(TWO)?;
+    assert_eq!(rt; others.as_slice(), [OpNo(1)].as_slice());
+    Ok(())
+}
+
+// Reads the sets of operations, each growth refused in turn.
+fn reading_sets<A: Allocator + Copy, B: Allocator>(
+    rt: &impl Abort,
+    heap: &Refusing<B>,
+    machine: &Machine<A>,
+) {
+    let (_, refused) = refuse_each(rt, heap, || machine.access_set(ONE));
+    assert_eq!(rt; refused, 1);
+    let (_, refused) = refuse_each(rt, heap, || machine.conflict_set(TWO));
+    assert_eq!(rt; refused, 1);
+    let (_, refused) = refuse_each(rt, heap, || machine.view_set());
+    assert_eq!(rt; refused, 1);
+}
+
+// Reads the value of an object and copies the machine, each growth refused in turn.
+fn reading<A: Allocator + Copy, B: Allocator>(
+    rt: &impl Abort,
+    heap: &Refusing<B>,
+    machine: &Machine<A>,
+) {
+    let (value, refused) = refuse_each(rt, heap, || has_value(machine, S));
+    assert_eq!(rt; value, Some(true));
+    assert_eq!(rt; refused, 1);
+    let (copied, refused) = refuse_each(rt, heap, || machine.copy());
+    assert!(rt; copied.is_some());
+    assert_eq!(rt; refused, 11);
+}
+
 // The growths of the readers, and of a copy.
+fn grow_readers<A: Allocator + Copy, B: Allocator>(
+    rt: &impl Abort,
+    heap: &Refusing<B>,
+    alloc: A,
+) -> Result<(), Fail> {
+    let model = atomic(alloc)?;
+    let text = "begin 1 flat
+        do 1 s insert 3";
+    let events = events(alloc, &model, text)?;
+    let machine = run_on(alloc, &model, &events)?.machine;
+    has_sets(rt, &machine)?;
+    reading_sets(rt, heap, &machine);
+    reading(rt, heap, &machine);
+    Ok(())
+}
+
 #[test]
 fn of_readers(rt: HostRuntime) -> Result<(), Fail> {
     let heap = Refusing::new(rt.alloc());
-    let events = events(&heap, &[Step::Begin(ONE, FLAT), INSERT])?;
-    let machine = Machine::run(&heap, atomic(&heap)?, &events)?.machine;
-    let sets = [machine.access_set(ONE)?, machine.conflict_set(TWO)?];
-    for set in &sets {
-        assert_eq!(rt; set.as_slice(), [OpNo(1)].as_slice());
-    }
-    let (_, refused) = refuse_each!(rt, heap, machine.access_set(ONE));
+    grow_readers(&rt, &heap, &heap)
+}
+
+// Lists the debts and copies the machine, each growth refused in turn.
+fn owing<A: Allocator + Copy, B: Allocator>(
+    rt: &impl Abort,
+    heap: &Refusing<B>,
+    machine: &Machine<A>,
+) -> Result<(), Fail> {
+    let (owed, refused) = refuse_each(rt, heap, || machine.owed());
     assert_eq!(rt; refused, 1);
-    let (_, refused) = refuse_each!(rt, heap, machine.conflict_set(TWO));
-    assert_eq!(rt; refused, 1);
-    let (_, refused) = refuse_each!(rt, heap, machine.view_set());
-    assert_eq!(rt; refused, 1);
-    let (value, refused) = refuse_each!(rt, heap, machine.value(S));
-    assert!(rt; value.is_some());
-    assert_eq!(rt; refused, 1);
-    let (copied, refused) = refuse_each!(rt, heap, machine.copy());
-    assert!(rt; copied.is_some());
+    let (copied, refused) = refuse_each(rt, heap, || machine.copy());
     assert_eq!(rt; refused, 11);
+    let owed = owed.ok_or("a list with memory is answered")?;
+    let copied = copied.ok_or("a copy with memory is answered")?;
+    let missing = owed.first().map(|debt| debt.missing);
+    assert_eq!(rt; missing, Some(Missing::Commit));
+    assert_eq!(rt; copied.owed()?.as_slice(), owed.as_slice());
+    assert!(rt; has_edges(&copied, machine.edges()));
     Ok(())
 }
 
 // The growths of the list of debts, and of a copy that has an edge.
+fn grow_debts<A: Allocator + Copy, B: Allocator>(
+    rt: &impl Abort,
+    heap: &Refusing<B>,
+    alloc: A,
+) -> Result<(), Fail> {
+    let model = contingent(alloc)?;
+    let text = "form SCD 2 1
+        begin 1 try
+        commit 1";
+    let events = events(alloc, &model, text)?;
+    let machine = run_on(alloc, &model, &events)?.machine;
+    owing(rt, heap, &machine)
+}
+
 #[test]
 fn of_debts(rt: HostRuntime) -> Result<(), Fail> {
     let heap = Refusing::new(rt.alloc());
-    let events = events(&heap, &[FORM, Step::Begin(ONE, FLAT), Step::Commit(ONE)])?;
-    let machine = Machine::run(&heap, contingent(&heap)?, &events)?.machine;
-    let (owed, refused) = refuse_each!(rt, heap, machine.owed());
-    assert_eq!(rt; refused, 1);
-    let (copied, refused) = refuse_each!(rt, heap, machine.copy());
-    assert_eq!(rt; refused, 11);
-    let (Some(owed), Some(copied)) = (owed, copied) else {
-        return Ok(());
-    };
-    let missing = owed.first().map(|debt| debt.missing);
-    assert_eq!(rt; missing, Some(Missing::Commit));
-    assert_eq!(rt; copied.owed()?.as_slice(), owed.as_slice());
-    assert_eq!(rt; copied.edges(), machine.edges());
-    Ok(())
+    grow_debts(&rt, &heap, &heap)
 }
 
 // A set with one element.
@@ -226,32 +383,59 @@ fn replayed<A: Allocator + Copy>(alloc: A) -> Result<usize, AllocError> {
     Ok(replay(alloc, &Kind::Elements, &ops)?.rets.as_slice().len())
 }
 
-// The growths of an operation and of a replay.
-#[test]
-fn of_operations(rt: HostRuntime) -> Result<(), Fail> {
-    let heap = Refusing::new(rt.alloc());
-    let (ret, refused) = refuse_each!(rt, heap, inserted(&heap));
+// Puts an element into a set, and replays, each growth refused in turn.
+fn operating<A: Allocator + Copy, B: Allocator>(rt: &impl Abort, heap: &Refusing<B>, alloc: A) {
+    let (ret, refused) = refuse_each(rt, heap, || inserted(alloc));
     assert_eq!(rt; ret, Some(Ret::Flag(true)));
     assert_eq!(rt; refused, 1);
-    let (count, refused) = refuse_each!(rt, heap, replayed(&heap));
+    let (count, refused) = refuse_each(rt, heap, || replayed(alloc));
     assert_eq!(rt; count, Some(2));
     assert_eq!(rt; refused, 2);
-    Ok(())
+}
+
+// The growths of an operation and of a replay.
+#[test]
+fn of_operations(rt: HostRuntime) {
+    let heap = Refusing::new(rt.alloc());
+    operating(&rt, &heap, &heap);
+}
+
+// Copies a set and a list, each growth refused in turn.
+fn copying<A: Allocator + Copy, B: Allocator>(
+    rt: &impl Abort,
+    heap: &Refusing<B>,
+    set: &ObjectState<A>,
+    list: &Items<u8, A>,
+) {
+    let (copied, refused) = refuse_each(rt, heap, || set.copy());
+    assert!(rt; copied.is_some());
+    assert_eq!(rt; refused, 1);
+    let (copied, refused) = refuse_each(rt, heap, || list.copy());
+    assert!(rt; copied.is_some());
+    assert_eq!(rt; refused, 1);
+}
+
+// A list with one element.
+fn one_item<A: Allocator>(alloc: A) -> Result<Items<u8, A>, AllocError> {
+    let mut list = Vec::new(alloc);
+    list.push(1)?;
+    Ok(Items::of(list))
 }
 
 // The growths of copies of a set and of a list.
+fn grow_copies<A: Allocator + Copy, B: Allocator>(
+    rt: &impl Abort,
+    heap: &Refusing<B>,
+    alloc: A,
+) -> Result<(), Fail> {
+    copying(rt, heap, &one_element(alloc)?, &one_item(alloc)?);
+    Ok(())
+}
+
 #[test]
 fn of_copies(rt: HostRuntime) -> Result<(), Fail> {
     let heap = Refusing::new(rt.alloc());
-    let set = one_element(&heap)?;
-    let (copied, refused) = refuse_each!(rt, heap, set.copy());
-    assert!(rt; copied.is_some());
-    assert_eq!(rt; refused, 1);
-    let list = Items::of([1u8].to_vec(&heap)?);
-    let (copied, refused) = refuse_each!(rt, heap, list.copy());
-    assert!(rt; copied.is_some());
-    assert_eq!(rt; refused, 1);
-    Ok(())
+    grow_copies(&rt, &heap, &heap)
 }
 
 // How many operations a set of these names, and the copy of a delegation of it.
@@ -266,14 +450,42 @@ fn named<A: Allocator + Copy>(alloc: A, ops: &[OpNo]) -> Result<usize, AllocErro
     }
 }
 
-// The growths of a set of operations, and of the copy of an item that has one.
-#[test]
-fn of_sets(rt: HostRuntime) -> Result<(), Fail> {
-    let heap = Refusing::new(rt.alloc());
+// Names four operations, one of them twice, each growth refused in turn.
+fn naming<A: Allocator + Copy, B: Allocator>(rt: &impl Abort, heap: &Refusing<B>, alloc: A) {
     let ops = [OpNo(9), OpNo(2), OpNo(9), OpNo(0)];
-    let (count, refused) = refuse_each!(rt, heap, named(&heap, &ops));
+    let (count, refused) = refuse_each(rt, heap, || named(alloc, &ops));
     assert_eq!(rt; count, Some(3));
     assert_eq!(rt; refused, 3);
+}
+
+// The growths of a set of operations, and of the copy of an item that has one.
+#[test]
+fn of_sets(rt: HostRuntime) {
+    let heap = Refusing::new(rt.alloc());
+    naming(&rt, &heap, &heap);
+}
+
+// A set of start edges, and a copy of it.
+fn wanted<A: Allocator + Copy>(alloc: A) -> Result<usize, AllocError> {
+    let edges = StartEdges::of(alloc, &[LATER, EARLIER, LATER])?;
+    Ok(edges.copy()?.as_slice().len())
+}
+
+// The growths of a set of start edges, and of its copy.
+fn grow_start_edges<A: Allocator + Copy, B: Allocator>(
+    rt: &impl Abort,
+    heap: &Refusing<B>,
+    alloc: A,
+) {
+    let (count, refused) = refuse_each(rt, heap, || wanted(alloc));
+    assert_eq!(rt; count, Some(2));
+    assert_eq!(rt; refused, 2);
+}
+
+#[test]
+fn of_start_edges(rt: HostRuntime) -> Result<(), Fail> {
+    let heap = Refusing::new(rt.alloc());
+    grow_start_edges(&rt, &heap, &heap);
     Ok(())
 }
 

@@ -1,4 +1,7 @@
-use acta_table::{Class, ClassId, Extent, Items, Kind, Kinds, Model, ObjId, Object, Parts, Starts};
+use acta_table::{
+    Class, ClassId, Dep, Dependent, Extent, Items, Kind, Kinds, Model, ObjId, Object, Parts,
+    StartEdge, StartEdges, Starts,
+};
 use std::alloc::{AllocError, Allocator};
 use std::test::Fail;
 
@@ -22,7 +25,7 @@ fn object<A: Allocator>(alloc: A, name: &str, kind: Kind) -> Result<Object<A>, A
 }
 
 // A class that may begin, operate, commit and abort, and these kinds of event.
-fn class<A: Allocator>(
+fn class<A: Allocator + Copy>(
     alloc: A,
     name: &str,
     more: Kinds,
@@ -40,7 +43,26 @@ fn class<A: Allocator>(
             .union(Kinds::ABORT)
             .union(more),
         extent,
+        split_edges: StartEdges::new(alloc),
     })
+}
+
+// Registers that are 0 at first, by these names.
+fn registers<A: Allocator + Copy>(alloc: A, names: &str) -> Result<Vec<Object<A>, A>, AllocError> {
+    let mut registers = Vec::new(alloc);
+    for name in names.split(' ') {
+        registers.push(object(alloc, name, Kind::Register(0))?)?;
+    }
+    Ok(registers)
+}
+
+// Classes that may begin, operate, commit and abort, by these names.
+fn flats<A: Allocator + Copy>(alloc: A, names: &str) -> Result<Vec<Class<A>, A>, AllocError> {
+    let mut flats = Vec::new(alloc);
+    for name in names.split(' ') {
+        flats.push(class(alloc, name, Kinds::none(), Extent::Whole)?)?;
+    }
+    Ok(flats)
 }
 
 /// Registers that are 0 at first, and classes that may begin, operate, commit and abort, by their names: the
@@ -50,42 +72,45 @@ pub fn parts<A: Allocator + Copy>(
     objects: &str,
     classes: &str,
 ) -> Result<Parts<A>, AllocError> {
-    let mut registers = Vec::new(alloc);
-    for name in objects.split(' ').filter(|_| !objects.is_empty()) {
-        registers.push(object(alloc, name, Kind::Register(0))?)?;
-    }
-    let mut flats = Vec::new(alloc);
-    for name in classes.split(' ').filter(|_| !classes.is_empty()) {
-        flats.push(class(alloc, name, Kinds::none(), Extent::Whole)?)?;
-    }
+    let registers = if objects.is_empty() {
+        Vec::new(alloc)
+    } else {
+        registers(alloc, objects)?
+    };
+    let flats = if classes.is_empty() {
+        Vec::new(alloc)
+    } else {
+        flats(alloc, classes)?
+    };
     Ok(Parts {
         objects: Items::of(registers),
         classes: Items::of(flats),
     })
 }
 
+// The objects `x`, `n`, `m`, `s`.
+fn objects<A: Allocator + Copy>(alloc: A) -> Result<Vec<Object<A>, A>, AllocError> {
+    let mut objects = Vec::new(alloc);
+    objects.push(object(alloc, "x", Kind::Register(0))?)?;
+    objects.push(object(alloc, "n", Kind::Counter(0))?)?;
+    objects.push(object(alloc, "m", Kind::Counter(0))?)?;
+    objects.push(object(alloc, "s", Kind::Elements)?)?;
+    Ok(objects)
+}
+
 // A model of the objects `x`, `n`, `m`, `s` and this class.
 fn standard<A: Allocator + Copy>(alloc: A, class: Class<A>) -> Result<Model<A>, Fail> {
-    let mut objects = Vec::new(alloc);
-    let named = [
-        ("x", Kind::Register(0)),
-        ("n", Kind::Counter(0)),
-        ("m", Kind::Counter(0)),
-        ("s", Kind::Elements),
-    ];
-    for (name, kind) in named {
-        objects.push(object(alloc, name, kind)?)?;
-    }
     let mut classes = Vec::new(alloc);
     classes.push(class)?;
     let parts = Parts {
-        objects: Items::of(objects),
+        objects: Items::of(objects(alloc)?),
         classes: Items::of(classes),
     };
-    match Model::check(parts) {
-        Ok(model) => Ok(model),
-        Err(_) => Err("a standard model has no fault")?,
-    }
+    Ok(
+        Model::check(parts)
+            .ok()
+            .ok_or("a standard model has no fault")?,
+    )
 }
 
 /// The standard model of flat transactions: the objects `x`, `n`, `m`, `s` and the class `flat`.
@@ -97,6 +122,47 @@ pub fn atomic<A: Allocator + Copy>(alloc: A) -> Result<Model<A>, Fail> {
 /// edges.
 pub fn contingent<A: Allocator + Copy>(alloc: A) -> Result<Model<A>, Fail> {
     standard(alloc, class(alloc, "try", Kinds::FORM, Extent::Whole)?)
+}
+
+// The class `part`: its transactions begin or are split off, and may split and join, and these kinds of event.
+fn part<A: Allocator + Copy>(
+    alloc: A,
+    more: Kinds,
+    extent: Extent,
+) -> Result<Class<A>, AllocError> {
+    let parts = Kinds::SPLIT.union(Kinds::JOIN).union(Kinds::DELEGATE);
+    let mut part = class(alloc, "part", parts.union(more), extent)?;
+    part.starts.split = true;
+    Ok(part)
+}
+
+/// The parts of a model whose class wants an edge of this kind at a split, of what is split off on the other.
+pub fn wanting<A: Allocator + Copy>(alloc: A, kind: Dep) -> Result<Parts<A>, AllocError> {
+    let edge = StartEdge {
+        kind,
+        dependent: Dependent::Started,
+    };
+    let mut part = part(alloc, Kinds::none(), Extent::Any)?;
+    part.split_edges = StartEdges::of(alloc, &[edge])?;
+    let mut classes = Vec::new(alloc);
+    classes.push(part)?;
+    Ok(Parts {
+        objects: Items::new(alloc),
+        classes: Items::of(classes),
+    })
+}
+
+/// The standard model of transactions that split and join: the same objects, and the class `part`, which hands
+/// over as much as it likes.
+pub fn split_join<A: Allocator + Copy>(alloc: A) -> Result<Model<A>, Fail> {
+    standard(alloc, part(alloc, Kinds::none(), Extent::Any)?)
+}
+
+/// The same, where `part` has to hand over the whole, may also form edges, and wants these formed at a split.
+pub fn parting<A: Allocator + Copy>(alloc: A, edges: &[StartEdge]) -> Result<Model<A>, Fail> {
+    let mut part = part(alloc, Kinds::FORM, Extent::Whole)?;
+    part.split_edges = StartEdges::of(alloc, edges)?;
+    standard(alloc, part)
 }
 
 /// The model of flat transactions whose class may also form edges, and delegate as much as this asks of it.

@@ -1,8 +1,8 @@
-use crate::models::{FLAT, N, S, X, atomic};
-use crate::steps::{Step, take};
+use crate::models::{atomic, parting};
+use crate::script::{event, has_edges};
 use acta_axioms::Places;
 use acta_machine::Machine;
-use acta_table::{ClassId, Fate, Op, OpNo, Status, TxnId};
+use acta_table::{Dep, Dependent, Fate, Model, OpNo, StartEdge, Status, TxnId};
 use std::alloc::{AllocError, Allocator};
 use std::process::Abort;
 use std::test::Fail;
@@ -17,6 +17,8 @@ fn status_by<A: Allocator>(places: &Places<'_, A>, t: TxnId) -> Status {
         Status::Committed
     } else if places.abort(t).is_some() {
         Status::Aborted
+    } else if places.join(t).is_some() {
+        Status::Joined
     } else if places.start(t).is_some() {
         Status::InProgress
     } else {
@@ -24,30 +26,40 @@ fn status_by<A: Allocator>(places: &Places<'_, A>, t: TxnId) -> Status {
     }
 }
 
-// The machine's readers show what the places of its history say.
-fn compare<A: Allocator + Copy>(
+// A place past the last of the run.
+const END: u32 = 20;
+
+// What the machine shows of a transaction is what the places of its history say.
+fn compare_one<A: Allocator + Copy>(
+    rt: &impl Abort,
+    machine: &Machine<A>,
+    places: &Places<'_, A>,
+    t: TxnId,
+) -> Result<(), AllocError> {
+    assert_eq!(rt; machine.status(t), status_by(places, t));
+    let access = machine.access_set(t)?;
+    let others = machine.conflict_set(t)?;
+    for number in 1..6u32 {
+        let op = OpNo(number);
+        let is_open = places.fate(op, END) == Some(Fate::InProgress);
+        let is_held = places.holder(op, END) == Some(t);
+        assert_eq!(rt; access.contains(&op), is_open && is_held);
+        assert_eq!(rt; others.contains(&op), is_open && !is_held);
+    }
+    Ok(())
+}
+
+// What the machine shows of all is what the places of its history say.
+fn compare_view<A: Allocator + Copy>(
     rt: &impl Abort,
     machine: &Machine<A>,
     places: &Places<'_, A>,
 ) -> Result<(), AllocError> {
-    let end = 20;
     let view = machine.view_set()?;
-    for t in [ONE, TWO, TxnId(3)] {
-        assert_eq!(rt; machine.status(t), status_by(places, t));
-        let access = machine.access_set(t)?;
-        let others = machine.conflict_set(t)?;
-        for number in 1..6u32 {
-            let op = OpNo(number);
-            let is_open = places.fate(op, end) == Some(Fate::InProgress);
-            let is_held = places.holder(op, end) == Some(t);
-            assert_eq!(rt; access.contains(&op), is_open && is_held);
-            assert_eq!(rt; others.contains(&op), is_open && !is_held);
-        }
-    }
     for number in 1..6u32 {
         let op = OpNo(number);
         let is_live = matches!(
-            places.fate(op, end),
+            places.fate(op, END),
             Some(Fate::InProgress | Fate::Committed)
         );
         assert_eq!(rt; view.contains(&op), is_live);
@@ -55,43 +67,118 @@ fn compare<A: Allocator + Copy>(
     Ok(())
 }
 
-const ROWS: [Step; 24] = [
-    Step::Begin(ONE, FLAT),
-    Step::Operate(ONE, X, Op::Write(5)),
-    Step::Begin(ONE, FLAT),
-    Step::Commit(TWO),
-    Step::Begin(TWO, FLAT),
-    Step::Operate(TWO, N, Op::Add(5)),
-    Step::Operate(ONE, N, Op::Add(7)),
-    Step::Operate(TWO, N, Op::Get),
-    Step::Abort(ONE),
-    Step::Operate(TWO, N, Op::Get),
-    Step::Operate(TWO, X, Op::Read),
-    Step::Begin(TxnId(3), FLAT),
-    Step::Operate(TxnId(3), S, Op::Insert(3)),
-    Step::Operate(TWO, S, Op::Has(3)),
-    Step::Operate(TWO, S, Op::Has(4)),
-    Step::Commit(TxnId(3)),
-    Step::Operate(TWO, S, Op::Size),
-    Step::Commit(TWO),
-    Step::Commit(TWO),
-    Step::Abort(TWO),
-    Step::Begin(ONE, FLAT),
-    Step::Begin(TxnId(9), ClassId(1)),
-    Step::Operate(TxnId(9), X, Op::Read),
-    Step::Abort(TxnId(9)),
-];
+// The machine's readers show what the places of its history say.
+fn compare<A: Allocator + Copy>(
+    rt: &impl Abort,
+    alloc: A,
+    model: &Model<A>,
+    machine: &Machine<A>,
+) -> Result<(), AllocError> {
+    let places = Places::of(alloc, model, machine.history())?;
+    for t in [ONE, TWO, TxnId(3)] {
+        compare_one(rt, machine, &places, t)?;
+    }
+    assert!(rt; has_edges(machine, places.edges()));
+    compare_view(rt, machine, &places)
+}
 
-// After each event of a run, refused ones too, the machine and the places of its history agree.
+const RUN: &str = "begin 1 flat
+    do 1 x write 5
+    begin 1 flat
+    commit 2
+    begin 2 flat
+    do 2 n add 5
+    do 1 n add 7
+    do 2 n get
+    abort 1
+    do 2 n get
+    do 2 x read
+    begin 3 flat
+    do 3 s insert 3
+    do 2 s has 3
+    do 2 s has 4
+    commit 3
+    do 2 s size
+    commit 2
+    commit 2
+    abort 2
+    begin 1 flat
+    begin 9 1
+    do 9 x read
+    abort 9";
+
+// The machine takes the event of the line, and then agrees with the places of its history.
+fn step<A: Allocator + Copy>(
+    rt: &impl Abort,
+    alloc: A,
+    model: &Model<A>,
+    machine: &mut Machine<A>,
+    line: &str,
+) -> Result<(), Fail> {
+    machine.take(&event(alloc, model, line)?)?;
+    compare(rt, alloc, model, machine)?;
+    Ok(())
+}
+
+// After each event of the run, refused ones too, the machine and the places of its history agree. Gives how many
+// events are kept.
+fn along<A: Allocator + Copy>(
+    rt: &impl Abort,
+    alloc: A,
+    model: &Model<A>,
+    run: &str,
+) -> Result<usize, Fail> {
+    let mut machine = Machine::new(alloc, model.copy()?)?;
+    for line in run.lines() {
+        step(rt, alloc, model, &mut machine, line)?;
+    }
+    Ok(machine.history().len())
+}
+
+fn along_flat<A: Allocator + Copy>(rt: &impl Abort, alloc: A) -> Result<usize, Fail> {
+    along(rt, alloc, &atomic(alloc)?, RUN)
+}
+
 #[test]
 fn after_each_event(rt: HostRuntime) -> Result<(), Fail> {
-    let model = atomic(rt.alloc())?;
-    let mut machine = Machine::new(rt.alloc(), model.copy()?)?;
-    for event in &ROWS {
-        take(rt.alloc(), &mut machine, *event)?;
-        let places = Places::of(rt.alloc(), &model, machine.history())?;
-        compare(&rt, &machine, &places)?;
-    }
-    assert_eq!(rt; machine.history().len(), 14);
+    assert_eq!(rt; along_flat(&rt, rt.alloc())?, 14);
+    Ok(())
+}
+
+const PARTS: &str = "begin 1 part
+    do 1 x write 5
+    do 1 n add 3
+    split 1 2 part 1
+    split 1 2 part 1 2
+    form BD 3 2
+    split 2 3 part 1
+    split 2 3 part 1 2
+    delegate 3 1 1 2
+    join 1 2
+    join 1 3
+    commit 1
+    do 2 n add 1
+    join 3 2
+    commit 2
+    abort 2";
+
+const WITH: StartEdge = StartEdge {
+    kind: Dep::Wd,
+    dependent: Dependent::Started,
+};
+
+const AFTER: StartEdge = StartEdge {
+    kind: Dep::Cd,
+    dependent: Dependent::Starter,
+};
+
+fn along_parts<A: Allocator + Copy>(rt: &impl Abort, alloc: A) -> Result<usize, Fail> {
+    along(rt, alloc, &parting(alloc, &[WITH, AFTER])?, PARTS)
+}
+
+// The same of a run of splits and joins, with an edge in either direction at each split.
+#[test]
+fn after_each_split(rt: HostRuntime) -> Result<(), Fail> {
+    assert_eq!(rt; along_parts(&rt, rt.alloc())?, 11);
     Ok(())
 }

@@ -23,13 +23,14 @@ flat_may Join = false
 flat_may Delegate = false
 flat_may Form = false
 
--- the class `flat`: it starts by begin alone, and hands over the whole
+-- the class `flat`: it starts by begin alone, hands over the whole, and wants no edge at a start
 abbrev pub IsFlat : {A : Type 0} → Class A → Type 0
 IsFlat class =
     (class.name ≡ codes "flat")
     × (class.starts ≡ record { begin = true; spawned = false; split = false })
     × ((kind : EventKind) → has_kind class.may kind ≡ flat_may kind)
     × (class.extent ≡ Whole)
+    × (class.split_edges ≡ [])
 
 -- the register `x`, 0 at first
 abbrev pub IsRegisterX : {A : Type 0} → Object A → Type 0

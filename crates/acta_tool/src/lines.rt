@@ -19,7 +19,6 @@ ghost use Rattle.acta_tool.specs.Lines.{fault_number, most_lines};
 use acta_table::{ClassId, Event, Model, ObjId, Op, TxnId};
 use std::alloc::Allocator;
 use std::str;
-use std::str::FromStr;
 
 /// Why a line says no event. Where several hold, the lowest is answered.
 #[derive(Clone, Copy, PartialEq, Eq, Debug)]
@@ -86,18 +85,23 @@ fn without_comment(line: &[u8]) -> &[u8] {
     }
 }
 
-// A word of digits, with a `-` before them where the type has one, as a number. Never with a `+`.
-fn number<N: FromStr<Err: Drop>>(word: &[u8]) -> Result<N, LineFault> {
+// The text of a number, which never has a `+`.
+fn numeral(word: &[u8]) -> Result<&str, LineFault> {
     if word.contains(&b'+') {
         return Err(LineFault::Number);
     }
-    let text = str::from_utf8(word).map_err(|_| LineFault::Number)?;
-    text.parse().map_err(|_| LineFault::Number)
+    str::from_utf8(word).map_err(|_| LineFault::Number)
+}
+
+// A word of digits, with a `-` before them or not.
+fn integer(word: &[u8]) -> Result<i32, LineFault> {
+    numeral(word)?.parse().map_err(|_| LineFault::Number)
 }
 
 // The number of a transaction.
 fn txn(word: &[u8]) -> Result<TxnId, LineFault> {
-    Ok(TxnId(number(word)?))
+    let number = numeral(word)?.parse().map_err(|_| LineFault::Number)?;
+    Ok(TxnId(number))
 }
 
 // The class of this name.
@@ -120,31 +124,92 @@ fn object<A: Allocator>(model: &Model<A>, name: &[u8]) -> Result<ObjId, LineFaul
     Ok(ObjId(u16::try_from(at).map_err(|_| LineFault::Name)?))
 }
 
+// The events that a line can say, by their first words.
+#[derive(Clone, Copy)]
+enum Verb {
+    Begin,
+    Do,
+    Commit,
+    Abort,
+}
+
+// The event that lines with this first word say.
+fn verb_of(word: &[u8]) -> Result<Verb, LineFault> {
+    match word {
+        b"begin" => Ok(Verb::Begin),
+        b"do" => Ok(Verb::Do),
+        b"commit" => Ok(Verb::Commit),
+        b"abort" => Ok(Verb::Abort),
+        _ => Err(LineFault::Word),
+    }
+}
+
+// The operations that a line can say, by their words.
+#[derive(Clone, Copy)]
+enum OpWord {
+    Read,
+    Write,
+}
+
+fn op_word_of(word: &[u8]) -> Result<OpWord, LineFault> {
+    match word {
+        b"read" => Ok(OpWord::Read),
+        b"write" => Ok(OpWord::Write),
+        _ => Err(LineFault::Word),
+    }
+}
+
+// What stands behind `begin`.
+fn begin<A: Allocator>(model: &Model<A>, words: &[&[u8]]) -> Result<Event<A>, LineFault> {
+    let [t, name] = words else {
+        return Err(LineFault::Arity);
+    };
+    let t = txn(t)?;
+    Ok(Event::Begin(t, class(model, name)?))
+}
+
+// The operation that these words say.
+fn operation(word: OpWord, words: &[&[u8]]) -> Result<Op, LineFault> {
+    match (word, words) {
+        (OpWord::Read, []) => Ok(Op::Read),
+        (OpWord::Write, [value]) => Ok(Op::Write(integer(value)?)),
+        _ => Err(LineFault::Arity),
+    }
+}
+
+// What stands behind `do`. An unknown operation is told before the number of words behind it.
+fn operate<A: Allocator>(model: &Model<A>, words: &[&[u8]]) -> Result<Event<A>, LineFault> {
+    let [t, name, word, rest @ ..] = words else {
+        return Err(LineFault::Arity);
+    };
+    let word = op_word_of(word)?;
+    if rest.len() != usize::from(matches!(word, OpWord::Write)) {
+        return Err(LineFault::Arity);
+    }
+    let t = txn(t)?;
+    let op = operation(word, rest)?;
+    Ok(Event::Operate(t, object(model, name)?, op))
+}
+
+// The one transaction that these words name.
+fn only_txn(words: &[&[u8]]) -> Result<TxnId, LineFault> {
+    match words {
+        [t] => txn(t),
+        _ => Err(LineFault::Arity),
+    }
+}
+
 /// The event that the line says, or the lowest fault of the line. Takes no memory.
 pub fn read_event<A: Allocator>(model: &Model<A>, line: &[u8]) -> Result<Event<A>, LineFault> {
-    match Words::of(line).as_slice() {
-        [] => Err(LineFault::Empty),
-        [b"begin", t, name] => {
-            let t = txn(t)?;
-            Ok(Event::Begin(t, class(model, name)?))
-        }
-        [b"do", t, name, b"read"] => {
-            let t = txn(t)?;
-            Ok(Event::Operate(t, object(model, name)?, Op::Read))
-        }
-        [b"do", t, name, b"write", value] => {
-            let t = txn(t)?;
-            let value = number(value)?;
-            Ok(Event::Operate(t, object(model, name)?, Op::Write(value)))
-        }
-        [b"commit", t] => Ok(Event::Commit(txn(t)?)),
-        [b"abort", t] => Ok(Event::Abort(txn(t)?)),
-        [b"begin" | b"commit" | b"abort", ..]
-        | [b"do"]
-        | [b"do", _]
-        | [b"do", _, _]
-        | [b"do", _, _, b"read" | b"write", ..] => Err(LineFault::Arity),
-        _ => Err(LineFault::Word),
+    let words = Words::of(line);
+    let [first, rest @ ..] = words.as_slice() else {
+        return Err(LineFault::Empty);
+    };
+    match verb_of(first)? {
+        Verb::Begin => begin(model, rest),
+        Verb::Do => operate(model, rest),
+        Verb::Commit => Ok(Event::Commit(only_txn(rest)?)),
+        Verb::Abort => Ok(Event::Abort(only_txn(rest)?)),
     }
 }
 

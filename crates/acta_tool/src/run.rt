@@ -60,6 +60,21 @@ struct Report<A: Allocator> {
     is_refused: bool,
 }
 
+// Puts the event that the line says behind the others, or answers why it says none. A line without a word is
+// passed over.
+fn read_line<A: Allocator>(
+    model: &Model<A>,
+    line: &[u8],
+    events: &mut Vec<Event<A>, A>,
+) -> Result<Option<LineFault>, AllocError> {
+    match read_event(model, line) {
+        Ok(event) => events.push(event)?,
+        Err(LineFault::Empty) => {}
+        Err(fault) => return Ok(Some(fault)),
+    }
+    Ok(None)
+}
+
 fn read_script<A: Allocator + Copy>(
     alloc: A,
     model: &Model<A>,
@@ -67,14 +82,10 @@ fn read_script<A: Allocator + Copy>(
 ) -> Result<Script<A>, AllocError> {
     let mut events = Vec::new(alloc);
     for (index, line) in Lines::of(input).enumerate() {
-        match read_event(model, line) {
-            Ok(event) => events.push(event)?,
-            Err(LineFault::Empty) => {}
-            Err(fault) => {
-                let number = index.saturating_add(1);
-                let stop = Some(BadLine { number, fault });
-                return Ok(Script { events, stop });
-            }
+        if let Some(fault) = read_line(model, line, &mut events)? {
+            let number = index.saturating_add(1);
+            let stop = Some(BadLine { number, fault });
+            return Ok(Script { events, stop });
         }
     }
     Ok(Script { events, stop: None })

@@ -4,7 +4,7 @@ ghost use Rattle.std.specs.Prelude.{◌≡◌, [], ◌∷◌, IfOk};
 ghost use Rattle.acta_tool.specs.Standards.{IsStandard, IsFlat, IsRegisterX};
 
 use crate::args::Standard;
-use acta_table::{Class, Extent, Items, Kind, Kinds, Model, Object, Parts, Starts};
+use acta_table::{Class, Extent, Items, Kind, Kinds, Model, Object, Parts, StartEdges, Starts};
 use std::alloc::{AllocError, Allocator};
 
 // A name, in memory of its own.
@@ -35,7 +35,7 @@ fn register_x<A: Allocator>(alloc: A) -> Result<Object<A>, AllocError>
 
 // The class `flat`: it starts by begin, and may operate, commit and abort. Were it to delegate, it would
 // have to hand over the whole.
-fn flat<A: Allocator>(alloc: A) -> Result<Class<A>, AllocError>
+fn flat<A: Allocator + Copy>(alloc: A) -> Result<Class<A>, AllocError>
     ensures { IfOk result IsFlat }
 {
     Ok(Class {
@@ -47,6 +47,7 @@ fn flat<A: Allocator>(alloc: A) -> Result<Class<A>, AllocError>
         },
         may: Kinds::OPERATE.union(Kinds::COMMIT).union(Kinds::ABORT),
         extent: Extent::Whole,
+        split_edges: StartEdges::new(alloc),
     })
 }
 

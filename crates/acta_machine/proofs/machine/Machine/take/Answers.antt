@@ -7,18 +7,19 @@ use Rattle.acta_machine.specs.Rules.{lowest_broken}
 use Rattle.acta_machine.specs.Shown.{shown}
 use Rattle.acta_machine.specs.Table.{State, kept_as}
 use Rattle.acta_machine.specs.Places.{FollowsPlaces}
+use Rattle.acta_table.specs.Edges.{formed}
 use Rattle.acta_table.specs.Events.{operations_named}
 use Rattle.acta_sets.specs.Operations.{are_open}
 use Rattle.acta_machine.proofs.Handing.{event-open}
 use Rattle.acta_machine.proofs.Histories.{summary_more, operations_few}
-use Rattle.acta_machine.proofs.Unbroken.{unbroken, none-earlier, still-admissible, linked-none}
+use Rattle.acta_machine.proofs.Unbroken.{unbroken, none-earlier, still-admissible, linked-none, linked-room}
 use Rattle.acta_machine.proofs.Steps.{follows-push}
 use Rattle.acta_machine.proofs.machine.Machine.take.Goals as goal
 
 pub admit-requires-clause-few : goal.admit-requires-clause-few
 admit-requires-clause-few g c =
     let before = c.self.inside.board.kept.items in
-    let few = operations_few before in
+    let few = operations_few c.self.inside.board.model before in
     let count = ap (λ (s : Summary). length s.operations) c.self.invariant.agrees in
     let linked = ap (λ b. length b.operations) c.link.ensures.others in
     let roomy = ap (λ b. length b.operations) c.make_room.ensures.others in
@@ -35,15 +36,15 @@ admit-requires-clause-named g c =
 
 pub admit-requires-clause-progress : goal.admit-requires-clause-progress
 admit-requires-clause-progress g c =
-    (still-admissible _ _ _ _ _ (sym c.in_default.ensures) c.make_room.ensures.shows c.in_ok-link.ensures.shows).progress
+    (still-admissible _ _ _ _ _ _ c.edges_due.ensures.faultless (sym c.in_default.ensures) (c.deref-2.ensures.value ∙ c.in_ok-due.ensures.due) c.make_room.ensures.shows c.in_ok-link.ensures.shows).progress
 
 pub admit-requires-clause-new : goal.admit-requires-clause-new
 admit-requires-clause-new g c =
-    (still-admissible _ _ _ _ _ (sym c.in_default.ensures) c.make_room.ensures.shows c.in_ok-link.ensures.shows).begun
+    (still-admissible _ _ _ _ _ _ c.edges_due.ensures.faultless (sym c.in_default.ensures) (c.deref-2.ensures.value ∙ c.in_ok-due.ensures.due) c.make_room.ensures.shows c.in_ok-link.ensures.shows).begun
 
 pub admit-requires-clause-allowed : goal.admit-requires-clause-allowed
 admit-requires-clause-allowed g c =
-    (still-admissible _ _ _ _ _ (sym c.in_default.ensures) c.make_room.ensures.shows c.in_ok-link.ensures.shows).allowed
+    (still-admissible _ _ _ _ _ _ c.edges_due.ensures.faultless (sym c.in_default.ensures) (c.deref-2.ensures.value ∙ c.in_ok-due.ensures.due) c.make_room.ensures.shows c.in_ok-link.ensures.shows).allowed
 
 -- where there is no memory for an operation, no edge was formed either
 pub invariant_of-self-in_err-admit : goal.invariant_of-self-in_err-admit
@@ -56,9 +57,10 @@ invariant_of-self-in_err-admit g c =
     let same_model = c.admit.ensures.model ∙ ap (λ b. b.model) c.link.ensures.others ∙ ap (λ b. b.model) c.make_room.ensures.others in
     let count = ap (length {A = Kept g.row.A.Denot}) same_kept in
     let within = c.self.invariant.within in
+    let edgeless : edges_due model event ≡ [] = ap (λ m. edges_due m event) (sym (ap (λ b. b.model) c.link.ensures.others ∙ ap (λ b. b.model) c.make_room.ensures.others)) ∙ c.in_err-admit.ensures.edgeless in
     record {
-      agrees = c.in_err-admit.ensures.err ∙ c.in_ok-link.ensures.shows ∙ linked-none _ event c.in_err-admit.ensures.edgeless
-          ∙ c.make_room.ensures.shows ∙ agrees ∙ ap summary_of (sym same_kept);
+      agrees = c.in_err-admit.ensures.err ∙ c.in_ok-link.ensures.shows ∙ linked-none _ _ (c.deref-2.ensures.value ∙ c.in_ok-due.ensures.due ∙ edgeless)
+          ∙ c.make_room.ensures.shows ∙ agrees ∙ (λ i. summary_of (sym same_model i) (sym same_kept i));
       classes = c.admit.ensures.classes;
       within = omega (arith, count, within);
       follows = subst (λ (x : State g.row.A.Denot). FollowsPlaces x) (λ i. record { model = sym same_model i; kept = sym same_kept i }) c.self.invariant.follows;
@@ -80,18 +82,30 @@ invariant_of-self-2 g c =
     c.in_ok-admit.ensures.kept ∙ (λ i. linked_kept i ++ copied i ∷ []) in
     let count = ap (length {A = Kept g.row.A.Denot}) longer ∙ length-append before (kept ∷ []) in
     let room = c.next_place-place.ensures.room in
-    let none : lowest_broken model (summary_of before) event ≡ None = ap (λ (s : Summary). lowest_broken model s event) (sym agrees) ∙ sym c.in_default.ensures in
-    let here : shown c.link.new.self ≡ linked (summary_of before) (edges_due event) = c.in_ok-link.ensures.shows ∙ ap (λ (x : Summary). linked x (edges_due event)) (c.make_room.ensures.shows ∙ agrees) in
+    let none : lowest_broken model (summary_of model before) event ≡ None = ap (λ (s : Summary). lowest_broken model s event) (sym agrees) ∙ sym c.in_default.ensures in
+    let here : shown c.link.new.self ≡ linked (summary_of model before) (edges_due model event) = c.in_ok-link.ensures.shows ∙ (λ i. linked ((c.make_room.ensures.shows ∙ agrees) i) ((c.deref-2.ensures.value ∙ c.in_ok-due.ensures.due) i)) in
     let same_model = c.admit.ensures.model ∙ ap (λ b. b.model) c.link.ensures.others ∙ ap (λ b. b.model) c.make_room.ensures.others in
     let same_kept = longer ∙ ap (λ (k : Kept g.row.A.Denot). before ++ k ∷ []) due in
     record {
       agrees = c.in_ok-admit.ensures.shows
           ∙ ap (λ (s : Summary). counted (changed s event)) here
-          ∙ sym (ap summary_of longer ∙ summary_more before kept);
+          ∙ sym ((λ i. summary_of (same_model i) (longer i)) ∙ summary_more model before kept);
       classes = c.admit.ensures.classes;
       within = omega (arith, count, room);
-      follows = subst (λ (x : State g.row.A.Denot). FollowsPlaces x) (λ i. record { model = sym same_model i; kept = sym same_kept i }) (follows-push model before event c.self.invariant.follows none);
+      follows = subst (λ (x : State g.row.A.Denot). FollowsPlaces x) (λ i. record { model = sym same_model i; kept = sym same_kept i }) (follows-push model before event c.edges_due.ensures.faultless c.self.invariant.follows none);
     }
 
 pub returns-clause-follows : goal.returns-clause-follows
 returns-clause-follows g c = (invariant_of-self-2 g c).follows
+
+-- there is room for the edges
+pub link-requires : goal.link-requires
+link-requires g c =
+    let event = c.args.event.now in
+    let model = c.self.inside.board.model in
+    let s = shown c.self.inside.board in
+    let room = linked-room model s event (unbroken model s event (none-earlier model s event (sym c.in_default.ensures))).edges in
+    let roomy = ap (λ b. b.deps.edges) c.make_room.ensures.others in
+    let due = c.deref-2.ensures.value ∙ c.in_ok-due.ensures.due in
+    let same : length (formed c.make_room.new.self.deps.edges c.deref-2.result.now) ≡ length (formed s.edges (edges_due model event)) = λ i. length (formed (roomy i) (due i)) in
+    omega (arith, room, same)

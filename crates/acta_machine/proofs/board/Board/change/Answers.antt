@@ -1,0 +1,25 @@
+use Rattle.std.proofs.Common.{◌≡◌, None, sym, ap, ◌∙◌}
+use Rattle.acta_table.specs.declared.event.Event.{Event}
+use Rattle.acta_table.specs.declared.answer.Rule.TheVariants.{NotInProgress, AlreadyBegun}
+use Rattle.acta_machine.specs.Rules.{not_in_progress, already_begun}
+use Rattle.acta_machine.specs.Shown.{shown}
+use Rattle.acta_machine.proofs.Broken.{not_begun, in_progress}
+use Rattle.acta_machine.proofs.board.Board.change.Goals as goal
+
+pub begin-requires-clause-stands : goal.begin-requires-clause-stands
+unfolding already_begun
+begin-requires-clause-stands g c =
+    not_begun (shown c.args.self.now) AlreadyBegun c.in-Begin.t.0
+    (ap (λ (e : Event g.row.A.Denot). already_begun (shown c.args.self.now) e) (sym c.in-Begin.is) ∙ c.requires.new)
+
+pub begin-requires-in-Split-clause-stands : goal.begin-requires-in-Split-clause-stands
+unfolding already_begun
+begin-requires-in-Split-clause-stands g c =
+    not_begun (shown c.args.self.now) AlreadyBegun c.in-Split.u.0
+    (ap (λ (e : Event g.row.A.Denot). already_begun (shown c.args.self.now) e) (sym c.in-Split.is) ∙ c.requires.new)
+
+pub join-requires-clause-stands : goal.join-requires-clause-stands
+unfolding not_in_progress
+join-requires-clause-stands g c =
+    in_progress (shown c.args.self.now) NotInProgress c.in-Join.t.0
+    (ap (λ (e : Event g.row.A.Denot). not_in_progress (shown c.args.self.now) e) (sym c.in-Join.is) ∙ c.requires.progress)

@@ -1,0 +1,167 @@
+ghost use Rattle.std.specs.Prelude.{◌≡◌, ◌++◌, [], filter, IfOk};
+ghost use Rattle.std.specs.List.Sorted.{IsStrictlySortedBy};
+ghost use Rattle.acta_table.specs.Starts.{rank_of, same_start_edge, start_edge_cmp, both_of, is_listed, each_start_edge_once, edge_between};
+
+use crate::dep::{Dep, Edge};
+use crate::event::TxnId;
+use crate::items::Items;
+use std::alloc::{AllocError, Allocator};
+
+/// Which of the two transactions of a start depends on the other.
+#[derive(Clone, Copy, PartialEq, Eq, Debug)]
+pub enum Dependent {
+    /// The one that starts the other.
+    Starter,
+    /// The one that is started.
+    Started,
+}
+
+impl Dependent {
+    fn rank(self) -> u8
+        ensures { result ≡ rank_of self }
+    {
+        match self {
+            Dependent::Starter => 0,
+            Dependent::Started => 1,
+        }
+    }
+}
+
+/// A dependency that is formed where one transaction starts another (ACTA's models form them at a spawn
+/// or split; that a class lists them is ours).
+#[derive(Clone, Copy, PartialEq, Eq, Debug)]
+pub struct StartEdge {
+    pub kind: Dep,
+    pub dependent: Dependent,
+}
+
+impl StartEdge {
+    /// Whether the two are one: of the same kind, in the same direction.
+    pub fn is_same(&self, other: &StartEdge) -> bool
+        ensures { result ≡ same_start_edge self.now other.now }
+    {
+        self.kind.code() == other.kind.code() && self.dependent.rank() == other.dependent.rank()
+    }
+
+    /// Whether it is among these.
+    pub fn is_among(&self, edges: &[StartEdge]) -> bool
+        ensures { result ≡ is_listed edges.now self.now }
+    {
+        for edge in edges {
+            if self.is_same(edge) {
+                return true;
+            }
+        }
+        false
+    }
+
+    /// The edge that it means, between the one that starts and the one that is started.
+    pub fn between(&self, starter: TxnId, started: TxnId) -> Edge
+        ensures { result ≡ edge_between starter started self.now }
+    {
+        let (j, i) = match self.dependent {
+            Dependent::Starter => (starter, started),
+            Dependent::Started => (started, starter),
+        };
+        Edge {
+            kind: self.kind,
+            j,
+            i,
+        }
+    }
+}
+
+/// A set of start edges, which contracts see as a list: each once, by the code of the kind, and of one
+/// kind the starter's first.
+#[derive(Drop)]
+pub struct StartEdges<A: Allocator> {
+    edges: Items<StartEdge, A>,
+}
+
+impl<A: Allocator> std::marker::Model for StartEdges<A> {
+    ghost use Rattle.std.specs.Prelude.{List};
+    ghost use Rattle.std.specs.List.Sorted.{IsStrictlySortedBy};
+    ghost use Rattle.acta_table.specs.declared.start_edges.StartEdge.{StartEdge};
+    ghost use Rattle.acta_table.specs.Starts.{start_edge_cmp};
+
+    ghost Value = { List StartEdge };
+
+    ghost view = { λ s. s.edges };
+
+    ghost invariant = { λ s. IsStrictlySortedBy start_edge_cmp s.edges };
+}
+
+// Appends the two start edges of a kind, as far as they are listed.
+fn push_listed<A: Allocator>(
+    edges: &[StartEdge],
+    kind: Dep,
+    listed: &mut Vec<StartEdge, A>,
+) -> Result<(), AllocError>
+    ensures { IfOk result (λ _. listed.new.items ≡ listed.old.items ++ filter (is_listed edges.now) (both_of kind)) }
+{
+    let starter = StartEdge {
+        kind,
+        dependent: Dependent::Starter,
+    };
+    let started = StartEdge {
+        kind,
+        dependent: Dependent::Started,
+    };
+    if starter.is_among(edges) {
+        listed.push(starter)?;
+    }
+    if started.is_among(edges) {
+        listed.push(started)?;
+    }
+    Ok(())
+}
+
+// The listed ones, each once, in order.
+fn in_order<A: Allocator>(alloc: A, edges: &[StartEdge]) -> Result<Vec<StartEdge, A>, AllocError>
+    ensures { IfOk result (λ listed. listed.items ≡ each_start_edge_once edges.now) }
+{
+    let mut listed = Vec::new(alloc);
+    for kind in Dep::ALL {
+        push_listed(edges, kind, &mut listed)?;
+    }
+    Ok(listed)
+}
+
+impl<A: Allocator> StartEdges<A> {
+    /// No edge. Takes no memory.
+    pub fn new(alloc: A) -> StartEdges<A>
+        ensures { result ≡ [] }
+    {
+        StartEdges {
+            edges: Items::new(alloc),
+        }
+    }
+
+    /// The set of these start edges (ours). `Err` where there is no memory.
+    pub fn of(alloc: A, edges: &[StartEdge]) -> Result<StartEdges<A>, AllocError>
+        ensures { IfOk result (λ set. set ≡ each_start_edge_once edges.now) }
+    {
+        Ok(StartEdges {
+            edges: Items::of(in_order(alloc, edges)?),
+        })
+    }
+
+    /// The start edges, each once, in order.
+    pub fn as_slice(&self) -> &[StartEdge]
+        ensures items { result.now ≡ self.now }
+        ensures ascending { IsStrictlySortedBy start_edge_cmp self.now }
+    {
+        self.edges.as_slice()
+    }
+}
+
+impl<A: Allocator + Copy> StartEdges<A> {
+    /// The same set, in memory of its own. `Err` where there is no memory.
+    pub fn copy(&self) -> Result<StartEdges<A>, AllocError>
+        ensures { IfOk result (λ set. set ≡ self.now) }
+    {
+        Ok(StartEdges {
+            edges: self.edges.copy()?,
+        })
+    }
+}
