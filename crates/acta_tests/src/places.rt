@@ -107,44 +107,6 @@ const RUN: &str = "begin 1 flat
     do 9 x read
     abort 9";
 
-// The machine takes the event of the line, and then agrees with the places of its history.
-fn step<A: Allocator + Copy>(
-    rt: &impl Abort,
-    alloc: A,
-    model: &Model<A>,
-    machine: &mut Machine<A>,
-    line: &str,
-) -> Result<(), Fail> {
-    machine.take(&event(alloc, model, line)?)?;
-    compare(rt, alloc, model, machine)?;
-    Ok(())
-}
-
-// After each event of the run, refused ones too, the machine and the places of its history agree. Gives how many
-// events are kept.
-fn along<A: Allocator + Copy>(
-    rt: &impl Abort,
-    alloc: A,
-    model: &Model<A>,
-    run: &str,
-) -> Result<usize, Fail> {
-    let mut machine = Machine::new(alloc, model.copy()?)?;
-    for line in run.lines() {
-        step(rt, alloc, model, &mut machine, line)?;
-    }
-    Ok(machine.history().len())
-}
-
-fn along_flat<A: Allocator + Copy>(rt: &impl Abort, alloc: A) -> Result<usize, Fail> {
-    along(rt, alloc, &atomic(alloc)?, RUN)
-}
-
-#[test]
-fn after_each_event(rt: HostRuntime) -> Result<(), Fail> {
-    assert_eq!(rt; along_flat(&rt, rt.alloc())?, 14);
-    Ok(())
-}
-
 const PARTS: &str = "begin 1 part
     do 1 x write 5
     do 1 n add 3
@@ -162,23 +124,38 @@ const PARTS: &str = "begin 1 part
     commit 2
     abort 2";
 
-const WITH: StartEdge = StartEdge {
-    kind: Dep::Wd,
-    dependent: Dependent::Started,
-};
-
-const AFTER: StartEdge = StartEdge {
-    kind: Dep::Cd,
-    dependent: Dependent::Starter,
-};
-
-fn along_parts<A: Allocator + Copy>(rt: &impl Abort, alloc: A) -> Result<usize, Fail> {
-    along(rt, alloc, &parting(alloc, &[WITH, AFTER])?, PARTS)
-}
-
 // The same of a run of splits and joins, with an edge in either direction at each split.
 #[test]
 fn after_each_split(rt: HostRuntime) -> Result<(), Fail> {
-    assert_eq!(rt; along_parts(&rt, rt.alloc())?, 11);
+    let edges = [
+        StartEdge {
+            kind: Dep::Wd,
+            dependent: Dependent::Started,
+        },
+        StartEdge {
+            kind: Dep::Cd,
+            dependent: Dependent::Starter,
+        },
+    ];
+    let model = parting(rt.alloc(), &edges)?;
+    let mut machine = Machine::new(rt.alloc(), model.copy()?)?;
+    for line in PARTS.lines() {
+        machine.take(&event(rt.alloc(), &model, line)?)?;
+        compare(&rt, rt.alloc(), &model, &machine)?;
+    }
+    assert_eq!(rt; machine.edges().len(), 5);
+    Ok(())
+}
+
+// After each event of a run, refused ones too, the machine and the places of its history agree.
+#[test]
+fn after_each_event(rt: HostRuntime) -> Result<(), Fail> {
+    let model = atomic(rt.alloc())?;
+    let mut machine = Machine::new(rt.alloc(), model.copy()?)?;
+    for line in RUN.lines() {
+        machine.take(&event(rt.alloc(), &model, line)?)?;
+        compare(&rt, rt.alloc(), &model, &machine)?;
+    }
+    assert_eq!(rt; machine.history().len(), 14);
     Ok(())
 }
