@@ -1,8 +1,8 @@
 -- The edges that a class wants formed where one transaction starts another.
-use Rattle.std.specs.Prelude.{ℕ, ◌+◌, Bool, true, false, ◌&&◌, ◌==◌, List, [], ◌∷◌, filter, flat_map, map}
+use Rattle.std.specs.Prelude.{ℕ, Bool, true, false, ◌&&◌, ◌==◌, List, [], ◌∷◌, filter, flat_map, map}
 use Rattle.std.specs.List.{list_any}
 use Rattle.std.specs.declared.cmp.Ordering.{Ordering}
-use Rattle.std.specs.Ordering.{nat_cmp}
+use Rattle.std.specs.Ordering.{nat_cmp, ordering_then}
 use Rattle.acta_table.specs.declared.event.TxnId.{TxnId}
 use Rattle.acta_table.specs.declared.dep.Dep.{Dep}
 use Rattle.acta_table.specs.declared.dep.Edge.{Edge}
@@ -24,7 +24,9 @@ same_start_edge e f = same_kind e.kind f.kind && (rank_of e.dependent == rank_of
 -- their order: by the code of the kind, and of one kind the starter's first
 abbrev pub start_edge_cmp : StartEdge → StartEdge → Ordering
 start_edge_cmp e f =
-    nat_cmp (code_of e.kind + code_of e.kind + rank_of e.dependent) (code_of f.kind + code_of f.kind + rank_of f.dependent)
+    ordering_then
+        (nat_cmp (code_of e.kind) (code_of f.kind))
+        (nat_cmp (rank_of e.dependent) (rank_of f.dependent))
 
 -- both start edges of a kind
 abbrev pub both_of : Dep → List StartEdge
