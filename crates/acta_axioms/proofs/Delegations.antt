@@ -1,20 +1,21 @@
--- What a delegation, a split or a join at the end of a history changes: who holds the operations that it names,
--- or that were held by the one that joins.
-use Rattle.std.proofs.Common.{if◌then◌else◌, ◌≡◌, ◌≢◌, ℕ, Bool, true, false, ◌&&◌, ◌||◌, not, ◌==◌, ◌≤◌, List, [], ◌∷◌, ◌++◌, length, filter, Option, refl, sym, ap, ◌∙◌}
+-- What a delegation, a split, a join or a commit to an heir at the end of a history changes: who holds the operations
+-- that it names, or that were held by the one that joins or commits.
+use Rattle.std.proofs.Common.{if◌then◌else◌, ◌≡◌, ◌≢◌, ℕ, Bool, true, false, ◌&&◌, ◌||◌, not, ◌==◌, ◌≤◌, List, [], ◌∷◌, ◌++◌, length, filter, Option, Some, refl, sym, ap, ◌∙◌}
+use Rattle.std.specs.Option.{option_map_or}
 use Rattle.std.proofs.lemmas.Bool.{eqb-true, eq-eqb, ne_eqb}
 use Rattle.std.proofs.lemmas.List.{append-nil}
 use Rattle.std.proofs.lemmas.List.Elements.{filter_agree}
 use Rattle.acta_table.specs.declared.answer.Fate.{Fate}
 use Rattle.acta_table.specs.declared.answer.Fate.TheVariants.{InProgress, Committed, Aborted}
 use Rattle.acta_table.specs.declared.event.ClassId.{ClassId}
-use Rattle.acta_table.specs.declared.event.Event.TheVariants.{Split, Join, Delegate}
+use Rattle.acta_table.specs.declared.event.Event.TheVariants.{Split, Join, Delegate, Commit}
 use Rattle.acta_table.specs.declared.event.Kept.{Kept}
 use Rattle.acta_table.specs.declared.event.OpNo.{OpNo}
 use Rattle.acta_table.specs.declared.event.Ret.{Ret}
 use Rattle.acta_table.specs.declared.event.TxnId.{TxnId}
 use Rattle.acta_table.specs.declared.model.Parts.{Parts}
 use Rattle.acta_table.specs.Sets.{is_named}
-use Rattle.acta_axioms.specs.Operations.{Operation, operations, Standing, held_by, ended_by, carried, standing, is_held_by, access_set, view_set}
+use Rattle.acta_axioms.specs.Operations.{Operation, operations, Standing, held_by, ended_by, heir, carried, standing, is_held_by, access_set, view_set}
 use Rattle.acta_axioms.proofs.Growth.{at_end, standing-push, access_set-push}
 use Rattle.acta_axioms.proofs.ValueGrowth.{filter-both, eqb-turned, view_set-push_kept}
 
@@ -221,3 +222,42 @@ access_set-join_third {A} m h t u ret v not_t not_u =
 -- a join leaves the view
 pub view_set-join : {A : Type 0} (m : Parts A) (h : List (Kept A)) (t u : TxnId) (ret : Option Ret) → view_set m (h ++ joined t u ret ∷ []) ≡ view_set m h
 view_set-join m h t u ret = view_set-push_kept m h (joined t u ret) refl ∙ append-nil (view_set m h)
+
+-- commits to an heir: they hand over as joins do
+
+-- the item of a commit
+abbrev pub committed : {A : Type 0} → TxnId → Option Ret → Kept A
+committed t ret = record { event = Commit t; ret = ret }
+
+carried-inherited : {A : Type 0} (m : Parts A) (h : List (Kept A)) (t u : TxnId) (ret : Option Ret) (o : ℕ) (s : Standing) → heir m h t.0 ≡ Some u → carried m o s (at_end h (committed t ret)) ≡ joined_to t.0 u.0 s
+carried-inherited {A} m h t u ret o s left = of_fate s.fate
+  where
+    of_test : (b : Bool) → (s.holder == t.0) ≡ b →
+        (if b then option_map_or (λ v. held_by v.0) (heir m h s.holder) (ended_by s.holder Committed) else held_by s.holder) ≡ (if b then held_by u.0 else held_by s.holder)
+    of_test true is = ap (λ v. option_map_or (λ w. held_by w.0) v (ended_by s.holder Committed)) (ap (heir m h) (eqb-true s.holder t.0 is) ∙ left)
+    of_test false is = refl
+
+    of_fate : (f : Fate) → carried m o (ended_by s.holder f) (at_end h (committed t ret)) ≡ joined_to t.0 u.0 (ended_by s.holder f)
+    of_fate InProgress =
+        ap (λ b. if b then option_map_or (λ v. held_by v.0) (heir m h s.holder) (ended_by s.holder Committed) else held_by s.holder) (eqb-turned t.0 s.holder)
+        ∙ of_test (s.holder == t.0) refl
+    of_fate Committed = refl
+    of_fate Aborted = refl
+
+-- how an operation stands behind a commit to the heir u: held by u, where t held it in progress
+pub standing-inherited : {A : Type 0} (m : Parts A) (h : List (Kept A)) (t u : TxnId) (ret : Option Ret) (o : Operation) → o.place ≤ length h → heir m h t.0 ≡ Some u →
+    standing m (h ++ committed t ret ∷ []) o ≡ joined_to t.0 u.0 (standing m h o)
+standing-inherited m h t u ret o within left = standing-push m h (committed t ret) o within ∙ carried-inherited m h t u ret o.number (standing m h o) left
+
+-- each access set behind it is what it would be behind a join
+pub access_set-inherited : {A : Type 0} (m : Parts A) (h : List (Kept A)) (t u : TxnId) (ret : Option Ret) (v : ℕ) → heir m h t.0 ≡ Some u →
+    access_set m (h ++ committed t ret ∷ []) v ≡ access_set m (h ++ joined t u ret ∷ []) v
+access_set-inherited m h t u ret v left =
+    access_set-push m h (committed t ret) v
+    ∙ append-nil _
+    ∙ filter_agree (λ o. is_held_by v (carried m o.number (standing m h o) (at_end h (committed t ret)))) (λ o. is_held_by v (joined_to t.0 u.0 (standing m h o))) (λ o. ap (is_held_by v) (carried-inherited m h t u ret o.number (standing m h o) left)) (operations h)
+    ∙ sym (access_set-join m h t u ret v)
+
+-- a commit leaves the view, with an heir or without
+pub view_set-commit : {A : Type 0} (m : Parts A) (h : List (Kept A)) (t : TxnId) (ret : Option Ret) → view_set m (h ++ committed t ret ∷ []) ≡ view_set m h
+view_set-commit m h t ret = view_set-push_kept m h (committed t ret) refl ∙ append-nil (view_set m h)

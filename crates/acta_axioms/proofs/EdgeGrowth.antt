@@ -14,7 +14,7 @@ use Rattle.acta_table.specs.declared.dep.Dep.{Dep}
 use Rattle.acta_table.specs.declared.dep.Edge.{Edge}
 use Rattle.acta_table.specs.declared.event.ClassId.{ClassId}
 use Rattle.acta_table.specs.declared.event.Event.{Event}
-use Rattle.acta_table.specs.declared.event.Event.TheVariants.{Begin, Split, Join, Form, Commit, Abort}
+use Rattle.acta_table.specs.declared.event.Event.TheVariants.{Begin, Spawn, Split, Join, Form, Commit, Abort}
 use Rattle.acta_table.specs.declared.event.Kept.{Kept}
 use Rattle.acta_table.specs.declared.event.OpNo.{OpNo}
 use Rattle.acta_table.specs.declared.event.Ret.{Ret}
@@ -61,7 +61,15 @@ apart_with es e all here = of_test (is_among es e)
     of_test true = all
     of_test false = list_all-append is_apart es (e ∷ []) ∙ (λ i. all i && (here i && true))
 
--- and so do those of a split, in either direction
+-- and so do those of a spawn or a split, in either direction
+apart_spawn : (A : Type 0) (t c : TxnId) (class : ClassId) → same_transaction {A = A} (Spawn t c class) ≡ None → not (t.0 == c.0) ≡ true
+unfolding same_transaction
+apart_spawn A t c class apart = of_test (t.0 == c.0) apart
+  where
+    of_test : (b : Bool) → broken_by SameTransaction (if b then Some t.0 else None) ≡ None → not b ≡ true
+    of_test true is = absurd (none-some _ (sym is))
+    of_test false is = refl
+
 apart_split : (A : Type 0) (t u : TxnId) (class : ClassId) (ops : List OpNo) → same_transaction {A = A} (Split t u class ops) ≡ None → not (t.0 == u.0) ≡ true
 unfolding same_transaction
 apart_split A t u class ops apart = of_test (t.0 == u.0) apart
@@ -86,6 +94,11 @@ pub apart-push : {A : Type 0} (m : Parts A) (h : List (Kept A)) (k : Kept A) →
 apart-push {A} m h k all apart = ap (list_all is_apart) (edges-push m h k) ∙ of_event k.event apart
   where
     of_event : (e : Event A) → same_transaction e ≡ None → list_all is_apart (formed (edges m h) (formed_by m h e)) ≡ true
+    of_event (Spawn t c class) two = of_class (class_at m class.0)
+      where
+        of_class : (k : Option (Class A)) → list_all is_apart (formed (edges m h) (option_map_or (λ q. edges_between t c q.spawn_edges) k [])) ≡ true
+        of_class None = all
+        of_class (Some q) = apart_all t c (edges m h) q.spawn_edges (apart_spawn _ t c class two) all
     of_event (Split t u class ops) two = of_class (class_at m class.0)
       where
         of_class : (k : Option (Class A)) → list_all is_apart (formed (edges m h) (option_map_or (λ c. edges_between t u c.split_edges) k [])) ≡ true
@@ -132,7 +145,7 @@ course-other h k u no_start no_commit no_abort no_join = course-push h k u ∙ (
 same_number : (t : ℕ) → (t == t) ≡ true
 same_number t = eq-eqb t t refl
 
--- the first begin or split of t is its start, the first commit its commit, the first abort its abort, and the
+-- the first begin, spawn or split of t is its start, the first commit its commit, the first abort its abort, and the
 -- first join its join
 pub course-begin : {A : Type 0} (h : List (Kept A)) (t : TxnId) (class : ClassId) (ret : Option Ret) → (course h t.0).start ≡ None →
     course (h ++ record { event = Begin t class; ret = ret } ∷ []) t.0 ≡ record (course h t.0) { start = Some (length h + 1) }
@@ -141,6 +154,15 @@ course-begin h t class ret none = course-push h (record { event = Begin t class;
   commit = or_none h (course h t.0).commit false refl i;
   abort = or_none h (course h t.0).abort false refl i;
   join = or_none h (course h t.0).join false refl i;
+})
+
+pub course-spawn : {A : Type 0} (h : List (Kept A)) (t c : TxnId) (class : ClassId) (ret : Option Ret) → (course h c.0).start ≡ None →
+    course (h ++ record { event = Spawn t c class; ret = ret } ∷ []) c.0 ≡ record (course h c.0) { start = Some (length h + 1) }
+course-spawn h t c class ret none = course-push h (record { event = Spawn t c class; ret = ret }) c.0 ∙ (λ i. record {
+  start = or_new h (course h c.0).start (c.0 == c.0) none (same_number c.0) i;
+  commit = or_none h (course h c.0).commit false refl i;
+  abort = or_none h (course h c.0).abort false refl i;
+  join = or_none h (course h c.0).join false refl i;
 })
 
 pub course-split : {A : Type 0} (h : List (Kept A)) (t u : TxnId) (class : ClassId) (ops : List OpNo) (ret : Option Ret) → (course h u.0).start ≡ None →
@@ -248,6 +270,7 @@ course-orderly-push {A} h k all ending t = ap is_orderly (course-push h k t) ∙
     of_event : (e : Event A) → EndsInProgress h e →
         is_orderly (record { start = or_here h (course h t).start (starts t e); commit = or_here h (course h t).commit (commits t e); abort = or_here h (course h t).abort (aborts t e); join = or_here h (course h t).join (joins t e) }) ≡ true
     of_event (Begin u class) is = begun (u.0 == t)
+    of_event (Spawn v u class) is = begun (u.0 == t)
     of_event (Split v u class ops) is = begun (u.0 == t)
     of_event (Join u v) is = joined (u.0 == t) (λ same. ap (status_at h) (sym (eqb-true u.0 t same)) ∙ is)
     of_event (Commit u) is = committed (u.0 == t) (λ same. ap (status_at h) (sym (eqb-true u.0 t same)) ∙ is)

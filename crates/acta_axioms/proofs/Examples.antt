@@ -9,16 +9,16 @@ use Rattle.acta_table.specs.declared.answer.Fate.TheVariants.{InProgress, Commit
 use Rattle.acta_table.specs.declared.answer.Status.TheVariants.{NotBegun, InProgress as in_progress, Committed as committed, Aborted as aborted, Joined}
 use Rattle.acta_table.specs.WellFormed.{bad_number, bad_class, bad_object, same_transaction}
 use Rattle.acta_objects.specs.WellFormed.{bad_operation}
-use Rattle.acta_axioms.specs.declared.fault.Axiom.TheVariants.{BegunOnce, EndedAfterBegun, EndedOnce, OperatesInProgress, FormOfEvent, Allowed, PartiesInProgress, Responsible, HandsWhole, Conflict, Return, FormedInTime}
-use Rattle.acta_axioms.specs.History.{course, is_in_progress, class_number}
-use Rattle.acta_axioms.specs.Operations.{holder_at, fate_at, access_set, conflict_set, view_set}
+use Rattle.acta_axioms.specs.declared.fault.Axiom.TheVariants.{BegunOnce, EndedAfterBegun, EndedOnce, OperatesInProgress, FormOfEvent, Allowed, PartiesInProgress, Responsible, HandsWhole, Conflict, Return, Heir, FormedInTime}
+use Rattle.acta_axioms.specs.History.{course, is_in_progress, class_number, ancestors}
+use Rattle.acta_axioms.specs.Operations.{heir, holder_at, fate_at, access_set, conflict_set, view_set}
 use Rattle.acta_axioms.specs.Values.{return_due}
 use Rattle.acta_axioms.specs.Edges.{edges}
 use Rattle.acta_axioms.specs.Formulas.{is_false}
 use Rattle.acta_axioms.specs.Legal.{is_broken_in, owed, has_clash, is_legal}
 use Rattle.acta_axioms.specs.Faults.{breaches, faults_in_places}
 use Rattle.acta_axioms.specs.Claims.{status_at}
-use Rattle.acta_axioms.proofs.Histories.{begin, split, join, delegate, form, operate, commit, abort, edge, owes, fault, plain, model, edgeless, parting, said, holds, is_due, breaks}
+use Rattle.acta_axioms.proofs.Histories.{begin, spawn, split, join, delegate, form, operate, commit, abort, edge, owes, fault, plain, model, edgeless, parting, nesting, said, holds, is_due, breaks}
 
 -- one that writes and commits
 abbrev written : List (Kept (Unit {0}))
@@ -516,3 +516,67 @@ halved = begin 1 2 ∷ operate 1 0 (Write (pos 5)) Done ∷ operate 1 1 (Add (po
 halved_faults : faults_in_places parting halved ≡ fault HandsWhole 4 2 ∷ []
 unfolding breaches bad_number bad_class bad_object bad_operation same_transaction
 halved_faults = refl
+
+-- one that spawns a child, which writes over what its parent wrote and commits to it; the parent aborts
+abbrev nested : List (Kept (Unit {0}))
+nested =
+    begin 1 0 ∷ operate 1 0 (Write (pos 5)) Done ∷ spawn 1 2 1 ∷ operate 2 0 (Write (pos 6)) Done ∷ commit 2 ∷ abort 1 ∷ []
+
+nested_courses : map (course nested) (1 ∷ 2 ∷ []) ≡
+    record { start = Some 1; commit = None; abort = Some 6; join = None }
+    ∷ record { start = Some 3; commit = Some 5; abort = None; join = None } ∷ []
+nested_courses = refl
+
+nested_class : class_number nested 2 ≡ Some 1
+nested_class = refl
+
+-- what the child did is its parent's from its commit on, and is aborted with the parent
+nested_holders : map (λ o. map (holder_at nesting nested o) (4 ∷ 5 ∷ 6 ∷ [])) (1 ∷ 2 ∷ []) ≡
+    (Some 1 ∷ Some 1 ∷ Some 1 ∷ []) ∷ (Some 2 ∷ Some 1 ∷ Some 1 ∷ []) ∷ []
+nested_holders = refl
+
+nested_fates : map (λ o. map (fate_at nesting nested o) (4 ∷ 5 ∷ 6 ∷ [])) (1 ∷ 2 ∷ []) ≡
+    (Some InProgress ∷ Some InProgress ∷ Some Aborted ∷ []) ∷ (Some InProgress ∷ Some InProgress ∷ Some Aborted ∷ []) ∷ []
+nested_fates = refl
+
+-- the child has nothing in its conflict set, and its parent has what the child holds
+nested_sets : map (λ t. map (λ o. o.number) (conflict_set nesting (take 4 nested) t)) (1 ∷ 2 ∷ 3 ∷ []) ≡ (2 ∷ []) ∷ [] ∷ (1 ∷ 2 ∷ []) ∷ []
+nested_sets = refl
+
+-- the spawn forms the edges of its class, in both directions
+nested_edges : edges nesting nested ≡ edge Cd 1 2 ∷ edge Wd 2 1 ∷ []
+nested_edges = refl
+
+nested_faults : faults_in_places nesting nested ≡ []
+unfolding breaches bad_number bad_class bad_object bad_operation same_transaction
+nested_faults = refl
+
+-- children of children, the last spawned once more by another: it keeps its line
+abbrev lined : List (Kept (Unit {0}))
+lined = begin 1 0 ∷ spawn 1 2 1 ∷ spawn 2 3 1 ∷ spawn 1 3 1 ∷ []
+
+lined_ancestors : map (λ t. map (λ a. a.0) (ancestors lined t)) (1 ∷ 2 ∷ 3 ∷ 4 ∷ []) ≡ [] ∷ (1 ∷ []) ∷ (2 ∷ 1 ∷ []) ∷ [] ∷ []
+lined_ancestors = refl
+
+lined_faults : faults_in_places nesting lined ≡ fault BegunOnce 4 3 ∷ []
+unfolding breaches bad_number bad_class bad_object bad_operation same_transaction
+lined_faults = refl
+
+-- one that was spawned by one that had not begun has no parent, and one whose parent has ended has an heir still
+abbrev bereft : List (Kept (Unit {0}))
+bereft = spawn 9 2 1 ∷ begin 1 0 ∷ spawn 1 3 1 ∷ abort 1 ∷ commit 3 ∷ commit 2 ∷ []
+
+bereft_heirs : map (heir nesting bereft) (1 ∷ 2 ∷ 3 ∷ []) ≡ None ∷ None ∷ Some (record { 0 = 1 }) ∷ []
+bereft_heirs = refl
+
+bereft_edges : edges nesting bereft ≡ edge Cd 9 2 ∷ edge Wd 2 9 ∷ edge Cd 1 3 ∷ edge Wd 3 1 ∷ []
+bereft_edges = refl
+
+bereft_faults : faults_in_places nesting bereft ≡ fault PartiesInProgress 1 9 ∷ fault Heir 5 1 ∷ fault Heir 6 0 ∷ []
+unfolding breaches bad_number bad_class bad_object bad_operation same_transaction
+bereft_faults = refl
+
+-- one that commits before it begins has no heir then
+early_holders : let h = operate 3 0 (Write (pos 5)) Done ∷ commit 3 ∷ begin 1 0 ∷ spawn 1 3 1 ∷ operate 3 0 (Write (pos 5)) Done ∷ commit 3 ∷ [] in
+    map (λ o. fate_at nesting h o 6) (1 ∷ 2 ∷ []) ≡ Some Committed ∷ Some InProgress ∷ []
+early_holders = refl

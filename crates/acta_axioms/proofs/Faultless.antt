@@ -5,7 +5,7 @@ use Rattle.acta_table.specs.declared.answer.Status.TheVariants.{NotBegun, InProg
 use Rattle.acta_table.specs.declared.dep.Dep.{Dep}
 use Rattle.acta_table.specs.declared.event.ClassId.{ClassId}
 use Rattle.acta_table.specs.declared.event.Event.{Event}
-use Rattle.acta_table.specs.declared.event.Event.TheVariants.{Begin, Split, Join, Delegate, Form, Operate, Commit, Abort}
+use Rattle.acta_table.specs.declared.event.Event.TheVariants.{Begin, Spawn, Split, Join, Delegate, Form, Operate, Commit, Abort}
 use Rattle.acta_table.specs.declared.event.Kept.{Kept}
 use Rattle.acta_table.specs.declared.event.ObjId.{ObjId}
 use Rattle.acta_table.specs.declared.event.Op.{Op}
@@ -16,11 +16,11 @@ use Rattle.acta_table.specs.declared.event.TxnId.{TxnId}
 use Rattle.acta_table.specs.declared.model.Parts.{Parts}
 use Rattle.acta_table.specs.WellFormed.{bad_number, bad_class, bad_object, same_transaction}
 use Rattle.acta_objects.specs.WellFormed.{bad_operation}
-use Rattle.acta_axioms.specs.declared.fault.Axiom.TheVariants.{BegunOnce, EndedAfterBegun, EndedOnce, OperatesInProgress, FormOfEvent, Allowed, PartiesInProgress, Responsible, HandsWhole, Conflict, Return, FormedInTime}
+use Rattle.acta_axioms.specs.declared.fault.Axiom.TheVariants.{BegunOnce, EndedAfterBegun, EndedOnce, OperatesInProgress, FormOfEvent, Allowed, PartiesInProgress, Responsible, HandsWhole, Conflict, Return, Heir, FormedInTime}
 use Rattle.acta_axioms.specs.History.{number, has_begun, has_ended, is_in_progress}
 use Rattle.acta_axioms.specs.Operations.{number_after}
 use Rattle.acta_axioms.specs.Values.{is_well_formed, return_due, conflicting}
-use Rattle.acta_axioms.specs.Faults.{when, first_named, is_same_ret, is_due, begun_again, ended_unbegun, ended_again, operated_idle, ill_formed, not_allowed, idle_party, handed_unheld, left_out, in_conflict, wrong_return, formed_late, breaches, faults_of, faults_at}
+use Rattle.acta_axioms.specs.Faults.{when, first_named, is_same_ret, is_due, begun_again, ended_unbegun, ended_again, operated_idle, ill_formed, not_allowed, idle_party, handed_unheld, left_out, in_conflict, wrong_return, without_heir, formed_late, breaches, faults_of, faults_at}
 use Rattle.acta_axioms.specs.Legal.{is_legal}
 use Rattle.acta_axioms.specs.Claims.{MeetsAxioms, status_at}
 use Rattle.acta_axioms.proofs.Growth.{at_end, faults_in_places-push}
@@ -39,6 +39,7 @@ pub record IsFaultless {A : Type 0} (m : Parts A) (before : List (Kept A)) (k : 
   pub hands_whole : left_out m before k.event ≡ []
   pub conflict : in_conflict m before k.event ≡ []
   pub return : wrong_return m before k.ret k.event ≡ []
+  pub heir : without_heir m before k.event ≡ []
   pub formed_in_time : formed_late before k.event ≡ []
 
 pub faults_at-none : {A : Type 0} (m : Parts A) (h : List (Kept A)) (k : Kept A) → IsFaultless m h k → faults_at m (at_end h k) ≡ []
@@ -56,7 +57,8 @@ faults_at-none m h k ok =
     ++ (faults_of HandsWhole n (ok.hands_whole i)
     ++ (faults_of Conflict n (ok.conflict i)
     ++ (faults_of Return n (ok.return i)
-    ++ (faults_of FormedInTime n (ok.formed_in_time i) ++ [])))))))))))
+    ++ (faults_of Heir n (ok.heir i)
+    ++ (faults_of FormedInTime n (ok.formed_in_time i) ++ []))))))))))))
 
 -- the empty history meets the axioms
 pub meets-none : {A : Type 0} (m : Parts A) → MeetsAxioms m []
@@ -106,6 +108,7 @@ faultless-begin m h t class status form allowed =
       hands_whole = refl;
       conflict = refl;
       return = refl;
+      heir = refl;
       formed_in_time = refl;
     }
 
@@ -125,7 +128,28 @@ faultless-form m h kind j i form allowed in_time =
       hands_whole = refl;
       conflict = refl;
       return = refl;
+      heir = refl;
       formed_in_time = in_time;
+    }
+
+-- a spawn by one in progress of one that has not begun
+pub faultless-spawn : {A : Type 0} (m : Parts A) (h : List (Kept A)) (t c : TxnId) (class : ClassId) → status_at h t.0 ≡ InProgress → status_at h c.0 ≡ NotBegun →
+    ill_formed m (Spawn t c class) ≡ [] → not_allowed m h (Spawn t c class) ≡ [] → IsFaultless m h (record { event = Spawn t c class; ret = None })
+faultless-spawn m h t c class status status_of_child form allowed =
+    record {
+      begun_once = ap (λ b. cond b (c.0 ∷ []) []) (not_begun h c.0 status_of_child);
+      ended_after_begun = refl;
+      ended_once = refl;
+      operates_in_progress = refl;
+      form_of_event = form;
+      allowed = allowed;
+      parties_in_progress = ap (λ b. cond (not b) (t.0 ∷ []) []) (under_way h t.0 status);
+      responsible = refl;
+      hands_whole = refl;
+      conflict = refl;
+      return = refl;
+      heir = refl;
+      formed_in_time = refl;
     }
 
 -- a split by one in progress of one that has not begun, of operations that it holds, and of all where it has to
@@ -145,6 +169,7 @@ faultless-split m h t u class ops status status_of_other form allowed held whole
       hands_whole = whole;
       conflict = refl;
       return = refl;
+      heir = refl;
       formed_in_time = refl;
     }
 
@@ -164,6 +189,7 @@ faultless-join m h t u status status_of_other form allowed =
       hands_whole = refl;
       conflict = refl;
       return = refl;
+      heir = refl;
       formed_in_time = refl;
     }
 
@@ -184,6 +210,7 @@ faultless-delegate m h t u ops status status_of_other form allowed held whole =
       hands_whole = whole;
       conflict = refl;
       return = refl;
+      heir = refl;
       formed_in_time = refl;
     }
   where
@@ -191,10 +218,10 @@ faultless-delegate m h t u ops status status_of_other form allowed held whole =
     of_test true = ap (λ b. cond (not b) (t.0 ∷ []) []) (under_way h t.0 status)
     of_test false = λ i. let others = cond (not (under_way h u.0 status_of_other i)) (u.0 ∷ []) [] in cond (not (under_way h t.0 status i)) (t.0 ∷ others) others
 
--- an end of one in progress
+-- an end of one in progress, which has a parent in progress where it commits to its parent
 pub faultless-commit : {A : Type 0} (m : Parts A) (h : List (Kept A)) (t : TxnId) → status_at h t.0 ≡ InProgress →
-    ill_formed m (Commit t) ≡ [] → not_allowed m h (Commit t) ≡ [] → IsFaultless m h (record { event = Commit t; ret = None })
-faultless-commit m h t status form allowed =
+    ill_formed m (Commit t) ≡ [] → not_allowed m h (Commit t) ≡ [] → without_heir m h (Commit t) ≡ [] → IsFaultless m h (record { event = Commit t; ret = None })
+faultless-commit m h t status form allowed left =
     record {
       begun_once = refl;
       ended_after_begun = ap (λ b. cond (not b) (t.0 ∷ []) []) (begun h t.0 status);
@@ -207,6 +234,7 @@ faultless-commit m h t status form allowed =
       hands_whole = refl;
       conflict = refl;
       return = refl;
+      heir = left;
       formed_in_time = refl;
     }
 
@@ -225,6 +253,7 @@ faultless-abort m h t status form allowed =
       hands_whole = refl;
       conflict = refl;
       return = refl;
+      heir = refl;
       formed_in_time = refl;
     }
 
@@ -254,6 +283,7 @@ faultless-operate m h t object op r status form allowed conflict due =
           ap (λ d. when (is_well_formed m object.0 op && not (is_due d (Some r))) (number_after h)) due
           ∙ ap (λ b. when (is_well_formed m object.0 op && not b) (number_after h)) (same_ret r)
           ∙ when_never (is_well_formed m object.0 op);
+      heir = refl;
       formed_in_time = refl;
     }
   where

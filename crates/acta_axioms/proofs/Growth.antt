@@ -1,22 +1,24 @@
 -- What each notion becomes when one kept item is put at the end of a history.
-use Rattle.std.proofs.Common.{subst, ◌==◌, if◌then◌else◌, suc, ◌≡◌, ℕ, ◌+◌, ◌≤◌, Bool, true, false, ◌&&◌, ◌||◌, not, cond, List, [], ◌∷◌, ◌++◌, length, map, drop, filter, fold, Option, Some, None, option_map, refl, sym, ap, ◌∙◌, arith, is_some}
+use Rattle.std.proofs.Common.{subst, ◌==◌, if◌then◌else◌, zero, suc, ◌≡◌, ℕ, ◌+◌, ◌<◌, ◌≤◌, Bool, true, false, ◌&&◌, ◌||◌, not, cond, List, [], ◌∷◌, ◌++◌, length, map, drop, filter, fold, Option, Some, None, option_map, refl, sym, ap, ◌∙◌, arith, is_some}
 use Rattle.std.specs.List.{find, filter_map, flat_map, cons_option, count_by, AllByRecursion}
 use Rattle.std.specs.Option.{option_or, option_and_then, option_map_or}
 use Rattle.std.proofs.lemmas.List.{append-nil, append_assoc, length_push, drop-append-le, drop_all, map-append}
 use Rattle.std.proofs.lemmas.List.Folds.{find-append}
 use Rattle.std.proofs.lemmas.List.Elements.{filter_map-append, filter-append}
 use Rattle.std.proofs.lemmas.Grind.{flat_map-append, fold-append}
-use Rattle.std.proofs.lemmas.Bool.{eqb-true}
-use Rattle.std.proofs.lemmas.Option.{none-some, same_Some}
+use Rattle.std.proofs.lemmas.Bool.{eqb-true, true≢false, false≢true}
+use Rattle.std.proofs.lemmas.Option.{none-some, same_Some, cond_some}
 use Rattle.acta_table.specs.declared.event.Event.{Event}
-use Rattle.acta_table.specs.declared.event.Event.TheVariants.{Operate}
+use Rattle.acta_table.specs.declared.event.Event.TheVariants.{Spawn, Operate}
 use Rattle.acta_table.specs.declared.event.Kept.{Kept}
+use Rattle.acta_table.specs.declared.event.TxnId.{TxnId}
 use Rattle.acta_table.specs.declared.model.Class.{Class}
 use Rattle.acta_table.specs.declared.model.Parts.{Parts}
+use Rattle.acta_table.specs.Ancestors.{ancestors_from}
 use Rattle.acta_table.specs.Events.{class_named}
-use Rattle.acta_table.specs.Classes.{class_at}
-use Rattle.acta_axioms.specs.History.{Place, number, places_behind, places, first, starts, commits, aborts, joins, Course, course, least, end, has_begun, has_ended, is_in_progress, class_number, class_of}
-use Rattle.acta_axioms.specs.Operations.{Operation, is_operate, number_after, operation_in, operation_at, operations, Standing, held_by, carried, standing, standing_of, is_held_by, access_set, is_of_others, conflict_set, is_in_view, view_set}
+use Rattle.acta_table.specs.Classes.{class_at, has_heir}
+use Rattle.acta_axioms.specs.History.{Place, number, places_behind, places, first, starts, commits, aborts, joins, Course, course, least, end, has_begun, has_ended, is_in_progress, class_number, class_of, spawner, parent_of, ancestors}
+use Rattle.acta_axioms.specs.Operations.{Operation, is_operate, number_after, operation_in, operation_at, operations, Standing, held_by, carried, standing, standing_of, is_held_by, access_set, heir, is_of_others, conflict_set, is_in_view, view_set}
 use Rattle.acta_axioms.specs.Faults.{faults_at, faults_in_places}
 
 -- what is found passes the test, and has what all have
@@ -155,6 +157,45 @@ class_of-push m h k t =
     push_in false true = refl
     push_in false false = refl
 
+-- and its parent
+pub parent_of-push : {A : Type 0} (h : List (Kept A)) (k : Kept A) (t : ℕ) → parent_of (h ++ k ∷ []) t ≡ (if has_begun h t then parent_of h t else if starts t k.event then spawner h k.event else None)
+parent_of-push {A} h k t =
+    let by = λ (p : Place A). spawner p.before p.kept.event in
+    ap (option_and_then by) (first-push (starts t) h k)
+    ∙ and_then-or by (first (starts t) h) (cond (starts t k.event) (Some (at_end h k)) None)
+    ∙ (λ i. if first_start h t i then parent_of h t else at_cond (starts t k.event) i)
+  where
+    at_cond : (b : Bool) → option_and_then (λ p. spawner p.before p.kept.event) (cond b (Some (at_end h k)) None) ≡ (if b then spawner h k.event else None)
+    at_cond true = refl
+    at_cond false = refl
+
+-- the heir of one that an event starts: the one that spawns it, where its class says so
+abbrev pub heir_of_started : {A : Type 0} → Parts A → List (Kept A) → Event A → Option TxnId
+heir_of_started m before e = if option_map_or (λ c. has_heir c.at_commit) (class_in m e) false then spawner before e else None
+
+-- and its heir
+pub heir-push : {A : Type 0} (m : Parts A) (h : List (Kept A)) (k : Kept A) (t : ℕ) → heir m (h ++ k ∷ []) t ≡ (if has_begun h t then heir m h t else if starts t k.event then heir_of_started m h k.event else None)
+heir-push m h k t =
+    (λ i. if option_map_or (λ c. has_heir c.at_commit) (class_of-push m h k t i) false then parent_of-push h k t i else None)
+    ∙ push_in (has_begun h t) (starts t k.event)
+  where
+    push_in : (a b : Bool) →
+        (if option_map_or (λ c. has_heir c.at_commit) (if a then class_of m h t else if b then class_in m k.event else None) false
+        then (if a then parent_of h t else if b then spawner h k.event else None) else None)
+        ≡ (if a then heir m h t else if b then heir_of_started m h k.event else None)
+    push_in true b = refl
+    push_in false true = refl
+    push_in false false = refl
+
+-- one that has not begun has no heir
+pub heir-unbegun : {A : Type 0} (m : Parts A) (h : List (Kept A)) (t : ℕ) → has_begun h t ≡ false → heir m h t ≡ None
+heir-unbegun {A} m h t not_begun = of_first (first (starts t) h) not_begun
+  where
+    of_first : (o : Option (Place A)) → is_some (option_map number o) ≡ false →
+        (if option_map_or (λ k. has_heir k.at_commit) (option_and_then (class_at m) (option_and_then (λ p. class_named p.kept.event) o)) false then option_and_then (λ p. spawner p.before p.kept.event) o else None) ≡ None
+    of_first None is = refl
+    of_first (Some p) is = absurd (true≢false is)
+
 -- operations
 
 -- the operation that an item at the end adds, if it is one
@@ -257,6 +298,85 @@ standing_of-push m h k o =
     of_found (Some q) e =
         let found = found-passes (λ q. q.number == o) (λ q. q.place ≤ length h) (operations h) q (operations_within h) e in
         ap Some (standing-push m h k q found.1 ∙ ap (λ n. carried m n (standing m h q) (at_end h k)) (eqb-true q.number o found.0))
+
+-- ancestors: parents start earlier, so the line of one that has begun stays
+
+-- what stands before a place is a front of the history
+places_fronts : {A : Type 0} (before h : List (Kept A)) → AllByRecursion (λ (p : Place A). (rest : List (Kept A)) × (before ++ h ≡ p.before ++ rest)) (places_behind before h)
+places_fronts {A} before [] = tt
+places_fronts {A} before (k ∷ ks) =
+    ((k ∷ ks, refl), subst (λ g. AllByRecursion (λ (p : Place A). (rest : List (Kept A)) × (g ≡ p.before ++ rest)) (places_behind (before ++ k ∷ []) ks)) (append_assoc before (k ∷ []) ks) (places_fronts (before ++ k ∷ []) ks))
+
+first-append : {A : Type 0} (test : Event A → Bool) (xs ys : List (Kept A)) → first test (xs ++ ys) ≡ option_or (first test xs) (find (λ p. test p.kept.event) (places_behind xs ys))
+first-append test xs ys = ap (find (λ p. test p.kept.event)) (places_behind-append [] xs ys) ∙ find-append (λ p. test p.kept.event) (places xs) (places_behind xs ys)
+
+-- t started at a place up to n
+abbrev pub HasStartedBy : {A : Type 0} → List (Kept A) → ℕ → ℕ → Type 0
+HasStartedBy h t n = (i : ℕ) × ((course h t).start ≡ Some i) × (i ≤ n)
+
+-- one that has begun started within the history
+pub started_within : {A : Type 0} (h : List (Kept A)) (t : ℕ) → has_begun h t ≡ true → HasStartedBy h t (length h)
+started_within {A} h t begun = of_first (first (starts t) h) refl begun
+  where
+    of_first : (o : Option (Place A)) → first (starts t) h ≡ o → is_some (option_map number o) ≡ true → HasStartedBy h t (length h)
+    of_first None e is = absurd (false≢true is)
+    of_first (Some p) e is = (number p, ap (option_map number) e, (found-passes (λ q. starts t q.kept.event) (λ q. number q ≤ length h) (places h) p (places_within (length h) [] h (omega arith)) e).1)
+
+-- who began in a front of a history started there
+front_start : {A : Type 0} (xs ys : List (Kept A)) (t : ℕ) → has_begun xs t ≡ true → HasStartedBy (xs ++ ys) t (length xs)
+front_start {A} xs ys t begun =
+    let at = started_within xs t begun in
+    (at.0, ap (option_map number) (first-append (starts t) xs ys) ∙ kept_first (first (starts t) xs) (find (λ p. starts t p.kept.event) (places_behind xs ys)) at.0 at.1, at.2)
+  where
+    kept_first : (o p : Option (Place A)) (i : ℕ) → option_map number o ≡ Some i → option_map number (option_or o p) ≡ Some i
+    kept_first None p i is = absurd (none-some i is)
+    kept_first (Some q) p i is = is
+
+-- a parent started before its child
+pub parent_earlier : {A : Type 0} (h : List (Kept A)) (t i : ℕ) (u : TxnId) → parent_of h t ≡ Some u → (course h t).start ≡ Some i → (j : ℕ) × ((course h u.0).start ≡ Some j) × (j < i)
+parent_earlier {A} h t i u parent start = of_first (first (starts t) h) refl parent start
+  where
+    spawned : (before : List (Kept A)) (e : Event A) → spawner before e ≡ Some u → has_begun before u.0 ≡ true
+    spawned before (Spawn s c class) is = let both = cond_some (has_begun before s.0) s u is in ap (λ (x : TxnId). has_begun before x.0) (sym both.1) ∙ both.0
+    spawned before _ is = absurd (none-some u is)
+
+    of_first : (o : Option (Place A)) → first (starts t) h ≡ o → option_and_then (λ p. spawner p.before p.kept.event) o ≡ Some u → option_map number o ≡ Some i → (j : ℕ) × ((course h u.0).start ≡ Some j) × (j < i)
+    of_first None e is at = absurd (none-some u is)
+    of_first (Some p) e is at =
+        let front = (found-passes (λ q. starts t q.kept.event) (λ (q : Place A). (rest : List (Kept A)) × (h ≡ q.before ++ rest)) (places h) p (places_fronts [] h) e).1 in
+        let begun = front_start p.before front.0 u.0 (spawned p.before p.kept.event is) in
+        let here : number p ≡ i = same_Some (number p) i at in
+        (begun.0, ap (λ g. (course g u.0).start) front.1 ∙ begun.1, (let low : begun.0 ≤ length p.before = begun.2 in omega arith))
+
+-- places are numbered from 1
+no_place_zero : {A : Type 0} (h : List (Kept A)) (t i : ℕ) → (course h t).start ≡ Some i → i ≡ 0 → ⊥
+no_place_zero {A} h t i at none = of_first (first (starts t) h) at
+  where
+    of_first : (o : Option (Place A)) → option_map number o ≡ Some i → ⊥
+    of_first None is = none-some i is
+    of_first (Some p) is = let here : number p ≡ i = same_Some (number p) i is in omega arith
+
+-- one that has begun keeps its parent
+parent_of-kept : {A : Type 0} (h : List (Kept A)) (k : Kept A) (t : ℕ) → has_begun h t ≡ true → parent_of (h ++ k ∷ []) t ≡ parent_of h t
+parent_of-kept h k t begun = parent_of-push h k t ∙ ap (λ b. if b then parent_of h t else if starts t k.event then spawner h k.event else None) begun
+
+-- each line of ancestors that is long enough stays
+line-push : {A : Type 0} (h : List (Kept A)) (k : Kept A) (n : ℕ) (o : Option TxnId) → ((u : TxnId) → o ≡ Some u → HasStartedBy h u.0 n) → ancestors_from (suc n) (parent_of (h ++ k ∷ [])) o ≡ ancestors_from n (parent_of h) o
+line-push h k zero None started = refl
+line-push h k (suc n) None started = refl
+line-push h k zero (Some u) started = let at = started u refl in absurd (no_place_zero h u.0 at.0 at.1 (let low : at.0 ≤ 0 = at.2 in omega arith))
+line-push h k (suc n) (Some u) started =
+    let at = started u refl in
+    ap (λ us. u ∷ us) (ap (ancestors_from (suc n) (parent_of (h ++ k ∷ []))) (parent_of-kept h k u.0 (ap is_some at.1))
+    ∙ line-push h k n (parent_of h u.0) (λ v is. let earlier = parent_earlier h u.0 at.0 v is at.1 in (earlier.0, earlier.1, (let low : earlier.0 < at.0 = earlier.2 in let high : at.0 ≤ suc n = at.2 in omega arith))))
+
+-- the ancestors of one that has begun stay
+pub ancestors-push : {A : Type 0} (h : List (Kept A)) (k : Kept A) (t : ℕ) → has_begun h t ≡ true → ancestors (h ++ k ∷ []) t ≡ ancestors h t
+ancestors-push h k t begun =
+    let at = started_within h t begun in
+    let longer : length (h ++ k ∷ []) ≡ suc (length h) = omega (arith, length_push h k) in
+    (λ i. ancestors_from (longer i) (parent_of (h ++ k ∷ [])) (parent_of-kept h k t begun i))
+    ∙ line-push h k (length h) (parent_of h t) (λ v is. let earlier = parent_earlier h t at.0 v is at.1 in (earlier.0, earlier.1, (let low : earlier.0 < at.0 = earlier.2 in let high : at.0 ≤ length h = at.2 in omega arith)))
 
 -- what a test of standings keeps
 pub operations_by-push : {A : Type 0} (test : Standing → Bool) (m : Parts A) (h : List (Kept A)) (k : Kept A) →

@@ -1,20 +1,22 @@
 -- Short words for the histories and models of the examples.
 use Rattle.std.specs.Prelude.{ℕ, pos, true, false, Bool, List, [], ◌∷◌, Option, Some, None}
 use Rattle.acta_table.specs.declared.dep.Dep.{Dep}
-use Rattle.acta_table.specs.declared.dep.Dep.TheVariants.{Cd, Ad}
+use Rattle.acta_table.specs.declared.dep.Dep.TheVariants.{Cd, Ad, Wd}
 use Rattle.acta_table.specs.declared.dep.Edge.{Edge}
 use Rattle.acta_table.specs.declared.dep.Missing.{Missing}
 use Rattle.acta_table.specs.declared.dep.Owed.{Owed}
 use Rattle.acta_table.specs.declared.event.Op.{Op}
 use Rattle.acta_table.specs.declared.event.Ret.{Ret}
 use Rattle.acta_table.specs.declared.event.Event.{Event}
-use Rattle.acta_table.specs.declared.event.Event.TheVariants.{Begin, Split, Join, Delegate, Form, Operate, Commit, Abort}
+use Rattle.acta_table.specs.declared.event.Event.TheVariants.{Begin, Spawn, Split, Join, Delegate, Form, Operate, Commit, Abort}
 use Rattle.acta_table.specs.declared.event.Kept.{Kept}
 use Rattle.acta_table.specs.declared.model.Class.{Class}
+use Rattle.acta_table.specs.declared.model.AtCommit.TheVariants.{Keeps, ToParent}
 use Rattle.acta_table.specs.declared.model.Extent.TheVariants.{Whole, Any}
 use Rattle.acta_table.specs.declared.model.Kind.TheVariants.{Register, Counter, Elements}
 use Rattle.acta_table.specs.declared.model.Object.{Object}
 use Rattle.acta_table.specs.declared.model.Parts.{Parts}
+use Rattle.acta_table.specs.declared.model.Scope.TheVariants.{Others, NonAncestors}
 use Rattle.acta_table.specs.declared.start_edges.Dependent.TheVariants.{Starter, Started}
 use Rattle.acta_table.specs.Sets.{numbered}
 use Rattle.acta_axioms.specs.declared.fault.Fault.{Fault}
@@ -29,6 +31,9 @@ plain e = record { event = e; ret = None }
 
 abbrev pub begin : ℕ → ℕ → Kept (Unit {0})
 begin t class = plain (Begin (record { 0 = t }) (record { 0 = class }))
+
+abbrev pub spawn : ℕ → ℕ → ℕ → Kept (Unit {0})
+spawn t c class = plain (Spawn (record { 0 = t }) (record { 0 = c }) (record { 0 = class }))
 
 abbrev pub split : ℕ → ℕ → ℕ → List ℕ → Kept (Unit {0})
 split t u class ops = plain (Split (record { 0 = t }) (record { 0 = u }) (record { 0 = class }) (numbered ops))
@@ -64,10 +69,10 @@ fault broken place by = record { broken = broken; place = place; by = by }
 abbrev pub objects : List (Object (Unit {0}))
 objects = record { name = []; kind = Register (pos 0) } ∷ record { name = []; kind = Counter (pos 0) } ∷ record { name = []; kind = Elements } ∷ []
 
--- a class, by whether it starts by begin and the bits of what it may do: 8 is to delegate, 16 to form,
+-- a class, by whether it starts by begin and the bits of what it may do: 1 is to spawn, 8 to delegate, 16 to form,
 -- 32 to operate, 64 to commit and 128 to abort
 abbrev pub class : Bool → ℕ → Class (Unit {0})
-class begins may = record { name = []; starts = record { begin = begins; spawned = false; split = false }; may = may; extent = Any; split_edges = [] }
+class begins may = record { name = []; starts = record { begin = begins; spawned = false; split = false }; may = may; scope = Others; at_commit = Keeps; extent = Any; spawn_edges = []; split_edges = [] }
 
 -- class 0 may all but delegate and form, class 1 may not operate either, class 2 may not start, class 3 may
 -- all but delegate, and classes 4 and 5 all but form: 4 delegates any part, and 5 all that it holds
@@ -95,6 +100,23 @@ parting_class =
 -- over all that it holds
 abbrev pub parting : Parts (Unit {0})
 parting = record { objects = objects; classes = parting_class ∷ class true 224 ∷ record parting_class { extent = Whole } ∷ [] }
+
+-- class 0 starts by begin and may spawn, operate, commit and abort; class 1 may the same, starts by a spawn only, is
+-- left to its parent at its commit, and doesn't conflict with its ancestors: the parent of one with it depends by
+-- commit on it, and it by weak abort on its parent
+abbrev pub nesting : Parts (Unit {0})
+nesting = record {
+  objects = objects;
+  classes =
+      class true 225
+      ∷ record (class false 225) {
+        starts = record { begin = false; spawned = true; split = false };
+        scope = NonAncestors;
+        at_commit = ToParent;
+        spawn_edges = record { kind = Cd; dependent = Starter } ∷ record { kind = Wd; dependent = Started } ∷ [];
+      }
+      ∷ [];
+}
 
 -- what is said of an edge of 2 on 1, in a history that forms it first: whether its formula is false, what
 -- is owed by it, whether it is broken, and whether the history is legal

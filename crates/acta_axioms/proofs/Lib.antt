@@ -9,6 +9,8 @@ pub mod ByOperations
 pub mod Prefixes
 pub mod Faultless
 pub mod Delegations
+mod Lineages
 mod Named
+mod Tables
 mod Tracing
 mod Turns

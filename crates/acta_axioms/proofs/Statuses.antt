@@ -4,13 +4,13 @@ use Rattle.std.proofs.lemmas.Bool.{true≢false}
 use Rattle.acta_table.specs.declared.answer.Status.{Status}
 use Rattle.acta_table.specs.declared.answer.Status.TheVariants.{NotBegun, InProgress, Committed, Aborted, Joined}
 use Rattle.acta_table.specs.declared.event.Event.{Event}
-use Rattle.acta_table.specs.declared.event.Event.TheVariants.{Begin, Split, Join, Commit, Abort}
+use Rattle.acta_table.specs.declared.event.Event.TheVariants.{Begin, Spawn, Split, Join, Commit, Abort}
 use Rattle.acta_table.specs.declared.event.Kept.{Kept}
 use Rattle.acta_axioms.specs.History.{starts, commits, aborts, joins, course, least, has_begun, has_ended, is_in_progress}
 use Rattle.acta_axioms.specs.Claims.{status_in, status_at}
 use Rattle.acta_axioms.proofs.Growth.{or_here, course-push}
 
--- a status after a begin or split of the transaction, after an abort, and after a join; after a commit it is
+-- a status after a begin, spawn or split of the transaction, after an abort, and after a join; after a commit it is
 -- committed
 abbrev pub when_begun : Status → Status
 when_begun NotBegun = InProgress
@@ -28,6 +28,7 @@ when_joined s = Joined
 -- the status of t after an event
 abbrev pub status_after : {A : Type 0} → ℕ → Event A → Status → Status
 status_after t (Begin u class) s = if u.0 == t then when_begun s else s
+status_after t (Spawn v u class) s = if u.0 == t then when_begun s else s
 status_after t (Split v u class ops) s = if u.0 == t then when_begun s else s
 status_after t (Join u v) s = if u.0 == t then when_joined s else s
 status_after t (Commit u) s = if u.0 == t then Committed else s
@@ -91,6 +92,7 @@ status_at-push {A} h k t = ap status_in (course-push h k t) ∙ of_event k.event
   where
     of_event : (e : Event A) → status_in (record { start = or_here h (course h t).start (starts t e); commit = or_here h (course h t).commit (commits t e); abort = or_here h (course h t).abort (aborts t e); join = or_here h (course h t).join (joins t e) }) ≡ status_after t e (status_at h t)
     of_event (Begin u class) = begun_in h (course h t).start (course h t).commit (course h t).abort (course h t).join (u.0 == t)
+    of_event (Spawn v u class) = begun_in h (course h t).start (course h t).commit (course h t).abort (course h t).join (u.0 == t)
     of_event (Split v u class ops) = begun_in h (course h t).start (course h t).commit (course h t).abort (course h t).join (u.0 == t)
     of_event (Join u v) = joined_in h (course h t).start (course h t).commit (course h t).abort (course h t).join (u.0 == t)
     of_event (Commit u) = committed_in h (course h t).start (course h t).commit (course h t).abort (course h t).join (u.0 == t)

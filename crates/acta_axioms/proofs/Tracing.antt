@@ -13,6 +13,7 @@ use Rattle.acta_table.specs.declared.dep.Edge.{Edge}
 use Rattle.acta_table.specs.declared.event.Event.{Event}
 use Rattle.acta_table.specs.declared.event.Event.TheVariants.{Operate}
 use Rattle.acta_table.specs.declared.event.Kept.{Kept}
+use Rattle.acta_table.specs.declared.event.TxnId.{TxnId}
 use Rattle.acta_table.specs.declared.model.Parts.{Parts}
 use Rattle.acta_axioms.specs.declared.index.Firsts.{Firsts}
 use Rattle.acta_axioms.specs.declared.index.Onward.{Onward}
@@ -20,14 +21,9 @@ use Rattle.acta_axioms.specs.declared.index.Traced.{Traced}
 use Rattle.acta_axioms.specs.History.{Place, number, places_behind, places, starts, commits, aborts, joins, Course, course}
 use Rattle.acta_axioms.specs.Operations.{is_operate, number_after, operation_in, operation_at, Standing, held_by, carried, standing, standing_of}
 use Rattle.acta_axioms.specs.Edges.{edges}
-use Rattle.acta_axioms.specs.Index.{nowhere, course_in, course_from, with_event, turn_in, turn_from, with_turn, traced_in, traced_from, onward_in, onward_from, held_from, numbered, IsIndex}
+use Rattle.acta_axioms.specs.Index.{nowhere, course_in, course_from, with_event, turn_in, turn_from, with_turn, traced_in, traced_from, heirs_of, onward_in, onward_from, held_from, numbered, IsIndex}
 use Rattle.acta_axioms.proofs.Growth.{number_after-push}
-
--- a table of rows that are all alike has no other behind its end
-get_or-blank : {X : Type 0} (n t : ℕ) (x : X) → get_or (replicate n x) t x ≡ x
-get_or-blank zero t x = refl
-get_or-blank (suc n) zero x = refl
-get_or-blank (suc n) (suc t) x = get_or-blank n t x
+use Rattle.acta_axioms.proofs.Tables.{get_or-blank}
 
 -- a blank table has no first place
 pub courses-blank : {A : Type 0} (rows : List Firsts) (n p t : ℕ) (ks : List (Kept A)) → rows ≡ replicate n nowhere → ks ≡ [] → course_in rows t ≡ course_from p ks t
@@ -106,16 +102,17 @@ traced-more h i d turn now later o some within turns_are step put old =
     ∙ put-reverse (traced_in (i - 1 + 1) (turn_from (i - 1 + 1 + 1) (drop i h)) (get_or h (i - 1) d).event) (traced_from (i - 1 + 1 + 1) (drop i h))
     ∙ ap (λ ks. reverse (traced_from (i - 1 + 1) ks)) (sym (from-here h i d some within))
 
-pub onward-more : {A : Type 0} (h : List (Kept A)) (i : ℕ) (d : Kept A) (turn : ℕ → Option ℕ) (now later : List Onward) (w : Onward) → 0 < i → i ≤ length h →
-    ((t : ℕ) → turn t ≡ turn_from (i + 1) (drop i h) t) → w ≡ onward_in turn (get_or h (i - 1) d).event → now ≡ later ++ w ∷ [] →
-    later ≡ reverse (onward_from (i + 1) (drop i h)) → now ≡ reverse (onward_from (i - 1 + 1) (drop (i - 1) h))
-onward-more h i d turn now later w some within turns_are step put old =
+pub onward-more : {A : Type 0} (h : List (Kept A)) (hs : List (Option TxnId)) (i : ℕ) (d : Kept A) (turn : ℕ → Option ℕ) (now later : List Onward) (w : Onward) → 0 < i → i ≤ length h →
+    ((t : ℕ) → turn t ≡ turn_from (i + 1) (drop i h) t) → w ≡ onward_in (get_or hs (i - 1) None) turn (get_or h (i - 1) d).event → now ≡ later ++ w ∷ [] →
+    later ≡ reverse (onward_from hs (i + 1) (drop i h)) → now ≡ reverse (onward_from hs (i - 1 + 1) (drop (i - 1) h))
+onward-more h hs i d turn now later w some within turns_are step put old =
     let next : i + 1 ≡ i - 1 + 1 + 1 = omega arith in
+    let there : i - 1 ≡ i - 1 + 1 - 1 = omega arith in
     let here : turn ≡ turn_from (i - 1 + 1 + 1) (drop i h) = λ x t. (turns_are t ∙ ap (λ n. turn_from n (drop i h) t) next) x in
     put
-    ∙ (λ x. (old ∙ ap (λ n. reverse (onward_from n (drop i h))) next) x ++ (step ∙ ap (λ f. onward_in f (get_or h (i - 1) d).event) here) x ∷ [])
-    ∙ sym (reverse-append (onward_in (turn_from (i - 1 + 1 + 1) (drop i h)) (get_or h (i - 1) d).event ∷ []) (onward_from (i - 1 + 1 + 1) (drop i h)))
-    ∙ ap (λ ks. reverse (onward_from (i - 1 + 1) ks)) (sym (from-here h i d some within))
+    ∙ (λ x. (old ∙ ap (λ n. reverse (onward_from hs n (drop i h))) next) x ++ (step ∙ (λ y. onward_in (get_or hs (there y) None) (here y) (get_or h (i - 1) d).event)) x ∷ [])
+    ∙ sym (reverse-append (onward_in (get_or hs (i - 1 + 1 - 1) None) (turn_from (i - 1 + 1 + 1) (drop i h)) (get_or h (i - 1) d).event ∷ []) (onward_from hs (i - 1 + 1 + 1) (drop i h)))
+    ∙ ap (λ ks. reverse (onward_from hs (i - 1 + 1) ks)) (sym (from-here h i d some within))
 
 -- an operation that is traced, as it stands at the end of g, if it is among the first l places
 abbrev traced_at : {A : Type 0} → Parts A → List (Kept A) → ℕ → ℕ → Traced → Option Standing
@@ -237,13 +234,14 @@ turn_of_traced h (suc i) x is =
     let less : x.place + 1 - 1 ≡ x.place = omega arith in
     (turn_traced 1 i h x is).1 ∙ ap (λ l. turn_from (x.place + 1) (drop l h) x.invoker.0) less
 
--- so an index that was made in one pass, with the edges, is one
-pub index-made : {A : Type 0} (m : Parts A) (h : List (Kept A)) (rows : List Firsts) (traced : List Traced) (behind : List Onward) (in_force : List Edge) →
-    ((t : ℕ) → course_in rows t ≡ course_from 1 h t) → traced ≡ traced_from 1 h → behind ≡ onward_from 1 h → in_force ≡ edges m h → IsIndex m h rows traced behind in_force
-index-made m h rows traced behind in_force courses operations_are turns_are formed =
+-- so an index that was made so, with the edges, is one
+pub index-made : {A : Type 0} (m : Parts A) (h : List (Kept A)) (rows : List Firsts) (traced : List Traced) (left : List (Option TxnId)) (behind : List Onward) (in_force : List Edge) →
+    ((t : ℕ) → course_in rows t ≡ course_from 1 h t) → traced ≡ traced_from 1 h → left ≡ heirs_of m h → behind ≡ onward_from left 1 h → in_force ≡ edges m h → IsIndex m h rows traced left behind in_force
+index-made m h rows traced left behind in_force courses operations_are heirs_are turns_are formed =
     record {
       courses = λ t. courses t ∙ course-from h t;
       operations = operations_are;
+      heirs_are = heirs_are;
       turns = turns_are;
       formed = formed;
     }

@@ -1,6 +1,7 @@
 -- What the view and values become when one kept item is put at the end of a history.
-use Rattle.std.proofs.Common.{inl, inr, if◌then◌else◌, ◌≡◌, ℕ, Bool, true, false, ◌&&◌, not, ◌==◌, cond, List, [], ◌∷◌, ◌++◌, filter, fold, Option, option_map, refl, sym, ap, ◌∙◌}
+use Rattle.std.proofs.Common.{inl, inr, if◌then◌else◌, ◌≡◌, ℕ, Bool, true, false, ◌&&◌, not, ◌==◌, cond, List, [], ◌∷◌, ◌++◌, filter, fold, Option, Some, None, option_map, refl, sym, ap, ◌∙◌}
 use Rattle.std.specs.List.{filter_map}
+use Rattle.std.specs.Option.{option_map_or}
 use Rattle.std.proofs.lemmas.List.Elements.{filter_map-append, filter_agree}
 use Rattle.std.proofs.lemmas.Grind.{fold-append}
 use Rattle.std.proofs.lemmas.List.{append-nil}
@@ -18,7 +19,7 @@ use Rattle.acta_table.specs.declared.model.Parts.{Parts}
 use Rattle.acta_table.specs.Classes.{kind_at}
 use Rattle.acta_table.specs.Sets.{is_named}
 use Rattle.acta_objects.specs.Objects.{step, first_state, state_after, returned}
-use Rattle.acta_axioms.specs.Operations.{operations, Standing, held_by, ended_by, followed, carried, standing, is_held_by, is_in_view, view_set}
+use Rattle.acta_axioms.specs.Operations.{operations, Standing, held_by, ended_by, heir, followed, carried, standing, is_held_by, is_in_view, view_set}
 use Rattle.acta_axioms.specs.Values.{value, asked_of, return_due}
 use Rattle.acta_axioms.proofs.Growth.{at_end, added, view_set-push}
 
@@ -39,11 +40,12 @@ is_abort _ = false
 
 unaborted : {A : Type 0} (m : Parts A) (h : List (Kept A)) (o t : ℕ) (e : Event A) → is_abort e ≡ false → is_in_view (followed m h o t e) ≡ true
 unaborted m h o t (Abort s) not_abort = absurd (true≢false not_abort)
-unaborted m h o t (Commit s) not_abort = of_commit (s.0 == t)
+unaborted m h o t (Commit s) not_abort = of_commit (s.0 == t) (heir m h t)
   where
-    of_commit : (b : Bool) → is_in_view (if b then ended_by t Committed else held_by t) ≡ true
-    of_commit true = refl
-    of_commit false = refl
+    of_commit : (b : Bool) (u : Option TxnId) → is_in_view (if b then option_map_or (λ v. held_by v.0) u (ended_by t Committed) else held_by t) ≡ true
+    of_commit true None = refl
+    of_commit true (Some u) = refl
+    of_commit false u = refl
 unaborted m h o t (Split s u class ops) not_abort = of_split ((s.0 == t) && is_named ops o)
   where
     of_split : (b : Bool) → is_in_view (if b then held_by u.0 else held_by t) ≡ true

@@ -9,11 +9,11 @@ use Rattle.acta_table.specs.declared.event.Ret.TheVariants.{Done, Value, Flag}
 use Rattle.acta_table.specs.declared.event.EventKind.{EventKind}
 use Rattle.acta_table.specs.declared.event.EventKind.TheVariants.{Form as form_kind}
 use Rattle.acta_table.specs.declared.event.Event.{Event}
-use Rattle.acta_table.specs.declared.event.Event.TheVariants.{Split, Join, Delegate, Form, Operate, Commit, Abort}
+use Rattle.acta_table.specs.declared.event.Event.TheVariants.{Spawn, Split, Join, Delegate, Form, Operate, Commit, Abort}
 use Rattle.acta_table.specs.declared.event.Kept.{Kept}
 use Rattle.acta_table.specs.declared.model.Parts.{Parts}
 use Rattle.acta_table.specs.Events.{kind_of, named, acting, started, class_named, operations_named, hands_over}
-use Rattle.acta_table.specs.Classes.{class_at, can_start, can_do, is_whole}
+use Rattle.acta_table.specs.Classes.{class_at, can_start, can_do, is_whole, has_heir}
 use Rattle.acta_table.specs.Dependencies.{is_begin_kind}
 use Rattle.acta_table.specs.Numbered.{smallest}
 use Rattle.acta_table.specs.Sets.{numbers_of, is_named}
@@ -21,8 +21,8 @@ use Rattle.acta_table.specs.WellFormed.{bad_number, bad_class, bad_object, same_
 use Rattle.acta_objects.specs.WellFormed.{bad_operation}
 use Rattle.acta_axioms.specs.declared.fault.Fault.{Fault}
 use Rattle.acta_axioms.specs.declared.fault.Axiom.{Axiom}
-use Rattle.acta_axioms.specs.declared.fault.Axiom.TheVariants.{BegunOnce, EndedAfterBegun, EndedOnce, OperatesInProgress, FormOfEvent, Allowed, PartiesInProgress, Responsible, HandsWhole, Conflict, Return, FormedInTime}
-use Rattle.acta_axioms.specs.History.{Place, number, places, has_begun, has_ended, is_in_progress, has_class}
+use Rattle.acta_axioms.specs.declared.fault.Axiom.TheVariants.{BegunOnce, EndedAfterBegun, EndedOnce, OperatesInProgress, FormOfEvent, Allowed, PartiesInProgress, Responsible, HandsWhole, Conflict, Return, Heir, FormedInTime}
+use Rattle.acta_axioms.specs.History.{Place, number, places, has_begun, has_ended, is_in_progress, has_class, parent_of}
 use Rattle.acta_axioms.specs.Operations.{number_after, access_set}
 use Rattle.acta_axioms.specs.Values.{is_well_formed, return_due, conflicting}
 
@@ -90,12 +90,14 @@ not_allowed m before e =
 
 -- the transactions that take part in an event beside ending, and have to be in progress, each once
 abbrev pub party : {A : Type 0} → Event A → List ℕ
+party (Spawn t c class) = t.0 ∷ []
 party (Split t u class ops) = t.0 ∷ []
 party (Join t u) = u.0 ∷ []
 party (Delegate t u ops) = if t.0 == u.0 then t.0 ∷ [] else t.0 ∷ u.0 ∷ []
 party _ = []
 
--- parties in progress: one that splits or delegates, or is joined or handed something, is not in progress
+-- parties in progress: one that spawns, splits or delegates, or is joined or handed something, is not in
+-- progress
 abbrev pub idle_party : {A : Type 0} → List (Kept A) → Event A → List ℕ
 idle_party before e = filter (λ t. not (is_in_progress before t)) (party e)
 
@@ -148,6 +150,18 @@ wrong_return m before ret (Operate t object op) =
     when (is_well_formed m object.0 op && is_wrong) (number_after before)
 wrong_return m before ret _ = when (is_some ret) 0
 
+-- the transaction, where it is not in progress
+abbrev pub idle : {A : Type 0} → List (Kept A) → ℕ → List ℕ
+idle before t = when (not (is_in_progress before t)) t
+
+-- heir: one that commits to its parent has none, which the number 0 says, or one that is not in progress
+abbrev pub without_heir : {A : Type 0} → Parts A → List (Kept A) → Event A → List ℕ
+without_heir m before (Commit t) =
+    if has_class (λ k. has_heir k.at_commit) m before t.0
+    then option_map_or (λ u. idle before u.0) (parent_of before t.0) (0 ∷ [])
+    else []
+without_heir m before _ = []
+
 -- formed in time: an edge that an event of its own forms is of a begin kind where j has begun, or of another
 -- where j or i has ended
 abbrev pub formed_late : {A : Type 0} → List (Kept A) → Event A → List ℕ
@@ -172,6 +186,7 @@ breaches m before ret e =
     ∷ (HandsWhole, left_out m before e)
     ∷ (Conflict, in_conflict m before e)
     ∷ (Return, wrong_return m before ret e)
+    ∷ (Heir, without_heir m before e)
     ∷ (FormedInTime, formed_late before e)
     ∷ []
 

@@ -1,13 +1,15 @@
--- A history by its places: where each transaction started and ended, and its class.
+-- A history by its places: where each transaction started and ended, its class and its ancestors.
 -- Each notion is read off a list, legal or not. Of `p.before` it says what holds before the place p,
 -- of the first n items what holds at n, and of a whole history what holds at its end.
-use Rattle.std.specs.Prelude.{ℕ, ◌+◌, Bool, false, ◌&&◌, not, ◌==◌, min, List, [], ◌∷◌, ◌++◌, length, find, Option, Some, None, option_map, is_some}
+use Rattle.std.specs.Prelude.{ℕ, ◌+◌, Bool, false, ◌&&◌, not, ◌==◌, min, List, [], ◌∷◌, ◌++◌, length, find, if◌then◌else◌, Option, Some, None, option_map, is_some}
 use Rattle.std.specs.Option.{option_map_or, option_and_then}
 use Rattle.acta_table.specs.declared.event.Event.{Event}
-use Rattle.acta_table.specs.declared.event.Event.TheVariants.{Join, Commit, Abort}
+use Rattle.acta_table.specs.declared.event.Event.TheVariants.{Spawn, Join, Commit, Abort}
 use Rattle.acta_table.specs.declared.event.Kept.{Kept}
+use Rattle.acta_table.specs.declared.event.TxnId.{TxnId}
 use Rattle.acta_table.specs.declared.model.Class.{Class}
 use Rattle.acta_table.specs.declared.model.Parts.{Parts}
+use Rattle.acta_table.specs.Ancestors.{ancestors_from}
 use Rattle.acta_table.specs.Events.{started, class_named}
 use Rattle.acta_table.specs.Classes.{class_at}
 
@@ -101,3 +103,16 @@ class_of m h t = option_and_then (class_at m) (class_number h t)
 -- whether t has a class in the model, of which the test is true
 abbrev pub has_class : {A : Type 0} → (Class A → Bool) → Parts A → List (Kept A) → ℕ → Bool
 has_class test m h t = option_map_or test (class_of m h t) false
+
+-- the transaction that spawns by an event, where it had begun itself
+abbrev pub spawner : {A : Type 0} → List (Kept A) → Event A → Option TxnId
+spawner before (Spawn t c class) = if has_begun before t.0 then Some t else None
+spawner before _ = None
+
+-- the parent of t: the one that spawned it at its start, where it has started so
+abbrev pub parent_of : {A : Type 0} → List (Kept A) → ℕ → Option TxnId
+parent_of h t = option_and_then (λ p. spawner p.before p.kept.event) (first (starts t) h)
+
+-- the ancestors of t: its parent, the parent's parent, and so on; there are fewer generations than items
+abbrev pub ancestors : {A : Type 0} → List (Kept A) → ℕ → List TxnId
+ancestors h t = ancestors_from (length h) (parent_of h) (parent_of h t)

@@ -1,22 +1,25 @@
 -- What the index of `Places` says: the words of the code's own contracts.
-use Rattle.std.specs.Prelude.{ℕ, ◌≡◌, ◌+◌, Bool, false, ◌==◌, zero, suc, List, [], ◌∷◌, get_or, drop, fold, slice_get, if◌then◌else◌, Option, Some, None}
+use Rattle.std.specs.Prelude.{ℕ, ◌≡◌, ◌+◌, ◌-◌, Bool, true, false, ◌&&◌, not, ◌==◌, zero, suc, List, [], ◌∷◌, get_or, map, drop, fold, slice_get, if◌then◌else◌, Option, Some, None}
 use Rattle.std.specs.List.{position_from, cons_option}
+use Rattle.std.specs.Option.{option_map_or, option_and_then}
 use Rattle.acta_table.specs.declared.dep.Edge.{Edge}
 use Rattle.acta_table.specs.declared.answer.Fate.TheVariants.{Committed, Aborted}
 use Rattle.acta_table.specs.declared.event.Event.{Event}
-use Rattle.acta_table.specs.declared.event.Event.TheVariants.{Split, Join, Delegate, Operate, Commit, Abort}
+use Rattle.acta_table.specs.declared.event.Event.TheVariants.{Spawn, Split, Join, Delegate, Operate, Commit, Abort}
 use Rattle.acta_table.specs.declared.event.Kept.{Kept}
 use Rattle.acta_table.specs.declared.event.TxnId.{TxnId}
 use Rattle.acta_table.specs.declared.model.Parts.{Parts}
+use Rattle.acta_table.specs.Classes.{class_at, has_heir}
 use Rattle.acta_table.specs.Sets.{is_named}
 use Rattle.acta_axioms.specs.declared.follow.Held.{Held}
 use Rattle.acta_axioms.specs.declared.follow.Turn.{Turn}
 use Rattle.acta_axioms.specs.declared.follow.Turn.TheVariants.{On, Ended}
+use Rattle.acta_axioms.specs.declared.heirs.Lineage.{Lineage}
 use Rattle.acta_axioms.specs.declared.index.Firsts.{Firsts}
 use Rattle.acta_axioms.specs.declared.index.Onward.{Onward}
 use Rattle.acta_axioms.specs.declared.index.Traced.{Traced}
-use Rattle.acta_axioms.specs.History.{Course, course, places, starts, commits, aborts, joins}
-use Rattle.acta_axioms.specs.Operations.{Standing, held_by, carried}
+use Rattle.acta_axioms.specs.History.{Place, Course, course, places, starts, commits, aborts, joins, has_begun}
+use Rattle.acta_axioms.specs.Operations.{Standing, held_by, carried, heir}
 use Rattle.acta_axioms.specs.Edges.{edges}
 
 -- no place
@@ -79,29 +82,83 @@ traced_from n [] = []
 traced_from n (k ∷ ks) =
     cons_option (traced_in n (turn_from (n + 1) ks) k.event) (traced_from (n + 1) ks)
 
+-- one that has not begun
+abbrev pub unbegun : Lineage
+unbegun = record { is_begun = false; heir = None }
+
+-- whether t has begun in a history, and its heir there
+abbrev pub lineage : {A : Type 0} → Parts A → List (Kept A) → ℕ → Lineage
+lineage m h t = record { is_begun = has_begun h t; heir = heir m h t }
+
+-- whether t has begun by a table of lineages, which has none for those behind its end
+abbrev pub begun_in : List Lineage → ℕ → Bool
+begun_in lines t = (get_or lines t unbegun).is_begun
+
+-- the heir of the one that an event starts, given who has begun before
+abbrev pub heir_started : {A : Type 0} → Parts A → (ℕ → Bool) → Event A → Option TxnId
+heir_started m begun (Spawn t c class) =
+    if option_map_or (λ k. has_heir k.at_commit) (class_at m class.0) false && begun t.0
+    then Some t
+    else None
+heir_started m begun _ = None
+
+-- the lineage of t with one more event behind the others: its first start gives it
+abbrev pub with_start : {A : Type 0} → Parts A → (ℕ → Bool) → Event A → ℕ → Lineage → Lineage
+with_start m begun e t line =
+    if not line.is_begun && starts t e
+    then record { is_begun = true; heir = heir_started m begun e }
+    else line
+
+-- the heir of the one that commits by an event that stands behind these items
+abbrev pub heir_by : {A : Type 0} → Parts A → List (Kept A) → Event A → Option TxnId
+heir_by m before (Commit t) = heir m before t.0
+heir_by m before _ = None
+
+-- the same by a table of lineages
+abbrev pub heir_in : {A : Type 0} → List Lineage → Event A → Option TxnId
+heir_in lines (Commit t) = (get_or lines t.0 unbegun).heir
+heir_in lines _ = None
+
+-- the heir of the one that commits at a place
+abbrev pub heir_at : {A : Type 0} → Parts A → Place A → Option TxnId
+heir_at m p = heir_by m p.before p.kept.event
+
+-- the heirs at the places of a history
+abbrev pub heirs_of : {A : Type 0} → Parts A → List (Kept A) → List (Option TxnId)
+heirs_of m h = map (heir_at m) (places h)
+
 -- the first turns behind a split or a delegation, of the one that splits or delegates and of the one that
--- is handed the operations; behind a join that of the one that is joined
-abbrev pub onward_in : {A : Type 0} → (ℕ → Option ℕ) → Event A → Onward
-onward_in turn (Split t u class ops) = record { own = turn t.0; partner = turn u.0 }
-onward_in turn (Join t u) = record { own = None; partner = turn u.0 }
-onward_in turn (Delegate t u ops) = record { own = turn t.0; partner = turn u.0 }
-onward_in turn _ = record { own = None; partner = None }
+-- is handed the operations; behind a join that of the one that is joined, and behind a commit to an heir that
+-- of the heir
+abbrev pub onward_in : {A : Type 0} → Option TxnId → (ℕ → Option ℕ) → Event A → Onward
+onward_in heir turn (Split t u class ops) = record { own = turn t.0; partner = turn u.0 }
+onward_in heir turn (Join t u) = record { own = None; partner = turn u.0 }
+onward_in heir turn (Delegate t u ops) = record { own = turn t.0; partner = turn u.0 }
+onward_in heir turn (Commit t) = record { own = None; partner = option_and_then (λ u. turn u.0) heir }
+onward_in heir turn _ = record { own = None; partner = None }
 
--- the first turns behind each of the items, of which the first stands at the place n
-abbrev pub onward_from : {A : Type 0} → ℕ → List (Kept A) → List Onward
-onward_from n [] = []
-onward_from n (k ∷ ks) = onward_in (turn_from (n + 1) ks) k.event ∷ onward_from (n + 1) ks
+-- the first turns behind each of the items, of which the first stands at the place n, given the heirs at
+-- the places from 1 on
+abbrev pub onward_from : {A : Type 0} → List (Option TxnId) → ℕ → List (Kept A) → List Onward
+onward_from hs n [] = []
+onward_from hs n (k ∷ ks) =
+    onward_in (get_or hs (n - 1) None) (turn_from (n + 1) ks) k.event ∷ onward_from hs (n + 1) ks
 
--- what becomes of operation o, which t holds, at a turn of t
-abbrev pub turned_by : {A : Type 0} → Onward → ℕ → TxnId → Event A → Turn
-turned_by behind o t (Split s u class ops) =
+-- what becomes of an operation at a commit of the one that holds it: the heir has it on, if there is one
+abbrev pub left_to : Option TxnId → Onward → Turn
+left_to None behind = Ended Committed
+left_to (Some u) behind = On u behind.partner
+
+-- what becomes of operation o, which t holds, at a turn of t, given its heir if it commits
+abbrev pub turned_by : {A : Type 0} → Option TxnId → Onward → ℕ → TxnId → Event A → Turn
+turned_by heir behind o t (Split s u class ops) =
     if is_named ops o then On u behind.partner else On t behind.own
-turned_by behind o t (Join s u) = On u behind.partner
-turned_by behind o t (Delegate s u ops) =
+turned_by heir behind o t (Join s u) = On u behind.partner
+turned_by heir behind o t (Delegate s u ops) =
     if is_named ops o then On u behind.partner else On t behind.own
-turned_by behind o t (Commit s) = Ended Committed
-turned_by behind o t (Abort s) = Ended Aborted
-turned_by behind o t _ = On t None
+turned_by heir behind o t (Commit s) = left_to heir behind
+turned_by heir behind o t (Abort s) = Ended Aborted
+turned_by heir behind o t _ = On t None
 
 -- how operation o stands at the end of a history, where t holds it in progress behind the place p
 abbrev pub held_from : {A : Type 0} → Parts A → List (Kept A) → ℕ → ℕ → ℕ → Standing
@@ -112,13 +169,15 @@ abbrev pub numbered : List Traced → ℕ → Option Traced
 numbered xs zero = None
 numbered xs (suc i) = slice_get xs i
 
--- the index is what the definitions give: the course of each transaction, the operations, the turns
--- behind each place, and the edges
+-- the index is what the definitions give: the course of each transaction, the operations, the heirs, the
+-- turns behind each place, and the edges
 pub record IsIndex {A : Type 0} (m : Parts A) (h : List (Kept A))
-    (rows : List Firsts) (traced : List Traced) (behind : List Onward) (in_force : List Edge) : Type 0 where
+    (rows : List Firsts) (traced : List Traced) (left : List (Option TxnId)) (behind : List Onward)
+    (in_force : List Edge) : Type 0 where
   pub courses : (t : ℕ) → course_in rows t ≡ course h t
   pub operations : traced ≡ traced_from 1 h
-  pub turns : behind ≡ onward_from 1 h
+  pub heirs_are : left ≡ heirs_of m h
+  pub turns : behind ≡ onward_from left 1 h
   pub formed : in_force ≡ edges m h
 
 -- what `Held` says of an operation

@@ -1,15 +1,19 @@
 -- The operations of a history: who holds each, what became of it, and the sets of them.
 use Rattle.std.specs.Prelude.{ℕ, ◌+◌, Bool, true, false, ◌&&◌, not, ◌==◌, List, drop, take, filter, filter_map, fold, find, count_by, if◌then◌else◌, Option, Some, None, option_map}
+use Rattle.std.specs.List.{list_any}
+use Rattle.std.specs.Option.{option_map_or}
 use Rattle.acta_table.specs.declared.event.Op.{Op}
 use Rattle.acta_table.specs.declared.event.Ret.{Ret}
 use Rattle.acta_table.specs.declared.event.Event.{Event}
 use Rattle.acta_table.specs.declared.event.Event.TheVariants.{Split, Join, Delegate, Operate, Commit, Abort}
 use Rattle.acta_table.specs.declared.event.Kept.{Kept}
+use Rattle.acta_table.specs.declared.event.TxnId.{TxnId}
 use Rattle.acta_table.specs.declared.answer.Fate.{Fate}
 use Rattle.acta_table.specs.declared.answer.Fate.TheVariants.{InProgress, Committed, Aborted}
 use Rattle.acta_table.specs.declared.model.Parts.{Parts}
+use Rattle.acta_table.specs.Classes.{spares, has_heir}
 use Rattle.acta_table.specs.Sets.{is_named}
-use Rattle.acta_axioms.specs.History.{Place, number, places}
+use Rattle.acta_axioms.specs.History.{Place, number, places, has_class, parent_of, ancestors}
 
 -- an operation of a history: its number, its place, and what was asked and returned there
 pub record Operation : Type 0 where
@@ -62,6 +66,10 @@ held_by t = record { holder = t; fate = InProgress }
 abbrev pub ended_by : ℕ → Fate → Standing
 ended_by t fate = record { holder = t; fate = fate }
 
+-- to whom what t holds goes when it commits: its parent, where its class says so and there is one
+abbrev pub heir : {A : Type 0} → Parts A → List (Kept A) → ℕ → Option TxnId
+heir m before t = if has_class (λ k. has_heir k.at_commit) m before t then parent_of before t else None
+
 -- what becomes of operation o, which t holds in progress, at an event that stands behind these items
 abbrev pub followed : {A : Type 0} → Parts A → List (Kept A) → ℕ → ℕ → Event A → Standing
 followed m before o t (Split s u class ops) =
@@ -69,7 +77,8 @@ followed m before o t (Split s u class ops) =
 followed m before o t (Join s u) = if s.0 == t then held_by u.0 else held_by t
 followed m before o t (Delegate s u ops) =
     if (s.0 == t) && is_named ops o then held_by u.0 else held_by t
-followed m before o t (Commit s) = if s.0 == t then ended_by t Committed else held_by t
+followed m before o t (Commit s) =
+    if s.0 == t then option_map_or (λ u. held_by u.0) (heir m before t) (ended_by t Committed) else held_by t
 followed m before o t (Abort s) = if s.0 == t then ended_by t Aborted else held_by t
 followed m before o t _ = held_by t
 
@@ -112,11 +121,16 @@ is_held_by t s = is_open s.fate && (s.holder == t)
 abbrev pub access_set : {A : Type 0} → Parts A → List (Kept A) → ℕ → List Operation
 access_set m h t = filter (λ o. is_held_by t (standing m h o)) (operations h)
 
--- whether an operation that stands so is in progress and held by another than t
-abbrev pub is_of_others : {A : Type 0} → Parts A → List (Kept A) → ℕ → Standing → Bool
-is_of_others m h t s = is_open s.fate && not (s.holder == t)
+-- whether u is an ancestor of t, and t's class leaves out of its conflict set what ancestors hold
+abbrev pub is_spared : {A : Type 0} → Parts A → List (Kept A) → ℕ → ℕ → Bool
+is_spared m h t u = has_class (λ k. spares k.scope) m h t && list_any (λ a. a.0 == u) (ancestors h t)
 
--- the conflict set of t: the operations in progress that others hold
+-- whether an operation that stands so is in progress and held by another than t, who is not spared
+abbrev pub is_of_others : {A : Type 0} → Parts A → List (Kept A) → ℕ → Standing → Bool
+is_of_others m h t s = is_open s.fate && not (s.holder == t) && not (is_spared m h t s.holder)
+
+-- the conflict set of t: the operations in progress that others hold, where its class can leave out its
+-- ancestors
 abbrev pub conflict_set : {A : Type 0} → Parts A → List (Kept A) → ℕ → List Operation
 conflict_set m h t = filter (λ o. is_of_others m h t (standing m h o)) (operations h)
 

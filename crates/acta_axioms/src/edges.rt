@@ -41,6 +41,10 @@ fn put_formed<A: Allocator>(
     ensures { (before : List (Kept A)) → IfOk result (λ _. made.new.items ≡ formed made.old.items (formed_by model.now before event.now)) }
 {
     match event {
+        Event::Spawn(t, c, class) => match model.classes().get(class.0 as usize) {
+            Some(class) => put_between(*t, *c, class.spawn_edges.as_slice(), made),
+            None => Ok(()),
+        },
         Event::Split(t, u, class, _) => match model.classes().get(class.0 as usize) {
             Some(class) => put_between(*t, *u, class.split_edges.as_slice(), made),
             None => Ok(()),

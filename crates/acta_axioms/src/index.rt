@@ -1,9 +1,10 @@
 ghost use Rattle.std.specs.Prelude.{◌≡◌, ◌≤◌, ◌<◌, ◌∷◌, ℕ, length, get_or, IfOk, [], reverse};
 ghost use Rattle.std.specs.List.{All};
 ghost use Rattle.acta_table.specs.Events.{named};
-ghost use Rattle.acta_axioms.specs.Index.{nowhere, course_in, course_from, with_event, turn_in, turn_from, with_turn, traced_in, traced_from, onward_in, onward_from};
+ghost use Rattle.acta_axioms.specs.Index.{nowhere, course_in, course_from, with_event, turn_in, turn_from, with_turn, traced_in, traced_from, heirs_of, onward_in, onward_from};
 
-use acta_table::{Event, Kept, TxnId};
+use crate::heirs::{heir_there, heirs_of};
+use acta_table::{Event, Kept, Model, TxnId};
 use std::alloc::{AllocError, Allocator};
 
 /// The first places of a transaction's start, commit, abort and join, and of its first turn, from 1. A turn
@@ -25,21 +26,23 @@ pub struct Traced {
     pub turn: Option<u32>,
 }
 
-/// Where to look on from a split, a join or a delegation: the next turn behind it of the one that splits or
-/// delegates, and of the one that holds the operations then. No place is given for one that joins, nor where
-/// the event is another.
+/// Where to look on from a split, a join, a delegation or a commit to an heir: the next turn behind it of the
+/// one that splits or delegates, and of the one that holds the operations then. No place is given for one that
+/// joins or commits, nor where the event is another.
 #[derive(Clone, Copy, PartialEq, Eq, Debug)]
 pub struct Onward {
     pub own: Option<u32>,
     pub partner: Option<u32>,
 }
 
-/// What is found in one pass over a history: the first places by the numbers of the transactions, the
-/// operations in order, and by places where to look on from splits, joins and delegations.
+/// What is found in two passes over a history: the first places by the numbers of the transactions, the
+/// operations in order, by places the heirs of those that commit there, and by places where to look on from
+/// splits, joins, delegations and commits to heirs.
 #[derive(Drop)]
 pub struct Index<A: Allocator> {
     pub firsts: Vec<Firsts, A>,
     pub traced: Vec<Traced, A>,
+    pub heirs: Vec<Option<TxnId>, A>,
     pub onward: Vec<Onward, A>,
 }
 
@@ -57,6 +60,7 @@ fn largest_in<A: Allocator>(event: &Event<A>) -> u16
 {
     match event {
         Event::Begin(t, _) => t.0,
+        Event::Spawn(t, c, _) => t.0.max(c.0),
         Event::Split(t, u, _, _) => t.0.max(u.0),
         Event::Join(t, u) => t.0.max(u.0),
         Event::Delegate(t, u, _) => t.0.max(u.0),
@@ -67,8 +71,8 @@ fn largest_in<A: Allocator>(event: &Event<A>) -> u16
     }
 }
 
-// The largest number of a transaction that the items name, or 0.
-fn largest_named<A: Allocator>(kept: &[Kept<A>]) -> u16
+/// The largest number of a transaction that the items name, or 0.
+pub fn largest_named<A: Allocator>(kept: &[Kept<A>]) -> u16
     ensures { All (λ k. All (λ t. t ≤ result) (named k.event)) kept.now }
 {
     let mut largest = 0;
@@ -105,9 +109,9 @@ fn trace<A: Allocator>(rows: &[Firsts], place: u32, event: &Event<A>) -> Option<
     }
 }
 
-// Where to look on from the event, by the table.
-fn look_on<A: Allocator>(rows: &[Firsts], event: &Event<A>) -> Onward
-    ensures { result ≡ onward_in (turn_in rows.now) event.now }
+// Where to look on from the event, by the table, given the heir of the one that commits by it.
+fn look_on<A: Allocator>(rows: &[Firsts], heir: Option<TxnId>, event: &Event<A>) -> Onward
+    ensures { result ≡ onward_in heir (turn_in rows.now) event.now }
 {
     match event {
         Event::Split(t, u, _, _) | Event::Delegate(t, u, _) => Onward {
@@ -117,6 +121,10 @@ fn look_on<A: Allocator>(rows: &[Firsts], event: &Event<A>) -> Onward
         Event::Join(_, u) => Onward {
             own: None,
             partner: row(rows, *u).turn,
+        },
+        Event::Commit(_) => Onward {
+            own: None,
+            partner: heir.and_then(|u| row(rows, u).turn),
         },
         _ => Onward {
             own: None,
@@ -133,6 +141,7 @@ fn note<A: Allocator>(rows: &mut [Firsts], place: u32, event: &Event<A>)
 {
     match event {
         Event::Begin(t, _) => rows[t.0 as usize].start = Some(place),
+        Event::Spawn(_, c, _) => rows[c.0 as usize].start = Some(place),
         Event::Split(t, u, _, _) => {
             rows[t.0 as usize].turn = Some(place);
             rows[u.0 as usize].start = Some(place);
@@ -155,13 +164,20 @@ fn note<A: Allocator>(rows: &mut [Firsts], place: u32, event: &Event<A>)
     }
 }
 
-/// The index of the items, by one pass from the back. `Err` where there is no memory.
-pub fn index_of<A: Allocator + Copy>(alloc: A, kept: &[Kept<A>]) -> Result<Index<A>, AllocError>
+/// The index of the items, by a pass from the front for the heirs, and one from the back. `Err` where there is
+/// no memory.
+pub fn index_of<A: Allocator + Copy>(
+    alloc: A,
+    model: &Model<A>,
+    kept: &[Kept<A>],
+) -> Result<Index<A>, AllocError>
     requires { length kept.now ≤ 65536 }
     ensures courses { IfOk result (λ index. (t : ℕ) → course_in index.firsts.items t ≡ course_from 1 kept.now t) }
     ensures traced { IfOk result (λ index. index.traced.items ≡ traced_from 1 kept.now) }
-    ensures onward { IfOk result (λ index. index.onward.items ≡ onward_from 1 kept.now) }
+    ensures heirs { IfOk result (λ index. index.heirs.items ≡ heirs_of model.now kept.now) }
+    ensures onward { IfOk result (λ index. index.onward.items ≡ onward_from index.heirs.items 1 kept.now) }
 {
+    let heirs = heirs_of(alloc, model, kept)?;
     let mut firsts = vec![in alloc; NOWHERE; largest_named(kept) as usize + 1]?;
     let mut operations = Vec::new(alloc);
     let mut onwards = Vec::new(alloc);
@@ -173,7 +189,8 @@ pub fn index_of<A: Allocator + Copy>(alloc: A, kept: &[Kept<A>]) -> Result<Index
         if let Some(operation) = trace(firsts.as_slice(), place, event) {
             operations.push(operation)?;
         }
-        onwards.push(look_on(firsts.as_slice(), event))?;
+        let heir = heir_there(heirs.as_slice(), i);
+        onwards.push(look_on(firsts.as_slice(), heir, event))?;
         note(firsts.as_mut_slice(), place, event);
     }
     operations.reverse();
@@ -181,6 +198,7 @@ pub fn index_of<A: Allocator + Copy>(alloc: A, kept: &[Kept<A>]) -> Result<Index
     Ok(Index {
         firsts,
         traced: operations,
+        heirs,
         onward: onwards,
     })
 }

@@ -8,6 +8,7 @@
 mod edges;
 mod fault;
 mod follow;
+mod heirs;
 mod index;
 mod places;
 #[cfg(test)]

@@ -11,7 +11,7 @@ use acta_table::{Edge, Fate, Kept, Model, OpNo, TxnId};
 use std::alloc::{AllocError, Allocator};
 
 /// A model and a list of kept items, legal or not, to be asked by places, as ACTA speaks of histories.
-/// The list is read once, into an index (ours), and no question goes over it again: one about an operation
+/// The list is read into an index (ours), and no question goes over it again: one about an operation
 /// goes from turn to turn of those who hold it, where a turn is an end, a split or a delegation. Contracts
 /// see the model and the list.
 #[derive(Drop)]
@@ -20,6 +20,7 @@ pub struct Places<'a, A: Allocator> {
     kept: &'a [Kept<A>],
     firsts: Vec<Firsts, A>,
     traced: Vec<Traced, A>,
+    heirs: Vec<Option<TxnId>, A>,
     onward: Vec<Onward, A>,
     in_force: Vec<Edge, A>,
 }
@@ -32,7 +33,7 @@ impl<'a, A: Allocator> std::marker::Model for Places<'a, A> {
 
     ghost view = { λ p. record { model = p.model.now; history = p.kept.now } };
 
-    ghost invariant = { λ p. IsIndex p.model.now p.kept.now p.firsts.items p.traced.items p.onward.items p.in_force.items };
+    ghost invariant = { λ p. IsIndex p.model.now p.kept.now p.firsts.items p.traced.items p.heirs.items p.onward.items p.in_force.items };
 }
 
 impl<'a, A: Allocator + Copy> Places<'a, A> {
@@ -48,14 +49,16 @@ impl<'a, A: Allocator + Copy> Places<'a, A> {
         let Index {
             firsts,
             traced,
+            heirs,
             onward,
-        } = index_of(alloc, kept)?;
+        } = index_of(alloc, model, kept)?;
         let in_force = edges_of(alloc, model, kept)?;
         Ok(Places {
             model,
             kept,
             firsts,
             traced,
+            heirs,
             onward,
             in_force,
         })
@@ -70,6 +73,7 @@ impl<'a, A: Allocator> Places<'a, A> {
         standing(
             self.kept,
             self.traced.as_slice(),
+            self.heirs.as_slice(),
             self.onward.as_slice(),
             op,
             n,

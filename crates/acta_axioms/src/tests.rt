@@ -1,7 +1,7 @@
 use crate::places::Places;
 use acta_table::{
-    Class, ClassId, Dep, Dependent, Edge, Event, Extent, Fate, Items, Kept, Kind, Kinds, Model,
-    ObjId, Object, Op, OpNo, OpSet, Parts, Ret, StartEdge, StartEdges, Starts, TxnId,
+    AtCommit, Class, ClassId, Dep, Dependent, Edge, Event, Extent, Fate, Items, Kept, Kind, Kinds,
+    Model, ObjId, Object, Op, OpNo, OpSet, Parts, Ret, Scope, StartEdge, StartEdges, Starts, TxnId,
 };
 use std::alloc::Global;
 use std::test::Fail;
@@ -26,7 +26,10 @@ fn model_of(alloc: Global, split_edges: StartEdges<Global>) -> Result<Model<Glob
             .union(Kinds::JOIN)
             .union(Kinds::COMMIT)
             .union(Kinds::ABORT),
+        scope: Scope::Others,
+        at_commit: AtCommit::Keeps,
         extent: Extent::Any,
+        spawn_edges: StartEdges::new(alloc),
         split_edges,
     })?;
     let parts = Parts {
@@ -55,12 +58,67 @@ fn parting(alloc: Global) -> Result<Model<Global>, Fail> {
     model_of(alloc, StartEdges::of(alloc, &edges)?)
 }
 
+// A class of this name that may spawn, operate, commit and abort, and wants these edges where it is spawned.
+fn nesting_class(
+    alloc: Global,
+    name: u8,
+    starts: Starts,
+    at_commit: AtCommit,
+    spawn_edges: StartEdges<Global>,
+) -> Result<Class<Global>, Fail> {
+    Ok(Class {
+        name: Items::of(vec![in alloc; name]?),
+        starts,
+        may: Kinds::SPAWN
+            .union(Kinds::OPERATE)
+            .union(Kinds::COMMIT)
+            .union(Kinds::ABORT),
+        scope: Scope::NonAncestors,
+        at_commit,
+        extent: Extent::Any,
+        spawn_edges,
+        split_edges: StartEdges::new(alloc),
+    })
+}
+
+// A model of no object, and two classes: the first starts by a begin, the second by a spawn, and commits to its
+// parent, which depends by commit on it.
+fn nesting(alloc: Global) -> Result<Model<Global>, Fail> {
+    let begun = Starts {
+        begin: true,
+        spawned: false,
+        split: false,
+    };
+    let spawned = Starts {
+        begin: false,
+        spawned: true,
+        split: false,
+    };
+    let on_child = StartEdge {
+        kind: Dep::Cd,
+        dependent: Dependent::Starter,
+    };
+    let edges = StartEdges::of(alloc, &[on_child])?;
+    let mut classes = Vec::new(alloc);
+    classes.push(nesting_class(alloc, b'a', begun, AtCommit::Keeps, StartEdges::new(alloc))?)?;
+    classes.push(nesting_class(alloc, b'b', spawned, AtCommit::ToParent, edges)?)?;
+    let parts = Parts {
+        objects: Items::new(alloc),
+        classes: Items::of(classes),
+    };
+    Ok(Model::check(parts)?)
+}
+
 fn plain(event: Event<Global>) -> Kept<Global> {
     Kept { event, ret: None }
 }
 
 fn begin(t: u16) -> Kept<Global> {
     plain(Event::Begin(TxnId(t), ClassId(0)))
+}
+
+fn spawn(t: u16, c: u16, class: u8) -> Kept<Global> {
+    plain(Event::Spawn(TxnId(t), TxnId(c), ClassId(class)))
 }
 
 fn op_set(alloc: Global, ops: &[u32]) -> Result<OpSet<Global>, Fail> {
@@ -528,5 +586,97 @@ fn forms_no_edge_at_plain_splits(rt: HostRuntime) -> Result<(), Fail> {
     let formed = edge(Dep::Ad, 2, 1);
     let places = Places::of(rt.alloc(), &model, &kept)?;
     assert!(rt; are_first(places.edges(), 1, [formed; 4]));
+    Ok(())
+}
+
+#[test]
+fn follows_operations_to_heirs(rt: HostRuntime) -> Result<(), Fail> {
+    let model = nesting(rt.alloc())?;
+    let nested = [
+        begin(1),
+        write(1, 0),
+        spawn(1, 2, 1),
+        write(2, 0),
+        commit(2),
+        abort(1),
+    ];
+    // A child of a child, whose operation goes up the line.
+    let lined = [
+        begin(1),
+        spawn(1, 2, 1),
+        spawn(2, 3, 1),
+        write(3, 0),
+        commit(3),
+        commit(2),
+        commit(1),
+    ];
+    // The second has no parent, since 9 had not begun, and the parent of the third has aborted.
+    let bereft = [
+        spawn(9, 2, 1),
+        begin(1),
+        spawn(1, 3, 1),
+        write(3, 0),
+        write(2, 0),
+        abort(1),
+        commit(3),
+        commit(2),
+    ];
+    // One that commits before it begins.
+    let early = [
+        write(3, 0),
+        commit(3),
+        begin(1),
+        spawn(1, 3, 1),
+        write(3, 0),
+        commit(3),
+    ];
+    let (open, done, undone) = (Fate::InProgress, Fate::Committed, Fate::Aborted);
+    let rows = [
+        (&nested[..], 2, 4, 2, open),
+        (&nested[..], 2, 5, 1, open),
+        (&nested[..], 2, 6, 1, undone),
+        (&lined[..], 1, 4, 3, open),
+        (&lined[..], 1, 5, 2, open),
+        (&lined[..], 1, 6, 1, open),
+        (&lined[..], 1, 7, 1, done),
+        (&bereft[..], 1, 6, 3, open),
+        (&bereft[..], 1, 7, 1, open),
+        (&bereft[..], 1, 8, 1, open),
+        (&bereft[..], 2, 7, 2, open),
+        (&bereft[..], 2, 8, 2, done),
+        (&early[..], 1, 6, 3, done),
+        (&early[..], 2, 6, 1, open),
+    ];
+    for (kept, op, n, t, fate) in rows {
+        assert!(rt; kept.len() <= 65536);
+        let places = Places::of(rt.alloc(), &model, kept)?;
+        assert_eq!(rt; places.holder(OpNo(op), n), Some(TxnId(t)));
+        assert_eq!(rt; places.fate(OpNo(op), n), Some(fate));
+    }
+    Ok(())
+}
+
+// The second of these is of a class that is not in the model, and the third of one that wants no edge.
+#[test]
+fn starts_children(rt: HostRuntime) -> Result<(), Fail> {
+    let model = nesting(rt.alloc())?;
+    let kept = [
+        spawn(1, 2, 1),
+        spawn(1, 3, 2),
+        spawn(1, 4, 0),
+        spawn(2, 1, 1),
+    ];
+    let (first, back) = (edge(Dep::Cd, 1, 2), edge(Dep::Cd, 2, 1));
+    let places = Places::of(rt.alloc(), &model, &kept)?;
+    assert!(rt; are_first(places.edges(), 2, [first, back, back, back]));
+    for (t, start) in [
+        (2, Some(1)),
+        (3, Some(2)),
+        (4, Some(3)),
+        (1, Some(4)),
+        (5, None),
+    ] {
+        assert_eq!(rt; places.start(TxnId(t)), start);
+    }
     Ok(())
 }

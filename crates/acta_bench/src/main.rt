@@ -5,8 +5,8 @@
 
 use acta_axioms::Places;
 use acta_table::{
-    Class, Event, Extent, Fate, Items, Kept, Kind, Kinds, Model, ObjId, Object, Op, OpNo, Parts,
-    Ret, StartEdges, Starts, TxnId,
+    AtCommit, Class, Event, Extent, Fate, Items, Kept, Kind, Kinds, Model, ObjId, Object, Op, OpNo,
+    Parts, Ret, Scope, StartEdges, Starts, TxnId,
 };
 use anyhow::{Context, Result, anyhow, ensure};
 use std::alloc::Global;
@@ -27,7 +27,10 @@ fn counting(alloc: Global) -> Result<Model<Global>> {
             split: false,
         },
         may: Kinds::OPERATE.union(Kinds::COMMIT),
+        scope: Scope::Others,
+        at_commit: AtCommit::Keeps,
         extent: Extent::Whole,
+        spawn_edges: StartEdges::new(alloc),
         split_edges: StartEdges::new(alloc),
     };
     let parts = Parts {

@@ -13,7 +13,7 @@ use Rattle.acta_table.specs.declared.event.ClassId.{ClassId}
 use Rattle.acta_table.specs.declared.event.OpNo.{OpNo}
 use Rattle.acta_table.specs.declared.answer.Status.{Status}
 use Rattle.acta_table.specs.declared.event.Event.{Event}
-use Rattle.acta_table.specs.declared.event.Event.TheVariants.{Begin, Split, Join, Delegate, Form, Operate, Commit, Abort}
+use Rattle.acta_table.specs.declared.event.Event.TheVariants.{Begin, Spawn, Split, Join, Delegate, Form, Operate, Commit, Abort}
 use Rattle.acta_table.specs.declared.event.Kept.{Kept}
 use Rattle.acta_table.specs.declared.event.Ret.{Ret}
 use Rattle.acta_table.specs.declared.event.TxnId.{TxnId}
@@ -28,9 +28,10 @@ use Rattle.acta_axioms.specs.Edges.{edges}
 use Rattle.acta_axioms.specs.Formulas.{is_false}
 use Rattle.acta_axioms.specs.Legal.{is_legal, owed}
 use Rattle.acta_axioms.specs.Claims.{MeetsAxioms, IsOrderly, is_apart, status_in, status_at}
-use Rattle.acta_axioms.proofs.EdgeGrowth.{edges-push, course-within, course-other, course-begin, course-split, course-join, course-commit, course-abort}
+use Rattle.acta_axioms.proofs.EdgeGrowth.{edges-push, course-within, course-other, course-begin, course-spawn, course-split, course-join, course-commit, course-abort}
 use Rattle.acta_deps.specs.Debts.{owed_in}
 use Rattle.acta_deps.specs.Dependencies.{start_refusal, commit_refusal, abort_refusal, join_refusal}
+use Rattle.acta_deps.specs.Statuses.{with_status}
 use Rattle.acta_deps.specs.Statuses as by_status
 use Rattle.acta_machine.specs.Summary.{Summary}
 use Rattle.acta_machine.specs.Changes.{summary_of}
@@ -38,10 +39,10 @@ use Rattle.acta_machine.specs.Rules.{not_in_progress, already_begun, form_too_la
 use Rattle.acta_machine.specs.Places.{ShowsPlaces, is_dependency_rule}
 use Rattle.acta_machine.proofs.Broken.{by_none, in_progress, not_begun}
 use Rattle.acta_machine.proofs.Courses.{is_broken_by, clashes_by, is_legal_by}
-use Rattle.acta_machine.proofs.DependencyTies.{starts-exact, commits-exact, aborts-exact, joins-exact, owed-tie, forms-legal, all-legal, start-formed, start-rule, commit-rule, abort-rule, join-rule}
+use Rattle.acta_machine.proofs.DependencyTies.{is_neutral, starts-exact, commits-exact, aborts-exact, joins-exact, owed-tie, forms-legal, all-legal, start-formed, start-rule, commit-rule, abort-rule, join-rule}
 use Rattle.acta_machine.proofs.EdgeSteps.{formed-begin, formed-other}
-use Rattle.acta_machine.proofs.Splitting.{split_due, neutral-due, holding-due}
-use Rattle.acta_machine.proofs.StatusGrowth.{flipped, statuses-begin, statuses-split, statuses-commit, statuses-abort, statuses-join, ended-places, begun-places}
+use Rattle.acta_machine.proofs.Starting.{spawn_due, split_due, holds_in, neutral-spawn, neutral-split, holding-spawn, holding-split}
+use Rattle.acta_machine.proofs.StatusGrowth.{flipped, statuses-begin, statuses-spawn, statuses-split, statuses-commit, statuses-abort, statuses-join, ended-places, begun-places}
 use Rattle.acta_machine.proofs.Unbroken.{Unbroken}
 
 -- what is broken by a rule on dependencies, if anything is
@@ -52,6 +53,7 @@ if_some (Some r) rule = rule r refl
 
 pub dependency-rule : {A : Type 0} (s : Summary) (e : Event A) → IfSome (dependency s e) (λ r. is_dependency_rule r.rule ≡ true)
 dependency-rule s (Begin t class) = if_some (start_refusal s.status s.edges t.0) (start-rule s.status s.edges t.0)
+dependency-rule s (Spawn t u class) = if_some (start_refusal s.status s.edges u.0) (start-rule s.status s.edges u.0)
 dependency-rule s (Split t u class ops) = if_some (start_refusal s.status s.edges u.0) (start-rule s.status s.edges u.0)
 dependency-rule s (Join t u) = if_some (join_refusal s.status s.edges t.0) (join-rule s.status s.edges t.0)
 dependency-rule s (Delegate t u ops) = tt
@@ -180,31 +182,51 @@ module _ {A : Type 0} (m : Parts A) (h : List (Kept A)) (shows : ShowsPlaces m h
       (legal-calm (course h) (edges m h) (sym (legal-by m h) ∙ meets.legal))
       ∙ same-edges e ret (edges-push m h (record { event = e; ret = ret }))
 
-  -- one that is split off: its edges are formed first, which bar nothing, and then it starts
+  still_open : (w : ℕ) (x : Status) → s.status w ≡ x → by_status.has_ended x ≡ false → is_some (end (course h w)) ≡ false
+  still_open w x is calm = sym (ended-places h w) ∙ ap by_status.has_ended (sym (shows.status w) ∙ is) ∙ calm
+
+  -- one that is started by t: its edges are formed first, which bar nothing, and then it starts
+  exact-start : (k : Kept A) (v : ℕ) (due : List Edge) → s.status v ≡ NotBegun → edges m (h ++ k ∷ []) ≡ formed (edges m h) due
+      → list_all (is_neutral s.status v) due ≡ true → list_all (holds_in (course h)) due ≡ true
+      → ((w : ℕ) → (w ≡ v → ⊥) → course (h ++ k ∷ []) w ≡ course h w) → course (h ++ k ∷ []) v ≡ record (course h v) { start = Some (length h + 1) }
+      → ((w : ℕ) → with_status s.status v InProgress w ≡ status_at (h ++ k ∷ []) w) → IsOrderly m (h ++ k ∷ [])
+      → is_some (start_refusal s.status s.edges v) ≡ not (is_legal m (h ++ k ∷ []))
+  exact-start k v due new grown neutral holding others started statuses later =
+      let linked = all-legal (course h) (edges m h) due (sym (legal-by m h) ∙ meets.legal) holding in
+      ap (λ es. is_some (start_refusal s.status es v)) shows.edges
+      ∙ sym (start-formed s.status (edges m h) due v neutral)
+      ∙ starts-exact s.status (course h) (course (h ++ k ∷ [])) (formed (edges m h) due) (length h) v shows.status orderly.courses (course-within h)
+      (ap (list_all is_apart) (sym grown) ∙ later.edges) (legal-unbroken (course h) (formed (edges m h) due) linked)
+      others later.courses new started statuses
+      ∙ ap (λ es. not (is_legal_by (course (h ++ k ∷ [])) es)) (sym grown) ∙ ap not (sym (legal-by m (h ++ k ∷ [])))
+
+  exact-spawn : IsChecked m s → (t v : TxnId) (class : ClassId) (ret : Option Ret) → Unbroken m s (Spawn t v class) → IsOrderly m (with_event (Spawn t v class) ret)
+      → is_some (dependency {A = A} s (Spawn t v class)) ≡ not (is_legal m (with_event (Spawn t v class) ret))
+  unfolding already_begun not_in_progress
+  exact-spawn checked t v class ret u later =
+      let k : Kept A = record { event = Spawn t v class; ret = ret } in
+      let on = in_progress s NotInProgress t.0 u.progress in
+      let new = not_begun s AlreadyBegun v.0 u.begun in
+      exact-start k v.0 (spawn_due m t v class) new (edges-push m h k)
+      (neutral-spawn m s.status t v class (checked t.0 on) on)
+      (holding-spawn m (course h) t v class (checked t.0 on) (still_open t.0 InProgress on refl) (still_open v.0 NotBegun new refl))
+      (λ w ne. course-other h k w (flipped v.0 w ne) refl refl refl)
+      (course-spawn h t v class ret (no_start (course h v.0) (sym (shows.status v.0) ∙ new)))
+      (statuses-spawn s.status h ret t v class shows.status new) later
+
   exact-split : IsChecked m s → (t v : TxnId) (class : ClassId) (ops : List OpNo) (ret : Option Ret) → Unbroken m s (Split t v class ops) → IsOrderly m (with_event (Split t v class ops) ret)
       → is_some (dependency {A = A} s (Split t v class ops)) ≡ not (is_legal m (with_event (Split t v class ops) ret))
   unfolding already_begun not_in_progress
   exact-split checked t v class ops ret u later =
-      let e : Event A = Split t v class ops in
-      let k : Kept A = record { event = e; ret = ret } in
+      let k : Kept A = record { event = Split t v class ops; ret = ret } in
       let on = in_progress s NotInProgress t.0 u.progress in
       let new = not_begun s AlreadyBegun v.0 u.begun in
-      let faultless = checked t.0 on in
-      let due = split_due m t v class in
-      let grown : edges m (with_event e ret) ≡ formed (edges m h) due = edges-push m h k in
-      let open_t = still_open t.0 InProgress on refl in
-      let open_v = still_open v.0 NotBegun new refl in
-      let linked = all-legal (course h) (edges m h) due (sym (legal-by m h) ∙ meets.legal) (holding-due m (course h) t v class faultless open_t open_v) in
-      ap (λ es. is_some (start_refusal s.status es v.0)) shows.edges
-      ∙ sym (start-formed s.status (edges m h) due v.0 (neutral-due m s.status t v class faultless on))
-      ∙ starts-exact s.status (course h) (course (with_event e ret)) (formed (edges m h) due) (length h) v.0 shows.status orderly.courses (course-within h)
-      (ap (list_all is_apart) (sym grown) ∙ later.edges) (legal-unbroken (course h) (formed (edges m h) due) linked)
-      (λ w ne. course-other h k w (flipped v.0 w ne) refl refl refl) later.courses
-      new (course-split h t v class ops ret (no_start (course h v.0) (sym (shows.status v.0) ∙ new))) (statuses-split s.status h ret t v class ops shows.status new)
-      ∙ ap (λ es. not (is_legal_by (course (with_event e ret)) es)) (sym grown) ∙ ap not (sym (legal-by m (with_event e ret)))
-    where
-      still_open : (w : ℕ) (x : Status) → s.status w ≡ x → by_status.has_ended x ≡ false → is_some (end (course h w)) ≡ false
-      still_open w x is calm = sym (ended-places h w) ∙ ap by_status.has_ended (sym (shows.status w) ∙ is) ∙ calm
+      exact-start k v.0 (split_due m t v class) new (edges-push m h k)
+      (neutral-split m s.status t v class (checked t.0 on) on)
+      (holding-split m (course h) t v class (checked t.0 on) (still_open t.0 InProgress on refl) (still_open v.0 NotBegun new refl))
+      (λ w ne. course-other h k w (flipped v.0 w ne) refl refl refl)
+      (course-split h t v class ops ret (no_start (course h v.0) (sym (shows.status v.0) ∙ new)))
+      (statuses-split s.status h ret t v class ops shows.status new) later
 
   -- the formula of an edge that is formed in time holds
   formed-holds : (kind : Dep) (j i : TxnId) → too_late s kind j.0 i.0 ≡ None → is_false kind (course h j.0) (course h i.0) ≡ false
@@ -246,6 +268,7 @@ module _ {A : Type 0} (m : Parts A) (h : List (Kept A)) (shows : ShowsPlaces m h
 
   exact-of : IsChecked m s → (e : Event A) (ret : Option Ret) → Unbroken m s e → IsOrderly m (with_event e ret) → is_some (dependency s e) ≡ not (is_legal m (with_event e ret))
   exact-of checked (Begin t class) ret u later = exact-begin t class ret u later
+  exact-of checked (Spawn t v class) ret u later = exact-spawn checked t v class ret u later
   exact-of checked (Split t v class ops) ret u later = exact-split checked t v class ops ret u later
   exact-of checked (Join t v) ret u later = exact-join t v ret u later
   exact-of checked (Delegate t v ops) ret u later = ap not (sym (legal-delegate t v ops ret))

@@ -8,7 +8,7 @@ use Rattle.acta_table.specs.declared.answer.Fate.{Fate}
 use Rattle.acta_table.specs.declared.answer.Fate.TheVariants.{InProgress, Committed, Aborted}
 use Rattle.acta_table.specs.declared.answer.Rule.TheVariants.{NotResponsible, BadSet}
 use Rattle.acta_table.specs.declared.event.Event.{Event}
-use Rattle.acta_table.specs.declared.event.Event.TheVariants.{Begin, Split, Join, Delegate, Form, Operate, Commit, Abort}
+use Rattle.acta_table.specs.declared.event.Event.TheVariants.{Begin, Spawn, Split, Join, Delegate, Form, Operate, Commit, Abort}
 use Rattle.acta_table.specs.declared.event.OpNo.{OpNo}
 use Rattle.acta_table.specs.declared.model.Parts.{Parts}
 use Rattle.acta_table.specs.Events.{operations_named}
@@ -136,6 +136,7 @@ none-left s ops t false none = refl
 pub event-open : {A : Type 0} (m : Parts A) (s : Summary) (e : Event A) → Unbroken m s e → are_open (operations_named e) s.operations ≡ true
 unfolding not_responsible bad_set
 event-open m s (Begin t class) u = refl
+event-open m s (Spawn t c class) u = refl
 event-open m s (Split t v class ops) u = named-open s.operations t.0 ops (named-held s ops t.0 (by_none NotResponsible _ u.responsible) (by_none BadSet _ u.set))
 event-open m s (Join t v) u = refl
 event-open m s (Delegate t v ops) u = named-open s.operations t.0 ops (named-held s ops t.0 (by_none NotResponsible _ u.responsible) (by_none BadSet _ u.set))

@@ -1,21 +1,22 @@
 -- The summary of a history that is one event longer, and of none.
-use Rattle.std.proofs.Common.{◌≡◌, ℕ, suc, ◌+◌, ◌≤◌, List, [], ◌∷◌, ◌++◌, length, get_or, slice_get, unwrap_or, replicate, refl, arith, ◌∙◌, ap, sym, Option, None, length-append}
+use Rattle.std.proofs.Common.{◌≡◌, ℕ, suc, ◌+◌, ◌≤◌, List, [], ◌∷◌, ◌++◌, length, get_or, slice_get, unwrap_or, replicate, refl, arith, ◌∙◌, ap, sym, Option, Some, None, length-append}
 use Rattle.std.proofs.lemmas.List.{get_or-replicate, get_or_past, length-replicate, length-map}
 use Rattle.std.proofs.lemmas.Option.{unwrap_or-slice_get}
-use Rattle.acta_table.specs.declared.event.ClassId.{ClassId}
+use Rattle.acta_machine.specs.declared.board.Origin.{Origin}
 use Rattle.acta_table.specs.declared.event.OpNo.{OpNo}
 use Rattle.acta_table.specs.declared.event.TxnId.{TxnId}
 use Rattle.acta_sets.specs.Operations.{moved_from}
 use Rattle.acta_table.specs.declared.model.Parts.{Parts}
-use Rattle.acta_table.specs.declared.event.Event.TheVariants.{Begin, Split, Join, Delegate, Form, Operate, Commit, Abort}
+use Rattle.acta_table.specs.declared.event.Event.TheVariants.{Begin, Spawn, Split, Join, Delegate, Form, Operate, Commit, Abort}
 use Rattle.acta_table.specs.declared.event.Kept.{Kept}
 use Rattle.acta_table.specs.declared.answer.Status.{Status}
-use Rattle.acta_table.specs.declared.answer.Status.TheVariants.{NotBegun}
+use Rattle.acta_table.specs.declared.answer.Status.TheVariants.{NotBegun, Committed}
 use Rattle.acta_deps.specs.Deps.{DepState}
 use Rattle.acta_sets.specs.declared.item.Item.{Item}
 use Rattle.acta_machine.specs.Summary.{Summary, nothing_yet, stood, entered, linked, given, inherited, operated, fated, counted}
-use Rattle.acta_machine.specs.Changes.{edges_due, effect, summary_from, summary_of}
-use Rattle.acta_machine.specs.Shown.{summary_in}
+use Rattle.acta_machine.specs.Changes.{edges_due, settled, effect, summary_from, summary_of}
+use Rattle.acta_machine.specs.Families.{heir_of}
+use Rattle.acta_machine.specs.Shown.{unborn, origin_in, summary_in}
 
 summary_from_more : {A : Type 0} (m : Parts A) (s : Summary) (history : List (Kept A)) (k : Kept A) → summary_from m s (history ++ k ∷ []) ≡ effect m (summary_from m s history) k.event
 summary_from_more m s [] k = refl
@@ -35,13 +36,21 @@ fresh_table {X} x table is_fresh u =
     ∙ unwrap_or-slice_get (replicate 4096 x) u x ∙ fresh_entry x 4096 u
 
 -- fresh tables with nothing kept show the summary before any event
-pub fresh_summary : {A : Type 0} (m : Parts A) (deps : DepState) (classes : List (Option ClassId)) (operations : List Item) (kept : List (Kept A)) → deps ≡ record { statuses = replicate 4096 NotBegun; edges = [] } → classes ≡ replicate 4096 None → operations ≡ [] → kept ≡ [] → summary_in deps classes operations kept ≡ summary_of m kept
+pub fresh_summary : {A : Type 0} (m : Parts A) (deps : DepState) (origins : List Origin) (operations : List Item) (kept : List (Kept A)) → deps ≡ record { statuses = replicate 4096 NotBegun; edges = [] } → origins ≡ replicate 4096 unborn → operations ≡ [] → kept ≡ [] → summary_in deps origins operations kept ≡ summary_of m kept
 unfolding summary_of
-fresh_summary m deps classes operations kept new none no_operation empty =
+fresh_summary m deps origins operations kept new none no_operation empty =
     let statuses = ap (λ (d : DepState). d.statuses) new in
     let edges = ap (λ (d : DepState). d.edges) new in
-    let shows : summary_in deps classes operations kept ≡ nothing_yet =
-    λ i. record { kept = length (empty i); status = λ u. fresh_table NotBegun deps.statuses statuses u i; class = λ u. fresh_table None classes none u i; operations = no_operation i; edges = edges i } in
+    let origin : (u : ℕ) → origin_in origins u ≡ unborn = fresh_table unborn origins none in
+    let shows : summary_in deps origins operations kept ≡ nothing_yet =
+    λ i. record {
+      kept = length (empty i);
+      status = λ u. fresh_table NotBegun deps.statuses statuses u i;
+      class = λ u. (origin u i).class;
+      parent = λ u. (origin u i).parent;
+      operations = no_operation i;
+      edges = edges i;
+    } in
     shows ∙ sym (ap (summary_from m nothing_yet) empty)
 
 pub fresh_room : {X : Type 0} (x : X) (table : List X) → table ≡ replicate 4096 x → length table ≡ 4096
@@ -51,17 +60,24 @@ length-moved : (n : ℕ) (ops : List OpNo) (u : TxnId) (items : List Item) → l
 length-moved n ops u [] = refl
 length-moved n ops u (i ∷ items) = ap suc (length-moved (n + 1) ops u items)
 
+-- what becomes of operations at a commit leaves their number
+settled_few : (s : Summary) (t : TxnId) (heir : Option TxnId) → length (counted (settled (stood s t Committed) t heir)).operations ≤ length s.operations + 1
+unfolding stood inherited fated counted
+settled_few s t None = simp length-map (omega arith)
+settled_few s t (Some heir) = simp length-map (omega arith)
+
 changed_few : {A : Type 0} (m : Parts A) (s : Summary) (k : Kept A) → length (effect m s k.event).operations ≤ length s.operations + 1
 unfolding stood entered linked given inherited operated fated counted
 changed_few m s k =
     elim k.event as (λ e. length (effect m s e).operations ≤ length s.operations + 1) [
       | Begin t class ↦ omega arith
+      | Spawn t c class ↦ omega arith
       | Split t u class ops ↦ let same = length-moved 1 ops u s.operations in omega (arith, same)
       | Join t u ↦ simp length-map (omega arith)
       | Delegate t u ops ↦ let same = length-moved 1 ops u s.operations in omega (arith, same)
       | Form kind j i ↦ omega arith
       | Operate t ob op ↦ simp length-append (omega arith)
-      | Commit t ↦ simp length-map (omega arith)
+      | Commit t ↦ settled_few (linked s (edges_due m (Commit t))) t (heir_of m s t.0)
       | Abort t ↦ simp length-map (omega arith)
     ]
 

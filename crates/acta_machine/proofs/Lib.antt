@@ -3,11 +3,14 @@ pub mod Courses
 pub mod DependencyTies
 pub mod EdgeSteps
 pub mod Exactness
+pub mod FamilyTies
 pub mod Handing
 pub mod Histories
+pub mod Lines
 pub mod OperationGrowth
 pub mod SetTies
-pub mod Splitting
+pub mod Origins
+pub mod Starting
 pub mod StatusGrowth
 pub mod Steps
 pub mod Tables

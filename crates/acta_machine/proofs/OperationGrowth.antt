@@ -1,5 +1,5 @@
 -- The operations of the table are those by places, and stay so when one event is put at the end.
-use Rattle.std.proofs.Common.{◌≡◌, ℕ, suc, ◌+◌, ◌==◌, Bool, true, false, ◌&&◌, cond, List, [], ◌∷◌, ◌++◌, map, slice_get, Option, refl, sym, ap, ◌∙◌, arith, eq-eqb, inl, inr}
+use Rattle.std.proofs.Common.{◌≡◌, ℕ, suc, ◌+◌, ◌==◌, Bool, true, false, ◌&&◌, cond, List, [], ◌∷◌, ◌++◌, map, slice_get, Option, Some, None, refl, sym, ap, ◌∙◌, arith, eq-eqb, inl, inr}
 use Rattle.std.specs.List.{filter_map, cons_option}
 use Rattle.std.specs.Option.{option_map_or}
 use Rattle.std.specs.Prelude.{if◌then◌else◌}
@@ -12,7 +12,7 @@ use Rattle.acta_table.specs.declared.event.ClassId.{ClassId}
 use Rattle.acta_table.specs.declared.event.ObjId.{ObjId}
 use Rattle.acta_table.specs.declared.event.Op.{Op}
 use Rattle.acta_table.specs.declared.event.Ret.{Ret}
-use Rattle.acta_table.specs.declared.event.Event.TheVariants.{Begin, Split, Join, Delegate, Form, Operate, Commit, Abort}
+use Rattle.acta_table.specs.declared.event.Event.TheVariants.{Begin, Spawn, Split, Join, Delegate, Form, Operate, Commit, Abort}
 use Rattle.acta_table.specs.declared.event.Kept.{Kept}
 use Rattle.acta_table.specs.declared.answer.Fate.{Fate}
 use Rattle.acta_table.specs.declared.answer.Fate.TheVariants.{InProgress, Committed, Aborted}
@@ -21,7 +21,7 @@ use Rattle.acta_table.specs.declared.event.Event.{Event}
 use Rattle.acta_table.specs.declared.event.OpNo.{OpNo}
 use Rattle.acta_table.specs.Sets.{is_named}
 use Rattle.acta_axioms.specs.History.{places_behind}
-use Rattle.acta_axioms.specs.Operations.{Operation, Standing, held_by, ended_by, carried, followed, standing, operations, is_operate, number_after, operation_in, operation_at}
+use Rattle.acta_axioms.specs.Operations.{Operation, Standing, held_by, ended_by, heir, carried, followed, standing, operations, is_operate, number_after, operation_in, operation_at}
 use Rattle.acta_axioms.proofs.Growth.{at_end, shown-push, number_after-push}
 use Rattle.acta_sets.specs.declared.item.Item.{Item}
 use Rattle.acta_sets.specs.Operations.{is_open, is_held, handed_item, handed, ended_item, ended, moved_from, moved, added}
@@ -42,6 +42,13 @@ idle Aborted t = refl
 pub operations-begin : {A : Type 0} (m : Parts A) (h : List (Kept A)) (ret : Option Ret) (t : TxnId) (class : ClassId) → items_at m (h ++ (record { event = Begin t class; ret = ret }) ∷ []) ≡ items_at m h
 operations-begin {A} m h ret t class =
     let k : Kept A = record { event = Begin t class; ret = ret } in
+    shown-push item_of m h k
+    ∙ append-nil (map (λ o. item_of o (carried m o.number (standing m h o) (at_end h k))) (operations h))
+    ∙ map-same _ _ (λ o. ap (item_of o) (idle (standing m h o).fate (standing m h o).holder)) (operations h)
+
+pub operations-spawn : {A : Type 0} (m : Parts A) (h : List (Kept A)) (ret : Option Ret) (t c : TxnId) (class : ClassId) → items_at m (h ++ (record { event = Spawn t c class; ret = ret }) ∷ []) ≡ items_at m h
+operations-spawn {A} m h ret t c class =
+    let k : Kept A = record { event = Spawn t c class; ret = ret } in
     shown-push item_of m h k
     ∙ append-nil (map (λ o. item_of o (carried m o.number (standing m h o) (at_end h k))) (operations h))
     ∙ map-same _ _ (λ o. ap (item_of o) (idle (standing m h o).fate (standing m h o).holder)) (operations h)
@@ -163,13 +170,48 @@ ends t u o fate InProgress =
       | inr ne ↦ let en : t ≡ u → ⊥ = λ e. ne (sym e) in rw (ne_eqb u t ne, ne_eqb t u en) refl
     ]
 
-pub operations-commit : {A : Type 0} (m : Parts A) (h : List (Kept A)) (ret : Option Ret) (t : TxnId) → items_at m (h ++ (record { event = Commit t; ret = ret }) ∷ []) ≡ ended t.0 Committed (items_at m h)
-operations-commit {A} m h ret t =
+-- the commit of t, by places, where the heirs are these
+abbrev settled_by : (ℕ → Option TxnId) → ℕ → ℕ → Fate → Standing
+settled_by heirs t v old =
+    if Rattle.acta_axioms.specs.Operations.is_open old
+    then (if t == v then option_map_or (λ u. held_by u.0) (heirs v) (ended_by v Committed) else held_by v)
+    else record { holder = v; fate = old }
+
+-- one without an heir ends
+settles : (heirs : ℕ → Option TxnId) (t v : ℕ) (o : Operation) (old : Fate) → heirs t ≡ None → item_of o (settled_by heirs t v old) ≡ ended_item t Committed (item_of o (record { holder = v; fate = old }))
+settles heirs t v o Committed none = elim (cases_eq v t) [ inl e ↦ rw (eq-eqb v t e) refl | inr ne ↦ rw (ne_eqb v t ne) refl ]
+settles heirs t v o Aborted none = elim (cases_eq v t) [ inl e ↦ rw (eq-eqb v t e) refl | inr ne ↦ rw (ne_eqb v t ne) refl ]
+settles heirs t v o InProgress none =
+    elim (cases_eq v t) [
+      | inl e ↦ rw (eq-eqb v t e, eq-eqb t v (sym e)) (ap (λ u. item_of o (option_map_or (λ w. held_by w.0) u (ended_by v Committed))) (ap heirs e ∙ none))
+      | inr ne ↦ let en : t ≡ v → ⊥ = λ e. ne (sym e) in rw (ne_eqb v t ne, ne_eqb t v en) refl
+    ]
+
+pub operations-commit : {A : Type 0} (m : Parts A) (h : List (Kept A)) (ret : Option Ret) (t : TxnId) → heir m h t.0 ≡ None → items_at m (h ++ (record { event = Commit t; ret = ret }) ∷ []) ≡ ended t.0 Committed (items_at m h)
+operations-commit {A} m h ret t none =
     let k : Kept A = record { event = Commit t; ret = ret } in
     shown-push item_of m h k
     ∙ append-nil (map (λ o. item_of o (carried m o.number (standing m h o) (at_end h k))) (operations h))
-    ∙ map-same _ _ (λ o. ends t.0 (standing m h o).holder o Committed (standing m h o).fate) (operations h)
+    ∙ map-same _ _ (λ o. settles (heir m h) t.0 (standing m h o).holder o (standing m h o).fate none) (operations h)
     ∙ sym (map-map (ended_item t.0 Committed) (λ o. item_of o (standing m h o)) (operations h))
+
+-- one with an heir leaves all to it
+leaves : (heirs : ℕ → Option TxnId) (t v : ℕ) (u : TxnId) (o : Operation) (old : Fate) → heirs t ≡ Some u → item_of o (settled_by heirs t v old) ≡ handed_item t u (item_of o (record { holder = v; fate = old }))
+leaves heirs t v u o Committed is = elim (cases_eq v t) [ inl e ↦ rw (eq-eqb v t e) refl | inr ne ↦ rw (ne_eqb v t ne) refl ]
+leaves heirs t v u o Aborted is = elim (cases_eq v t) [ inl e ↦ rw (eq-eqb v t e) refl | inr ne ↦ rw (ne_eqb v t ne) refl ]
+leaves heirs t v u o InProgress is =
+    elim (cases_eq v t) [
+      | inl e ↦ rw (eq-eqb v t e, eq-eqb t v (sym e)) (ap (λ x. item_of o (option_map_or (λ w. held_by w.0) x (ended_by v Committed))) (ap heirs e ∙ is))
+      | inr ne ↦ let en : t ≡ v → ⊥ = λ e. ne (sym e) in rw (ne_eqb v t ne, ne_eqb t v en) refl
+    ]
+
+pub operations-inherited : {A : Type 0} (m : Parts A) (h : List (Kept A)) (ret : Option Ret) (t u : TxnId) → heir m h t.0 ≡ Some u → items_at m (h ++ (record { event = Commit t; ret = ret }) ∷ []) ≡ handed t.0 u (items_at m h)
+operations-inherited {A} m h ret t u is =
+    let k : Kept A = record { event = Commit t; ret = ret } in
+    shown-push item_of m h k
+    ∙ append-nil (map (λ o. item_of o (carried m o.number (standing m h o) (at_end h k))) (operations h))
+    ∙ map-same _ _ (λ o. leaves (heir m h) t.0 (standing m h o).holder u o (standing m h o).fate is) (operations h)
+    ∙ sym (map-map (handed_item t.0 u) (λ o. item_of o (standing m h o)) (operations h))
 
 pub operations-abort : {A : Type 0} (m : Parts A) (h : List (Kept A)) (ret : Option Ret) (t : TxnId) → items_at m (h ++ (record { event = Abort t; ret = ret }) ∷ []) ≡ ended t.0 Aborted (items_at m h)
 operations-abort {A} m h ret t =

@@ -16,9 +16,11 @@ use Rattle.acta_axioms.proofs.Numbers.{numbers-shown}
 use Rattle.acta_sets.specs.declared.item.Item.{Item}
 use Rattle.acta_sets.specs.Operations.{is_open, is_aborted, is_held, is_of_others, is_live, operations_where}
 use Rattle.acta_machine.specs.Values.{live_ops}
+use Rattle.acta_machine.specs.Changes.{summary_of}
+use Rattle.acta_machine.specs.Families.{spared}
 use Rattle.acta_machine.specs.Table.{State, value_in, access_set_in, conflict_set_in, view_set_in}
 use Rattle.acta_machine.specs.Places.{item_of, items_at, numbers_of, value_at, FollowsPlaces}
-use Rattle.acta_machine.proofs.ValueTies.{value-places, others_alike}
+use Rattle.acta_machine.proofs.ValueTies.{value-places, others-places}
 
 pub filter-same : {X : Type 0} (f g : X → Bool) → ((x : X) → f x ≡ g x) → (xs : List X) → filter f xs ≡ filter g xs
 filter-same f g same [] = refl
@@ -63,8 +65,8 @@ access-places state t follows =
 
 pub conflict-places : {A : Type 0} (state : State A) (t : ℕ) → FollowsPlaces state → conflict_set_in state t ≡ numbers_of (by_places.conflict_set state.model state.kept t)
 conflict-places state t follows =
-    where-places state.model state.kept _ (is_of_others t []) (λ o. by_places.is_of_others state.model state.kept t (standing state.model state.kept o)) follows.shows.operations
-    (λ o. let s = standing state.model state.kept o in sym (others_alike s.fate t s.holder))
+    where-places state.model state.kept _ (is_of_others t (spared state.model (summary_of state.model state.kept) t)) (λ o. by_places.is_of_others state.model state.kept t (standing state.model state.kept o)) follows.shows.operations
+    (others-places state.model state.kept follows.shows t)
 
 pub view-places : {A : Type 0} (state : State A) → FollowsPlaces state → view_set_in state ≡ numbers_of (by_places.view_set state.model state.kept)
 view-places state follows =
@@ -74,7 +76,7 @@ view-places state follows =
 pub values-places : {A : Type 0} (state : State A) (object : ℕ) → FollowsPlaces state → value_in state object ≡ value_at state object
 values-places {A} state object follows = of (kind_at state.model object)
   where
-    of : (k : Option Kind) → option_map (λ kind. state_after {A = A} (first_state kind) (live_ops kind (Rattle.acta_machine.specs.Changes.summary_of state.model state.kept).operations object)) k
+    of : (k : Option Kind) → option_map (λ kind. state_after {A = A} (first_state kind) (live_ops kind (summary_of state.model state.kept).operations object)) k
         ≡ option_map (Rattle.acta_axioms.specs.Values.value state.model state.kept object) k
     of None = refl
     of (Some kind) = ap Some (value-places state.model state.kept _ object kind follows.shows.operations)

@@ -1,9 +1,10 @@
 -- An event that breaks no rule leaves a history that meets the axioms, and a summary that is that by places.
-use Rattle.std.proofs.Common.{◌≡◌, ℕ, Bool, true, false, ◌&&◌, ◌||◌, not, List, [], ◌∷◌, ◌++◌, map, filter, Option, Some, None, refl, sym, ap, ◌∙◌, subst}
+use Rattle.std.proofs.Common.{◌≡◌, ℕ, Bool, true, false, ◌&&◌, ◌||◌, not, List, [], ◌∷◌, ◌++◌, map, filter, Option, Some, None, refl, sym, ap, ◌∙◌, subst, ◌⊎◌, inl, inr}
 use Rattle.std.specs.Prelude.{option_map, option_and_then, option_to_list, is_some, IfSome, if◌then◌else◌}
 use Rattle.std.specs.List.{list_any}
 use Rattle.std.specs.Option.{option_map_or, option_or}
 use Rattle.std.specs.Ordering.{int_eq}
+use Rattle.std.proofs.lemmas.Bool.{true≢false}
 use Rattle.std.proofs.lemmas.Cmp.{int_eq_equiv}
 use Rattle.acta_table.specs.declared.dep.Dep.{Dep}
 use Rattle.acta_table.specs.declared.event.TxnId.{TxnId}
@@ -13,49 +14,56 @@ use Rattle.acta_table.specs.declared.event.Op.{Op}
 use Rattle.acta_table.specs.declared.event.Ret.{Ret}
 use Rattle.acta_table.specs.declared.event.Ret.TheVariants.{Done, Value, Flag}
 use Rattle.acta_table.specs.declared.event.EventKind.{EventKind}
-use Rattle.acta_table.specs.declared.event.EventKind.TheVariants.{Begin as begin_kind, Split as split_kind, Join as join_kind, Delegate as delegate_kind, Form as form_kind, Operate as operate_kind, Commit as commit_kind, Abort as abort_kind}
+use Rattle.acta_table.specs.declared.event.EventKind.TheVariants.{Begin as begin_kind, Spawn as spawn_kind, Split as split_kind, Join as join_kind, Delegate as delegate_kind, Form as form_kind, Operate as operate_kind, Commit as commit_kind, Abort as abort_kind}
 use Rattle.acta_table.specs.declared.event.Event.{Event}
-use Rattle.acta_table.specs.declared.event.Event.TheVariants.{Begin, Split, Join, Delegate, Form, Operate, Commit, Abort}
+use Rattle.acta_table.specs.declared.event.Event.TheVariants.{Begin, Spawn, Split, Join, Delegate, Form, Operate, Commit, Abort}
 use Rattle.acta_table.specs.declared.event.Kept.{Kept}
 use Rattle.acta_table.specs.declared.answer.Status.{Status}
-use Rattle.acta_table.specs.declared.answer.Status.TheVariants.{NotBegun, InProgress}
-use Rattle.acta_table.specs.declared.answer.Rule.TheVariants.{NotInProgress, AlreadyBegun, NotInModel, PartnerNotInProgress, NotResponsible, PartialDelegation, BadSet, Conflict, FormTooLate}
+use Rattle.acta_table.specs.declared.answer.Status.TheVariants.{NotBegun, InProgress, Committed as has_committed}
+use Rattle.acta_table.specs.declared.answer.Rule.TheVariants.{NotInProgress, AlreadyBegun, NotInModel, PartnerNotInProgress, NotResponsible, PartialDelegation, BadSet, Conflict, FormTooLate, NoHeir}
 use Rattle.acta_table.specs.declared.answer.Refusal.{Refusal}
+use Rattle.acta_table.specs.declared.model.Class.{Class}
 use Rattle.acta_table.specs.declared.model.Kind.{Kind}
 use Rattle.acta_table.specs.declared.model.Parts.{Parts}
-use Rattle.acta_table.specs.Classes.{class_at, kind_at, can_start, can_do, is_whole}
+use Rattle.acta_table.specs.Classes.{class_at, kind_at, can_start, can_do, is_whole, has_heir}
 use Rattle.acta_table.specs.Dependencies.{is_begin_kind}
 use Rattle.acta_table.specs.Edges.{formed}
-use Rattle.acta_table.specs.Faults.{lowest_fault}
+use Rattle.acta_table.specs.Faults.{lowest_fault, lacks_parents}
 use Rattle.acta_table.specs.Numbered.{smallest}
 use Rattle.acta_table.specs.Refusals.{broken_by}
 use Rattle.acta_table.specs.Sets.{numbers_of, is_named}
 use Rattle.acta_table.specs.declared.event.OpNo.{OpNo}
 use Rattle.acta_objects.specs.Objects.{suits}
-use Rattle.acta_axioms.specs.History.{class_number, has_class, has_begun, has_ended, is_in_progress}
-use Rattle.acta_axioms.specs.Faults.{has_number, ill_formed, lacks_kind, cannot_form, formed_late, wrong_return, is_due, is_same_ret, when}
+use Rattle.acta_axioms.specs.History.{starts, class_number, has_class, has_begun, has_ended, is_in_progress, spawner, parent_of}
+use Rattle.acta_axioms.specs.Faults.{has_number, ill_formed, lacks_kind, cannot_form, without_heir, idle, formed_late, wrong_return, is_due, is_same_ret, when}
+use Rattle.acta_axioms.specs.History.{class_of}
+use Rattle.acta_axioms.specs.Operations.{heir}
 use Rattle.acta_axioms.specs.Legal.{is_legal}
 use Rattle.acta_axioms.specs.Claims.{MeetsAxioms, IsOrderly, status_at}
 use Rattle.acta_axioms.specs.Values as by_places
 use Rattle.acta_axioms.proofs.EdgeGrowth.{EndsInProgress, edges-push, apart-push, course-orderly-push, orderly-none}
+use Rattle.acta_axioms.proofs.Growth.{class_in, class_of-push, parent_of-push}
 use Rattle.acta_axioms.proofs.Statuses.{is_under_way, is_ended_status, in_progress-status, has_begun-status, status_at-push}
-use Rattle.acta_axioms.proofs.Faultless.{IsFaultless, meets-none, meets-push, well_formed, faultless-begin, faultless-split, faultless-join, faultless-delegate, faultless-form, faultless-commit, faultless-abort}
+use Rattle.acta_axioms.proofs.Faultless.{IsFaultless, meets-none, meets-push, well_formed, faultless-begin, faultless-spawn, faultless-split, faultless-join, faultless-delegate, faultless-form, faultless-commit, faultless-abort}
 use Rattle.acta_table.specs.declared.answer.Fate.TheVariants.{Committed, Aborted}
 use Rattle.acta_deps.specs.Statuses as by_status
 use Rattle.acta_sets.specs.Operations.{added, moved, handed, ended}
 use Rattle.acta_machine.specs.Summary.{Summary, stood, entered, linked, given, inherited, operated, fated, counted}
-use Rattle.acta_machine.specs.Changes.{effect, summary_of}
+use Rattle.acta_machine.specs.Changes.{settled, effect, summary_of}
+use Rattle.acta_machine.specs.Families.{heir_of}
+use Rattle.acta_machine.specs.Families as families
 use Rattle.acta_machine.specs.Values.{return_due}
-use Rattle.acta_machine.specs.Rules.{not_in_progress, already_begun, not_in_model, partner_not_in_progress, not_responsible, wants_whole, partial_delegation, bad_set, conflict, form_too_late, fails, too_late, lowest_broken, earlier_broken, dependency, class_of, txn_may, class_may, forms_none}
+use Rattle.acta_machine.specs.Rules.{not_in_progress, already_begun, not_in_model, partner_not_in_progress, not_responsible, wants_whole, partial_delegation, bad_set, conflict, form_too_late, fails, too_late, lost_heir, no_heir, lowest_broken, earlier_broken, dependency, txn_may, class_may, forms_none}
 use Rattle.acta_machine.specs.Table.{State, kept_as, answered, answer_to}
-use Rattle.acta_machine.specs.Places.{ShowsPlaces, FollowsPlaces, RefusesIllegal, is_dependency_rule, is_refused_by_dependency}
+use Rattle.acta_machine.specs.Places.{items_at, HasParent, ShowsPlaces, FollowsPlaces, RefusesIllegal, is_dependency_rule, is_refused_by_dependency}
 use Rattle.acta_machine.proofs.Broken.{by_none, not_broken, in_progress, not_begun}
-use Rattle.acta_machine.proofs.Unbroken.{Unbroken, unbroken, none-earlier, none-dependency}
+use Rattle.acta_machine.proofs.Unbroken.{Unbroken, unbroken, none-earlier, none-dependency, none-heirless}
+use Rattle.acta_machine.proofs.FamilyTies.{has_class-places, heir-places}
 use Rattle.acta_machine.proofs.Exactness.{IsChecked, exact-on, dependency-rule}
 use Rattle.acta_machine.proofs.Histories.{summary_more}
-use Rattle.acta_machine.proofs.StatusGrowth.{statuses-begin, statuses-split, statuses-commit, statuses-abort, statuses-join, ended-places, begun-places, no_class, class-stays, classes-begin, classes-split}
-use Rattle.acta_machine.proofs.OperationGrowth.{operations-begin, operations-split, operations-join, operations-delegate, operations-form, operations-operate, operations-commit, operations-abort}
-use Rattle.acta_machine.proofs.Splitting.{split_due}
+use Rattle.acta_machine.proofs.StatusGrowth.{statuses-begin, statuses-spawn, statuses-split, statuses-commit, statuses-abort, statuses-join, ended-places, begun-places, no_class, class-stays, classes-begin, classes-spawn, classes-split, parent-stays, parents-start}
+use Rattle.acta_machine.proofs.OperationGrowth.{operations-begin, operations-spawn, operations-split, operations-join, operations-delegate, operations-form, operations-operate, operations-commit, operations-inherited, operations-abort}
+use Rattle.acta_machine.proofs.Starting.{spawn_due, split_due, rooted-class}
 use Rattle.acta_machine.proofs.Handing.{holds, named-held, held-named, none-unheld, none-left}
 use Rattle.acta_machine.proofs.SetTies.{held-places}
 use Rattle.acta_machine.proofs.ValueTies.{return-places, conflicting-none}
@@ -78,7 +86,7 @@ has_no_lack : {A : Type 0} (m : Parts A) (s : Summary) (h : List (Kept A)) (kind
 has_no_lack m s h kind t same may =
     ap (λ n. option_map_or (λ k. not (can_do kind k)) (option_and_then (class_at m) n) false) (sym same)
     ∙ ap (λ k. option_map_or (λ c. not (can_do kind c)) k false) (through (class_at m) (λ c. c.0) (s.class t))
-    ∙ lacks_nothing (can_do kind) (class_of m s t) may
+    ∙ lacks_nothing (can_do kind) (families.class_of m s t) may
 
 same_int : (v : _) → int_eq v v ≡ true
 same_int v = int_eq_equiv.refl v
@@ -117,6 +125,14 @@ both_true false b e = cc
 
 no_class_lacks : {A : Type 0} (m : Parts A) (h : List (Kept A)) (kind : EventKind) (t : ℕ) → has_begun h t ≡ false → lacks_kind m h kind t ≡ false
 no_class_lacks m h kind t new = ap (λ n. option_map_or (λ k. not (can_do kind k)) (option_and_then (class_at m) n) false) (no_class h t new)
+
+-- one of three, where the first is with one of the others never
+no_heir_where : (has begin split : Bool) → (has && (begin || split)) ≡ false → (begin ≡ true) ⊎ (split ≡ true) → has ≡ false
+no_heir_where false begin split e which = refl
+no_heir_where true true split e which = cc
+no_heir_where true false true e which = cc
+no_heir_where true false false e (inl is) = absurd (true≢false (sym is))
+no_heir_where true false false e (inr is) = absurd (true≢false (sym is))
 
 module _ {A : Type 0} (m : Parts A) (h : List (Kept A)) (shows : ShowsPlaces m h (summary_of m h)) where
   abbrev s : Summary
@@ -167,18 +183,37 @@ module _ {A : Type 0} (m : Parts A) (h : List (Kept A)) (shows : ShowsPlaces m h
 
   -- the class of t wants the whole by places where it does by the table
   wants-places : (t : ℕ) → has_class (λ k. is_whole k.extent) m h t ≡ wants_whole m s t
-  wants-places t =
-      sym (ap (λ k. option_map_or (λ c. is_whole c.extent) k false) (sym (through (class_at m) (λ c. c.0) (s.class t)) ∙ ap (option_and_then (class_at m)) (shows.class t)))
+  wants-places t = has_class-places (λ k. is_whole k.extent) m h s shows t
 
   may_do : (kind : EventKind) (t : TxnId) → txn_may m s t.0 kind ≡ true → when (lacks_kind m h kind t.0 || false) t.0 ≡ []
   may_do kind t may = λ i. when (has_no_lack m s h kind t.0 (shows.class t.0) may i || false) t.0
 
-  faultless-of : (e : Event A) → Unbroken m s e → IsFaultless m h (item e)
-  unfolding already_begun not_in_progress not_in_model partner_not_in_progress not_responsible partial_delegation bad_set conflict form_too_late
-  faultless-of (Begin t class) u =
+  -- one that commits has an heir in progress, where its class wants one
+  heir-ready : (t : TxnId) → HasParent m h t.0 → option_and_then (λ p. fails s by_status.is_in_progress p.0) (heir_of m s t.0) ≡ None → without_heir m h (Commit t) ≡ []
+  heir-ready t parent none =
+      of_class (has_class (λ k. has_heir k.at_commit) m h t.0) (parent_of h t.0) parent
+      (ap (option_and_then (λ p. fails s by_status.is_in_progress p.0)) (sym (heir-places m h s shows t.0)) ∙ none)
+    where
+      of_class : (b : Bool) (p : Option TxnId) → (b ≡ true → is_some p ≡ true) → option_and_then (λ q. fails s by_status.is_in_progress q.0) (if b then p else None) ≡ None → (if b then option_map_or (λ u. idle h u.0) p (0 ∷ []) else []) ≡ []
+      of_class false p has e = refl
+      of_class true None has e = absurd (true≢false (sym (has refl)))
+      of_class true (Some p) has e = ap (λ b. when (not b) p.0) (on_places_test p.0 (in_progress s NoHeir p.0 (ap (broken_by NoHeir) e)))
+
+  faultless-of : ((t : ℕ) → HasParent m h t) → (e : Event A) → Unbroken m s e → no_heir m s e ≡ None → IsFaultless m h (item e)
+  unfolding already_begun not_in_progress not_in_model partner_not_in_progress not_responsible partial_delegation bad_set conflict form_too_late no_heir
+  faultless-of parents (Begin t class) u ready =
       let may = lacks_nothing (can_start begin_kind) (class_at m class.0) (not_broken (class_may m class.0 begin_kind) NotInModel u.model) in
       faultless-begin m h t class (new_on_places t.0 (not_begun s AlreadyBegun t.0 u.begun)) (well-formed m s (Begin t class) u) (λ i. when (may i || false) t.0)
-  faultless-of (Split t v class ops) u =
+  faultless-of parents (Spawn t v class) u ready =
+      let both = both_true (class_may m class.0 spawn_kind) (txn_may m s t.0 spawn_kind) (not_broken _ NotInModel u.model) in
+      let starts = lacks_nothing (can_start spawn_kind) (class_at m class.0) both.0 in
+      let may = has_no_lack m s h spawn_kind t.0 (shows.class t.0) both.1 in
+      faultless-spawn m h t v class
+      (on_places t.0 (in_progress s NotInProgress t.0 u.progress))
+      (new_on_places v.0 (not_begun s AlreadyBegun v.0 u.begun))
+      (well-formed m s (Spawn t v class) u)
+      (λ i. when (starts i || (may i || false)) t.0)
+  faultless-of parents (Split t v class ops) u ready =
       let responsible = by_none NotResponsible _ u.responsible in
       let known = by_none BadSet _ u.set in
       let held = held-places m h s.operations t.0 shows.operations in
@@ -192,13 +227,13 @@ module _ {A : Type 0} (m : Parts A) (h : List (Kept A)) (shows : ShowsPlaces m h
       (λ i. when (starts i || (may i || false)) t.0)
       (ap (λ ns. filter (λ o. not (has_number ns o)) (numbers_of ops)) held ∙ none-unheld s.operations t.0 (numbers_of ops) (named-held s ops t.0 responsible known))
       ((λ i. if wants-places t.0 i then filter (λ o. not (is_named ops o)) (held i) else []) ∙ none-left s ops t.0 (wants_whole m s t.0) (by_none PartialDelegation _ u.whole))
-  faultless-of (Join t v) u =
+  faultless-of parents (Join t v) u ready =
       faultless-join m h t v
       (on_places t.0 (in_progress s NotInProgress t.0 u.progress))
       (on_places v.0 (in_progress s PartnerNotInProgress v.0 u.partner))
       (well-formed m s (Join t v) u)
       (may_do join_kind t (not_broken (txn_may m s t.0 join_kind) NotInModel u.model))
-  faultless-of (Delegate t v ops) u =
+  faultless-of parents (Delegate t v ops) u ready =
       let responsible = by_none NotResponsible _ u.responsible in
       let known = by_none BadSet _ u.set in
       let held = held-places m h s.operations t.0 shows.operations in
@@ -209,10 +244,10 @@ module _ {A : Type 0} (m : Parts A) (h : List (Kept A)) (shows : ShowsPlaces m h
       (may_do delegate_kind t (not_broken (txn_may m s t.0 delegate_kind) NotInModel u.model))
       (ap (λ ns. filter (λ o. not (has_number ns o)) (numbers_of ops)) held ∙ none-unheld s.operations t.0 (numbers_of ops) (named-held s ops t.0 responsible known))
       ((λ i. if wants-places t.0 i then filter (λ o. not (is_named ops o)) (held i) else []) ∙ none-left s ops t.0 (wants_whole m s t.0) (by_none PartialDelegation _ u.whole))
-  faultless-of (Form kind j i) u =
+  faultless-of parents (Form kind j i) u ready =
       faultless-form m h kind j i (well-formed m s (Form kind j i) u) (λ n. when (may_form kind j i u n) j.0) (in_time kind j i (by_none FormTooLate _ u.time))
-  faultless-of (Operate t ob op) u =
-      let calm = conflicting-none m h s.operations t.0 ob op shows.operations (by_none Conflict _ u.conflict) in
+  faultless-of parents (Operate t ob op) u ready =
+      let calm = conflicting-none m h t.0 ob op shows (by_none Conflict _ u.conflict) in
       let due = return-places m h s.operations ob.0 op shows.operations in
       record {
         begun_once = refl;
@@ -226,24 +261,49 @@ module _ {A : Type 0} (m : Parts A) (h : List (Kept A)) (shows : ShowsPlaces m h
         hands_whole = refl;
         conflict = ap (map (λ o. o.number)) calm;
         return = ap (λ r. wrong_return m h r (Operate t ob op)) due ∙ due_return m h ob.0 _ op;
+        heir = refl;
         formed_in_time = refl;
       }
-  faultless-of (Commit t) u =
+  faultless-of parents (Commit t) u ready =
       faultless-commit m h t (on_places t.0 (in_progress s NotInProgress t.0 u.progress)) (well-formed m s (Commit t) u)
       (may_do commit_kind t (not_broken (txn_may m s t.0 commit_kind) NotInModel u.model))
-  faultless-of (Abort t) u =
+      (heir-ready t (parents t.0) (by_none NoHeir _ ready))
+  faultless-of parents (Abort t) u ready =
       faultless-abort m h t (on_places t.0 (in_progress s NotInProgress t.0 u.progress)) (well-formed m s (Abort t) u)
       (may_do abort_kind t (not_broken (txn_may m s t.0 abort_kind) NotInModel u.model))
+
+  -- one that is new has not begun by places
+  unborn : (t : ℕ) → s.status t ≡ NotBegun → has_begun h t ≡ false
+  unborn t new = has_begun-status h t (ap is_ended_status (new_on_places t new)) ∙ ap is_under_way (new_on_places t new)
+
+  born : (t : ℕ) → s.status t ≡ InProgress → has_begun h t ≡ true
+  born t on = has_begun-status h t (ap is_ended_status (on_places t on)) ∙ ap is_under_way (on_places t on)
 
   shows-begin : (t : TxnId) (class : ClassId) (ret : Option Ret) → Unbroken m s (Begin t class) → ShowsPlaces m (h ++ (record { event = Begin t class; ret = ret }) ∷ []) (effect {A = A} m s (Begin t class))
   unfolding already_begun stood entered linked counted
   shows-begin t class ret u =
+      let k : Kept A = record { event = Begin t class; ret = ret } in
       let new = not_begun s AlreadyBegun t.0 u.begun in
       record {
         status = statuses-begin s.status h ret t class shows.status new;
-        class = classes-begin s.class h ret t class shows.class (has_begun-status h t.0 (ap is_ended_status (new_on_places t.0 new)) ∙ ap is_under_way (new_on_places t.0 new));
+        class = classes-begin s.class h ret t class shows.class (unborn t.0 new);
+        parent = parents-start s.parent h k t None (λ w. refl) refl shows.parent (unborn t.0 new);
         operations = shows.operations ∙ sym (operations-begin m h ret t class);
         edges = shows.edges ∙ sym (edges-push m h (record { event = Begin t class; ret = ret }));
+      }
+
+  shows-spawn : (t v : TxnId) (class : ClassId) (ret : Option Ret) → Unbroken m s (Spawn t v class) → ShowsPlaces m (h ++ (record { event = Spawn t v class; ret = ret }) ∷ []) (effect {A = A} m s (Spawn t v class))
+  unfolding already_begun not_in_progress stood entered linked counted
+  shows-spawn t v class ret u =
+      let k : Kept A = record { event = Spawn t v class; ret = ret } in
+      let new = not_begun s AlreadyBegun v.0 u.begun in
+      let on = in_progress s NotInProgress t.0 u.progress in
+      record {
+        status = statuses-spawn s.status h ret t v class shows.status new;
+        class = classes-spawn s.class h ret t v class shows.class (unborn v.0 new);
+        parent = parents-start s.parent h k v (Some t) (λ w. refl) (ap (λ b. if b then Some t else None) (born t.0 on)) shows.parent (unborn v.0 new);
+        operations = shows.operations ∙ sym (operations-spawn m h ret t v class);
+        edges = ap (λ es. formed es (spawn_due m t v class)) shows.edges ∙ sym (edges-push m h k);
       }
 
   shows-split : (t v : TxnId) (class : ClassId) (ops : List OpNo) (ret : Option Ret) → Unbroken m s (Split t v class ops) → ShowsPlaces m (h ++ (record { event = Split t v class ops; ret = ret }) ∷ []) (effect {A = A} m s (Split t v class ops))
@@ -254,7 +314,8 @@ module _ {A : Type 0} (m : Parts A) (h : List (Kept A)) (shows : ShowsPlaces m h
       let all = named-held s ops t.0 (by_none NotResponsible _ u.responsible) (by_none BadSet _ u.set) in
       record {
         status = statuses-split s.status h ret t v class ops shows.status new;
-        class = classes-split s.class h ret t v class ops shows.class (has_begun-status h v.0 (ap is_ended_status (new_on_places v.0 new)) ∙ ap is_under_way (new_on_places v.0 new));
+        class = classes-split s.class h ret t v class ops shows.class (unborn v.0 new);
+        parent = parents-start s.parent h k v None (λ w. refl) refl shows.parent (unborn v.0 new);
         operations = ap (moved ops v) shows.operations ∙ sym (operations-split m h ret t v class ops (λ n named. ap (λ items. holds items t.0 n) (sym shows.operations) ∙ held-named s.operations t.0 ops all n named));
         edges = ap (λ es. formed es (split_due m t v class)) shows.edges ∙ sym (edges-push m h k);
       }
@@ -266,6 +327,7 @@ module _ {A : Type 0} (m : Parts A) (h : List (Kept A)) (shows : ShowsPlaces m h
       record {
         status = statuses-join s.status h ret t v shows.status (in_progress s NotInProgress t.0 u.progress);
         class = λ w. shows.class w ∙ sym (class-stays h k w refl);
+        parent = λ w. shows.parent w ∙ sym (parent-stays h k w refl);
         operations = ap (handed t.0 v) shows.operations ∙ sym (operations-join m h ret t v);
         edges = shows.edges ∙ sym (edges-push m h k);
       }
@@ -278,6 +340,7 @@ module _ {A : Type 0} (m : Parts A) (h : List (Kept A)) (shows : ShowsPlaces m h
       record {
         status = λ w. shows.status w ∙ sym (status_at-push h k w);
         class = λ w. shows.class w ∙ sym (class-stays h k w refl);
+        parent = λ w. shows.parent w ∙ sym (parent-stays h k w refl);
         operations = ap (moved ops v) shows.operations ∙ sym (operations-delegate m h ret t v ops (λ n named. ap (λ items. holds items t.0 n) (sym shows.operations) ∙ held-named s.operations t.0 ops all n named));
         edges = shows.edges ∙ sym (edges-push m h k);
       }
@@ -289,6 +352,7 @@ module _ {A : Type 0} (m : Parts A) (h : List (Kept A)) (shows : ShowsPlaces m h
       record {
         status = λ v. shows.status v ∙ sym (status_at-push h k v);
         class = λ v. shows.class v ∙ sym (class-stays h k v refl);
+        parent = λ v. shows.parent v ∙ sym (parent-stays h k v refl);
         operations = shows.operations ∙ sym (operations-form m h ret kind j i);
         edges = ap (λ es. formed es ((record { kind = kind; j = j; i = i }) ∷ [])) shows.edges ∙ sym (edges-push m h k);
       }
@@ -300,20 +364,42 @@ module _ {A : Type 0} (m : Parts A) (h : List (Kept A)) (shows : ShowsPlaces m h
       record {
         status = λ v. shows.status v ∙ sym (status_at-push h k v);
         class = λ v. shows.class v ∙ sym (class-stays h k v refl);
+        parent = λ v. shows.parent v ∙ sym (parent-stays h k v refl);
         operations = ap (λ items. added items t ob op) shows.operations ∙ sym (operations-operate m h ret t ob op);
         edges = shows.edges ∙ sym (edges-push m h k);
       }
 
-  shows-commit : (t : TxnId) (ret : Option Ret) → ShowsPlaces m (h ++ (record { event = Commit t; ret = ret }) ∷ []) (effect {A = A} m s (Commit t))
-  unfolding stood fated linked counted
-  shows-commit t ret =
+  -- what becomes of operations at a commit
+  settled-operations : (t : TxnId) (ret : Option Ret) (o : Option TxnId) → heir m h t.0 ≡ o → (settled s t o).operations ≡ items_at m (h ++ (record { event = Commit t; ret = ret }) ∷ [])
+  unfolding inherited fated
+  settled-operations t ret None none = ap (ended t.0 Committed) shows.operations ∙ sym (operations-commit m h ret t none)
+  settled-operations t ret (Some v) is = ap (handed t.0 v) shows.operations ∙ sym (operations-inherited m h ret t v is)
+
+  -- all else that a commit leaves
+  shows-settled : (t : TxnId) (ret : Option Ret) (o : Option TxnId) → heir m h t.0 ≡ o → ShowsPlaces m (h ++ (record { event = Commit t; ret = ret }) ∷ []) (counted (settled (stood s t has_committed) t o))
+  unfolding stood inherited fated counted
+  shows-settled t ret None none =
       let k : Kept A = record { event = Commit t; ret = ret } in
       record {
         status = statuses-commit s.status h ret t shows.status;
         class = λ v. shows.class v ∙ sym (class-stays h k v refl);
-        operations = ap (ended t.0 Committed) shows.operations ∙ sym (operations-commit m h ret t);
+        parent = λ v. shows.parent v ∙ sym (parent-stays h k v refl);
+        operations = settled-operations t ret None none;
         edges = shows.edges ∙ sym (edges-push m h k);
       }
+  shows-settled t ret (Some w) is =
+      let k : Kept A = record { event = Commit t; ret = ret } in
+      record {
+        status = statuses-commit s.status h ret t shows.status;
+        class = λ v. shows.class v ∙ sym (class-stays h k v refl);
+        parent = λ v. shows.parent v ∙ sym (parent-stays h k v refl);
+        operations = settled-operations t ret (Some w) is;
+        edges = shows.edges ∙ sym (edges-push m h k);
+      }
+
+  shows-commit : (t : TxnId) (ret : Option Ret) → ShowsPlaces m (h ++ (record { event = Commit t; ret = ret }) ∷ []) (effect {A = A} m s (Commit t))
+  unfolding linked
+  shows-commit t ret = shows-settled t ret (heir_of m s t.0) (sym (heir-places m h s shows t.0))
 
   shows-abort : (t : TxnId) (ret : Option Ret) → Unbroken m s (Abort t) → ShowsPlaces m (h ++ (record { event = Abort t; ret = ret }) ∷ []) (effect {A = A} m s (Abort t))
   unfolding not_in_progress stood fated linked counted
@@ -322,12 +408,14 @@ module _ {A : Type 0} (m : Parts A) (h : List (Kept A)) (shows : ShowsPlaces m h
       record {
         status = statuses-abort s.status h ret t shows.status (in_progress s NotInProgress t.0 u.progress);
         class = λ v. shows.class v ∙ sym (class-stays h k v refl);
+        parent = λ v. shows.parent v ∙ sym (parent-stays h k v refl);
         operations = ap (ended t.0 Aborted) shows.operations ∙ sym (operations-abort m h ret t);
         edges = shows.edges ∙ sym (edges-push m h k);
       }
 
   pub shows_on : (e : Event A) (ret : Option Ret) → Unbroken m s e → ShowsPlaces m (h ++ (record { event = e; ret = ret }) ∷ []) (effect m s e)
   shows_on (Begin t class) ret u = shows-begin t class ret u
+  shows_on (Spawn t v class) ret u = shows-spawn t v class ret u
   shows_on (Split t v class ops) ret u = shows-split t v class ops ret u
   shows_on (Join t v) ret u = shows-join t v ret u
   shows_on (Delegate t v ops) ret u = shows-delegate t v ops ret u
@@ -336,10 +424,42 @@ module _ {A : Type 0} (m : Parts A) (h : List (Kept A)) (shows : ShowsPlaces m h
   shows_on (Commit t) ret u = shows-commit t ret
   shows_on (Abort t) ret u = shows-abort t ret u
 
+  -- a class that may start by a begin or a split commits to no parent
+  no-heir-class : (class : ℕ) (kind : EventKind) → lowest_fault m ≡ None → class_may m class kind ≡ true → (kind ≡ begin_kind) ⊎ (kind ≡ split_kind) → option_map_or (λ k. has_heir k.at_commit) (class_at m class) false ≡ false
+  no-heir-class class kind faultless may which = of_class (class_at m class) (rooted-class m faultless class) may which
+    where
+      of_class : (k : Option (Class A)) → option_map_or lacks_parents k false ≡ false → option_map_or (can_start kind) k false ≡ true → (kind ≡ begin_kind) ⊎ (kind ≡ split_kind) → option_map_or (λ c. has_heir c.at_commit) k false ≡ false
+      of_class None rooted may which = refl
+      of_class (Some k) rooted may (inl is) = no_heir_where (has_heir k.at_commit) k.starts.begin k.starts.split rooted (inl (ap (λ x. can_start x k) (sym is) ∙ may))
+      of_class (Some k) rooted may (inr is) = no_heir_where (has_heir k.at_commit) k.starts.begin k.starts.split rooted (inr (ap (λ x. can_start x k) (sym is) ∙ may))
+
+  -- one that is started with a class that commits to its parent has a parent
+  started-parent : lowest_fault m ≡ None → (e : Event A) → Unbroken m s e → (t : ℕ) → starts t e ≡ true → option_map_or (λ k. has_heir k.at_commit) (class_in m e) false ≡ true → is_some (spawner h e) ≡ true
+  unfolding not_in_model not_in_progress
+  started-parent faultless (Begin v class) u t is has =
+      absurd (true≢false (sym has ∙ no-heir-class class.0 begin_kind faultless (not_broken (class_may m class.0 begin_kind) NotInModel u.model) (inl refl)))
+  started-parent faultless (Spawn v c class) u t is has =
+      ap (λ b. is_some (if b then Some v else None)) (born v.0 (in_progress s NotInProgress v.0 u.progress))
+  started-parent faultless (Split v c class ops) u t is has =
+      absurd (true≢false (sym has ∙ no-heir-class class.0 split_kind faultless (both_true (class_may m class.0 split_kind) (txn_may m s v.0 split_kind) (not_broken _ NotInModel u.model)).0 (inr refl)))
+  started-parent faultless e u t is has = absurd (true≢false (sym is))
+
+  parents-push : lowest_fault m ≡ None → (e : Event A) (ret : Option Ret) → Unbroken m s e → ((t : ℕ) → HasParent m h t) → (t : ℕ) → HasParent m (h ++ (record { event = e; ret = ret }) ∷ []) t
+  parents-push faultless e ret u parents t has =
+      let k : Kept A = record { event = e; ret = ret } in
+      ap is_some (parent_of-push h k t)
+      ∙ of_start (has_begun h t) (starts t e) refl (sym (ap (λ c. option_map_or (λ x. has_heir x.at_commit) c false) (class_of-push m h k t)) ∙ has)
+    where
+      of_start : (b c : Bool) → starts t e ≡ c → option_map_or (λ x. has_heir x.at_commit) (if b then class_of m h t else if c then class_in m e else None) false ≡ true → is_some (if b then parent_of h t else if c then spawner h e else None) ≡ true
+      of_start true c is has = parents t has
+      of_start false true is has = started-parent faultless e u t is has
+      of_start false false is has = absurd (true≢false (sym has))
+
 -- what ends was in progress
 ends-in-progress : {A : Type 0} (m : Parts A) (h : List (Kept A)) (shows : ShowsPlaces m h (summary_of m h)) (e : Event A) → Unbroken m (summary_of m h) e → EndsInProgress h e
 unfolding not_in_progress
 ends-in-progress m h shows (Begin t class) u = tt
+ends-in-progress m h shows (Spawn t v class) u = tt
 ends-in-progress m h shows (Split t v class ops) u = tt
 ends-in-progress m h shows (Join t v) u = sym (shows.status t.0) ∙ in_progress (summary_of m h) NotInProgress t.0 u.progress
 ends-in-progress m h shows (Delegate t v ops) u = tt
@@ -367,21 +487,26 @@ exact-push m h k checked shows meets orderly none =
     exact-on m h k checked shows meets orderly u (orderly-push m h k shows orderly u)
 
 refused-by : {A : Type 0} (state : State A) (e : Event A) → earlier_broken state.model (summary_of state.model state.kept) e ≡ None → is_refused_by_dependency (answer_to state e) ≡ is_some (dependency (summary_of state.model state.kept) e)
-unfolding answer_to
+unfolding answer_to no_heir
 refused-by state e none =
-    ap (λ (r : Option Refusal). is_refused_by_dependency (answered state e (option_or r (dependency (summary_of state.model state.kept) e)))) none
-    ∙ of_rule (dependency (summary_of state.model state.kept) e) (dependency-rule (summary_of state.model state.kept) e)
+    let s = summary_of state.model state.kept in
+    ap (λ (r : Option Refusal). is_refused_by_dependency (answered state e (option_or (option_or r (dependency s e)) (no_heir state.model s e)))) none
+    ∙ of_rule (dependency s e) (dependency-rule s e) (lost_heir state.model s e)
   where
-    of_rule : (r : Option Refusal) → IfSome r (λ x. is_dependency_rule x.rule ≡ true) → is_refused_by_dependency (answered state e r) ≡ is_some r
-    of_rule None is = refl
-    of_rule (Some r) is = is
+    of_heir : (lost : Option ℕ) → is_refused_by_dependency (answered state e (broken_by NoHeir lost)) ≡ false
+    of_heir None = refl
+    of_heir (Some p) = refl
+
+    of_rule : (r : Option Refusal) → IfSome r (λ x. is_dependency_rule x.rule ≡ true) → (lost : Option ℕ) → is_refused_by_dependency (answered state e (option_or r (broken_by NoHeir lost))) ≡ is_some r
+    of_rule None is lost = of_heir lost
+    of_rule (Some r) is lost = is
 
 refuses-illegal : {A : Type 0} (m : Parts A) (h : List (Kept A)) → IsChecked m (summary_of m h) → ShowsPlaces m h (summary_of m h) → MeetsAxioms m h → IsOrderly m h → (e : Event A) → RefusesIllegal (record { model = m; kept = h }) e
 refuses-illegal m h checked shows meets orderly e none =
     refused-by (record { model = m; kept = h }) e none ∙ exact-push m h (kept_as (record { model = m; kept = h }) e) checked shows meets orderly none
 
-follows-of : {A : Type 0} (m : Parts A) (h : List (Kept A)) → IsChecked m (summary_of m h) → ShowsPlaces m h (summary_of m h) → MeetsAxioms m h → IsOrderly m h → FollowsPlaces (record { model = m; kept = h })
-follows-of m h checked shows meets orderly = record { shows = shows; meets = meets; orderly = orderly; exact = refuses-illegal m h checked shows meets orderly }
+follows-of : {A : Type 0} (m : Parts A) (h : List (Kept A)) → IsChecked m (summary_of m h) → ShowsPlaces m h (summary_of m h) → MeetsAxioms m h → IsOrderly m h → ((t : ℕ) → HasParent m h t) → FollowsPlaces (record { model = m; kept = h })
+follows-of m h checked shows meets orderly parents = record { shows = shows; meets = meets; orderly = orderly; parents = parents; exact = refuses-illegal m h checked shows meets orderly }
 
 -- an event that breaks no rule goes on as the places do
 pub follows-push : {A : Type 0} (m : Parts A) (h : List (Kept A)) (e : Event A) → lowest_fault m ≡ None → FollowsPlaces (record { model = m; kept = h }) → lowest_broken m (summary_of m h) e ≡ None
@@ -392,11 +517,12 @@ follows-push m h e faultless follows none =
     let k = kept_as (record { model = m; kept = h }) e in
     let legal = not_not _ (sym (exact-push m h k (λ t on. faultless) follows.shows follows.meets follows.orderly earlier) ∙ ap is_some (none-dependency m (summary_of m h) e none)) in
     follows-of m (h ++ k ∷ []) (λ t on. faultless) (shows-push m h k follows.shows u)
-    (meets-push m h k follows.meets (faultless-of m h follows.shows e u) legal)
+    (meets-push m h k follows.meets (faultless-of m h follows.shows follows.parents e u (none-heirless m (summary_of m h) e none)) legal)
     (orderly-push m h k follows.shows follows.orderly u)
+    (parents-push m h follows.shows faultless e k.ret u follows.parents)
 
 -- a history of nothing follows the places
 pub follows-fresh : {A : Type 0} (m : Parts A) → FollowsPlaces (record { model = m; kept = [] })
 unfolding summary_of
 follows-fresh m =
-    follows-of m [] (λ t on. cc) (record { status = λ t. refl; class = λ t. refl; operations = refl; edges = refl }) (meets-none m) (orderly-none m)
+    follows-of m [] (λ t on. cc) (record { status = λ t. refl; class = λ t. refl; parent = λ t. refl; operations = refl; edges = refl }) (meets-none m) (orderly-none m) (λ t has. absurd (true≢false (sym has)))

@@ -1,10 +1,11 @@
 -- An event that breaks none of the rules before those on dependencies, or none at all.
 use Rattle.std.proofs.Common.{◌≡◌, ◌<◌, ◌≤◌, false, List, [], ◌∷◌, length, Option, Some, None, is_some, refl, sym, ap, ◌∙◌, arith}
 use Rattle.std.specs.Prelude.{nat_lt}
+use Rattle.std.specs.Option.{option_or}
 use Rattle.std.proofs.lemmas.Bool.{true≢false, lt-ltb}
 use Rattle.acta_table.specs.declared.dep.Edge.{Edge}
 use Rattle.acta_table.specs.declared.event.Event.{Event}
-use Rattle.acta_table.specs.declared.event.Event.TheVariants.{Begin, Split, Join, Delegate, Form, Operate, Commit, Abort}
+use Rattle.acta_table.specs.declared.event.Event.TheVariants.{Begin, Spawn, Split, Join, Delegate, Form, Operate, Commit, Abort}
 use Rattle.acta_table.specs.declared.model.Parts.{Parts}
 use Rattle.acta_table.specs.declared.answer.Refusal.{Refusal}
 use Rattle.acta_table.specs.declared.answer.Rule.TheVariants.{NotInProgress, EdgesFull}
@@ -16,10 +17,10 @@ use Rattle.acta_table.specs.WellFormed.{bad_number, bad_class, bad_object, same_
 use Rattle.acta_objects.specs.WellFormed.{bad_operation}
 use Rattle.acta_machine.specs.Summary.{Summary, linked}
 use Rattle.acta_machine.specs.Changes.{edges_due}
-use Rattle.acta_machine.specs.Rules.{full, not_in_progress, already_begun, not_in_model, partner_not_in_progress, not_responsible, partial_delegation, bad_set, conflict, form_too_late, edges_full, earlier_broken, dependency, lowest_broken}
+use Rattle.acta_machine.specs.Rules.{full, not_in_progress, already_begun, not_in_model, partner_not_in_progress, not_responsible, partial_delegation, bad_set, conflict, form_too_late, edges_full, earlier_broken, dependency, no_heir, lowest_broken}
 use Rattle.acta_machine.proofs.Broken.{or_none, if_none, in_progress}
 use Rattle.acta_machine.proofs.DependencyTies.{start-formed}
-use Rattle.acta_machine.proofs.Splitting.{split_due, neutral-due}
+use Rattle.acta_machine.proofs.Starting.{spawn_due, split_due, neutral-spawn, neutral-split}
 
 -- each of the earlier rules, which the event does not break
 pub record Unbroken {A : Type 0} (m : Parts A) (s : Summary) (e : Event A) : Type 0 where
@@ -89,12 +90,19 @@ unbroken m s e none =
       edges = n16.1;
     }
 
--- an event that breaks no rule breaks none of the earlier ones, and none of those on dependencies
+both-none : {A : Type 0} (m : Parts A) (s : Summary) (e : Event A) → lowest_broken m s e ≡ None → (option_or (earlier_broken m s e) (dependency s e) ≡ None) × (no_heir m s e ≡ None)
+both-none m s e none = or_none (option_or (earlier_broken m s e) (dependency s e)) (no_heir m s e) none
+
+-- an event that breaks no rule breaks none of the earlier ones, none of those on dependencies, and has an
+-- heir where it wants one
 pub none-earlier : {A : Type 0} (m : Parts A) (s : Summary) (e : Event A) → lowest_broken m s e ≡ None → earlier_broken m s e ≡ None
-none-earlier m s e none = (or_none (earlier_broken m s e) (dependency s e) none).0
+none-earlier m s e none = (or_none (earlier_broken m s e) (dependency s e) (both-none m s e none).0).0
 
 pub none-dependency : {A : Type 0} (m : Parts A) (s : Summary) (e : Event A) → lowest_broken m s e ≡ None → dependency s e ≡ None
-none-dependency m s e none = (or_none (earlier_broken m s e) (dependency s e) none).1
+none-dependency m s e none = (or_none (earlier_broken m s e) (dependency s e) (both-none m s e none).0).1
+
+pub none-heirless : {A : Type 0} (m : Parts A) (s : Summary) (e : Event A) → lowest_broken m s e ≡ None → no_heir m s e ≡ None
+none-heirless m s e none = (both-none m s e none).1
 
 -- what is asked of an event when its change is made
 pub record Admissible {A : Type 0} (s : Summary) (e : Event A) : Type 0 where
@@ -111,9 +119,12 @@ is_nothing (Some r) e = cc
 linked-dependency : {A : Type 0} (m : Parts A) (s : Summary) (e : Event A) → lowest_fault m ≡ None → not_in_progress s e ≡ None → dependency s e ≡ None → dependency (linked s (edges_due m e)) e ≡ None
 unfolding linked not_in_progress
 linked-dependency m s (Begin t class) faultless on none = none
+linked-dependency m s (Spawn t u class) faultless on none =
+    is_nothing (start_refusal s.status (formed s.edges (spawn_due m t u class)) u.0)
+    (start-formed s.status s.edges (spawn_due m t u class) u.0 (neutral-spawn m s.status t u class faultless (in_progress s NotInProgress t.0 on)) ∙ ap is_some none)
 linked-dependency m s (Split t u class ops) faultless on none =
     is_nothing (start_refusal s.status (formed s.edges (split_due m t u class)) u.0)
-    (start-formed s.status s.edges (split_due m t u class) u.0 (neutral-due m s.status t u class faultless (in_progress s NotInProgress t.0 on)) ∙ ap is_some none)
+    (start-formed s.status s.edges (split_due m t u class) u.0 (neutral-split m s.status t u class faultless (in_progress s NotInProgress t.0 on)) ∙ ap is_some none)
 linked-dependency m s (Join t u) faultless on none = none
 linked-dependency m s (Delegate t u ops) faultless on none = refl
 linked-dependency m s (Form kind j i) faultless on none = refl

@@ -20,10 +20,13 @@ use Rattle.acta_axioms.specs.Values.{asked_of, is_well_formed, do_conflict, conf
 use Rattle.acta_axioms.specs.Values as by_places_value
 use Rattle.acta_axioms.proofs.ByOperations.{value-shown}
 use Rattle.acta_sets.specs.declared.item.Item.{Item}
-use Rattle.acta_sets.specs.Operations.{is_of_others}
+use Rattle.acta_sets.specs.Operations.{is_among, is_of_others}
 use Rattle.acta_machine.specs.Values.{live_on, live_ops}
 use Rattle.acta_machine.specs.Rules.{stands_against}
-use Rattle.acta_machine.specs.Places.{item_of, items_at}
+use Rattle.acta_machine.specs.Changes.{summary_of}
+use Rattle.acta_machine.specs.Families.{spared}
+use Rattle.acta_machine.specs.Places.{item_of, items_at, ShowsPlaces}
+use Rattle.acta_machine.proofs.FamilyTies.{spared-places}
 
 pick_live : (here : Bool) (fate : Fate) (fits : Bool) (op : Op) →
     (if here && not (Rattle.acta_sets.specs.Operations.is_aborted fate) && fits then Some op else None)
@@ -70,23 +73,26 @@ both : (a b : Bool) → (a && b) ≡ true → (a ≡ true) × (b ≡ true)
 both true b e = (refl, e)
 both false b e = absurd (true≢false (sym e))
 
-and_true : (b : Bool) → (b && true) ≡ b
-and_true true = refl
-and_true false = refl
+pub others_alike : (fate : Fate) (t holder : ℕ) (spared : Bool) → (by_places.is_open fate && not (holder == t) && not spared) ≡ (Rattle.acta_sets.specs.Operations.is_open fate && not (holder == t) && not spared)
+others_alike InProgress t holder spared = refl
+others_alike Committed t holder spared = refl
+others_alike Aborted t holder spared = refl
 
-pub others_alike : (fate : Fate) (t holder : ℕ) → (by_places.is_open fate && not (holder == t)) ≡ (Rattle.acta_sets.specs.Operations.is_open fate && not (holder == t) && not false)
-others_alike InProgress t holder = sym (and_true (not (holder == t)))
-others_alike Committed t holder = refl
-others_alike Aborted t holder = refl
+-- the operations of others by the table are those by places
+pub others-places : {A : Type 0} (m : Parts A) (h : List (Kept A)) → ShowsPlaces m h (summary_of m h) → (t : ℕ) (o : Operation) → is_of_others t (spared m (summary_of m h) t) (item_of o (standing m h o)) ≡ by_places.is_of_others m h t (standing m h o)
+others-places m h shows t o =
+    let s = standing m h o in
+    sym (others_alike s.fate t s.holder (is_among (spared m (summary_of m h) t) (record { 0 = s.holder })))
+    ∙ ap (λ b. by_places.is_open s.fate && not (s.holder == t) && not b) (sym (spared-places m h shows t (record { 0 = s.holder })))
 
 -- where nothing in the table stands against an operation, nothing conflicts by places
-pub conflicting-none : {A : Type 0} (m : Parts A) (h : List (Kept A)) (items : List Item) (t : ℕ) (ob : ObjId) (op : Op) → items ≡ items_at m h → first_number (stands_against m t ob op) items ≡ None → conflicting m h t ob.0 op ≡ []
-conflicting-none m h items t ob op same none =
-    none_passes (stands_against m t ob op) (λ o. item_of o (standing m h o)) (λ o. by_places.is_of_others m h t (standing m h o)) (λ o. (o.object == ob.0) && do_conflict m ob.0 o.op op)
+pub conflicting-none : {A : Type 0} (m : Parts A) (h : List (Kept A)) (t : ℕ) (ob : ObjId) (op : Op) → ShowsPlaces m h (summary_of m h) → first_number (stands_against m (summary_of m h) t ob op) (summary_of m h).operations ≡ None → conflicting m h t ob.0 op ≡ []
+conflicting-none m h t ob op shows none =
+    none_passes (stands_against m (summary_of m h) t ob op) (λ o. item_of o (standing m h o)) (λ o. by_places.is_of_others m h t (standing m h o)) (λ o. (o.object == ob.0) && do_conflict m ob.0 o.op op)
     (λ o others conflicts.
     let on = both (o.object == ob.0) (do_conflict m ob.0 o.op op) conflicts in
     let formed = both (is_well_formed m ob.0 o.op) (is_well_formed m ob.0 op && conflict_on m ob.0 o.op op) on.1 in
     let differ = both (is_well_formed m ob.0 op) (conflict_on m ob.0 o.op op) formed.1 in
-    let open_others = sym (others_alike (standing m h o).fate t (standing m h o).holder) ∙ others in
+    let open_others = others-places m h shows t o ∙ others in
     (λ i. open_others i && on.0 i && differ.1 i))
-    1 (operations h) (sym (ap (first_number (stands_against m t ob op)) same) ∙ none)
+    1 (operations h) (sym (ap (first_number (stands_against m (summary_of m h) t ob op)) shows.operations) ∙ none)

@@ -1,50 +1,53 @@
 -- What an admitted event changes.
-use Rattle.std.specs.Prelude.{List, [], ◌∷◌, Some}
+use Rattle.std.specs.Prelude.{List, [], ◌∷◌, Option, Some, None}
 use Rattle.std.specs.Option.{option_map_or}
 use Rattle.acta_table.specs.declared.event.TxnId.{TxnId}
 use Rattle.acta_table.specs.declared.event.ClassId.{ClassId}
 use Rattle.acta_table.specs.declared.event.Event.{Event}
-use Rattle.acta_table.specs.declared.event.Event.TheVariants.{Begin, Split, Join, Delegate, Form, Operate, Commit, Abort}
+use Rattle.acta_table.specs.declared.event.Event.TheVariants.{Begin, Spawn, Split, Join, Delegate, Form, Operate, Commit, Abort}
 use Rattle.acta_table.specs.declared.event.Kept.{Kept}
 use Rattle.acta_table.specs.declared.dep.Edge.{Edge}
 use Rattle.acta_table.specs.declared.model.Parts.{Parts}
-use Rattle.acta_table.specs.declared.answer.Status.{Status}
 use Rattle.acta_table.specs.declared.answer.Status.TheVariants.{InProgress, Committed as has_committed, Aborted as has_aborted, Joined as has_joined}
-use Rattle.acta_table.specs.declared.answer.Fate.{Fate}
 use Rattle.acta_table.specs.declared.answer.Fate.TheVariants.{Committed, Aborted}
 use Rattle.acta_table.specs.Classes.{class_at}
 use Rattle.acta_table.specs.Starts.{edges_between}
 use Rattle.acta_machine.specs.Summary.{Summary, nothing_yet, stood, entered, linked, given, inherited, operated, fated, counted}
+use Rattle.acta_machine.specs.Families.{heir_of}
 
--- t is in progress, with this class
-abbrev pub begun : Summary → TxnId → ClassId → Summary
-begun s t class = entered (stood s t InProgress) t (Some class)
+-- t is in progress, with this class and this parent
+abbrev pub begun : Summary → TxnId → ClassId → Option TxnId → Summary
+begun s t class parent = entered (stood s t InProgress) t (Some class) parent
 
--- t ends so, and so does all that it holds in progress
-abbrev pub closed : Summary → TxnId → Status → Fate → Summary
-closed s t status fate = fated (stood s t status) t fate
+-- what t holds in progress is held by the heir, or committed where there is none
+abbrev pub settled : Summary → TxnId → Option TxnId → Summary
+settled s t None = fated s t Committed
+settled s t (Some heir) = inherited s t heir
 
 -- the edges that the event forms, in order
 abbrev pub edges_due : {A : Type 0} → Parts A → Event A → List Edge
+edges_due m (Spawn t c class) =
+    option_map_or (λ k. edges_between t c k.spawn_edges) (class_at m class.0) []
 edges_due m (Split t u class ops) =
     option_map_or (λ k. edges_between t u k.split_edges) (class_at m class.0) []
 edges_due m (Form kind j i) = (record { kind = kind; j = j; i = i }) ∷ []
 edges_due m _ = []
 
 -- what the event does to transactions and operations
-abbrev pub changed : {A : Type 0} → Summary → Event A → Summary
-changed s (Begin t class) = begun s t class
-changed s (Split t u class ops) = given (begun s u class) ops u
-changed s (Join t u) = inherited (stood s t has_joined) t u
-changed s (Delegate t u ops) = given s ops u
-changed s (Form kind j i) = s
-changed s (Operate t ob op) = operated s t ob op
-changed s (Commit t) = closed s t has_committed Committed
-changed s (Abort t) = closed s t has_aborted Aborted
+abbrev pub changed : {A : Type 0} → Parts A → Summary → Event A → Summary
+changed m s (Begin t class) = begun s t class None
+changed m s (Spawn t c class) = begun s c class (Some t)
+changed m s (Split t u class ops) = given (begun s u class None) ops u
+changed m s (Join t u) = inherited (stood s t has_joined) t u
+changed m s (Delegate t u ops) = given s ops u
+changed m s (Form kind j i) = s
+changed m s (Operate t ob op) = operated s t ob op
+changed m s (Commit t) = settled (stood s t has_committed) t (heir_of m s t.0)
+changed m s (Abort t) = fated (stood s t has_aborted) t Aborted
 
 -- the edges, the change, and one more event
 abbrev pub effect : {A : Type 0} → Parts A → Summary → Event A → Summary
-effect m s event = counted (changed (linked s (edges_due m event)) event)
+effect m s event = counted (changed m (linked s (edges_due m event)) event)
 
 -- after a history, from a summary
 abbrev pub summary_from : {A : Type 0} → Parts A → Summary → List (Kept A) → Summary

@@ -1,5 +1,5 @@
 -- That the written table and the places of the history say the same.
-use Rattle.std.specs.Prelude.{◌≡◌, ℕ, Bool, false, ◌&&◌, not, nat_le, List, [], ◌∷◌, ◌++◌, Option, None, map, option_map}
+use Rattle.std.specs.Prelude.{◌≡◌, ℕ, Bool, true, false, ◌&&◌, not, nat_le, List, [], ◌∷◌, ◌++◌, Option, None, map, option_map, is_some}
 use Rattle.acta_table.specs.declared.event.Event.{Event}
 use Rattle.acta_table.specs.declared.event.Kept.{Kept}
 use Rattle.acta_table.specs.declared.event.OpNo.{OpNo}
@@ -7,10 +7,10 @@ use Rattle.acta_table.specs.declared.model.Parts.{Parts}
 use Rattle.acta_table.specs.declared.answer.Answer.{Answer}
 use Rattle.acta_table.specs.declared.answer.Answer.TheVariants.{Refused}
 use Rattle.acta_table.specs.declared.answer.Rule.{Rule}
-use Rattle.acta_table.specs.Classes.{kind_at}
+use Rattle.acta_table.specs.Classes.{kind_at, has_heir}
 use Rattle.acta_table.specs.Numbers.{rule_number}
 use Rattle.acta_objects.specs.declared.state.ObjectState.{ObjectState}
-use Rattle.acta_axioms.specs.History.{class_number}
+use Rattle.acta_axioms.specs.History.{class_number, has_class, parent_of}
 use Rattle.acta_axioms.specs.Operations.{Operation, Standing, operations, standing}
 use Rattle.acta_axioms.specs.Values.{value}
 use Rattle.acta_axioms.specs.Edges.{edges}
@@ -30,10 +30,11 @@ item_of o s = record { ob = record { 0 = o.object }; op = o.op; holder = record 
 abbrev pub items_at : {A : Type 0} → Parts A → List (Kept A) → List Item
 items_at m h = map (λ o. item_of o (standing m h o)) (operations h)
 
--- the statuses, classes, holders, fates and edges of a summary are those by places
+-- the statuses, classes, parents, holders, fates and edges of a summary are those by places
 pub record ShowsPlaces {A : Type 0} (m : Parts A) (h : List (Kept A)) (s : Summary) : Type 0 where
   pub status : (t : ℕ) → s.status t ≡ status_at h t
   pub class : (t : ℕ) → option_map (λ c. c.0) (s.class t) ≡ class_number h t
+  pub parent : (t : ℕ) → s.parent t ≡ parent_of h t
   pub operations : s.operations ≡ items_at m h
   pub edges : s.edges ≡ edges m h
 
@@ -54,12 +55,19 @@ RefusesIllegal state event =
     → is_refused_by_dependency (answer_to state event)
     ≡ not (is_legal state.model (state.kept ++ kept_as state event ∷ []))
 
--- the summary of the history is that by places; the history meets the axioms, and is orderly; and of each
--- event that may come next the rules on dependencies refuse exactly what would be illegal
+-- one whose class commits to its parent has a parent
+abbrev pub HasParent : {A : Type 0} → Parts A → List (Kept A) → ℕ → Type 0
+HasParent m h t =
+    has_class (λ k. has_heir k.at_commit) m h t ≡ true → is_some (parent_of h t) ≡ true
+
+-- the summary of the history is that by places; the history meets the axioms, and is orderly; each that
+-- commits to its parent has one; and of each event that may come next the rules on dependencies refuse
+-- exactly what would be illegal
 pub record FollowsPlaces {A : Type 0} (state : State A) : Type 0 where
   pub shows : ShowsPlaces state.model state.kept (summary_of state.model state.kept)
   pub meets : MeetsAxioms state.model state.kept
   pub orderly : IsOrderly state.model state.kept
+  pub parents : (t : ℕ) → HasParent state.model state.kept t
   pub exact : (event : Event A) → RefusesIllegal state event
 
 -- the numbers of operations

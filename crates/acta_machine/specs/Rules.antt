@@ -3,17 +3,16 @@ use Rattle.std.specs.Prelude.{ℕ, Bool, false, not, ◌&&◌, ◌==◌, nat_lt,
 use Rattle.std.specs.List.{list_any}
 use Rattle.std.specs.Option.{option_map_or}
 use Rattle.acta_table.specs.declared.event.EventKind.{EventKind}
-use Rattle.acta_table.specs.declared.event.EventKind.TheVariants.{Begin as begin_kind, Split as split_kind, Join as join_kind, Delegate as delegate_kind, Form as form_kind, Operate as operate_kind, Commit as commit_kind, Abort as abort_kind}
+use Rattle.acta_table.specs.declared.event.EventKind.TheVariants.{Begin as begin_kind, Spawn as spawn_kind, Split as split_kind, Join as join_kind, Delegate as delegate_kind, Form as form_kind, Operate as operate_kind, Commit as commit_kind, Abort as abort_kind}
 use Rattle.acta_table.specs.declared.event.Event.{Event}
-use Rattle.acta_table.specs.declared.event.Event.TheVariants.{Begin, Split, Join, Delegate, Form, Operate, Commit, Abort}
+use Rattle.acta_table.specs.declared.event.Event.TheVariants.{Begin, Spawn, Split, Join, Delegate, Form, Operate, Commit, Abort}
 use Rattle.acta_table.specs.declared.event.ObjId.{ObjId}
 use Rattle.acta_table.specs.declared.event.OpNo.{OpNo}
 use Rattle.acta_table.specs.declared.event.Op.{Op}
 use Rattle.acta_table.specs.declared.dep.Dep.{Dep}
 use Rattle.acta_table.specs.declared.answer.Status.{Status}
-use Rattle.acta_table.specs.declared.answer.Rule.TheVariants.{Full, NotInProgress, AlreadyBegun, NotInModel, PartnerNotInProgress, NotResponsible, PartialDelegation, BadSet, Conflict, FormTooLate, EdgesFull}
+use Rattle.acta_table.specs.declared.answer.Rule.TheVariants.{Full, NotInProgress, AlreadyBegun, NotInModel, PartnerNotInProgress, NotResponsible, PartialDelegation, BadSet, Conflict, FormTooLate, EdgesFull, NoHeir}
 use Rattle.acta_table.specs.declared.answer.Refusal.{Refusal}
-use Rattle.acta_table.specs.declared.model.Class.{Class}
 use Rattle.acta_table.specs.declared.model.Parts.{Parts}
 use Rattle.acta_table.specs.Classes.{class_at, can_start, can_do, is_whole}
 use Rattle.acta_table.specs.Dependencies.{is_begin_kind}
@@ -31,6 +30,7 @@ use Rattle.acta_sets.specs.declared.item.Item.{Item}
 use Rattle.acta_sets.specs.Operations.{operation_at, is_held, is_of_others}
 use Rattle.acta_machine.specs.Summary.{Summary}
 use Rattle.acta_machine.specs.Changes.{edges_due}
+use Rattle.acta_machine.specs.Families.{has_class, spared, heir_of}
 
 -- as many events are kept as there may be
 unfoldable pub full : Summary → Option Refusal
@@ -48,17 +48,13 @@ not_in_progress s e = broken_by NotInProgress (option_and_then (fails s is_in_pr
 unfoldable pub already_begun : {A : Type 0} → Summary → Event A → Option Refusal
 already_begun s e = broken_by AlreadyBegun (option_and_then (fails s is_new) (started e))
 
--- the class that t began with
-abbrev pub class_of : {A : Type 0} → Parts A → Summary → ℕ → Option (Class A)
-class_of m s t = option_and_then (λ c. class_at m c.0) (s.class t)
-
 -- whether the class of this number may start so
 abbrev pub class_may : {A : Type 0} → Parts A → ℕ → EventKind → Bool
 class_may m class kind = option_map_or (can_start kind) (class_at m class) false
 
 -- whether t's class may do so
 abbrev pub txn_may : {A : Type 0} → Parts A → Summary → ℕ → EventKind → Bool
-txn_may m s t kind = option_map_or (can_do kind) (class_of m s t) false
+txn_may m s t kind = has_class (can_do kind) m s t
 
 -- whether t has begun with a class that may form no edges
 abbrev pub forms_none : {A : Type 0} → Parts A → Summary → ℕ → Bool
@@ -67,6 +63,7 @@ forms_none m s t = has_begun (s.status t) && not (txn_may m s t form_kind)
 -- whether the classes allow the event
 abbrev pub is_allowed : {A : Type 0} → Parts A → Summary → Event A → Bool
 is_allowed m s (Begin t class) = class_may m class.0 begin_kind
+is_allowed m s (Spawn t c class) = class_may m class.0 spawn_kind && txn_may m s t.0 spawn_kind
 is_allowed m s (Split t u class ops) = class_may m class.0 split_kind && txn_may m s t.0 split_kind
 is_allowed m s (Join t u) = txn_may m s t.0 join_kind
 is_allowed m s (Delegate t u ops) = txn_may m s t.0 delegate_kind
@@ -104,7 +101,7 @@ left_out s ops t = find (λ n. not (is_named ops n)) (numbers_where (is_held t) 
 
 -- whether t's class wants all that t holds handed over
 abbrev pub wants_whole : {A : Type 0} → Parts A → Summary → ℕ → Bool
-wants_whole m s t = option_map_or (λ class. is_whole class.extent) (class_of m s t) false
+wants_whole m s t = has_class (λ class. is_whole class.extent) m s t
 
 -- the same, where the event hands over, and the class wants all
 abbrev pub left_out_by : {A : Type 0} → Parts A → Summary → Event A → ℕ → Option ℕ
@@ -125,12 +122,13 @@ unfoldable pub bad_set : {A : Type 0} → Summary → Event A → Option Refusal
 bad_set s e = broken_by BadSet (unknown_in s (operations_named e))
 
 -- whether the operation is in t's conflict set, on the same object, and conflicts
-abbrev pub stands_against : {A : Type 0} → Parts A → ℕ → ObjId → Op → Item → Bool
-stands_against m t ob op i = is_of_others t [] i && (i.ob.0 == ob.0) && conflict_on m ob.0 i.op op
+abbrev pub stands_against : {A : Type 0} → Parts A → Summary → ℕ → ObjId → Op → Item → Bool
+stands_against m s t ob op i =
+    is_of_others t (spared m s t) i && (i.ob.0 == ob.0) && conflict_on m ob.0 i.op op
 
 -- the smallest operation that stands against the event's
 abbrev pub first_against : {A : Type 0} → Parts A → Summary → Event A → Option ℕ
-first_against m s (Operate t ob op) = first_number (stands_against m t.0 ob op) s.operations
+first_against m s (Operate t ob op) = first_number (stands_against m s t.0 ob op) s.operations
 first_against m s _ = None
 
 -- an operation stands against the event's
@@ -180,12 +178,22 @@ earlier_broken m s e = first_of (
 -- the lowest rule on dependencies that the event breaks
 abbrev pub dependency : {A : Type 0} → Summary → Event A → Option Refusal
 dependency s (Begin t class) = start_refusal s.status s.edges t.0
+dependency s (Spawn t c class) = start_refusal s.status s.edges c.0
 dependency s (Split t u class ops) = start_refusal s.status s.edges u.0
 dependency s (Join t u) = join_refusal s.status s.edges t.0
 dependency s (Commit t) = commit_refusal s.status s.edges t.0
 dependency s (Abort t) = abort_refusal s.status s.edges t.0
 dependency s _ = None
 
+-- the heir of one that commits, where it is not in progress
+abbrev pub lost_heir : {A : Type 0} → Parts A → Summary → Event A → Option ℕ
+lost_heir m s (Commit t) = option_and_then (λ p. fails s is_in_progress p.0) (heir_of m s t.0)
+lost_heir m s _ = None
+
+-- the one that would hold what is held next is not in progress
+unfoldable pub no_heir : {A : Type 0} → Parts A → Summary → Event A → Option Refusal
+no_heir m s e = broken_by NoHeir (lost_heir m s e)
+
 -- the lowest rule that the event breaks
 abbrev pub lowest_broken : {A : Type 0} → Parts A → Summary → Event A → Option Refusal
-lowest_broken m s e = first_of (earlier_broken m s e ∷ dependency s e ∷ [])
+lowest_broken m s e = first_of (earlier_broken m s e ∷ dependency s e ∷ no_heir m s e ∷ [])

@@ -14,17 +14,25 @@ use Rattle.acta_deps.specs.Statuses.{with_status}
 use Rattle.acta_sets.specs.declared.item.Item.{Item}
 use Rattle.acta_sets.specs.Operations.{added, moved, handed, ended}
 
--- kept: how many events; status and class: of each transaction; operations and edges: by number
+-- kept: how many events; status, class and parent: of each transaction; operations and edges: by number
 pub record Summary : Type 0 where
   pub kept : ℕ
   pub status : ℕ → Status
   pub class : ℕ → Option ClassId
+  pub parent : ℕ → Option TxnId
   pub operations : List Item
   pub edges : List Edge
 
 -- before any event
 abbrev pub nothing_yet : Summary
-nothing_yet = record { kept = 0; status = λ _. NotBegun; class = λ _. None; operations = []; edges = [] }
+nothing_yet = record {
+  kept = 0;
+  status = λ _. NotBegun;
+  class = λ _. None;
+  parent = λ _. None;
+  operations = [];
+  edges = [];
+}
 
 -- what each transaction has, with t's changed
 abbrev pub with_entry : {X : Type 0} → (ℕ → X) → ℕ → X → ℕ → X
@@ -34,9 +42,10 @@ with_entry f t x u = if u == t then x else f u
 unfoldable pub stood : Summary → TxnId → Status → Summary
 stood s t status = record s { status = with_status s.status t.0 status }
 
--- t's class is this
-unfoldable pub entered : Summary → TxnId → Option ClassId → Summary
-entered s t class = record s { class = with_entry s.class t.0 class }
+-- t's class and parent are these
+unfoldable pub entered : Summary → TxnId → Option ClassId → Option TxnId → Summary
+entered s t class parent =
+    record s { class = with_entry s.class t.0 class; parent = with_entry s.parent t.0 parent }
 
 -- these edges are in force too
 unfoldable pub linked : Summary → List Edge → Summary

@@ -12,7 +12,8 @@ use Rattle.acta_table.specs.declared.answer.Refusal.{Refusal}
 use Rattle.acta_table.specs.declared.model.Parts.{Parts}
 use Rattle.acta_objects.specs.declared.state.ObjectState.{ObjectState}
 use Rattle.acta_deps.specs.Debts.{owed_in}
-use Rattle.acta_sets.specs.Operations.{access_set, conflict_set, view_set}
+use Rattle.acta_sets.specs.Operations.{access_set, view_set}
+use Rattle.acta_machine.specs.Families.{conflict_set_of}
 use Rattle.acta_machine.specs.Values.{value_of, return_due}
 use Rattle.acta_machine.specs.Rules.{lowest_broken}
 use Rattle.acta_machine.specs.Changes.{summary_of}
@@ -79,9 +80,9 @@ value_in state object = value_of state.model (summary_of state.model state.kept)
 abbrev pub access_set_in : {A : Type 0} → State A → ℕ → List OpNo
 access_set_in state t = access_set t (summary_of state.model state.kept).operations
 
--- the operations in progress that others hold
+-- the operations in progress that others hold, where the class of t can leave out its ancestors
 abbrev pub conflict_set_in : {A : Type 0} → State A → ℕ → List OpNo
-conflict_set_in state t = conflict_set t [] (summary_of state.model state.kept).operations
+conflict_set_in state t = conflict_set_of state.model (summary_of state.model state.kept) t
 
 -- the operations that are not aborted
 abbrev pub view_set_in : {A : Type 0} → State A → List OpNo

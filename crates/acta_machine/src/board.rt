@@ -1,4 +1,4 @@
-ghost use Rattle.std.specs.Prelude.{◌≡◌, ◌+◌, ◌<◌, ◌≤◌, ◌++◌, ◌∷◌, [], true, false, length, OnOk, OnErr, IfOk, IfSome, vec_capacity, None, Some};
+ghost use Rattle.std.specs.Prelude.{◌≡◌, ◌+◌, ◌-◌, ◌<◌, ◌≤◌, ◌++◌, ◌∷◌, [], true, false, length, OnOk, OnErr, IfOk, IfSome, vec_capacity, None, Some, option_map};
 ghost use Rattle.acta_table.specs.declared.answer.Status.{Status};
 ghost use Rattle.acta_table.specs.WellFormed.{bad_number};
 ghost use Rattle.acta_objects.specs.Limits.{IsSmall};
@@ -9,31 +9,49 @@ ghost use Rattle.acta_table.specs.Faults.{lowest_fault};
 ghost use Rattle.acta_table.specs.Edges.{formed};
 ghost use Rattle.acta_table.specs.Starts.{edges_between};
 ghost use Rattle.acta_deps.specs.Dependencies.{start_refusal, join_refusal};
+ghost use Rattle.acta_table.specs.Classes.{spares, has_heir};
+ghost use Rattle.acta_sets.specs.Operations.{is_among};
+ghost use Rattle.acta_machine.specs.Families.{class_of, has_class, ancestors_of, spared, conflict_set_of, heir_of};
 ghost use Rattle.acta_machine.specs.Summary.{stood, entered, linked, given, inherited, operated, fated, counted};
-ghost use Rattle.acta_machine.specs.Changes.{edges_due, begun, closed, changed};
+ghost use Rattle.acta_machine.specs.Changes.{edges_due, begun, settled, changed};
 ghost use Rattle.acta_machine.specs.Rules.{not_in_progress, already_begun, dependency};
 ghost use Rattle.acta_machine.specs.Values.{value_of, return_due};
-ghost use Rattle.acta_machine.specs.Shown.{shown};
+ghost use Rattle.acta_machine.specs.Shown.{shown, origin_in};
 
 use crate::values::value_after;
 use acta_deps::Deps;
 use acta_objects::ObjectState;
 use acta_sets::OpTable;
 use acta_table::{
-    ClassId, Edge, Event, Fate, Kept, Model, ObjId, Op, OpNo, OpSet, Owed, Ret, StartEdge, Status,
-    TxnId,
+    AtCommit, Class, ClassId, Edge, Event, Fate, Kept, Model, ObjId, Op, OpNo, OpSet, Owed, Ret,
+    Scope, StartEdge, Status, TxnId,
 };
 use std::alloc::{AllocError, Allocator};
 
-/// How many entries the table of classes has: one for each number, and one for 0.
+/// How many entries the table of origins has: one for each number, and one for 0.
 pub(crate) const TABLE_SIZE: usize = 4096;
+
+/// How a transaction started: the class that it began with, and the one that spawned it.
+#[derive(Clone, Copy)]
+pub(crate) struct Origin {
+    pub(crate) class: Option<ClassId>,
+    pub(crate) parent: Option<TxnId>,
+}
+
+impl Origin {
+    /// The origin of one that has not begun.
+    pub(crate) const UNBORN: Origin = Origin {
+        class: None,
+        parent: None,
+    };
+}
 
 /// All that a machine keeps, in plain lists. It has no model of its own: `shown` says what it stands for.
 #[derive(Drop)]
 pub(crate) struct Board<A: Allocator> {
     pub(crate) model: Model<A>,
     pub(crate) deps: Deps<A>,
-    pub(crate) classes: Vec<Option<ClassId>, A>,
+    pub(crate) origins: Vec<Origin, A>,
     pub(crate) operations: OpTable<A>,
     pub(crate) kept: Vec<Kept<A>, A>,
 }
@@ -90,6 +108,7 @@ impl<A: Allocator + Copy> Board<A> {
                 None => Ok(None),
             },
             Event::Begin(_, _)
+            | Event::Spawn(_, _, _)
             | Event::Split(_, _, _, _)
             | Event::Join(_, _)
             | Event::Delegate(_, _, _)
@@ -104,14 +123,14 @@ impl<A: Allocator + Copy> Board<A> {
         ensures model { IfOk result (λ board. board.model ≡ self.now.model) }
         ensures kept { IfOk result (λ board. board.kept.items ≡ self.now.kept.items) }
         ensures deps { IfOk result (λ board. board.deps ≡ self.now.deps) }
-        ensures classes { IfOk result (λ board. board.classes.items ≡ self.now.classes.items) }
+        ensures origins { IfOk result (λ board. board.origins.items ≡ self.now.origins.items) }
         ensures operations { IfOk result (λ board. board.operations ≡ self.now.operations) }
     {
         let alloc = *self.kept.allocator();
         Ok(Board {
             model: self.model.copy()?,
             deps: self.deps.copy()?,
-            classes: Vec::from_slice(alloc, &self.classes)?,
+            origins: Vec::from_slice(alloc, &self.origins)?,
             operations: self.operations.copy()?,
             kept: copy_all(alloc, &self.kept)?,
         })
@@ -144,6 +163,10 @@ impl<A: Allocator + Copy> Board<A> {
         let alloc = *self.kept.allocator();
         let classes = self.model.classes();
         match event {
+            Event::Spawn(t, c, class) => match classes.get(class.0 as usize) {
+                Some(class) => edges_between(alloc, *t, *c, class.spawn_edges.as_slice()),
+                None => Ok(Vec::new(alloc)),
+            },
             Event::Split(t, u, class, _) => match classes.get(class.0 as usize) {
                 Some(class) => edges_between(alloc, *t, *u, class.split_edges.as_slice()),
                 None => Ok(Vec::new(alloc)),
@@ -171,6 +194,34 @@ impl<A: Allocator + Copy> Board<A> {
         self.deps.form(due)?;
         Ok(())
     }
+
+    /// The operations in progress that others hold. `Err` where there is no memory.
+    pub(crate) fn conflict_set(&self, t: TxnId) -> Result<Vec<OpNo, A>, AllocError>
+        ensures { IfOk result (λ ops. ops.items ≡ conflict_set_of self.now.model (shown self.now) t.0) }
+    {
+        let spared = self.spared(t)?;
+        self.operations.conflict_set(t, &spared)
+    }
+
+    // The ancestors of the transaction, where its class leaves them out of its conflict set. `Err` where
+    // there is no memory.
+    fn spared(&self, t: TxnId) -> Result<Vec<TxnId, A>, AllocError>
+        ensures { IfOk result (λ txns. txns.items ≡ spared self.now.model (shown self.now) t.0) }
+    {
+        let mut spared = Vec::new(*self.kept.allocator());
+        if !self.spares_ancestors(t) {
+            return Ok(spared);
+        }
+        let mut next = self.parent(t);
+        for _ in 0..self.kept.len() {
+            let Some(parent) = next else {
+                break;
+            };
+            spared.push(parent)?;
+            next = self.parent(parent);
+        }
+        Ok(spared)
+    }
 }
 
 impl<A: Allocator> Board<A> {
@@ -181,24 +232,82 @@ impl<A: Allocator> Board<A> {
         self.deps.status(t)
     }
 
-    /// The number of the class that the transaction began with.
-    pub(crate) fn class(&self, t: TxnId) -> Option<ClassId>
-        ensures { result ≡ (shown self.now).class t.0 }
+    fn origin(&self, t: TxnId) -> Origin
+        ensures { result ≡ origin_in self.now.origins.items t.0 }
     {
-        match self.classes.get(t.0 as usize) {
-            Some(class) => *class,
-            None => None,
+        match self.origins.get(t.0 as usize) {
+            Some(origin) => *origin,
+            None => Origin::UNBORN,
+        }
+    }
+
+    // The one that spawned the transaction.
+    fn parent(&self, t: TxnId) -> Option<TxnId>
+        ensures { result ≡ (shown self.now).parent t.0 }
+    {
+        self.origin(t).parent
+    }
+
+    /// The class that the transaction began with.
+    pub(crate) fn class_of(&self, t: TxnId) -> Option<&Class<A>>
+        ensures { option_map (λ class. class.now) result ≡ class_of self.now.model (shown self.now) t.0 }
+    {
+        let class = self.origin(t).class?;
+        self.model.classes().get(class.0 as usize)
+    }
+
+    // Whether the transaction's class leaves its ancestors out of its conflict set.
+    fn spares_ancestors(&self, t: TxnId) -> bool
+        ensures { result ≡ has_class (λ k. spares k.scope) self.now.model (shown self.now) t.0 }
+    {
+        match self.class_of(t) {
+            Some(class) => matches!(class.scope, Scope::NonAncestors),
+            None => false,
+        }
+    }
+
+    // Whether u is an ancestor of t.
+    fn is_ancestor(&self, u: TxnId, t: TxnId) -> bool
+        ensures { result ≡ is_among (ancestors_of (shown self.now) t.0) u }
+    {
+        let mut next = self.parent(t);
+        for _ in 0..self.kept.len() {
+            let Some(parent) = next else {
+                return false;
+            };
+            if parent.0 == u.0 {
+                return true;
+            }
+            next = self.parent(parent);
+        }
+        false
+    }
+
+    /// Whether u is an ancestor of t, and t's class leaves its ancestors out of its conflict set.
+    pub(crate) fn is_spared(&self, u: TxnId, t: TxnId) -> bool
+        ensures { result ≡ is_among (spared self.now.model (shown self.now) t.0) u }
+    {
+        self.spares_ancestors(t) && self.is_ancestor(u, t)
+    }
+
+    /// To whom what the transaction holds goes when it commits: its parent, where its class says so.
+    pub(crate) fn heir(&self, t: TxnId) -> Option<TxnId>
+        ensures { result ≡ heir_of self.now.model (shown self.now) t.0 }
+    {
+        match self.class_of(t)?.at_commit {
+            AtCommit::Keeps => None,
+            AtCommit::ToParent => self.parent(t),
         }
     }
 
     #[tactic(auto, unfolding(crate::specs::Summary::entered))]
-    fn enter(&mut self, t: TxnId, class: Option<ClassId>)
-        requires { t.0 < length self.old.classes.items }
-        ensures shows { shown self.new ≡ entered (shown self.old) t class }
-        ensures table { length self.new.classes.items ≡ length self.old.classes.items }
-        ensures others { self.new ≡ record self.old { classes = self.new.classes } }
+    fn enter(&mut self, t: TxnId, class: Option<ClassId>, parent: Option<TxnId>)
+        requires { t.0 < length self.old.origins.items }
+        ensures shows { shown self.new ≡ entered (shown self.old) t class parent }
+        ensures table { length self.new.origins.items ≡ length self.old.origins.items }
+        ensures others { self.new ≡ record self.old { origins = self.new.origins } }
     {
-        self.classes[t.0 as usize] = class;
+        self.origins[t.0 as usize] = Origin { class, parent };
     }
 
     #[tactic(auto, unfolding(crate::specs::Summary::given))]
@@ -214,8 +323,6 @@ impl<A: Allocator> Board<A> {
 
     #[tactic(auto, unfolding(crate::specs::Summary::inherited))]
     fn hand_all(&mut self, t: TxnId, u: TxnId)
-        requires low { 0 < u.0 }
-        requires high { u.0 ≤ 4095 }
         ensures shows { shown self.new ≡ inherited (shown self.old) t u }
         ensures others { self.new ≡ record self.old { operations = self.new.operations } }
     {
@@ -242,26 +349,24 @@ impl<A: Allocator> Board<A> {
     }
 
     #[tactic(auto, unfolding(crate::specs::Summary::stood))]
-    fn begin(&mut self, t: TxnId, class: ClassId)
+    fn begin(&mut self, t: TxnId, class: ClassId, parent: Option<TxnId>)
         requires low { 0 < t.0 }
         requires high { t.0 ≤ 4095 }
         requires stands { (shown self.old).status t.0 ≡ Status.NotBegun }
         requires allowed { start_refusal (shown self.old).status (shown self.old).edges t.0 ≡ None }
-        requires classes { length self.old.classes.items ≡ 4096 }
-        ensures shows { shown self.new ≡ begun (shown self.old) t class }
-        ensures classes { length self.new.classes.items ≡ 4096 }
-        ensures others { self.new ≡ record self.old { deps = self.new.deps; classes = self.new.classes } }
+        requires origins { length self.old.origins.items ≡ 4096 }
+        ensures shows { shown self.new ≡ begun (shown self.old) t class parent }
+        ensures origins { length self.new.origins.items ≡ 4096 }
+        ensures others { self.new ≡ record self.old { deps = self.new.deps; origins = self.new.origins } }
     {
         self.deps.started(t);
-        self.enter(t, Some(class));
+        self.enter(t, Some(class), parent);
     }
 
     #[tactic(auto, unfolding(crate::specs::Summary::stood))]
     fn join(&mut self, t: TxnId, u: TxnId)
         requires low { 0 < t.0 }
         requires high { t.0 ≤ 4095 }
-        requires low_partner { 0 < u.0 }
-        requires high_partner { u.0 ≤ 4095 }
         requires stands { (shown self.old).status t.0 ≡ Status.InProgress }
         requires allowed { join_refusal (shown self.old).status (shown self.old).edges t.0 ≡ None }
         ensures shows { shown self.new ≡ inherited (stood (shown self.old) t Status.Joined) t u }
@@ -276,11 +381,15 @@ impl<A: Allocator> Board<A> {
         requires number { bad_number {A = A} (Event.Commit t) ≡ None }
         requires stands { not_in_progress {A = A} (shown self.old) (Event.Commit t) ≡ None }
         requires allowed { dependency {A = A} (shown self.old) (Event.Commit t) ≡ None }
-        ensures shows { shown self.new ≡ closed (shown self.old) t Status.Committed Fate.Committed }
+        ensures shows { shown self.new ≡ settled (stood (shown self.old) t Status.Committed) t (heir_of self.old.model (shown self.old) t.0) }
         ensures others { self.new ≡ record self.old { deps = self.new.deps; operations = self.new.operations } }
     {
+        let heir = self.heir(t);
         self.deps.committed(t);
-        self.end(t, Fate::Committed);
+        match heir {
+            Some(heir) => self.hand_all(t, heir),
+            None => self.end(t, Fate::Committed),
+        }
     }
 
     #[tactic(auto, unfolding(crate::specs::Summary::stood))]
@@ -288,7 +397,7 @@ impl<A: Allocator> Board<A> {
         requires number { bad_number {A = A} (Event.Abort t) ≡ None }
         requires stands { not_in_progress {A = A} (shown self.old) (Event.Abort t) ≡ None }
         requires allowed { dependency {A = A} (shown self.old) (Event.Abort t) ≡ None }
-        ensures shows { shown self.new ≡ closed (shown self.old) t Status.Aborted Fate.Aborted }
+        ensures shows { shown self.new ≡ fated (stood (shown self.old) t Status.Aborted) t Fate.Aborted }
         ensures others { self.new ≡ record self.old { deps = self.new.deps; operations = self.new.operations } }
     {
         self.deps.aborted(t);
@@ -312,23 +421,24 @@ impl<A: Allocator> Board<A> {
     // then nothing is changed.
     #[tactic(auto, unfolding(acta_table::specs::WellFormed::bad_number))]
     fn change(&mut self, event: &Event<A>) -> Result<(), AllocError>
-        requires classes { length self.old.classes.items ≡ 4096 }
+        requires origins { length self.old.origins.items ≡ 4096 }
         requires few { length self.old.operations < 65536 }
         requires number { bad_number event.now ≡ None }
         requires progress { not_in_progress (shown self.old) event.now ≡ None }
         requires new { already_begun (shown self.old) event.now ≡ None }
         requires allowed { dependency (shown self.old) event.now ≡ None }
         requires named { are_open (operations_named event.now) self.old.operations ≡ true }
-        ensures shows { OnOk result (shown self.new ≡ changed (shown self.old) event.now) }
+        ensures shows { OnOk result (shown self.new ≡ changed self.old.model (shown self.old) event.now) }
         ensures err { OnErr result (shown self.new ≡ shown self.old) }
         ensures edgeless { OnErr result (edges_due self.old.model event.now ≡ []) }
-        ensures classes { length self.new.classes.items ≡ 4096 }
-        ensures others { self.new ≡ record self.old { deps = self.new.deps; classes = self.new.classes; operations = self.new.operations } }
+        ensures origins { length self.new.origins.items ≡ 4096 }
+        ensures others { self.new ≡ record self.old { deps = self.new.deps; origins = self.new.origins; operations = self.new.operations } }
     {
         match event {
-            Event::Begin(t, class) => self.begin(*t, *class),
+            Event::Begin(t, class) => self.begin(*t, *class, None),
+            Event::Spawn(t, c, class) => self.begin(*c, *class, Some(*t)),
             Event::Split(_, u, class, ops) => {
-                self.begin(*u, *class);
+                self.begin(*u, *class, None);
                 self.give(ops, *u);
             }
             Event::Join(t, u) => self.join(*t, *u),
@@ -345,17 +455,17 @@ impl<A: Allocator> Board<A> {
     /// and then nothing is done.
     pub(crate) fn admit(&mut self, event: &Event<A>, kept: Kept<A>) -> Result<(), AllocError>
         requires room { length self.old.kept.items < vec_capacity self.old.kept }
-        requires classes { length self.old.classes.items ≡ 4096 }
+        requires origins { length self.old.origins.items ≡ 4096 }
         requires few { length self.old.operations < 65536 }
         requires number { bad_number event.now ≡ None }
         requires progress { not_in_progress (shown self.old) event.now ≡ None }
         requires new { already_begun (shown self.old) event.now ≡ None }
         requires allowed { dependency (shown self.old) event.now ≡ None }
         requires named { are_open (operations_named event.now) self.old.operations ≡ true }
-        ensures shows { OnOk result (shown self.new ≡ counted (changed (shown self.old) event.now)) }
+        ensures shows { OnOk result (shown self.new ≡ counted (changed self.old.model (shown self.old) event.now)) }
         ensures kept { OnOk result (self.new.kept.items ≡ self.old.kept.items ++ kept ∷ []) }
         ensures model { self.new.model ≡ self.old.model }
-        ensures classes { length self.new.classes.items ≡ 4096 }
+        ensures origins { length self.new.origins.items ≡ 4096 }
         ensures err { OnErr result (shown self.new ≡ shown self.old) }
         ensures edgeless { OnErr result (edges_due self.old.model event.now ≡ []) }
         ensures as_it_was { OnErr result (self.new.kept.items ≡ self.old.kept.items) }

@@ -1,5 +1,6 @@
 ghost use Rattle.std.specs.Prelude.{◌≡◌, ◌≤◌, length, None, OnOk, OnErr, IfOk, replicate};
 ghost use Rattle.acta_machine.specs.Changes.{summary_of};
+ghost use Rattle.acta_machine.specs.Shown.{unborn};
 ghost use Rattle.acta_axioms.specs.Claims.{status_at};
 ghost use Rattle.acta_axioms.specs.Edges as edges_by_places;
 ghost use Rattle.acta_axioms.specs.Legal as debts_by_places;
@@ -7,13 +8,11 @@ ghost use Rattle.acta_axioms.specs.Operations as by_places;
 ghost use Rattle.acta_machine.specs.Places.{FollowsPlaces, numbers_of, value_at};
 ghost use Rattle.acta_machine.specs.Table.{fresh, answer_to, after, run_answers, run_state, status_in, value_in, access_set_in, conflict_set_in, view_set_in, edges_in, debts_in};
 
-use crate::board::{Board, TABLE_SIZE};
+use crate::board::{Board, Origin, TABLE_SIZE};
 use acta_deps::Deps;
 use acta_objects::ObjectState;
 use acta_sets::OpTable;
-use acta_table::{
-    Answer, ClassId, Edge, Event, Items, Kept, Model, ObjId, OpNo, Owed, Status, TxnId,
-};
+use acta_table::{Answer, Edge, Event, Items, Kept, Model, ObjId, OpNo, Owed, Status, TxnId};
 use std::alloc::{AllocError, Allocator};
 
 /// A machine: it admits events of transactions by its model, or refuses them. Contracts see the model and
@@ -37,21 +36,18 @@ impl<A: Allocator> std::marker::Model for Machine<A> {
 
     ghost invariant = { λ m. record {
       agrees : shown m.board ≡ summary_of m.board.model m.board.kept.items;
-      classes : length m.board.classes.items ≡ 4096;
+      origins : length m.board.origins.items ≡ 4096;
       within : length m.board.kept.items ≤ 65536;
       follows : FollowsPlaces (record { model = m.board.model; kept = m.board.kept.items });
     } };
 }
 
-// The classes of transactions that have not begun.
-fn no_classes<A: Allocator>(alloc: A) -> Result<Vec<Option<ClassId>, A>, AllocError>
-    ensures { IfOk result (λ table. table.items ≡ replicate 4096 None) }
+// The origins of transactions that have not begun.
+fn no_origins<A: Allocator>(alloc: A) -> Result<Vec<Origin, A>, AllocError>
+    ensures { IfOk result (λ table. table.items ≡ replicate 4096 unborn) }
 {
-    let mut table = Vec::with_capacity(alloc, TABLE_SIZE)?;
-    for _ in 0..TABLE_SIZE {
-        table.push(None)?;
-    }
-    Ok(table)
+    let origin = Origin::UNBORN;
+    vec![in alloc; origin; TABLE_SIZE]
 }
 
 impl<A: Allocator + Copy> Machine<A> {
@@ -64,7 +60,7 @@ impl<A: Allocator + Copy> Machine<A> {
             board: Board {
                 model,
                 deps: Deps::new(alloc)?,
-                classes: no_classes(alloc)?,
+                origins: no_origins(alloc)?,
                 operations: OpTable::new(alloc),
                 kept: Vec::new(alloc),
             },
@@ -136,13 +132,13 @@ impl<A: Allocator + Copy> Machine<A> {
         self.board.operations.access_set(t)
     }
 
-    /// The operations in progress that others hold, ascending (ACTA's conflict set). `Err` where there is no
-    /// memory.
+    /// The operations in progress that others hold, ascending (ACTA's conflict set); a class can leave out what
+    /// its ancestors hold, also once the transaction has ended. `Err` where there is no memory.
     pub fn conflict_set(&self, t: TxnId) -> Result<Vec<OpNo, A>, AllocError>
         ensures set { IfOk result (λ numbers. numbers.items ≡ conflict_set_in self.now t.0) }
         ensures places { IfOk result (λ numbers. numbers.items ≡ numbers_of (by_places.conflict_set self.now.model self.now.kept t.0)) }
     {
-        self.board.operations.conflict_set(t, &[])
+        self.board.conflict_set(t)
     }
 
     /// The operations that are not aborted, ascending (ACTA's view). `Err` where there is no memory.

@@ -1,4 +1,4 @@
-ghost use Rattle.std.specs.Prelude.{◌≡◌, ◌+◌, ◌<◌, ◌≤◌, ◌++◌, ◌∷◌, [], filter, min, length, Some, None, option_map, if◌then◌else◌};
+ghost use Rattle.std.specs.Prelude.{◌≡◌, ◌+◌, ◌<◌, ◌≤◌, ◌++◌, ◌∷◌, [], filter, min, length, Some, None, option_map, option_and_then, if◌then◌else◌};
 ghost use Rattle.std.specs.List.{list_any};
 ghost use Rattle.std.specs.Option.{option_map_or};
 ghost use Rattle.acta_table.specs.declared.event.EventKind.{EventKind};
@@ -9,10 +9,11 @@ ghost use Rattle.acta_table.specs.WellFormed.{is_bad_number, bad_number, bad_cla
 ghost use Rattle.acta_objects.specs.WellFormed.{bad_operation};
 ghost use Rattle.acta_table.specs.Refusals.{broken_by};
 ghost use Rattle.acta_table.specs.Sets.{is_named};
-ghost use Rattle.acta_deps.specs.Statuses.{has_ended};
+ghost use Rattle.acta_deps.specs.Statuses.{has_ended, is_in_progress};
 ghost use Rattle.acta_sets.specs.Operations.{operation_at};
 ghost use Rattle.acta_machine.specs.Changes.{edges_due};
-ghost use Rattle.acta_machine.specs.Rules.{full, not_in_progress, already_begun, class_may, txn_may, forms_none, not_in_model, partner_not_in_progress, is_of_another, not_held, not_responsible, wants_whole, left_out, partial_delegation, unknown_in, bad_set, stands_against, conflict, too_late, form_too_late, edges_full, earlier_broken, dependency, lowest_broken};
+ghost use Rattle.acta_machine.specs.Rules.{full, not_in_progress, already_begun, class_may, txn_may, forms_none, not_in_model, partner_not_in_progress, is_of_another, not_held, not_responsible, wants_whole, left_out, partial_delegation, unknown_in, bad_set, stands_against, conflict, too_late, form_too_late, edges_full, earlier_broken, dependency, fails, no_heir, lowest_broken};
+ghost use Rattle.acta_machine.specs.Families.{heir_of};
 ghost use Rattle.acta_machine.specs.Shown.{shown};
 
 use crate::board::Board;
@@ -35,7 +36,8 @@ fn acting_of<A: Allocator>(event: &Event<A>) -> Option<TxnId>
 {
     match event {
         Event::Begin(_, _) | Event::Form(_, _, _) => None,
-        Event::Split(t, _, _, _)
+        Event::Spawn(t, _, _)
+        | Event::Split(t, _, _, _)
         | Event::Join(t, _)
         | Event::Delegate(t, _, _)
         | Event::Operate(t, _, _)
@@ -49,7 +51,7 @@ fn started_of<A: Allocator>(event: &Event<A>) -> Option<TxnId>
     ensures { started event.now ≡ option_map (λ t. t.0) result }
 {
     match event {
-        Event::Begin(t, _) | Event::Split(_, t, _, _) => Some(*t),
+        Event::Begin(t, _) | Event::Spawn(_, t, _) | Event::Split(_, t, _, _) => Some(*t),
         _ => None,
     }
 }
@@ -69,7 +71,9 @@ fn class_of<A: Allocator>(event: &Event<A>) -> Option<ClassId>
     ensures { class_named event.now ≡ option_map (λ class. class.0) result }
 {
     match event {
-        Event::Begin(_, class) | Event::Split(_, _, class, _) => Some(*class),
+        Event::Begin(_, class) | Event::Spawn(_, _, class) | Event::Split(_, _, class, _) => {
+            Some(*class)
+        }
         _ => None,
     }
 }
@@ -97,7 +101,8 @@ fn smallest_bad<A: Allocator>(event: &Event<A>) -> Option<u32>
     ensures { result ≡ smallest (filter is_bad_number (named event.now)) }
 {
     match event {
-        Event::Split(j, i, _, _)
+        Event::Spawn(j, i, _)
+        | Event::Split(j, i, _, _)
         | Event::Join(j, i)
         | Event::Delegate(j, i, _)
         | Event::Form(_, j, i) => { smallest_of(*j, is_bad_number(*j), *i, is_bad_number(*i)) }
@@ -140,7 +145,8 @@ fn same_transaction<A: Allocator>(event: &Event<A>) -> Option<Refusal>
     ensures { result ≡ same_transaction event.now }
 {
     match event {
-        Event::Split(j, i, _, _)
+        Event::Spawn(j, i, _)
+        | Event::Split(j, i, _, _)
         | Event::Join(j, i)
         | Event::Delegate(j, i, _)
         | Event::Form(_, j, i) => one_twice(*j, *i),
@@ -259,6 +265,16 @@ impl<A: Allocator + Copy> Board<A> {
         }
     }
 
+    // Whether the class of this number may start by a spawn.
+    fn may_be_spawned(&self, class: ClassId) -> bool
+        ensures { result ≡ class_may self.now.model class.0 EventKind.Spawn }
+    {
+        match self.model.classes().get(class.0 as usize) {
+            Some(class) => class.starts.spawned,
+            None => false,
+        }
+    }
+
     // Whether the class of this number may start by a split.
     fn may_be_split(&self, class: ClassId) -> bool
         ensures { result ≡ class_may self.now.model class.0 EventKind.Split }
@@ -273,10 +289,7 @@ impl<A: Allocator + Copy> Board<A> {
     fn may(&self, t: TxnId, kind: EventKind) -> bool
         ensures { result ≡ txn_may self.now.model (shown self.now) t.0 kind }
     {
-        let Some(class) = self.class(t) else {
-            return false;
-        };
-        match self.model.classes().get(class.0 as usize) {
+        match self.class_of(t) {
             Some(class) => class.may.has(kind),
             None => false,
         }
@@ -309,6 +322,9 @@ impl<A: Allocator + Copy> Board<A> {
             Event::Begin(_, class) => self.may_begin(*class),
             Event::Form(_, j, i) => {
                 self.may_any_form() && !self.forms_none(*j) && !self.forms_none(*i)
+            }
+            Event::Spawn(t, _, class) => {
+                self.may_be_spawned(*class) && self.may(*t, EventKind::Spawn)
             }
             Event::Split(t, _, class, _) => {
                 self.may_be_split(*class) && self.may(*t, EventKind::Split)
@@ -388,10 +404,7 @@ impl<A: Allocator + Copy> Board<A> {
     fn wants_whole(&self, t: TxnId) -> bool
         ensures { result ≡ wants_whole self.now.model (shown self.now) t.0 }
     {
-        let Some(class) = self.class(t) else {
-            return false;
-        };
-        match self.model.classes().get(class.0 as usize) {
+        match self.class_of(t) {
             Some(class) => matches!(class.extent, Extent::Whole),
             None => false,
         }
@@ -451,9 +464,9 @@ impl<A: Allocator + Copy> Board<A> {
 
     // Whether the operation is in the transaction's conflict set, on the same object, and conflicts.
     fn stands_against(&self, t: TxnId, ob: ObjId, op: &Op, item: &Item) -> bool
-        ensures { result ≡ stands_against self.now.model t.0 ob op.now item.now }
+        ensures { result ≡ stands_against self.now.model (shown self.now) t.0 ob op.now item.now }
     {
-        if !item.is_of_others(t, &[]) || item.ob.0 != ob.0 {
+        if item.ob.0 != ob.0 || !item.is_of_others(t, &[]) || self.is_spared(item.holder, t) {
             return false;
         }
         match self.model.objects().get(ob.0 as usize) {
@@ -464,7 +477,7 @@ impl<A: Allocator + Copy> Board<A> {
 
     // The number of the first operation that stands against this one.
     fn first_against(&self, t: TxnId, ob: ObjId, op: &Op) -> Option<u32>
-        ensures { result ≡ first_number (stands_against self.now.model t.0 ob op.now) self.now.operations }
+        ensures { result ≡ first_number (stands_against self.now.model (shown self.now) t.0 ob op.now) self.now.operations }
     {
         let mut number = 1u32;
         for item in self.operations.operations() {
@@ -551,7 +564,9 @@ impl<A: Allocator + Copy> Board<A> {
         ensures { result ≡ dependency (shown self.now) event.now }
     {
         match event {
-            Event::Begin(t, _) | Event::Split(_, t, _, _) => self.deps.may_start(*t),
+            Event::Begin(t, _) | Event::Spawn(_, t, _) | Event::Split(_, t, _, _) => {
+                self.deps.may_start(*t)
+            }
             Event::Join(t, _) => self.deps.may_join(*t),
             Event::Commit(t) => self.deps.may_commit(*t),
             Event::Abort(t) => self.deps.may_abort(*t),
@@ -559,12 +574,36 @@ impl<A: Allocator + Copy> Board<A> {
         }
     }
 
+    // The one that would hold what the transaction holds when it commits, where it is not in progress.
+    fn lost_heir(&self, t: TxnId) -> Option<u32>
+        ensures { result ≡ option_and_then (λ p. fails (shown self.now) is_in_progress p.0) (heir_of self.now.model (shown self.now) t.0) }
+    {
+        let heir = self.heir(t)?;
+        if self.status(heir) == Status::InProgress {
+            None
+        } else {
+            Some(u32::from(heir.0))
+        }
+    }
+
+    #[tactic(auto, unfolding(crate::specs::Rules::no_heir))]
+    fn no_heir(&self, event: &Event<A>) -> Option<Refusal>
+        ensures { result ≡ no_heir self.now.model (shown self.now) event.now }
+    {
+        let Event::Commit(t) = event else {
+            return None;
+        };
+        broken_by(Rule::NoHeir, self.lost_heir(*t))
+    }
+
     /// The lowest rule that the event breaks, where it forms these edges.
     pub(crate) fn refusal(&self, event: &Event<A>, due: &[Edge]) -> Option<Refusal>
         requires { due.now ≡ edges_due self.now.model event.now }
         ensures { result ≡ lowest_broken self.now.model (shown self.now) event.now }
     {
-        self.earlier(event, due).or(self.dependency(event))
+        self.earlier(event, due)
+            .or(self.dependency(event))
+            .or(self.no_heir(event))
     }
 
     /// The place that the next event gets, where none is refused for want of room.

@@ -106,11 +106,9 @@ impl<A: Allocator> OpTable<A> {
         move_all(&mut self.items, ops, u);
     }
 
-    /// From now on `u`, a number from 1 to 4,095, holds all that `t` holds in progress (ACTA's join
+    /// From now on `u` holds all that `t` holds in progress (ACTA's join
     /// of split transactions, and a subtransaction's commit to its parent). Takes no memory.
     pub fn hand_all(&mut self, t: TxnId, u: TxnId)
-        requires low { 0 < u.0 }
-        requires high { u.0 ≤ 4095 }
         ensures { self.new ≡ handed t.0 u self.old }
     {
         hand_each(&mut self.items, t, u);

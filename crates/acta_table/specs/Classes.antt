@@ -6,6 +6,10 @@ use Rattle.acta_table.specs.declared.model.Class.{Class}
 use Rattle.acta_table.specs.declared.model.Extent.{Extent}
 use Rattle.acta_table.specs.declared.model.Extent.TheVariants.{Whole}
 use Rattle.acta_table.specs.declared.model.Kind.{Kind}
+use Rattle.acta_table.specs.declared.model.Scope.{Scope}
+use Rattle.acta_table.specs.declared.model.Scope.TheVariants.{NonAncestors}
+use Rattle.acta_table.specs.declared.model.AtCommit.{AtCommit}
+use Rattle.acta_table.specs.declared.model.AtCommit.TheVariants.{ToParent}
 use Rattle.acta_table.specs.declared.model.Parts.{Parts}
 use Rattle.acta_table.specs.Kinds.{has_kind}
 
@@ -32,3 +36,13 @@ can_do kind class = has_kind class.may kind
 abbrev pub is_whole : Extent → Bool
 is_whole Whole = true
 is_whole _ = false
+
+-- whether what ancestors hold is left out of the conflict set
+abbrev pub spares : Scope → Bool
+spares NonAncestors = true
+spares _ = false
+
+-- whether a commit leaves what is held to the parent
+abbrev pub has_heir : AtCommit → Bool
+has_heir ToParent = true
+has_heir _ = false

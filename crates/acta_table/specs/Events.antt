@@ -2,13 +2,14 @@
 use Rattle.std.specs.Prelude.{ℕ, Bool, true, false, List, [], ◌∷◌, Option, Some, None}
 use Rattle.acta_table.specs.declared.event.OpNo.{OpNo}
 use Rattle.acta_table.specs.declared.event.EventKind.{EventKind}
-use Rattle.acta_table.specs.declared.event.EventKind.TheVariants.{Begin as begin_kind, Split as split_kind, Join as join_kind, Delegate as delegate_kind, Form as form_kind, Operate as operate_kind, Commit as commit_kind, Abort as abort_kind}
+use Rattle.acta_table.specs.declared.event.EventKind.TheVariants.{Begin as begin_kind, Spawn as spawn_kind, Split as split_kind, Join as join_kind, Delegate as delegate_kind, Form as form_kind, Operate as operate_kind, Commit as commit_kind, Abort as abort_kind}
 use Rattle.acta_table.specs.declared.event.Event.{Event}
-use Rattle.acta_table.specs.declared.event.Event.TheVariants.{Begin, Split, Join, Delegate, Form, Operate, Commit, Abort}
+use Rattle.acta_table.specs.declared.event.Event.TheVariants.{Begin, Spawn, Split, Join, Delegate, Form, Operate, Commit, Abort}
 
 -- the kind of the event
 abbrev pub kind_of : {A : Type 0} → Event A → EventKind
 kind_of (Begin t class) = begin_kind
+kind_of (Spawn t c class) = spawn_kind
 kind_of (Split t u class ops) = split_kind
 kind_of (Join t u) = join_kind
 kind_of (Delegate t u ops) = delegate_kind
@@ -20,6 +21,7 @@ kind_of (Abort t) = abort_kind
 -- the transactions named, in order
 abbrev pub named : {A : Type 0} → Event A → List ℕ
 named (Begin t class) = t.0 ∷ []
+named (Spawn t c class) = t.0 ∷ c.0 ∷ []
 named (Split t u class ops) = t.0 ∷ u.0 ∷ []
 named (Join t u) = t.0 ∷ u.0 ∷ []
 named (Delegate t u ops) = t.0 ∷ u.0 ∷ []
@@ -31,6 +33,7 @@ named (Abort t) = t.0 ∷ []
 -- the transaction that acts: one that has to be in progress
 abbrev pub acting : {A : Type 0} → Event A → Option ℕ
 acting (Begin t class) = None
+acting (Spawn t c class) = Some t.0
 acting (Split t u class ops) = Some t.0
 acting (Join t u) = Some t.0
 acting (Delegate t u ops) = Some t.0
@@ -42,12 +45,14 @@ acting (Abort t) = Some t.0
 -- the transaction that is started
 abbrev pub started : {A : Type 0} → Event A → Option ℕ
 started (Begin t class) = Some t.0
+started (Spawn t c class) = Some c.0
 started (Split t u class ops) = Some u.0
 started _ = None
 
 -- the class named
 abbrev pub class_named : {A : Type 0} → Event A → Option ℕ
 class_named (Begin t class) = Some class.0
+class_named (Spawn t c class) = Some class.0
 class_named (Split t u class ops) = Some class.0
 class_named _ = None
 

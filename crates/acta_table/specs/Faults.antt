@@ -7,7 +7,9 @@ use Rattle.std.specs.Char.{is_ascii_alphabetic, is_ascii_alphanumeric}
 use Rattle.acta_table.specs.declared.model.Class.{Class}
 use Rattle.acta_table.specs.declared.model.Parts.{Parts}
 use Rattle.acta_table.specs.declared.model.ModelFault.{ModelFault}
-use Rattle.acta_table.specs.declared.model.ModelFault.TheVariants.{NoClass, TooManyClasses, TooManyObjects, DuplicateName, BadName, BeginKindAtStart}
+use Rattle.acta_table.specs.declared.model.ModelFault.TheVariants.{NoClass, TooManyClasses, TooManyObjects, DuplicateName, BadName, BeginKindAtStart, HeirWithoutSpawn}
+use Rattle.acta_table.specs.declared.start_edges.StartEdge.{StartEdge}
+use Rattle.acta_table.specs.Classes.{has_heir}
 use Rattle.acta_table.specs.Dependencies.{is_begin_kind}
 
 -- a name has 1 to 32 bytes: an ASCII letter first, then letters, digits or underscores
@@ -29,9 +31,17 @@ object_names m = map (λ o. o.name) m.objects
 abbrev pub class_names : {A : Type 0} → Parts A → List (List ℕ)
 class_names m = map (λ c. c.name) m.classes
 
--- whether a start edge of the class is of a begin kind: it would bar the start that forms it
+-- whether one of these start edges is of a begin kind: it would bar the start that forms it
+abbrev pub has_begin_edge : List StartEdge → Bool
+has_begin_edge edges = list_any (λ e. is_begin_kind e.kind) edges
+
+-- whether a start edge of the class is of a begin kind
 abbrev pub has_begin_kind : {A : Type 0} → Class A → Bool
-has_begin_kind class = list_any (λ e. is_begin_kind e.kind) class.split_edges
+has_begin_kind class = has_begin_edge class.spawn_edges || has_begin_edge class.split_edges
+
+-- whether the class commits to parents, and some of its transactions have none: they begin or are split off
+abbrev pub lacks_parents : {A : Type 0} → Class A → Bool
+lacks_parents class = has_heir class.at_commit && (class.starts.begin || class.starts.split)
 
 -- the fault, where the test is true
 abbrev pub fault_if : Bool → ModelFault → Option ModelFault
@@ -46,4 +56,5 @@ lowest_fault m = fold option_or None (
     ∷ fault_if (has_twice (object_names m) || has_twice (class_names m)) DuplicateName
     ∷ fault_if (not (list_all is_name (object_names m) && list_all is_name (class_names m))) BadName
     ∷ fault_if (list_any has_begin_kind m.classes) BeginKindAtStart
+    ∷ fault_if (list_any lacks_parents m.classes) HeirWithoutSpawn
     ∷ [])

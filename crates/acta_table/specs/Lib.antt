@@ -1,3 +1,4 @@
+pub mod Ancestors
 pub mod Classes
 pub mod Dependencies
 pub mod Edges

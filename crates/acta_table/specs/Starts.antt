@@ -25,8 +25,8 @@ same_start_edge e f = same_kind e.kind f.kind && (rank_of e.dependent == rank_of
 abbrev pub start_edge_cmp : StartEdge → StartEdge → Ordering
 start_edge_cmp e f =
     ordering_then
-        (nat_cmp (code_of e.kind) (code_of f.kind))
-        (nat_cmp (rank_of e.dependent) (rank_of f.dependent))
+    (nat_cmp (code_of e.kind) (code_of f.kind))
+    (nat_cmp (rank_of e.dependent) (rank_of f.dependent))
 
 -- both start edges of a kind
 abbrev pub both_of : Dep → List StartEdge

@@ -77,6 +77,9 @@ pub enum EventKind {
 pub enum Event<A: Allocator> {
     /// The transaction begins, with the class.
     Begin(TxnId, ClassId),
+    /// The first transaction spawns the second, with the class, and is its parent from then on (ACTA's
+    /// spawn).
+    Spawn(TxnId, TxnId, ClassId),
     /// The first transaction splits off the second, with the class, and hands it the operations, which
     /// the second holds from then on (ACTA's split).
     Split(TxnId, TxnId, ClassId, OpSet<A>),
@@ -103,6 +106,7 @@ impl<A: Allocator> Event<A> {
     {
         match self {
             Event::Begin(_, _) => EventKind::Begin,
+            Event::Spawn(_, _, _) => EventKind::Spawn,
             Event::Split(_, _, _, _) => EventKind::Split,
             Event::Join(_, _) => EventKind::Join,
             Event::Delegate(_, _, _) => EventKind::Delegate,
@@ -121,6 +125,7 @@ impl<A: Allocator + Copy> Event<A> {
     {
         Ok(match self {
             Event::Begin(t, class) => Event::Begin(*t, *class),
+            Event::Spawn(t, c, class) => Event::Spawn(*t, *c, *class),
             Event::Split(t, u, class, ops) => Event::Split(*t, *u, *class, ops.copy()?),
             Event::Join(t, u) => Event::Join(*t, *u),
             Event::Delegate(t, u, ops) => Event::Delegate(*t, *u, ops.copy()?),

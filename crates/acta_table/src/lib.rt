@@ -16,6 +16,6 @@ pub use dep::{Dep, DepKinds, Edge, EdgeNo, Missing, Owed};
 pub use event::{ClassId, Event, EventKind, Kept, ObjId, Op, OpNo, Ret, TxnId};
 pub use items::Items;
 pub use kinds::Kinds;
-pub use model::{Class, Extent, Kind, Model, ModelFault, Object, Parts, Starts};
+pub use model::{AtCommit, Class, Extent, Kind, Model, ModelFault, Object, Parts, Scope, Starts};
 pub use op_set::OpSet;
 pub use start_edges::{Dependent, StartEdge, StartEdges};

@@ -2,11 +2,11 @@ ghost use Rattle.std.specs.Prelude.{◌≡◌, ◌||◌, ◌==◌, ℕ, List, ma
 ghost use Rattle.std.specs.List.{list_any, list_all};
 ghost use Rattle.std.specs.Str.{bytes_eq};
 ghost use Rattle.std.specs.Char.{is_ascii_alphanumeric};
-ghost use Rattle.acta_table.specs.Faults.{lowest_fault, is_name, has_twice, has_begin_kind, fault_if};
+ghost use Rattle.acta_table.specs.Faults.{lowest_fault, is_name, has_twice, has_begin_edge, has_begin_kind, lacks_parents, fault_if};
 
 use crate::items::Items;
 use crate::kinds::Kinds;
-use crate::start_edges::StartEdges;
+use crate::start_edges::{StartEdge, StartEdges};
 use std::alloc::{AllocError, Allocator};
 
 /// How transactions of a class may start.
@@ -15,6 +15,26 @@ pub struct Starts {
     pub begin: bool,
     pub spawned: bool,
     pub split: bool,
+}
+
+/// Whose operations a transaction can be in conflict with (ACTA's conflict set; that a class chooses is
+/// ours).
+#[derive(Clone, Copy, PartialEq, Eq, Debug)]
+pub enum Scope {
+    /// Those of all others.
+    Others,
+    /// Those of all others but its ancestors.
+    NonAncestors,
+}
+
+/// What becomes of the operations that a transaction holds in progress when it commits (ACTA's commit of a
+/// subtransaction; that a class chooses is ours).
+#[derive(Clone, Copy, PartialEq, Eq, Debug)]
+pub enum AtCommit {
+    /// They are committed.
+    Keeps,
+    /// Its parent holds them.
+    ToParent,
 }
 
 /// How much a transaction has to hand over where it delegates (ACTA's delegation; the choice is ours).
@@ -50,7 +70,11 @@ pub struct Class<A: Allocator> {
     pub name: Items<u8, A>,
     pub starts: Starts,
     pub may: Kinds,
+    pub scope: Scope,
+    pub at_commit: AtCommit,
     pub extent: Extent,
+    /// The edges that are formed where a transaction with this class is spawned.
+    pub spawn_edges: StartEdges<A>,
     /// The edges that are formed where a transaction with this class is split off.
     pub split_edges: StartEdges<A>,
 }
@@ -78,6 +102,8 @@ pub enum ModelFault {
     /// A class wants an edge at a start that would bar this start, or comes after it: one of the kinds that
     /// limit when a transaction may begin.
     BeginKindAtStart = 6,
+    /// A class commits to parents, and its transactions can start by a begin or a split, so without one.
+    HeirWithoutSpawn = 7,
 }
 
 /// A checked model: parts that have no fault.
@@ -181,13 +207,26 @@ fn fault_where(is_there: bool, fault: ModelFault) -> Option<ModelFault>
     if is_there { Some(fault) } else { None }
 }
 
+// Whether one of these start edges is of a begin kind.
+fn has_begin_edge(edges: &[StartEdge]) -> bool
+    ensures { result ≡ has_begin_edge edges.now }
+{
+    edges.iter().any(|edge| edge.kind.is_begin_kind())
+}
+
 impl<A: Allocator> Class<A> {
     // Whether a start edge of the class is of a begin kind.
     fn has_begin_kind(&self) -> bool
         ensures { result ≡ has_begin_kind self.now }
     {
-        let edges = self.split_edges.as_slice();
-        edges.iter().any(|edge| edge.kind.is_begin_kind())
+        has_begin_edge(self.spawn_edges.as_slice()) || has_begin_edge(self.split_edges.as_slice())
+    }
+
+    // Whether the class commits to parents, and some of its transactions have none.
+    fn lacks_parents(&self) -> bool
+        ensures { result ≡ lacks_parents self.now }
+    {
+        matches!(self.at_commit, AtCommit::ToParent) && (self.starts.begin || self.starts.split)
     }
 }
 
@@ -196,6 +235,13 @@ fn have_begin_kinds<A: Allocator>(classes: &[Class<A>]) -> bool
     ensures { result ≡ list_any has_begin_kind classes.now }
 {
     classes.iter().any(|class| class.has_begin_kind())
+}
+
+// Whether one of the classes commits to parents that some of its transactions do not have.
+fn have_heirless<A: Allocator>(classes: &[Class<A>]) -> bool
+    ensures { result ≡ list_any lacks_parents classes.now }
+{
+    classes.iter().any(|class| class.lacks_parents())
 }
 
 impl<A: Allocator> Parts<A> {
@@ -208,12 +254,14 @@ impl<A: Allocator> Parts<A> {
         let is_doubled = have_name_twice(objects) || have_name_twice(classes);
         let is_well_named = are_named_well(objects) && are_named_well(classes);
         let is_begun_late = have_begin_kinds(classes);
+        let is_heirless = have_heirless(classes);
         fault_where(classes.is_empty(), ModelFault::NoClass)
             .or(fault_where(classes.len() > 16, ModelFault::TooManyClasses))
             .or(fault_where(objects.len() > 256, ModelFault::TooManyObjects))
             .or(fault_where(is_doubled, ModelFault::DuplicateName))
             .or(fault_where(!is_well_named, ModelFault::BadName))
             .or(fault_where(is_begun_late, ModelFault::BeginKindAtStart))
+            .or(fault_where(is_heirless, ModelFault::HeirWithoutSpawn))
     }
 }
 
@@ -268,7 +316,10 @@ impl<A: Allocator + Copy> Class<A> {
             name: self.name.copy()?,
             starts: self.starts,
             may: self.may,
+            scope: self.scope,
+            at_commit: self.at_commit,
             extent: self.extent,
+            spawn_edges: self.spawn_edges.copy()?,
             split_edges: self.split_edges.copy()?,
         })
     }

@@ -1,5 +1,7 @@
-use crate::models::{FLAT, atomic, parts, wanting};
-use acta_table::{Dep, Event, EventKind, Kinds, Model, ModelFault, OpNo, OpSet, Rule, TxnId};
+use crate::models::{FLAT, atomic, inheriting, parts, wanting, wanting_at_spawn};
+use acta_table::{
+    Dep, Event, EventKind, Kinds, Model, ModelFault, OpNo, OpSet, Rule, Starts, TxnId,
+};
 use std::alloc::{AllocError, Allocator, Global};
 use std::process::Abort;
 use std::test::Fail;
@@ -70,8 +72,16 @@ fn fault_at_a_split<A: Allocator + Copy>(
     Ok(Model::check(wanting(alloc, kind)?).err())
 }
 
+// The same at a spawn.
+fn fault_at_a_spawn<A: Allocator + Copy>(
+    alloc: A,
+    kind: Dep,
+) -> Result<Option<ModelFault>, AllocError> {
+    Ok(Model::check(wanting_at_spawn(alloc, kind)?).err())
+}
+
 #[test]
-fn begin_kinds_at_a_split(rt: HostRuntime) -> Result<(), Fail> {
+fn begin_kinds_at_a_start(rt: HostRuntime) -> Result<(), Fail> {
     for kind in Dep::ALL {
         let fault = if kind.is_begin_kind() {
             Some(ModelFault::BeginKindAtStart)
@@ -79,7 +89,32 @@ fn begin_kinds_at_a_split(rt: HostRuntime) -> Result<(), Fail> {
             None
         };
         assert_eq!(rt; fault_at_a_split(rt.alloc(), kind)?, fault, "with {kind:?}");
+        assert_eq!(rt; fault_at_a_spawn(rt.alloc(), kind)?, fault, "with {kind:?}");
     }
+    Ok(())
+}
+
+// The fault of a model whose class commits to parents, where its transactions start so.
+fn fault_of_heirs<A: Allocator + Copy>(
+    alloc: A,
+    begin: bool,
+    split: bool,
+) -> Result<Option<ModelFault>, AllocError> {
+    let starts = Starts {
+        begin,
+        spawned: true,
+        split,
+    };
+    Ok(Model::check(inheriting(alloc, starts)?).err())
+}
+
+// One that commits to its parent has one: it doesn't begin, and isn't split off.
+#[test]
+fn heirs_without_a_spawn(rt: HostRuntime) -> Result<(), Fail> {
+    let fault = Some(ModelFault::HeirWithoutSpawn);
+    assert_eq!(rt; fault_of_heirs(rt.alloc(), true, false)?, fault);
+    assert_eq!(rt; fault_of_heirs(rt.alloc(), false, true)?, fault);
+    assert_eq!(rt; fault_of_heirs(rt.alloc(), false, false)?, None);
     Ok(())
 }
 

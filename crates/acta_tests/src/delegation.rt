@@ -1,5 +1,5 @@
 use crate::models::{N, X, atomic, delegating};
-use crate::script::{counter, played, plays, register};
+use crate::script::{access_set, counter, played, plays, register};
 use acta_axioms::Places;
 use acta_machine::Machine;
 use acta_table::{Extent, Fate, Model, OpNo, TxnId};
@@ -42,7 +42,7 @@ fn ended<A: Allocator + Copy>(
 
 // The second transaction holds the one operation.
 fn is_held<A: Allocator + Copy>(rt: &impl Abort, machine: &Machine<A>) -> Result<(), Fail> {
-    let held = machine.access_set(TWO)?;
+    let held = access_set(machine, TWO)?;
     assert_eq!(rt; held.as_slice(), [OpNo(1)].as_slice());
     Ok(())
 }

@@ -1,5 +1,5 @@
 use crate::models::{FLAT, atomic, contingent};
-use crate::script::{KINDS, has_edges, played};
+use crate::script::{has_edges, owed, played};
 use acta_axioms::Places;
 use acta_machine::Machine;
 use acta_table::{Answer, Dep, Edge, EdgeNo, Event, Kept, Missing, Model, Owed, Rule, TxnId};
@@ -27,7 +27,7 @@ fn debt_on<A: Allocator + Copy>(
     rt: &impl Abort,
     machine: &Machine<A>,
 ) -> Result<Option<Owed>, AllocError> {
-    let owed = machine.owed()?;
+    let owed = owed(machine)?;
     assert!(rt; owed.len() < 2);
     Ok(owed.first().copied())
 }
@@ -233,13 +233,13 @@ fn where_no_class_may(rt: HostRuntime) -> Result<(), Fail> {
 
 // The first places of a transaction.
 #[derive(Clone, Copy)]
-struct Course {
-    start: Option<u32>,
-    commit: Option<u32>,
-    abort: Option<u32>,
+pub struct Course {
+    pub start: Option<u32>,
+    pub commit: Option<u32>,
+    pub abort: Option<u32>,
 }
 
-fn course_of<A: Allocator>(places: &Places<'_, A>, t: TxnId) -> Course {
+pub fn course_of<A: Allocator>(places: &Places<'_, A>, t: TxnId) -> Course {
     Course {
         start: places.start(t),
         commit: places.commit(t),
@@ -256,7 +256,7 @@ fn is_before(m: Option<u32>, n: Option<u32>) -> bool {
 }
 
 // Whether the formula of the kind is false, written out once more.
-fn is_false(kind: Dep, j: Course, i: Course) -> bool {
+pub fn is_false(kind: Dep, j: Course, i: Course) -> bool {
     let decided = j.commit.or(j.abort);
     match kind {
         Dep::Cd => j.commit.is_some() && i.commit.is_some() && !is_before(i.commit, j.commit),
@@ -275,7 +275,7 @@ fn is_false(kind: Dep, j: Course, i: Course) -> bool {
 }
 
 // What could be owed by an edge of the kind.
-fn payment(kind: Dep) -> Option<Missing> {
+pub fn payment(kind: Dep) -> Option<Missing> {
     match kind {
         Dep::Scd | Dep::Cmd => Some(Missing::Commit),
         Dep::Ad | Dep::Wd | Dep::Ed => Some(Missing::Abort),
@@ -490,7 +490,7 @@ fn through_each_order<A: Allocator + Copy>(
 #[test]
 fn each_kind_in_each_order(rt: HostRuntime) -> Result<(), Fail> {
     let model = contingent(rt.alloc())?;
-    for kind in KINDS {
+    for kind in Dep::ALL {
         let (refused, owed) = through_each_order(&rt, rt.alloc(), &model, kind)?;
         assert!(rt; refused, "{kind:?} refuses something");
         assert_eq!(rt; owed, payment(kind).is_some(), "{kind:?} is owed");

@@ -5,13 +5,19 @@
 #[cfg(test)]
 mod checking;
 #[cfg(test)]
+mod comparing;
+#[cfg(test)]
 mod delegation;
 #[cfg(test)]
 mod dependencies;
 #[cfg(test)]
+mod histories;
+#[cfg(test)]
 mod memory;
 #[cfg(test)]
 mod models;
+#[cfg(test)]
+mod nesting;
 #[cfg(test)]
 mod places;
 #[cfg(test)]

@@ -1,5 +1,8 @@
-use crate::models::{S, atomic, contingent, delegating, parting, parts};
-use crate::script::{event, events, has_edges, has_value, is_due, parted, run_on};
+use crate::models::{S, atomic, contingent, delegating, nested, parting, parts};
+use crate::script::{
+    access_set, conflict_set, event, events, has_edges, has_value, is_due, owed, parted, played,
+    run_on, view_set,
+};
 use acta_axioms::Places;
 use acta_machine::{Machine, Run};
 use acta_objects::{ObjectState, replay};
@@ -124,6 +127,24 @@ fn growths_of<A: Allocator + Copy, B: Allocator>(
     Ok(refused)
 }
 
+// Takes the events of the lines on a new machine, each growth refused in turn; each event has as many growths as are
+// told.
+fn grow_each<A: Allocator + Copy, B: Allocator>(
+    rt: &impl Abort,
+    heap: &Refusing<B>,
+    alloc: A,
+    model: &Model<A>,
+    text: &str,
+    growths: &[u64],
+) -> Result<(), Fail> {
+    let mut machine = copied_machine(alloc, model)?;
+    for (line, growths) in text.lines().zip(growths.iter()) {
+        let refused = growths_of(rt, heap, alloc, model, &mut machine, line)?;
+        assert_eq!(rt; refused, *growths, "at {line}");
+    }
+    Ok(())
+}
+
 // The growths of taking one event after another: of the history, of the edges, of the operations, of a set
 // that is an object, and of one that is handed over.
 fn grow_take<A: Allocator + Copy, B: Allocator>(
@@ -139,12 +160,7 @@ fn grow_take<A: Allocator + Copy, B: Allocator>(
         delegate 1 2 2 : ok 6";
     let growths = [1u64, 2, 0, 1, 2, 1];
     let model = delegating(alloc, Extent::Any)?;
-    let mut machine = copied_machine(alloc, &model)?;
-    for (line, growths) in text.lines().zip(growths.iter()) {
-        let refused = growths_of(rt, heap, alloc, &model, &mut machine, line)?;
-        assert_eq!(rt; refused, *growths, "at {line}");
-    }
-    Ok(())
+    grow_each(rt, heap, alloc, &model, text, &growths)
 }
 
 #[test]
@@ -176,18 +192,61 @@ fn grow_splits<A: Allocator + Copy, B: Allocator>(
         join 1 2 : ok 4";
     let growths = [1u64, 1, 3, 0];
     let model = parting(alloc, &[LATER, EARLIER])?;
-    let mut machine = copied_machine(alloc, &model)?;
-    for (line, growths) in text.lines().zip(growths.iter()) {
-        let refused = growths_of(rt, heap, alloc, &model, &mut machine, line)?;
-        assert_eq!(rt; refused, *growths, "at {line}");
-    }
-    Ok(())
+    grow_each(rt, heap, alloc, &model, text, &growths)
 }
 
 #[test]
 fn of_splits(rt: HostRuntime) -> Result<(), Fail> {
     let heap = Refusing::new(rt.alloc());
     grow_splits(&rt, &heap, &heap)
+}
+
+// The growths of a spawn with two edges: of the edges that are due, and of the edges in force. A commit to a parent
+// has none.
+fn grow_spawns<A: Allocator + Copy, B: Allocator>(
+    rt: &impl Abort,
+    heap: &Refusing<B>,
+    alloc: A,
+) -> Result<(), Fail> {
+    let text = "begin 1 top : ok 1
+        spawn 1 2 sub : ok 2
+        do 2 x write 5 : ok 3 done
+        commit 2 : ok 4";
+    let growths = [1u64, 2, 1, 0];
+    let model = nested(alloc)?;
+    grow_each(rt, heap, alloc, &model, text, &growths)
+}
+
+#[test]
+fn of_spawns(rt: HostRuntime) -> Result<(), Fail> {
+    let heap = Refusing::new(rt.alloc());
+    grow_spawns(&rt, &heap, &heap)
+}
+
+// The growths of the conflict set of one with ancestors: of the list of these, and of the set.
+fn grow_against<A: Allocator + Copy, B: Allocator>(
+    rt: &impl Abort,
+    heap: &Refusing<B>,
+    alloc: A,
+) -> Result<(), Fail> {
+    let text = "begin 1 top : ok 1
+        do 1 x write 5 : ok 2 done
+        spawn 1 2 sub : ok 3
+        spawn 2 3 sub : ok 4
+        begin 4 top : ok 5
+        do 4 n add 1 : ok 6 done";
+    let machine = played(rt, alloc, &nested(alloc)?, text)?;
+    let (against, refused) = refuse_each(rt, heap, || conflict_set(&machine, TxnId(3)));
+    assert_eq!(rt; refused, 2);
+    let against = against.ok_or("a set with memory is answered")?;
+    assert_eq!(rt; against.as_slice(), [OpNo(2)].as_slice());
+    Ok(())
+}
+
+#[test]
+fn of_ancestors(rt: HostRuntime) -> Result<(), Fail> {
+    let heap = Refusing::new(rt.alloc());
+    grow_against(&rt, &heap, &heap)
 }
 
 // Runs, each growth refused in turn.
@@ -260,7 +319,7 @@ fn grow_places<A: Allocator + Copy, B: Allocator>(
     let machine = run_on(alloc, &model, &events)?.machine;
     let (start, refused) = finding(rt, heap, alloc, &model, &machine);
     assert_eq!(rt; start, Some(Some(1)));
-    assert_eq!(rt; refused, 4);
+    assert_eq!(rt; refused, 6);
     Ok(())
 }
 
@@ -272,9 +331,9 @@ fn of_places(rt: HostRuntime) -> Result<(), Fail> {
 
 // The one operation is in the set of the transaction that does it, and in that of another.
 fn has_sets<A: Allocator + Copy>(rt: &impl Abort, machine: &Machine<A>) -> Result<(), AllocError> {
-    let access = machine.access_set(ONE)?;
+    let access = access_set(machine, ONE)?;
     assert_eq!(rt; access.as_slice(), [OpNo(1)].as_slice());
-    let others = machine.conflict_set(TWO)?;
+    let others = conflict_set(machine, TWO)?;
     assert_eq!(rt; others.as_slice(), [OpNo(1)].as_slice());
     Ok(())
 }
@@ -285,11 +344,11 @@ fn reading_sets<A: Allocator + Copy, B: Allocator>(
     heap: &Refusing<B>,
     machine: &Machine<A>,
 ) {
-    let (_, refused) = refuse_each(rt, heap, || machine.access_set(ONE));
+    let (_, refused) = refuse_each(rt, heap, || access_set(machine, ONE));
     assert_eq!(rt; refused, 1);
-    let (_, refused) = refuse_each(rt, heap, || machine.conflict_set(TWO));
+    let (_, refused) = refuse_each(rt, heap, || conflict_set(machine, TWO));
     assert_eq!(rt; refused, 1);
-    let (_, refused) = refuse_each(rt, heap, || machine.view_set());
+    let (_, refused) = refuse_each(rt, heap, || view_set(machine));
     assert_eq!(rt; refused, 1);
 }
 
@@ -336,7 +395,7 @@ fn owing<A: Allocator + Copy, B: Allocator>(
     heap: &Refusing<B>,
     machine: &Machine<A>,
 ) -> Result<(), Fail> {
-    let (owed, refused) = refuse_each(rt, heap, || machine.owed());
+    let (owed, refused) = refuse_each(rt, heap, || owed(machine));
     assert_eq!(rt; refused, 1);
     let (copied, refused) = refuse_each(rt, heap, || machine.copy());
     assert_eq!(rt; refused, 11);
@@ -344,7 +403,7 @@ fn owing<A: Allocator + Copy, B: Allocator>(
     let copied = copied.ok_or("a copy with memory is answered")?;
     let missing = owed.first().map(|debt| debt.missing);
     assert_eq!(rt; missing, Some(Missing::Commit));
-    assert_eq!(rt; copied.owed()?.as_slice(), owed.as_slice());
+    assert_eq!(rt; owed(&copied)?.as_slice(), owed.as_slice());
     assert!(rt; has_edges(&copied, machine.edges()));
     Ok(())
 }

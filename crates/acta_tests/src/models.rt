@@ -1,6 +1,6 @@
 use acta_table::{
-    Class, ClassId, Dep, Dependent, Extent, Items, Kind, Kinds, Model, ObjId, Object, Parts,
-    StartEdge, StartEdges, Starts,
+    AtCommit, Class, ClassId, Dep, Dependent, Extent, Items, Kind, Kinds, Model, ObjId, Object,
+    Parts, Scope, StartEdge, StartEdges, Starts,
 };
 use std::alloc::{AllocError, Allocator};
 use std::test::Fail;
@@ -42,7 +42,10 @@ fn class<A: Allocator + Copy>(
             .union(Kinds::COMMIT)
             .union(Kinds::ABORT)
             .union(more),
+        scope: Scope::Others,
+        at_commit: AtCommit::Keeps,
         extent,
+        spawn_edges: StartEdges::new(alloc),
         split_edges: StartEdges::new(alloc),
     })
 }
@@ -98,10 +101,8 @@ fn objects<A: Allocator + Copy>(alloc: A) -> Result<Vec<Object<A>, A>, AllocErro
     Ok(objects)
 }
 
-// A model of the objects `x`, `n`, `m`, `s` and this class.
-fn standard<A: Allocator + Copy>(alloc: A, class: Class<A>) -> Result<Model<A>, Fail> {
-    let mut classes = Vec::new(alloc);
-    classes.push(class)?;
+// A model of the objects `x`, `n`, `m`, `s` and these classes.
+fn standard_of<A: Allocator + Copy>(alloc: A, classes: Vec<Class<A>, A>) -> Result<Model<A>, Fail> {
     let parts = Parts {
         objects: Items::of(objects(alloc)?),
         classes: Items::of(classes),
@@ -111,6 +112,26 @@ fn standard<A: Allocator + Copy>(alloc: A, class: Class<A>) -> Result<Model<A>, 
             .ok()
             .ok_or("a standard model has no fault")?,
     )
+}
+
+// The list of one class.
+fn one<A: Allocator>(alloc: A, class: Class<A>) -> Result<Vec<Class<A>, A>, AllocError> {
+    let mut classes = Vec::new(alloc);
+    classes.push(class)?;
+    Ok(classes)
+}
+
+// A model of the objects `x`, `n`, `m`, `s` and this class.
+fn standard<A: Allocator + Copy>(alloc: A, class: Class<A>) -> Result<Model<A>, Fail> {
+    standard_of(alloc, one(alloc, class)?)
+}
+
+// The parts of a model of no object and this class.
+fn parts_of<A: Allocator + Copy>(alloc: A, class: Class<A>) -> Result<Parts<A>, AllocError> {
+    Ok(Parts {
+        objects: Items::new(alloc),
+        classes: Items::of(one(alloc, class)?),
+    })
 }
 
 /// The standard model of flat transactions: the objects `x`, `n`, `m`, `s` and the class `flat`.
@@ -136,20 +157,34 @@ fn part<A: Allocator + Copy>(
     Ok(part)
 }
 
-/// The parts of a model whose class wants an edge of this kind at a split, of what is split off on the other.
-pub fn wanting<A: Allocator + Copy>(alloc: A, kind: Dep) -> Result<Parts<A>, AllocError> {
+// The set of the one edge of this kind, of what is started on the one that starts it.
+fn on_starter<A: Allocator + Copy>(alloc: A, kind: Dep) -> Result<StartEdges<A>, AllocError> {
     let edge = StartEdge {
         kind,
         dependent: Dependent::Started,
     };
+    StartEdges::of(alloc, &[edge])
+}
+
+/// The parts of a model whose class wants an edge of this kind at a split, of what is split off on the other.
+pub fn wanting<A: Allocator + Copy>(alloc: A, kind: Dep) -> Result<Parts<A>, AllocError> {
     let mut part = part(alloc, Kinds::none(), Extent::Any)?;
-    part.split_edges = StartEdges::of(alloc, &[edge])?;
-    let mut classes = Vec::new(alloc);
-    classes.push(part)?;
-    Ok(Parts {
-        objects: Items::new(alloc),
-        classes: Items::of(classes),
-    })
+    part.split_edges = on_starter(alloc, kind)?;
+    parts_of(alloc, part)
+}
+
+/// The parts of a model whose class wants an edge of this kind at a spawn, of what is spawned on the other.
+pub fn wanting_at_spawn<A: Allocator + Copy>(alloc: A, kind: Dep) -> Result<Parts<A>, AllocError> {
+    let mut sub = sub(alloc, Kinds::SPAWN)?;
+    sub.spawn_edges = on_starter(alloc, kind)?;
+    parts_of(alloc, sub)
+}
+
+/// The parts of a model whose class commits to parents, and whose transactions start so.
+pub fn inheriting<A: Allocator + Copy>(alloc: A, starts: Starts) -> Result<Parts<A>, AllocError> {
+    let mut sub = sub(alloc, Kinds::SPAWN)?;
+    sub.starts = starts;
+    parts_of(alloc, sub)
 }
 
 /// The standard model of transactions that split and join: the same objects, and the class `part`, which hands
@@ -171,4 +206,76 @@ pub fn delegating<A: Allocator + Copy>(alloc: A, extent: Extent) -> Result<Model
         alloc,
         class(alloc, "part", Kinds::DELEGATE.union(Kinds::FORM), extent)?,
     )
+}
+
+// The class `top`: its transactions begin, spawn others, and are in conflict with none of their ancestors.
+fn top<A: Allocator + Copy>(alloc: A, may: Kinds, extent: Extent) -> Result<Class<A>, AllocError> {
+    let mut top = class(alloc, "top", may, extent)?;
+    top.scope = Scope::NonAncestors;
+    Ok(top)
+}
+
+const SPAWNED: Starts = Starts {
+    begin: false,
+    spawned: true,
+    split: false,
+};
+
+// The class `sub`: its transactions are spawned, are in conflict with none of their ancestors, and commit to
+// their parents.
+fn sub<A: Allocator + Copy>(alloc: A, may: Kinds) -> Result<Class<A>, AllocError> {
+    let mut sub = class(alloc, "sub", may, Extent::Whole)?;
+    sub.starts = SPAWNED;
+    sub.scope = Scope::NonAncestors;
+    sub.at_commit = AtCommit::ToParent;
+    Ok(sub)
+}
+
+/// The model of nested transactions: the same objects, and the classes `top` and `sub`, where `sub` wants these
+/// edges formed at a spawn.
+pub fn nesting<A: Allocator + Copy>(alloc: A, edges: &[StartEdge]) -> Result<Model<A>, Fail> {
+    let mut sub = sub(alloc, Kinds::SPAWN)?;
+    sub.spawn_edges = StartEdges::of(alloc, edges)?;
+    let mut classes = one(alloc, top(alloc, Kinds::SPAWN, Extent::Whole)?)?;
+    classes.push(sub)?;
+    standard_of(alloc, classes)
+}
+
+/// The standard model of nested transactions: a parent that commits does so after its children, and one that
+/// aborts takes with it those that have not committed.
+pub fn nested<A: Allocator + Copy>(alloc: A) -> Result<Model<A>, Fail> {
+    let edges = [
+        StartEdge {
+            kind: Dep::Cd,
+            dependent: Dependent::Starter,
+        },
+        StartEdge {
+            kind: Dep::Wd,
+            dependent: Dependent::Started,
+        },
+    ];
+    nesting(alloc, &edges)
+}
+
+// The class `leaf`: its transactions are spawned, and otherwise are flat.
+fn leaf<A: Allocator + Copy>(alloc: A) -> Result<Class<A>, AllocError> {
+    let mut leaf = class(alloc, "leaf", Kinds::none(), Extent::Whole)?;
+    leaf.starts = SPAWNED;
+    Ok(leaf)
+}
+
+/// The model of families: nested transactions with no edges at a spawn, which also delegate, join and form edges;
+/// those of `top` split too, or are split off, and hand over as much as they like. And the class `leaf`, of those
+/// that are spawned, and otherwise are flat.
+pub fn families<A: Allocator + Copy>(alloc: A) -> Result<Model<A>, Fail> {
+    let may = Kinds::SPAWN
+        .union(Kinds::JOIN)
+        .union(Kinds::DELEGATE)
+        .union(Kinds::FORM);
+    let mut top = top(alloc, may.union(Kinds::SPLIT), Extent::Any)?;
+    top.starts.split = true;
+    let mut classes = one(alloc, top)?;
+    classes.push(sub(alloc, may)?)?;
+    classes.push(leaf(alloc)?)?;
+    standard_of(alloc, classes)
 }

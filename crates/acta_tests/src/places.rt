@@ -1,5 +1,5 @@
 use crate::models::{atomic, parting};
-use crate::script::{event, has_edges};
+use crate::script::{access_set, conflict_set, event, has_edges, view_set};
 use acta_axioms::Places;
 use acta_machine::Machine;
 use acta_table::{Dep, Dependent, Fate, Model, OpNo, StartEdge, Status, TxnId};
@@ -12,7 +12,7 @@ const ONE: TxnId = TxnId(1);
 const TWO: TxnId = TxnId(2);
 
 // How a transaction stands, by its first places.
-fn status_by<A: Allocator>(places: &Places<'_, A>, t: TxnId) -> Status {
+pub fn status_by<A: Allocator>(places: &Places<'_, A>, t: TxnId) -> Status {
     if places.commit(t).is_some() {
         Status::Committed
     } else if places.abort(t).is_some() {
@@ -37,8 +37,8 @@ fn compare_one<A: Allocator + Copy>(
     t: TxnId,
 ) -> Result<(), AllocError> {
     assert_eq!(rt; machine.status(t), status_by(places, t));
-    let access = machine.access_set(t)?;
-    let others = machine.conflict_set(t)?;
+    let access = access_set(machine, t)?;
+    let others = conflict_set(machine, t)?;
     for number in 1..6u32 {
         let op = OpNo(number);
         let is_open = places.fate(op, END) == Some(Fate::InProgress);
@@ -55,7 +55,7 @@ fn compare_view<A: Allocator + Copy>(
     machine: &Machine<A>,
     places: &Places<'_, A>,
 ) -> Result<(), AllocError> {
-    let view = machine.view_set()?;
+    let view = view_set(machine)?;
     for number in 1..6u32 {
         let op = OpNo(number);
         let is_live = matches!(

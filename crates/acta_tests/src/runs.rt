@@ -1,5 +1,7 @@
 use crate::models::{S, X, atomic};
-use crate::script::{are_due, events, has_value, played, register, run_on};
+use crate::script::{
+    access_set, are_due, conflict_set, events, has_value, played, register, run_on, view_set,
+};
 use acta_machine::Machine;
 use acta_objects::{ObjectState, replay};
 use acta_table::{Kind, ObjId, Op, OpNo, Ret, Status, TxnId};
@@ -17,9 +19,9 @@ fn shows_the_write<A: Allocator + Copy>(
     shown: &Machine<A>,
 ) -> Result<(), AllocError> {
     assert!(rt; register(shown, X)? == Some(5));
-    assert_eq!(rt; shown.view_set()?.as_slice(), [OpNo(1)].as_slice());
-    assert!(rt; shown.access_set(ONE)?.is_empty());
-    assert!(rt; shown.conflict_set(TWO)?.is_empty());
+    assert_eq!(rt; view_set(shown)?.as_slice(), [OpNo(1)].as_slice());
+    assert!(rt; access_set(shown, ONE)?.is_empty());
+    assert!(rt; conflict_set(shown, TWO)?.is_empty());
     assert_eq!(rt; shown.status(ONE), Status::Committed);
     assert_eq!(rt; shown.history().len(), 3);
     Ok(())
@@ -72,8 +74,8 @@ fn sums_commute(rt: HostRuntime) -> Result<(), Fail> {
         do 2 n get : ok 6 7";
     let machine = played(&rt, rt.alloc(), &atomic(rt.alloc())?, text)?;
     let left = [OpNo(2), OpNo(3)];
-    assert_eq!(rt; machine.view_set()?.as_slice(), left.as_slice());
-    assert_eq!(rt; machine.access_set(TWO)?.as_slice(), left.as_slice());
+    assert_eq!(rt; view_set(&machine)?.as_slice(), left.as_slice());
+    assert_eq!(rt; access_set(&machine, TWO)?.as_slice(), left.as_slice());
     Ok(())
 }
 
@@ -86,9 +88,9 @@ fn equal_writes_commute(rt: HostRuntime) -> Result<(), Fail> {
         do 2 x write 5 : ok 4 done
         do 2 x write 6 : no 14 by 1";
     let machine = played(&rt, rt.alloc(), &atomic(rt.alloc())?, text)?;
-    assert_eq!(rt; machine.conflict_set(TWO)?.as_slice(), [OpNo(1)].as_slice());
+    assert_eq!(rt; conflict_set(&machine, TWO)?.as_slice(), [OpNo(1)].as_slice());
     assert_eq!(rt;
-        machine.conflict_set(TxnId(9))?.as_slice(),
+        conflict_set(&machine, TxnId(9))?.as_slice(),
         [OpNo(1), OpNo(2)].as_slice()
     );
     Ok(())

@@ -5,6 +5,7 @@
 //!     do 2 x read : no 14 by 1
 //!     form SCD 2 1
 //!     delegate 1 2 3 4
+//!     spawn 1 2 sub
 //!     split 1 2 part 3 4
 //!     join 1 2
 //!     commit 1
@@ -14,27 +15,13 @@
 
 use acta_machine::{Machine, Run};
 use acta_objects::ObjectState;
-use acta_table::{Answer, ClassId, Dep, Edge, Event, Model, ObjId, Op, OpNo, OpSet, Ret, TxnId};
+use acta_table::{
+    Answer, ClassId, Dep, Edge, Event, Model, ObjId, Op, OpNo, OpSet, Owed, Ret, TxnId,
+};
 use std::alloc::{AllocError, Allocator};
 use std::process::Abort;
 use std::str::{FromStr, SplitWhitespace};
 use std::test::Fail;
-
-/// The kinds of dependency, by code.
-pub const KINDS: [Dep; 12] = [
-    Dep::Cd,
-    Dep::Scd,
-    Dep::Ad,
-    Dep::Wd,
-    Dep::Td,
-    Dep::Ed,
-    Dep::Cmd,
-    Dep::Bd,
-    Dep::Sd,
-    Dep::Bcd,
-    Dep::Bad,
-    Dep::Wcd,
-];
 
 fn number<N: FromStr<Err: Drop>>(words: &mut SplitWhitespace<'_>) -> Option<N> {
     words.next()?.parse().ok()
@@ -64,7 +51,7 @@ fn object<A: Allocator>(model: &Model<A>, words: &mut SplitWhitespace<'_>) -> Op
 
 fn kind(words: &mut SplitWhitespace<'_>) -> Option<Dep> {
     let word = words.next()?;
-    KINDS.iter().copied().find(|kind| kind.word() == word)
+    Dep::ALL.iter().copied().find(|kind| kind.word() == word)
 }
 
 fn operation(words: &mut SplitWhitespace<'_>) -> Option<Op> {
@@ -95,6 +82,10 @@ fn plain<A: Allocator>(
 ) -> Option<Event<A>> {
     match first {
         "begin" => Some(Event::Begin(txn(words)?, class(model, words)?)),
+        "spawn" => {
+            let (t, c) = (txn(words)?, txn(words)?);
+            Some(Event::Spawn(t, c, class(model, words)?))
+        }
         "form" => Some(Event::Form(kind(words)?, txn(words)?, txn(words)?)),
         "do" => {
             let (t, ob) = (txn(words)?, object(model, words)?);
@@ -260,6 +251,32 @@ pub fn run_on<A: Allocator + Copy>(
     events: &[Event<A>],
 ) -> Result<Run<A>, AllocError> {
     Machine::run(alloc, model.copy()?, events)
+}
+
+/// The operations in progress that the transaction holds.
+pub fn access_set<A: Allocator + Copy>(
+    machine: &Machine<A>,
+    t: TxnId,
+) -> Result<Vec<OpNo, A>, AllocError> {
+    machine.access_set(t)
+}
+
+/// The operations in progress that the transaction can be in conflict with.
+pub fn conflict_set<A: Allocator + Copy>(
+    machine: &Machine<A>,
+    t: TxnId,
+) -> Result<Vec<OpNo, A>, AllocError> {
+    machine.conflict_set(t)
+}
+
+/// The operations that are not aborted.
+pub fn view_set<A: Allocator + Copy>(machine: &Machine<A>) -> Result<Vec<OpNo, A>, AllocError> {
+    machine.view_set()
+}
+
+/// What is owed.
+pub fn owed<A: Allocator + Copy>(machine: &Machine<A>) -> Result<Vec<Owed, A>, AllocError> {
+    machine.owed()
 }
 
 /// The value of a register.

@@ -1,5 +1,5 @@
 use crate::models::{N, X, atomic, parting, split_join};
-use crate::script::{counter, has_edges, played, plays, register};
+use crate::script::{access_set, counter, has_edges, played, plays, register};
 use acta_machine::Machine;
 use acta_table::{Dep, Dependent, Edge, OpNo, StartEdge, Status, TxnId};
 use std::alloc::Allocator;
@@ -32,7 +32,7 @@ fn stands<A: Allocator + Copy>(
     status: Status,
     held: &[OpNo],
 ) -> Result<bool, Fail> {
-    Ok(machine.status(t) == status && machine.access_set(t)?.as_slice() == held)
+    Ok(machine.status(t) == status && access_set(machine, t)?.as_slice() == held)
 }
 
 // One that is split off is in progress, and holds what it was given.

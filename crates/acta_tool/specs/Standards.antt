@@ -3,6 +3,8 @@ use Rattle.std.specs.Prelude.{◌≡◌, Bool, true, false, [], ◌∷◌, pos, 
 use Rattle.acta_table.specs.declared.event.EventKind.{EventKind}
 use Rattle.acta_table.specs.declared.event.EventKind.TheVariants.{Begin, Spawn, Split, Join, Delegate, Form, Operate, Commit, Abort}
 use Rattle.acta_table.specs.declared.model.Class.{Class}
+use Rattle.acta_table.specs.declared.model.Scope.TheVariants.{Others}
+use Rattle.acta_table.specs.declared.model.AtCommit.TheVariants.{Keeps}
 use Rattle.acta_table.specs.declared.model.Extent.TheVariants.{Whole}
 use Rattle.acta_table.specs.declared.model.Object.{Object}
 use Rattle.acta_table.specs.declared.model.Parts.{Parts}
@@ -23,13 +25,17 @@ flat_may Join = false
 flat_may Delegate = false
 flat_may Form = false
 
--- the class `flat`: it starts by begin alone, hands over the whole, and wants no edge at a start
+-- the class `flat`: it starts by begin alone, conflicts with all others, commits what it holds, hands over the
+-- whole, and wants no edge at a start
 abbrev pub IsFlat : {A : Type 0} → Class A → Type 0
 IsFlat class =
     (class.name ≡ codes "flat")
     × (class.starts ≡ record { begin = true; spawned = false; split = false })
     × ((kind : EventKind) → has_kind class.may kind ≡ flat_may kind)
+    × (class.scope ≡ Others)
+    × (class.at_commit ≡ Keeps)
     × (class.extent ≡ Whole)
+    × (class.spawn_edges ≡ [])
     × (class.split_edges ≡ [])
 
 -- the register `x`, 0 at first

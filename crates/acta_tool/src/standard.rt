@@ -4,7 +4,9 @@ ghost use Rattle.std.specs.Prelude.{◌≡◌, [], ◌∷◌, IfOk};
 ghost use Rattle.acta_tool.specs.Standards.{IsStandard, IsFlat, IsRegisterX};
 
 use crate::args::Standard;
-use acta_table::{Class, Extent, Items, Kind, Kinds, Model, Object, Parts, StartEdges, Starts};
+use acta_table::{
+    AtCommit, Class, Extent, Items, Kind, Kinds, Model, Object, Parts, Scope, StartEdges, Starts,
+};
 use std::alloc::{AllocError, Allocator};
 
 // A name, in memory of its own.
@@ -33,8 +35,8 @@ fn register_x<A: Allocator>(alloc: A) -> Result<Object<A>, AllocError>
     })
 }
 
-// The class `flat`: it starts by begin, and may operate, commit and abort. Were it to delegate, it would
-// have to hand over the whole.
+// The class `flat`: it starts by begin, and may operate, commit and abort. Its operations conflict with those of
+// all others, and are committed with it. Were it to delegate, it would have to hand over the whole.
 fn flat<A: Allocator + Copy>(alloc: A) -> Result<Class<A>, AllocError>
     ensures { IfOk result IsFlat }
 {
@@ -46,7 +48,10 @@ fn flat<A: Allocator + Copy>(alloc: A) -> Result<Class<A>, AllocError>
             split: false,
         },
         may: Kinds::OPERATE.union(Kinds::COMMIT).union(Kinds::ABORT),
+        scope: Scope::Others,
+        at_commit: AtCommit::Keeps,
         extent: Extent::Whole,
+        spawn_edges: StartEdges::new(alloc),
         split_edges: StartEdges::new(alloc),
     })
 }

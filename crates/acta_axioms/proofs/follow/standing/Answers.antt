@@ -18,17 +18,17 @@ numbered_past xs ys zero same past = refl
 numbered_past xs ys (suc i) same past = ap (λ zs. slice_get zs i) (sym same) ∙ slice_get_past xs i (omega arith)
 
 pub returns-then-op-eq0 : goal.returns-then-op-eq0
-returns-then-op-eq0 g c = λ m. untraced m c.args.kept.now c.args.op.0 c.args.n (ap (numbered _) c.if-op-eq0.true)
+returns-then-op-eq0 g c = λ m heirs_are. untraced m c.args.kept.now c.args.op.0 c.args.n (ap (numbered _) c.if-op-eq0.true)
 
 pub returns-in_err-operation : goal.returns-in_err-operation
-returns-in_err-operation g c = λ m.
+returns-in_err-operation g c = λ m heirs_are.
     ap (option_map standing_in) c.from_residual.ensures
     ∙ untraced m c.args.kept.now c.args.op.0 c.args.n (numbered_past c.args.traced.now _ c.args.op.0 c.requires.traced c.in_err-operation.ensures.lookup.3)
 
 pub returns-then-operation-n : goal.returns-then-operation-n
 returns-then-operation-n g c =
     let found = c.in_ok-operation.ensures.lookup in
-    λ m. traced_later m c.args.kept.now c.args.op.0 c.args.n c.in_ok-operation.operation.now
+    λ m heirs_are. traced_later m c.args.kept.now c.args.op.0 c.args.n c.in_ok-operation.operation.now
     (numbered_there c.args.traced.now _ c.args.op.0 c.in_ok-operation.operation.now c.requires.traced c.if-op-eq0.false found.3.0 found.1) c.if-operation-n.true
 
 pub follow-requires-clause-turn : goal.follow-requires-clause-turn
@@ -40,6 +40,6 @@ follow-requires-clause-turn g c =
 pub returns : goal.returns
 returns g c =
     let found = c.in_ok-operation.ensures.lookup in
-    λ m. ap Some (c.follow.ensures m)
+    λ m heirs_are. ap Some (c.follow.ensures m heirs_are)
     ∙ traced_there m c.args.kept.now c.args.op.0 c.args.n c.in_ok-operation.operation.now
     (numbered_there c.args.traced.now _ c.args.op.0 c.in_ok-operation.operation.now c.requires.traced c.if-op-eq0.false found.3.0 found.1) c.if-operation-n.false

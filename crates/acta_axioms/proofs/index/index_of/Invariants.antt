@@ -13,7 +13,7 @@ invariant-loop-i g l =
       courses : (t : ℕ) → course_in l.firsts.items t ≡ course_from (l.i + 1) (drop l.i l.kept) t;
       turns : (t : ℕ) → turn_in l.firsts.items t ≡ turn_from (l.i + 1) (drop l.i l.kept) t;
       traced : l.operations.items ≡ reverse (traced_from (l.i + 1) (drop l.i l.kept));
-      onward : l.onwards.items ≡ reverse (onward_from (l.i + 1) (drop l.i l.kept));
+      onward : l.onwards.items ≡ reverse (onward_from l.heirs.items (l.i + 1) (drop l.i l.kept));
     }
 
 abbrev pub decreases-loop-i : goal.decreases-loop-i

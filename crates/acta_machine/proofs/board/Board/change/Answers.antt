@@ -12,6 +12,12 @@ begin-requires-clause-stands g c =
     not_begun (shown c.args.self.now) AlreadyBegun c.in-Begin.t.0
     (ap (λ (e : Event g.row.A.Denot). already_begun (shown c.args.self.now) e) (sym c.in-Begin.is) ∙ c.requires.new)
 
+pub begin-requires-in-Spawn-clause-stands : goal.begin-requires-in-Spawn-clause-stands
+unfolding already_begun
+begin-requires-in-Spawn-clause-stands g c =
+    not_begun (shown c.args.self.now) AlreadyBegun c.in-Spawn.c.0
+    (ap (λ (e : Event g.row.A.Denot). already_begun (shown c.args.self.now) e) (sym c.in-Spawn.is) ∙ c.requires.new)
+
 pub begin-requires-in-Split-clause-stands : goal.begin-requires-in-Split-clause-stands
 unfolding already_begun
 begin-requires-in-Split-clause-stands g c =

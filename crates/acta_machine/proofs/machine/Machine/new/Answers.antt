@@ -9,8 +9,8 @@ pub invariant_of-result : goal.invariant_of-result
 invariant_of-result g c =
     let none : length c.new-3.result.items ≡ 0 = ap (length {A = Kept g.row.A.Denot}) c.new-3.ensures.items in
     record {
-      agrees = fresh_summary _ _ _ _ _ c.in_ok-new.ensures c.in_ok-no_classes.ensures c.new-2.ensures c.new-3.ensures.items;
-      classes = fresh_room _ _ c.in_ok-no_classes.ensures;
+      agrees = fresh_summary _ _ _ _ _ c.in_ok-new.ensures c.in_ok-no_origins.ensures c.new-2.ensures c.new-3.ensures.items;
+      origins = fresh_room _ _ c.in_ok-no_origins.ensures;
       within = omega arith;
       follows = subst (λ (kept : List (Kept g.row.A.Denot)). FollowsPlaces {A = g.row.A.Denot} (record { model = c.args.model; kept = kept })) (sym c.new-3.ensures.items) (follows-fresh c.args.model);
     }

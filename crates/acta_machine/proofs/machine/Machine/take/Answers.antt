@@ -61,7 +61,7 @@ invariant_of-self-in_err-admit g c =
     record {
       agrees = c.in_err-admit.ensures.err ∙ c.in_ok-link.ensures.shows ∙ linked-none _ _ (c.deref-2.ensures.value ∙ c.in_ok-due.ensures.due ∙ edgeless)
           ∙ c.make_room.ensures.shows ∙ agrees ∙ (λ i. summary_of (sym same_model i) (sym same_kept i));
-      classes = c.admit.ensures.classes;
+      origins = c.admit.ensures.origins;
       within = omega (arith, count, within);
       follows = subst (λ (x : State g.row.A.Denot). FollowsPlaces x) (λ i. record { model = sym same_model i; kept = sym same_kept i }) c.self.invariant.follows;
     }
@@ -84,13 +84,14 @@ invariant_of-self-2 g c =
     let room = c.next_place-place.ensures.room in
     let none : lowest_broken model (summary_of model before) event ≡ None = ap (λ (s : Summary). lowest_broken model s event) (sym agrees) ∙ sym c.in_default.ensures in
     let here : shown c.link.new.self ≡ linked (summary_of model before) (edges_due model event) = c.in_ok-link.ensures.shows ∙ (λ i. linked ((c.make_room.ensures.shows ∙ agrees) i) ((c.deref-2.ensures.value ∙ c.in_ok-due.ensures.due) i)) in
-    let same_model = c.admit.ensures.model ∙ ap (λ b. b.model) c.link.ensures.others ∙ ap (λ b. b.model) c.make_room.ensures.others in
+    let linked_model = ap (λ b. b.model) c.link.ensures.others ∙ ap (λ b. b.model) c.make_room.ensures.others in
+    let same_model = c.admit.ensures.model ∙ linked_model in
     let same_kept = longer ∙ ap (λ (k : Kept g.row.A.Denot). before ++ k ∷ []) due in
     record {
       agrees = c.in_ok-admit.ensures.shows
-          ∙ ap (λ (s : Summary). counted (changed s event)) here
+          ∙ (λ i. counted (changed (linked_model i) (here i) event))
           ∙ sym ((λ i. summary_of (same_model i) (longer i)) ∙ summary_more model before kept);
-      classes = c.admit.ensures.classes;
+      origins = c.admit.ensures.origins;
       within = omega (arith, count, room);
       follows = subst (λ (x : State g.row.A.Denot). FollowsPlaces x) (λ i. record { model = sym same_model i; kept = sym same_kept i }) (follows-push model before event c.edges_due.ensures.faultless c.self.invariant.follows none);
     }

@@ -1,0 +1,121 @@
+-- The heirs at the places of a history, found in a pass from the front.
+use Rattle.std.proofs.Common.{if◌then◌else◌, ◌≡◌, ℕ, zero, suc, ◌+◌, ◌<◌, Bool, true, false, ◌&&◌, ◌||◌, not, List, [], ◌∷◌, ◌++◌, length, map, take, get_or, Option, Some, None, refl, sym, ap, ◌∙◌, arith}
+use Rattle.std.specs.Option.{option_map_or}
+use Rattle.std.specs.Prelude.{slice_set, ◌==◌}
+use Rattle.std.specs.List.{All}
+use Rattle.std.proofs.Math.ListN.{replicate}
+use Rattle.std.proofs.lemmas.Bool.{true≢false, eqb-true, eq-eqb}
+use Rattle.std.proofs.lemmas.Grind.{get_or-set_at}
+use Rattle.std.proofs.lemmas.List.{append-nil, append_assoc, map-append, take_more, get_or-set_other}
+use Rattle.acta_table.specs.declared.event.Event.{Event}
+use Rattle.acta_table.specs.declared.event.Event.TheVariants.{Begin, Spawn, Split, Commit}
+use Rattle.acta_table.specs.declared.event.Kept.{Kept}
+use Rattle.acta_table.specs.declared.event.TxnId.{TxnId}
+use Rattle.acta_table.specs.declared.model.Parts.{Parts}
+use Rattle.acta_table.specs.Classes.{class_at, has_heir}
+use Rattle.acta_table.specs.Events.{named, started}
+use Rattle.acta_axioms.specs.declared.heirs.Lineage.{Lineage}
+use Rattle.acta_axioms.specs.History.{places_behind, places, starts, has_begun}
+use Rattle.acta_axioms.specs.Operations.{heir}
+use Rattle.acta_axioms.specs.Index.{unbegun, lineage, begun_in, heir_started, with_start, heir_by, heir_in, heir_at, heirs_of}
+use Rattle.acta_axioms.proofs.Growth.{at_end, places-push, has_begun-push, heir_of_started, heir-push, heir-unbegun}
+use Rattle.acta_axioms.proofs.Named.{named-started}
+use Rattle.acta_axioms.proofs.Tables.{get_or-blank}
+
+-- the heir of the one that an event starts, by those who have begun
+heir-started : {A : Type 0} (m : Parts A) (h : List (Kept A)) (e : Event A) → heir_of_started m h e ≡ heir_started m (has_begun h) e
+heir-started {A} m h e = of_event e
+  where
+    none : (b : Bool) → (let o : Option TxnId = if b then None else None in o) ≡ None
+    none true = refl
+    none false = refl
+
+    both : (a b : Bool) (t : TxnId) → (if a then (if b then Some t else None) else None) ≡ (if a && b then Some t else None)
+    both true b t = refl
+    both false b t = refl
+
+    of_event : (f : Event A) → heir_of_started m h f ≡ heir_started m (has_begun h) f
+    of_event (Spawn t c class) = both (option_map_or (λ k. has_heir k.at_commit) (class_at m class.0) false) (has_begun h t.0) t
+    of_event (Begin t class) = none (option_map_or (λ k. has_heir k.at_commit) (class_at m class.0) false)
+    of_event (Split t u class ops) = none (option_map_or (λ k. has_heir k.at_commit) (class_at m class.0) false)
+    of_event _ = refl
+
+-- the first start gives whether it has begun, and the heir
+pub lineage-push : {A : Type 0} (m : Parts A) (h : List (Kept A)) (k : Kept A) (t : ℕ) → lineage m (h ++ k ∷ []) t ≡ with_start m (has_begun h) k.event t (lineage m h t)
+lineage-push m h k t =
+    (λ i. record { is_begun = has_begun-push h k t i; heir = heir-push m h k t i })
+    ∙ of_tests (has_begun h t) (starts t k.event) refl
+  where
+    of_tests : (a b : Bool) → has_begun h t ≡ a →
+        (let l : Lineage = record { is_begun = a || b; heir = if a then heir m h t else if b then heir_of_started m h k.event else None } in l)
+        ≡ (let l : Lineage = record { is_begun = a; heir = heir m h t } in if not a && b then record { is_begun = true; heir = heir_started m (has_begun h) k.event } else l)
+    of_tests true b is = refl
+    of_tests false true is = λ i. record { is_begun = true; heir = heir-started m h k.event i }
+    of_tests false false is = ap (λ u. let l : Lineage = record { is_begun = false; heir = u } in l) (sym (heir-unbegun m h t is))
+
+-- a table in which the lineage of the one that an event starts is put
+pub started-more : {A : Type 0} (m : Parts A) (lines : List Lineage) (e : Event A) (s : TxnId) (line : Lineage) (left : Option TxnId) → All (λ t. t < length lines) (named e) → started e ≡ Some s.0 →
+    line ≡ get_or lines s.0 unbegun → not line.is_begun ≡ true → left ≡ heir_started m (begun_in lines) e → (t : ℕ) →
+    get_or (slice_set lines s.0 (record { is_begun = true; heir = left })) t unbegun ≡ with_start m (begun_in lines) e t (get_or lines t unbegun)
+started-more {A} m lines e s line left named_within is line_is fresh heir_is t = of_test (s.0 == t) refl
+  where
+    here : starts t e ≡ (s.0 == t)
+    here = ap (λ o. option_map_or (λ u. u == t) o false) is
+
+    kept_line : (b : Bool) (x y : Lineage) → x ≡ (if not b && false then y else x)
+    kept_line true x y = refl
+    kept_line false x y = refl
+
+    of_test : (b : Bool) → (s.0 == t) ≡ b →
+        get_or (slice_set lines s.0 (record { is_begun = true; heir = left })) t unbegun ≡ with_start m (begun_in lines) e t (get_or lines t unbegun)
+    of_test true same =
+        let at : s.0 ≡ t = eqb-true s.0 t same in
+        get_or-set_at lines s.0 t (record { is_begun = true; heir = left }) unbegun (sym at) (named-started e s.0 (length lines) named_within is)
+        ∙ ap (λ u. let l : Lineage = record { is_begun = true; heir = u } in l) heir_is
+        ∙ (λ i. if sym (ap (λ (l : Lineage). not l.is_begun) (sym (line_is ∙ ap (λ u. get_or lines u unbegun) at)) ∙ fresh) i && sym (here ∙ same) i then (record { is_begun = true; heir = heir_started m (begun_in lines) e }) else get_or lines t unbegun)
+    of_test false same =
+        get_or-set_other lines s.0 t (record { is_begun = true; heir = left }) unbegun (λ at. true≢false (sym (eq-eqb s.0 t (sym at)) ∙ same))
+        ∙ kept_line (get_or lines t unbegun).is_begun (get_or lines t unbegun) (record { is_begun = true; heir = heir_started m (begun_in lines) e })
+        ∙ (λ i. if not (get_or lines t unbegun).is_begun && sym (here ∙ same) i then (record { is_begun = true; heir = heir_started m (begun_in lines) e }) else get_or lines t unbegun)
+
+-- a blank table says of the empty history what there is to say
+pub lines-blank : {A : Type 0} (m : Parts A) (lines : List Lineage) (n t : ℕ) → lines ≡ replicate n unbegun → get_or lines t unbegun ≡ lineage m [] t
+lines-blank m lines n t blank = ap (λ xs. get_or xs t unbegun) blank ∙ get_or-blank n t unbegun
+
+-- the heirs at places
+
+heir_behind : {A : Type 0} (m : Parts A) (before ks : List (Kept A)) (i : ℕ) (d : Kept A) → i < length ks → get_or (map (heir_at m) (places_behind before ks)) i None ≡ heir_by m (before ++ take i ks) (get_or ks i d).event
+heir_behind m before [] i d within = absurd (omega arith)
+heir_behind m before (k ∷ ks) zero d within = ap (λ b. heir_by m b k.event) (sym (append-nil before))
+heir_behind m before (k ∷ ks) (suc i) d within =
+    heir_behind m (before ++ k ∷ []) ks i d (omega arith) ∙ ap (λ b. heir_by m b (get_or ks i d).event) (append_assoc before (k ∷ []) (take i ks))
+
+-- the heir at the place of number i + 1
+pub heir-there : {A : Type 0} (m : Parts A) (h : List (Kept A)) (i : ℕ) (d : Kept A) → i < length h → get_or (heirs_of m h) i None ≡ heir_by m (take i h) (get_or h i d).event
+heir-there m h i d within = heir_behind m [] h i d within
+
+heirs-push : {A : Type 0} (m : Parts A) (h : List (Kept A)) (k : Kept A) → heirs_of m (h ++ k ∷ []) ≡ heirs_of m h ++ heir_by m h k.event ∷ []
+heirs-push m h k = ap (map (heir_at m)) (places-push h k) ∙ map-append (heir_at m) (places h) (at_end h k ∷ [])
+
+-- one item more, in a pass from the front
+
+pub lines-more : {A : Type 0} (m : Parts A) (h : List (Kept A)) (n : ℕ) (d k : Kept A) (old new : List Lineage) → n < length h → k ≡ get_or h n d →
+    ((t : ℕ) → get_or old t unbegun ≡ lineage m (take n h) t) → ((t : ℕ) → get_or new t unbegun ≡ with_start m (begun_in old) k.event t (get_or old t unbegun)) →
+    (t : ℕ) → get_or new t unbegun ≡ lineage m (take (n + 1) h) t
+lines-more m h n d k old new within is old_are step t =
+    step t
+    ∙ (λ x. with_start m (λ u. (old_are u x).is_begun) (is x).event t (old_are t x))
+    ∙ sym (lineage-push m (take n h) (get_or h n d) t)
+    ∙ sym (ap (λ g. lineage m g t) (take_more h n d within))
+
+heir-tabled : {A : Type 0} (m : Parts A) (h : List (Kept A)) (lines : List Lineage) (e : Event A) → ((t : ℕ) → get_or lines t unbegun ≡ lineage m h t) → heir_in lines e ≡ heir_by m h e
+heir-tabled m h lines (Commit t) are = ap (λ (l : Lineage). l.heir) (are t.0)
+heir-tabled m h lines _ are = refl
+
+pub heirs-more : {A : Type 0} (m : Parts A) (h : List (Kept A)) (n : ℕ) (d k : Kept A) (lines : List Lineage) (old new : List (Option TxnId)) (x : Option TxnId) → n < length h → k ≡ get_or h n d →
+    ((t : ℕ) → get_or lines t unbegun ≡ lineage m (take n h) t) → x ≡ heir_in lines k.event → new ≡ old ++ x ∷ [] → old ≡ heirs_of m (take n h) → new ≡ heirs_of m (take (n + 1) h)
+heirs-more m h n d k lines old new x within is lines_are step put old_are =
+    put
+    ∙ (λ i. old_are i ++ (step ∙ heir-tabled m (take n h) lines k.event lines_are ∙ ap (λ (q : Kept _). heir_by m (take n h) q.event) is) i ∷ [])
+    ∙ sym (heirs-push m (take n h) (get_or h n d))
+    ∙ sym (ap (heirs_of m) (take_more h n d within))

@@ -1,0 +1,128 @@
+ghost use Rattle.std.specs.Prelude.{◌≡◌, ◌<◌, ℕ, Option, option_map, length, get_or, IfOk, None, false};
+ghost use Rattle.std.specs.List.{All};
+ghost use Rattle.std.specs.Option.{option_map_or};
+ghost use Rattle.acta_table.specs.Classes.{class_at, has_heir};
+ghost use Rattle.acta_table.specs.Events.{named, started};
+ghost use Rattle.acta_axioms.specs.Index.{unbegun, begun_in, heir_started, with_start, heir_in, heirs_of};
+
+use crate::index::largest_named;
+use acta_table::{AtCommit, ClassId, Event, Kept, Model, TxnId};
+use std::alloc::{AllocError, Allocator};
+
+/// Whether a transaction has begun, and its heir: the one to which it leaves what it holds when it commits.
+#[derive(Clone, Copy, PartialEq, Eq, Debug)]
+pub struct Lineage {
+    pub is_begun: bool,
+    pub heir: Option<TxnId>,
+}
+
+const UNBEGUN: Lineage = Lineage {
+    is_begun: false,
+    heir: None,
+};
+
+// The lineage of the transaction by the table, which has none for those behind its end.
+fn line(lines: &[Lineage], t: TxnId) -> Lineage
+    ensures { result ≡ get_or lines.now t.0 unbegun }
+{
+    match lines.get(t.0 as usize) {
+        Some(line) => *line,
+        None => UNBEGUN,
+    }
+}
+
+// Whether transactions of this class commit to their parents; those of one that is not in the model don't.
+fn commits_to_parent<A: Allocator>(model: &Model<A>, class: ClassId) -> bool
+    ensures { result ≡ option_map_or (λ k. has_heir k.at_commit) (class_at model.now class.0) false }
+{
+    match model.classes().get(class.0 as usize) {
+        Some(class) => matches!(class.at_commit, AtCommit::ToParent),
+        None => false,
+    }
+}
+
+// The transaction that the event starts.
+fn started_by<A: Allocator>(event: &Event<A>) -> Option<TxnId>
+    ensures { option_map (λ t. t.0) result ≡ started event.now }
+{
+    match event {
+        Event::Begin(t, _) => Some(*t),
+        Event::Spawn(_, c, _) => Some(*c),
+        Event::Split(_, u, _, _) => Some(*u),
+        _ => None,
+    }
+}
+
+// The heir of the one that the event starts, by the table of those before.
+fn heir_of_started<A: Allocator>(
+    model: &Model<A>,
+    lines: &[Lineage],
+    event: &Event<A>,
+) -> Option<TxnId>
+    ensures { result ≡ heir_started model.now (begun_in lines.now) event.now }
+{
+    match event {
+        Event::Spawn(t, _, class) => {
+            if commits_to_parent(model, *class) && line(lines, *t).is_begun {
+                Some(*t)
+            } else {
+                None
+            }
+        }
+        _ => None,
+    }
+}
+
+// Puts an event that stands behind the others into the table.
+fn note_start<A: Allocator>(model: &Model<A>, lines: &mut [Lineage], event: &Event<A>)
+    requires { All (λ t. t < length lines.old) (named event.now) }
+    ensures { (t : ℕ) → get_or lines.new t unbegun ≡ with_start model.now (begun_in lines.old) event.now t (get_or lines.old t unbegun) }
+{
+    if let Some(t) = started_by(event) {
+        if !line(lines, t).is_begun {
+            let heir = heir_of_started(model, lines, event);
+            lines[t.0 as usize] = Lineage {
+                is_begun: true,
+                heir,
+            };
+        }
+    }
+}
+
+// The heir of the one that commits by the event, by the table.
+fn heir_of<A: Allocator>(lines: &[Lineage], event: &Event<A>) -> Option<TxnId>
+    ensures { result ≡ heir_in lines.now event.now }
+{
+    match event {
+        Event::Commit(t) => line(lines, *t).heir,
+        _ => None,
+    }
+}
+
+/// The heir at the item of this position, by a list of them.
+pub fn heir_there(heirs: &[Option<TxnId>], i: usize) -> Option<TxnId>
+    ensures { result ≡ get_or heirs.now i None }
+{
+    match heirs.get(i) {
+        Some(heir) => *heir,
+        None => None,
+    }
+}
+
+/// At each item the heir of the one that commits there, by one pass from the front. `Err` where there is no
+/// memory.
+pub fn heirs_of<A: Allocator + Copy>(
+    alloc: A,
+    model: &Model<A>,
+    kept: &[Kept<A>],
+) -> Result<Vec<Option<TxnId>, A>, AllocError>
+    ensures { IfOk result (λ made. made.items ≡ heirs_of model.now kept.now) }
+{
+    let mut lines = vec![in alloc; UNBEGUN; largest_named(kept) as usize + 1]?;
+    let mut made = Vec::new(alloc);
+    for item in kept {
+        made.push(heir_of(lines.as_slice(), &item.event))?;
+        note_start(model, lines.as_mut_slice(), &item.event);
+    }
+    Ok(made)
+}
