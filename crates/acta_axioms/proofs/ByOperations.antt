@@ -1,5 +1,5 @@
 -- What a list that goes by operations tells, where each of its items shows how an operation stands: the
--- numbers of those that conflict, and the values of objects.
+-- numbers of those that conflict, who holds them, and the values of objects.
 use Rattle.std.proofs.Common.{if◌then◌else◌, ◌≡◌, ℕ, ◌==◌, Bool, true, false, ◌&&◌, cond, List, [], ◌∷◌, map, filter, Option, None, refl, sym, ap, ◌∙◌}
 use Rattle.std.specs.List.{filter_map, cons_option}
 use Rattle.std.proofs.lemmas.List.Elements.{filter_agree}
@@ -14,6 +14,16 @@ use Rattle.acta_axioms.specs.Values.{value, asked_of, do_conflict, conflicting}
 use Rattle.acta_axioms.proofs.Numbers.{numbers-shown}
 use Rattle.acta_axioms.proofs.ValueGrowth.{filter-both}
 
+held-shown : {X : Type 0} (holder : Operation → ℕ) (show : Operation → X) (test : X → Bool) (held : X → ℕ) → ((o : Operation) → held (show o) ≡ holder o) →
+    (os : List Operation) → map holder (filter (λ o. test (show o)) os) ≡ map held (filter test (map show os))
+held-shown holder show test held holds [] = refl
+held-shown {X} holder show test held holds (o ∷ os) = of_test (test (show o)) (held-shown holder show test held holds os)
+  where
+    of_test : (b : Bool) → map holder (filter (λ q. test (show q)) os) ≡ map held (filter test (map show os)) →
+        map holder (cond b (o ∷ filter (λ q. test (show q)) os) (filter (λ q. test (show q)) os)) ≡ map held (cond b (show o ∷ filter test (map show os)) (filter test (map show os)))
+    of_test true later = λ i. sym (holds o) i ∷ later i
+    of_test false later = later
+
 -- the numbers of the operations that one of t conflicts with, by a test of what is shown
 pub conflicting-shown : {A X : Type 0} (m : Parts A) (h : List (Kept A)) (t object : ℕ) (op : Op) (show : Operation → X) (test : X → Bool) →
     ((o : Operation) → test (show o) ≡ (is_of_others m h t (standing m h o) && ((o.object == object) && do_conflict m object o.op op))) →
@@ -23,6 +33,17 @@ conflicting-shown m h t object op show test tells =
     (sym (filter-both (λ o. is_of_others m h t (standing m h o)) (λ o. (o.object == object) && do_conflict m object o.op op) (operations h))
     ∙ filter_agree (λ o. is_of_others m h t (standing m h o) && ((o.object == object) && do_conflict m object o.op op)) (λ o. test (show o)) (λ o. sym (tells o)) (operations h))
     ∙ numbers-shown show test h
+
+-- those who hold them, by what is shown
+pub holders-shown : {A X : Type 0} (m : Parts A) (h : List (Kept A)) (t object : ℕ) (op : Op) (show : Operation → X) (test : X → Bool) (held : X → ℕ) →
+    ((o : Operation) → test (show o) ≡ (is_of_others m h t (standing m h o) && ((o.object == object) && do_conflict m object o.op op))) →
+    ((o : Operation) → held (show o) ≡ (standing m h o).holder) →
+    map (λ o. (standing m h o).holder) (conflicting m h t object op) ≡ map held (filter test (map show (operations h)))
+holders-shown m h t object op show test held tells holds =
+    ap (map (λ (o : Operation). (standing m h o).holder))
+    (sym (filter-both (λ o. is_of_others m h t (standing m h o)) (λ o. (o.object == object) && do_conflict m object o.op op) (operations h))
+    ∙ filter_agree (λ o. is_of_others m h t (standing m h o) && ((o.object == object) && do_conflict m object o.op op)) (λ o. test (show o)) (λ o. sym (tells o)) (operations h))
+    ∙ held-shown (λ o. (standing m h o).holder) show test held holds (operations h)
 
 asked-shown : {X : Type 0} (seen : Operation → Bool) (asked : Operation → Option Op) (show : Operation → X) (ask : X → Option Op) →
     ((o : Operation) → ask (show o) ≡ (if seen o then asked o else None)) → (os : List Operation) → filter_map asked (filter seen os) ≡ filter_map ask (map show os)

@@ -3,7 +3,7 @@ use Rattle.std.proofs.Common.{if◌then◌else◌, ◌==◌, ◌≡◌, ℕ, ◌
 use Rattle.std.specs.Prelude.{⊤}
 use Rattle.std.specs.List.{flat_map, list_all}
 use Rattle.std.specs.Option.{option_map_or}
-use Rattle.std.proofs.lemmas.Bool.{true≢false, false≢true, eqb-true, eq-eqb}
+use Rattle.std.proofs.lemmas.Bool.{true≢false, false≢true, eqb-true, eq-eqb, and_parts}
 use Rattle.std.proofs.lemmas.List.{append-nil}
 use Rattle.std.proofs.lemmas.List.Folds.{list_all-append}
 use Rattle.std.proofs.lemmas.Grind.{flat_map-append, fold-append}
@@ -14,26 +14,30 @@ use Rattle.acta_table.specs.declared.dep.Dep.{Dep}
 use Rattle.acta_table.specs.declared.dep.Edge.{Edge}
 use Rattle.acta_table.specs.declared.event.ClassId.{ClassId}
 use Rattle.acta_table.specs.declared.event.Event.{Event}
-use Rattle.acta_table.specs.declared.event.Event.TheVariants.{Begin, Spawn, Split, Join, Form, Commit, Abort}
+use Rattle.acta_table.specs.declared.event.Event.TheVariants.{Begin, Spawn, Split, Join, Form, Operate, Commit, Abort}
 use Rattle.acta_table.specs.declared.event.Kept.{Kept}
+use Rattle.acta_table.specs.declared.event.Op.{Op}
 use Rattle.acta_table.specs.declared.event.OpNo.{OpNo}
 use Rattle.acta_table.specs.declared.event.Ret.{Ret}
 use Rattle.acta_table.specs.declared.event.TxnId.{TxnId}
 use Rattle.acta_table.specs.declared.model.Class.{Class}
 use Rattle.acta_table.specs.declared.model.Parts.{Parts}
+use Rattle.acta_table.specs.declared.policy.Policy.{Policy}
 use Rattle.acta_table.specs.declared.start_edges.Dependent.{Dependent}
 use Rattle.acta_table.specs.declared.start_edges.Dependent.TheVariants.{Starter, Started}
 use Rattle.acta_table.specs.declared.start_edges.StartEdge.{StartEdge}
 use Rattle.acta_table.specs.Classes.{class_at}
 use Rattle.acta_table.specs.Edges.{is_among, with_edge, formed}
+use Rattle.acta_table.specs.Policies.{edges_upon}
 use Rattle.acta_table.specs.Refusals.{broken_by}
 use Rattle.acta_table.specs.Starts.{directed, edge_between, edges_between}
 use Rattle.acta_table.specs.WellFormed.{same_transaction}
-use Rattle.acta_axioms.specs.History.{Place, number, places, first, starts, commits, aborts, joins, course}
-use Rattle.acta_axioms.specs.Edges.{formed_by, formed_at, edges}
+use Rattle.acta_axioms.specs.History.{Place, number, places, first, starts, commits, aborts, joins, course, class_of}
+use Rattle.acta_axioms.specs.Edges.{holders_against, formed_by, formed_at, edges}
 use Rattle.acta_axioms.specs.Claims.{is_orderly, is_apart, IsOrderly, status_in, status_at}
 use Rattle.acta_axioms.specs.Within.{within, IsWithin}
 use Rattle.acta_axioms.proofs.Growth.{found-passes, at_end, places-push, places_within, or_here, course-push}
+use Rattle.acta_axioms.proofs.Holders.{all-upon, holders-others}
 use Rattle.acta_axioms.proofs.ValueGrowth.{eqb-turned}
 
 -- the edges
@@ -89,6 +93,17 @@ apart_all : (t u : TxnId) (es : List Edge) (more : List StartEdge) → not (t.0 
 apart_all t u es [] apart all = all
 apart_all t u es (e ∷ more) apart all = apart_all t u (with_edge es (edge_between t u e)) more apart (apart_with es (edge_between t u e) all (apart_between t u e apart))
 
+apart_formed : (es more : List Edge) → list_all is_apart es ≡ true → list_all is_apart more ≡ true → list_all is_apart (formed es more) ≡ true
+apart_formed es [] all each = all
+apart_formed es (e ∷ more) all each =
+    let both = and_parts (is_apart e) (list_all is_apart more) each in
+    apart_formed (with_edge es e) more (apart_with es e all both.0) both.1
+
+-- and so do those of an operation: none who holds what it conflicts with is its own transaction
+apart_upon : {A : Type 0} (m : Parts A) (h : List (Kept A)) (policy : Policy) (t : TxnId) (object : ℕ) (op : Op) → list_all is_apart (edges_upon policy t (holders_against m h t.0 object op)) ≡ true
+apart_upon m h policy t object op =
+    all-upon is_apart (λ u. not (u == t.0)) policy t (holders_against m h t.0 object op) (λ kind u is other. ap not (eqb-turned t.0 u) ∙ other) (holders-others m h t.0 object op)
+
 -- an event that names no transaction twice leaves each edge between two
 pub apart-push : {A : Type 0} (m : Parts A) (h : List (Kept A)) (k : Kept A) → list_all is_apart (edges m h) ≡ true → same_transaction k.event ≡ None → list_all is_apart (edges m (h ++ k ∷ [])) ≡ true
 apart-push {A} m h k all apart = ap (list_all is_apart) (edges-push m h k) ∙ of_event k.event apart
@@ -105,6 +120,11 @@ apart-push {A} m h k all apart = ap (list_all is_apart) (edges-push m h k) ∙ o
         of_class None = all
         of_class (Some c) = apart_all t u (edges m h) c.split_edges (apart_split _ t u class ops two) all
     of_event (Form kind j i) two = apart_with (edges m h) (record { kind = kind; j = j; i = i }) all (apart_edge _ kind j i two)
+    of_event (Operate t object op) two = of_class (class_of m h t.0)
+      where
+        of_class : (k : Option (Class A)) → list_all is_apart (formed (edges m h) (option_map_or (λ c. edges_upon c.policy t (holders_against m h t.0 object.0 op)) k [])) ≡ true
+        of_class None = all
+        of_class (Some c) = apart_formed (edges m h) (edges_upon c.policy t (holders_against m h t.0 object.0 op)) all (apart_upon m h c.policy t object.0 op)
     of_event _ two = all
 
 -- the places of a course

@@ -18,7 +18,7 @@ use Rattle.acta_axioms.specs.Formulas.{is_false}
 use Rattle.acta_axioms.specs.Legal.{is_broken_in, owed, has_clash, is_legal}
 use Rattle.acta_axioms.specs.Faults.{breaches, faults_in_places}
 use Rattle.acta_axioms.specs.Claims.{status_at}
-use Rattle.acta_axioms.proofs.Histories.{begin, spawn, split, join, delegate, form, operate, commit, abort, edge, owes, fault, plain, model, edgeless, parting, nesting, said, holds, is_due, breaks}
+use Rattle.acta_axioms.proofs.Histories.{begin, spawn, split, join, delegate, form, operate, commit, abort, edge, owes, fault, plain, model, edgeless, parting, nesting, loose, said, holds, is_due, breaks}
 
 -- one that writes and commits
 abbrev written : List (Kept (Unit {0}))
@@ -580,3 +580,33 @@ bereft_faults = refl
 early_holders : let h = operate 3 0 (Write (pos 5)) Done ∷ commit 3 ∷ begin 1 0 ∷ spawn 1 3 1 ∷ operate 3 0 (Write (pos 5)) Done ∷ commit 3 ∷ [] in
     map (λ o. fate_at nesting h o 6) (1 ∷ 2 ∷ []) ≡ Some Committed ∷ Some InProgress ∷ []
 early_holders = refl
+
+-- one that reads what another wrote depends on it, and once more on the one that was handed the write
+abbrev read_loosely : List (Kept (Unit {0}))
+read_loosely =
+    begin 1 0 ∷ begin 2 0 ∷ begin 3 0 ∷ operate 1 0 (Write (pos 5)) Done ∷ operate 2 0 Read (Value (pos 5))
+    ∷ delegate 1 3 (1 ∷ []) ∷ operate 2 0 Read (Value (pos 5)) ∷ []
+
+loose_edges : edges loose read_loosely ≡ edge Ad 2 1 ∷ edge Td 2 1 ∷ edge Ad 2 3 ∷ edge Td 2 3 ∷ []
+loose_edges = refl
+
+loose_faults : faults_in_places loose read_loosely ≡ []
+unfolding breaches bad_number bad_class bad_object bad_operation same_transaction
+loose_faults = refl
+
+-- of the one that was handed it only, where the read stands behind the delegation
+loose_handed : edges loose (begin 1 0 ∷ begin 2 0 ∷ begin 3 0 ∷ operate 1 0 (Write (pos 5)) Done ∷ delegate 1 3 (1 ∷ []) ∷ operate 2 0 Read (Value (pos 5)) ∷ [])
+    ≡ edge Ad 2 3 ∷ edge Td 2 3 ∷ []
+loose_handed = refl
+
+-- two holders, ascending, each once
+loose_holders : edges loose (begin 1 0 ∷ begin 2 0 ∷ begin 3 0 ∷ operate 3 0 (Write (pos 5)) Done ∷ operate 1 0 (Write (pos 5)) Done ∷ operate 3 0 (Write (pos 5)) Done ∷ operate 2 0 Read (Value (pos 5)) ∷ [])
+    ≡ edge Ad 2 1 ∷ edge Td 2 1 ∷ edge Ad 2 3 ∷ edge Td 2 3 ∷ []
+loose_holders = refl
+
+-- none on an ancestor that is spared, nor where the class refuses
+loose_spared : edges loose (begin 1 0 ∷ spawn 1 2 1 ∷ operate 1 0 (Write (pos 5)) Done ∷ operate 2 0 Read (Value (pos 5)) ∷ []) ≡ []
+loose_spared = refl
+
+loose_refused : edges model (begin 1 0 ∷ begin 2 0 ∷ operate 1 0 (Write (pos 5)) Done ∷ operate 2 0 Read (Value (pos 5)) ∷ []) ≡ []
+loose_refused = refl

@@ -1,5 +1,5 @@
 -- A history that grows by items without fault meets the axioms, and what makes an item faultless.
-use Rattle.std.proofs.Common.{if◌then◌else◌, ◌==◌, filter, ◌≡◌, ℕ, Bool, true, false, ◌&&◌, ◌||◌, not, cond, List, [], ◌∷◌, ◌++◌, map, Some, None, is_some, refl, ap, ◌∙◌}
+use Rattle.std.proofs.Common.{if◌then◌else◌, ◌==◌, filter, ◌≡◌, ℕ, Bool, true, false, ◌&&◌, ◌||◌, not, cond, List, [], ◌∷◌, ◌++◌, Some, None, is_some, refl, ap, ◌∙◌}
 use Rattle.std.proofs.lemmas.Bool.Decides.{Decides-int_eq}
 use Rattle.acta_table.specs.declared.answer.Status.TheVariants.{NotBegun, InProgress}
 use Rattle.acta_table.specs.declared.dep.Dep.{Dep}
@@ -19,7 +19,7 @@ use Rattle.acta_objects.specs.WellFormed.{bad_operation}
 use Rattle.acta_axioms.specs.declared.fault.Axiom.TheVariants.{BegunOnce, EndedAfterBegun, EndedOnce, OperatesInProgress, FormOfEvent, Allowed, PartiesInProgress, Responsible, HandsWhole, Conflict, Return, Heir, FormedInTime}
 use Rattle.acta_axioms.specs.History.{number, has_begun, has_ended, is_in_progress}
 use Rattle.acta_axioms.specs.Operations.{number_after}
-use Rattle.acta_axioms.specs.Values.{is_well_formed, return_due, conflicting}
+use Rattle.acta_axioms.specs.Values.{is_well_formed, return_due}
 use Rattle.acta_axioms.specs.Faults.{when, first_named, is_same_ret, is_due, begun_again, ended_unbegun, ended_again, operated_idle, ill_formed, not_allowed, idle_party, handed_unheld, left_out, in_conflict, wrong_return, without_heir, formed_late, breaches, faults_of, faults_at}
 use Rattle.acta_axioms.specs.Legal.{is_legal}
 use Rattle.acta_axioms.specs.Claims.{MeetsAxioms, status_at}
@@ -263,9 +263,9 @@ same_ret (Value v) = (Decides-int_eq v v).1 refl
 same_ret (Flag true) = refl
 same_ret (Flag false) = refl
 
--- an operation of one in progress that conflicts with none and returns what is due
+-- an operation of one in progress that returns what is due, and conflicts with none where its class refuses
 pub faultless-operate : {A : Type 0} (m : Parts A) (h : List (Kept A)) (t : TxnId) (object : ObjId) (op : Op) (r : Ret) → status_at h t.0 ≡ InProgress →
-    ill_formed m (Operate t object op) ≡ [] → not_allowed m h (Operate t object op) ≡ [] → map (λ o. o.number) (conflicting m h t.0 object.0 op) ≡ [] →
+    ill_formed m (Operate t object op) ≡ [] → not_allowed m h (Operate t object op) ≡ [] → in_conflict m h (Operate t object op) ≡ [] →
     return_due m h object.0 op ≡ Some r → IsFaultless m h (record { event = Operate t object op; ret = Some r })
 faultless-operate m h t object op r status form allowed conflict due =
     record {

@@ -6,7 +6,7 @@ use Rattle.std.proofs.lemmas.List.{append-nil, append_assoc, length_push, drop-a
 use Rattle.std.proofs.lemmas.List.Folds.{find-append}
 use Rattle.std.proofs.lemmas.List.Elements.{filter_map-append, filter-append}
 use Rattle.std.proofs.lemmas.Grind.{flat_map-append, fold-append}
-use Rattle.std.proofs.lemmas.Bool.{eqb-true, true≢false, false≢true}
+use Rattle.std.proofs.lemmas.Bool.{eqb-true, false≢true}
 use Rattle.std.proofs.lemmas.Option.{none-some, same_Some, cond_some}
 use Rattle.acta_table.specs.declared.event.Event.{Event}
 use Rattle.acta_table.specs.declared.event.Event.TheVariants.{Spawn, Operate}
@@ -186,15 +186,6 @@ heir-push m h k t =
     push_in true b = refl
     push_in false true = refl
     push_in false false = refl
-
--- one that has not begun has no heir
-pub heir-unbegun : {A : Type 0} (m : Parts A) (h : List (Kept A)) (t : ℕ) → has_begun h t ≡ false → heir m h t ≡ None
-heir-unbegun {A} m h t not_begun = of_first (first (starts t) h) not_begun
-  where
-    of_first : (o : Option (Place A)) → is_some (option_map number o) ≡ false →
-        (if option_map_or (λ k. has_heir k.at_commit) (option_and_then (class_at m) (option_and_then (λ p. class_named p.kept.event) o)) false then option_and_then (λ p. spawner p.before p.kept.event) o else None) ≡ None
-    of_first None is = refl
-    of_first (Some p) is = absurd (true≢false is)
 
 -- operations
 

@@ -17,6 +17,7 @@ use Rattle.acta_table.specs.declared.model.Kind.TheVariants.{Register, Counter, 
 use Rattle.acta_table.specs.declared.model.Object.{Object}
 use Rattle.acta_table.specs.declared.model.Parts.{Parts}
 use Rattle.acta_table.specs.declared.model.Scope.TheVariants.{Others, NonAncestors}
+use Rattle.acta_table.specs.declared.policy.Policy.TheVariants.{Refuse, Depend}
 use Rattle.acta_table.specs.declared.start_edges.Dependent.TheVariants.{Starter, Started}
 use Rattle.acta_table.specs.Sets.{numbered}
 use Rattle.acta_axioms.specs.declared.fault.Fault.{Fault}
@@ -72,7 +73,7 @@ objects = record { name = []; kind = Register (pos 0) } ∷ record { name = []; 
 -- a class, by whether it starts by begin and the bits of what it may do: 1 is to spawn, 8 to delegate, 16 to form,
 -- 32 to operate, 64 to commit and 128 to abort
 abbrev pub class : Bool → ℕ → Class (Unit {0})
-class begins may = record { name = []; starts = record { begin = begins; spawned = false; split = false }; may = may; scope = Others; at_commit = Keeps; extent = Any; spawn_edges = []; split_edges = [] }
+class begins may = record { name = []; starts = record { begin = begins; spawned = false; split = false }; may = may; scope = Others; policy = Refuse; at_commit = Keeps; extent = Any; spawn_edges = []; split_edges = [] }
 
 -- class 0 may all but delegate and form, class 1 may not operate either, class 2 may not start, class 3 may
 -- all but delegate, and classes 4 and 5 all but form: 4 delegates any part, and 5 all that it holds
@@ -114,6 +115,22 @@ nesting = record {
         scope = NonAncestors;
         at_commit = ToParent;
         spawn_edges = record { kind = Cd; dependent = Starter } ∷ record { kind = Wd; dependent = Started } ∷ [];
+      }
+      ∷ [];
+}
+
+-- class 0 starts by begin, and may delegate, operate, commit and abort: it depends by abort and by termination on those
+-- who hold what its operations conflict with; class 1 is such a class that starts by a spawn too, and doesn't
+-- conflict with its ancestors
+abbrev pub loose : Parts (Unit {0})
+loose = record {
+  objects = objects;
+  classes =
+      record (class true 232) { policy = Depend 20; extent = Whole }
+      ∷ record (class true 232) {
+        starts = record { begin = true; spawned = true; split = false };
+        scope = NonAncestors;
+        policy = Depend 20;
       }
       ∷ [];
 }

@@ -1,6 +1,8 @@
 mod Histories
 mod Examples
 pub mod Growth
+pub mod Holders
+pub mod Conflicts
 pub mod EdgeGrowth
 pub mod Statuses
 pub mod Numbers
@@ -14,3 +16,4 @@ mod Named
 mod Tables
 mod Tracing
 mod Turns
+mod Following

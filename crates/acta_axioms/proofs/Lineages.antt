@@ -1,63 +1,66 @@
 -- The heirs at the places of a history, found in a pass from the front.
-use Rattle.std.proofs.Common.{if◌then◌else◌, ◌≡◌, ℕ, zero, suc, ◌+◌, ◌<◌, Bool, true, false, ◌&&◌, ◌||◌, not, List, [], ◌∷◌, ◌++◌, length, map, take, get_or, Option, Some, None, refl, sym, ap, ◌∙◌, arith}
-use Rattle.std.specs.Option.{option_map_or}
+use Rattle.std.proofs.Common.{if◌then◌else◌, ◌≡◌, ℕ, zero, suc, ◌+◌, ◌<◌, Bool, true, false, ◌&&◌, ◌||◌, not, List, [], ◌∷◌, ◌++◌, length, map, take, get_or, Option, Some, None, option_map, is_some, refl, sym, ap, ◌∙◌, arith}
+use Rattle.std.specs.Option.{option_and_then, option_map_or}
 use Rattle.std.specs.Prelude.{slice_set, ◌==◌}
 use Rattle.std.specs.List.{All}
 use Rattle.std.proofs.Math.ListN.{replicate}
 use Rattle.std.proofs.lemmas.Bool.{true≢false, eqb-true, eq-eqb}
 use Rattle.std.proofs.lemmas.Grind.{get_or-set_at}
 use Rattle.std.proofs.lemmas.List.{append-nil, append_assoc, map-append, take_more, get_or-set_other}
+use Rattle.acta_table.specs.declared.event.ClassId.{ClassId}
 use Rattle.acta_table.specs.declared.event.Event.{Event}
-use Rattle.acta_table.specs.declared.event.Event.TheVariants.{Begin, Spawn, Split, Commit}
+use Rattle.acta_table.specs.declared.event.Event.TheVariants.{Spawn, Commit}
 use Rattle.acta_table.specs.declared.event.Kept.{Kept}
 use Rattle.acta_table.specs.declared.event.TxnId.{TxnId}
+use Rattle.acta_table.specs.declared.model.Class.{Class}
 use Rattle.acta_table.specs.declared.model.Parts.{Parts}
 use Rattle.acta_table.specs.Classes.{class_at, has_heir}
-use Rattle.acta_table.specs.Events.{named, started}
+use Rattle.acta_table.specs.Events.{named, started, class_named}
 use Rattle.acta_axioms.specs.declared.heirs.Lineage.{Lineage}
-use Rattle.acta_axioms.specs.History.{places_behind, places, starts, has_begun}
-use Rattle.acta_axioms.specs.Operations.{heir}
-use Rattle.acta_axioms.specs.Index.{unbegun, lineage, begun_in, heir_started, with_start, heir_by, heir_in, heir_at, heirs_of}
-use Rattle.acta_axioms.proofs.Growth.{at_end, places-push, has_begun-push, heir_of_started, heir-push, heir-unbegun}
+use Rattle.acta_axioms.specs.History.{Place, number, places_behind, places, first, starts, has_begun, class_number, class_of, spawner, parent_of}
+use Rattle.acta_axioms.specs.Index.{unbegun, class_id, lineage, begun_in, spawner_by, with_start, class_by, heir_of_line, heir_by, heir_in, heir_at, heirs_of}
+use Rattle.acta_axioms.proofs.Growth.{at_end, places-push, has_begun-push, class_number-push, parent_of-push}
 use Rattle.acta_axioms.proofs.Named.{named-started}
 use Rattle.acta_axioms.proofs.Tables.{get_or-blank}
 
--- the heir of the one that an event starts, by those who have begun
-heir-started : {A : Type 0} (m : Parts A) (h : List (Kept A)) (e : Event A) → heir_of_started m h e ≡ heir_started m (has_begun h) e
-heir-started {A} m h e = of_event e
+-- one that has not begun has no class and no parent
+class-unbegun : {A : Type 0} (h : List (Kept A)) (t : ℕ) → has_begun h t ≡ false → class_number h t ≡ None
+class-unbegun {A} h t not_begun = of_first (first (starts t) h) not_begun
   where
-    none : (b : Bool) → (let o : Option TxnId = if b then None else None in o) ≡ None
-    none true = refl
-    none false = refl
+    of_first : (o : Option (Place A)) → is_some (option_map number o) ≡ false → option_and_then (λ p. class_named p.kept.event) o ≡ None
+    of_first None is = refl
+    of_first (Some p) is = absurd (true≢false is)
 
-    both : (a b : Bool) (t : TxnId) → (if a then (if b then Some t else None) else None) ≡ (if a && b then Some t else None)
-    both true b t = refl
-    both false b t = refl
+parent-unbegun : {A : Type 0} (h : List (Kept A)) (t : ℕ) → has_begun h t ≡ false → parent_of h t ≡ None
+parent-unbegun {A} h t not_begun = of_first (first (starts t) h) not_begun
+  where
+    of_first : (o : Option (Place A)) → is_some (option_map number o) ≡ false → option_and_then (λ p. spawner p.before p.kept.event) o ≡ None
+    of_first None is = refl
+    of_first (Some p) is = absurd (true≢false is)
 
-    of_event : (f : Event A) → heir_of_started m h f ≡ heir_started m (has_begun h) f
-    of_event (Spawn t c class) = both (option_map_or (λ k. has_heir k.at_commit) (class_at m class.0) false) (has_begun h t.0) t
-    of_event (Begin t class) = none (option_map_or (λ k. has_heir k.at_commit) (class_at m class.0) false)
-    of_event (Split t u class ops) = none (option_map_or (λ k. has_heir k.at_commit) (class_at m class.0) false)
-    of_event _ = refl
+-- the parent of the one that an event starts, by those who have begun
+spawner-begun : {A : Type 0} (h : List (Kept A)) (e : Event A) → spawner h e ≡ spawner_by (has_begun h) e
+spawner-begun h (Spawn t c class) = refl
+spawner-begun h _ = refl
 
--- the first start gives whether it has begun, and the heir
-pub lineage-push : {A : Type 0} (m : Parts A) (h : List (Kept A)) (k : Kept A) (t : ℕ) → lineage m (h ++ k ∷ []) t ≡ with_start m (has_begun h) k.event t (lineage m h t)
-lineage-push m h k t =
-    (λ i. record { is_begun = has_begun-push h k t i; heir = heir-push m h k t i })
+-- the first start gives whether it has begun, its class and its parent
+pub lineage-push : {A : Type 0} (h : List (Kept A)) (k : Kept A) (t : ℕ) → lineage (h ++ k ∷ []) t ≡ with_start (has_begun h) k.event t (lineage h t)
+lineage-push h k t =
+    (λ i. record { is_begun = has_begun-push h k t i; class = class_id (class_number-push h k t i); parent = parent_of-push h k t i })
     ∙ of_tests (has_begun h t) (starts t k.event) refl
   where
     of_tests : (a b : Bool) → has_begun h t ≡ a →
-        (let l : Lineage = record { is_begun = a || b; heir = if a then heir m h t else if b then heir_of_started m h k.event else None } in l)
-        ≡ (let l : Lineage = record { is_begun = a; heir = heir m h t } in if not a && b then record { is_begun = true; heir = heir_started m (has_begun h) k.event } else l)
+        (let l : Lineage = record { is_begun = a || b; class = class_id (if a then class_number h t else if b then class_named k.event else None); parent = if a then parent_of h t else if b then spawner h k.event else None } in l)
+        ≡ (let l : Lineage = record { is_begun = a; class = class_id (class_number h t); parent = parent_of h t } in if not a && b then record { is_begun = true; class = class_id (class_named k.event); parent = spawner_by (has_begun h) k.event } else l)
     of_tests true b is = refl
-    of_tests false true is = λ i. record { is_begun = true; heir = heir-started m h k.event i }
-    of_tests false false is = ap (λ u. let l : Lineage = record { is_begun = false; heir = u } in l) (sym (heir-unbegun m h t is))
+    of_tests false true is = λ i. record { is_begun = true; class = class_id (class_named k.event); parent = spawner-begun h k.event i }
+    of_tests false false is = λ i. let l : Lineage = record { is_begun = false; class = class_id (sym (class-unbegun h t is) i); parent = sym (parent-unbegun h t is) i } in l
 
 -- a table in which the lineage of the one that an event starts is put
-pub started-more : {A : Type 0} (m : Parts A) (lines : List Lineage) (e : Event A) (s : TxnId) (line : Lineage) (left : Option TxnId) → All (λ t. t < length lines) (named e) → started e ≡ Some s.0 →
-    line ≡ get_or lines s.0 unbegun → not line.is_begun ≡ true → left ≡ heir_started m (begun_in lines) e → (t : ℕ) →
-    get_or (slice_set lines s.0 (record { is_begun = true; heir = left })) t unbegun ≡ with_start m (begun_in lines) e t (get_or lines t unbegun)
-started-more {A} m lines e s line left named_within is line_is fresh heir_is t = of_test (s.0 == t) refl
+pub started-more : {A : Type 0} (lines : List Lineage) (e : Event A) (s : TxnId) (line : Lineage) (class : Option ClassId) (parent : Option TxnId) → All (λ t. t < length lines) (named e) → started e ≡ Some s.0 →
+    line ≡ get_or lines s.0 unbegun → not line.is_begun ≡ true → class ≡ class_id (class_named e) → parent ≡ spawner_by (begun_in lines) e → (t : ℕ) →
+    get_or (slice_set lines s.0 (record { is_begun = true; class = class; parent = parent })) t unbegun ≡ with_start (begun_in lines) e t (get_or lines t unbegun)
+started-more {A} lines e s line class parent named_within is line_is fresh class_is parent_is t = of_test (s.0 == t) refl
   where
     here : starts t e ≡ (s.0 == t)
     here = ap (λ o. option_map_or (λ u. u == t) o false) is
@@ -67,20 +70,20 @@ started-more {A} m lines e s line left named_within is line_is fresh heir_is t =
     kept_line false x y = refl
 
     of_test : (b : Bool) → (s.0 == t) ≡ b →
-        get_or (slice_set lines s.0 (record { is_begun = true; heir = left })) t unbegun ≡ with_start m (begun_in lines) e t (get_or lines t unbegun)
+        get_or (slice_set lines s.0 (record { is_begun = true; class = class; parent = parent })) t unbegun ≡ with_start (begun_in lines) e t (get_or lines t unbegun)
     of_test true same =
         let at : s.0 ≡ t = eqb-true s.0 t same in
-        get_or-set_at lines s.0 t (record { is_begun = true; heir = left }) unbegun (sym at) (named-started e s.0 (length lines) named_within is)
-        ∙ ap (λ u. let l : Lineage = record { is_begun = true; heir = u } in l) heir_is
-        ∙ (λ i. if sym (ap (λ (l : Lineage). not l.is_begun) (sym (line_is ∙ ap (λ u. get_or lines u unbegun) at)) ∙ fresh) i && sym (here ∙ same) i then (record { is_begun = true; heir = heir_started m (begun_in lines) e }) else get_or lines t unbegun)
+        get_or-set_at lines s.0 t (record { is_begun = true; class = class; parent = parent }) unbegun (sym at) (named-started e s.0 (length lines) named_within is)
+        ∙ (λ i. let l : Lineage = record { is_begun = true; class = class_is i; parent = parent_is i } in l)
+        ∙ (λ i. if sym (ap (λ (l : Lineage). not l.is_begun) (sym (line_is ∙ ap (λ u. get_or lines u unbegun) at)) ∙ fresh) i && sym (here ∙ same) i then (record { is_begun = true; class = class_id (class_named e); parent = spawner_by (begun_in lines) e }) else get_or lines t unbegun)
     of_test false same =
-        get_or-set_other lines s.0 t (record { is_begun = true; heir = left }) unbegun (λ at. true≢false (sym (eq-eqb s.0 t (sym at)) ∙ same))
-        ∙ kept_line (get_or lines t unbegun).is_begun (get_or lines t unbegun) (record { is_begun = true; heir = heir_started m (begun_in lines) e })
-        ∙ (λ i. if not (get_or lines t unbegun).is_begun && sym (here ∙ same) i then (record { is_begun = true; heir = heir_started m (begun_in lines) e }) else get_or lines t unbegun)
+        get_or-set_other lines s.0 t (record { is_begun = true; class = class; parent = parent }) unbegun (λ at. true≢false (sym (eq-eqb s.0 t (sym at)) ∙ same))
+        ∙ kept_line (get_or lines t unbegun).is_begun (get_or lines t unbegun) (record { is_begun = true; class = class_id (class_named e); parent = spawner_by (begun_in lines) e })
+        ∙ (λ i. if not (get_or lines t unbegun).is_begun && sym (here ∙ same) i then (record { is_begun = true; class = class_id (class_named e); parent = spawner_by (begun_in lines) e }) else get_or lines t unbegun)
 
 -- a blank table says of the empty history what there is to say
-pub lines-blank : {A : Type 0} (m : Parts A) (lines : List Lineage) (n t : ℕ) → lines ≡ replicate n unbegun → get_or lines t unbegun ≡ lineage m [] t
-lines-blank m lines n t blank = ap (λ xs. get_or xs t unbegun) blank ∙ get_or-blank n t unbegun
+pub lines-blank : {A : Type 0} (h : List (Kept A)) (lines : List Lineage) (n t : ℕ) → lines ≡ replicate n unbegun → get_or lines t unbegun ≡ lineage (take 0 h) t
+lines-blank h lines n t blank = ap (λ xs. get_or xs t unbegun) blank ∙ get_or-blank n t unbegun
 
 -- the heirs at places
 
@@ -99,21 +102,30 @@ heirs-push m h k = ap (map (heir_at m)) (places-push h k) ∙ map-append (heir_a
 
 -- one item more, in a pass from the front
 
-pub lines-more : {A : Type 0} (m : Parts A) (h : List (Kept A)) (n : ℕ) (d k : Kept A) (old new : List Lineage) → n < length h → k ≡ get_or h n d →
-    ((t : ℕ) → get_or old t unbegun ≡ lineage m (take n h) t) → ((t : ℕ) → get_or new t unbegun ≡ with_start m (begun_in old) k.event t (get_or old t unbegun)) →
-    (t : ℕ) → get_or new t unbegun ≡ lineage m (take (n + 1) h) t
-lines-more m h n d k old new within is old_are step t =
+pub lines-more : {A : Type 0} (h : List (Kept A)) (n : ℕ) (d k : Kept A) (old new : List Lineage) → n < length h → k ≡ get_or h n d →
+    ((t : ℕ) → get_or old t unbegun ≡ lineage (take n h) t) → ((t : ℕ) → get_or new t unbegun ≡ with_start (begun_in old) k.event t (get_or old t unbegun)) →
+    (t : ℕ) → get_or new t unbegun ≡ lineage (take (n + 1) h) t
+lines-more h n d k old new within is old_are step t =
     step t
-    ∙ (λ x. with_start m (λ u. (old_are u x).is_begun) (is x).event t (old_are t x))
-    ∙ sym (lineage-push m (take n h) (get_or h n d) t)
-    ∙ sym (ap (λ g. lineage m g t) (take_more h n d within))
+    ∙ (λ x. with_start (λ u. (old_are u x).is_begun) (is x).event t (old_are t x))
+    ∙ sym (lineage-push (take n h) (get_or h n d) t)
+    ∙ sym (ap (λ g. lineage g t) (take_more h n d within))
 
-heir-tabled : {A : Type 0} (m : Parts A) (h : List (Kept A)) (lines : List Lineage) (e : Event A) → ((t : ℕ) → get_or lines t unbegun ≡ lineage m h t) → heir_in lines e ≡ heir_by m h e
-heir-tabled m h lines (Commit t) are = ap (λ (l : Lineage). l.heir) (are t.0)
+-- the class of one by its lineage
+pub class-lined : {A : Type 0} (m : Parts A) (h : List (Kept A)) (t : ℕ) → class_by m (lineage h t) ≡ class_of m h t
+class-lined {A} m h t = of_number (class_number h t)
+  where
+    of_number : (n : Option ℕ) → option_and_then (λ (class : ClassId). class_at m class.0) (class_id n) ≡ option_and_then (class_at m) n
+    of_number None = refl
+    of_number (Some n) = refl
+
+pub heir-tabled : {A : Type 0} (m : Parts A) (h : List (Kept A)) (lines : List Lineage) (e : Event A) → ((t : ℕ) → get_or lines t unbegun ≡ lineage h t) → heir_in m lines e ≡ heir_by m h e
+heir-tabled m h lines (Commit t) are =
+    ap (heir_of_line m) (are t.0) ∙ ap (λ k. if option_map_or (λ (c : Class _). has_heir c.at_commit) k false then parent_of h t.0 else None) (class-lined m h t.0)
 heir-tabled m h lines _ are = refl
 
 pub heirs-more : {A : Type 0} (m : Parts A) (h : List (Kept A)) (n : ℕ) (d k : Kept A) (lines : List Lineage) (old new : List (Option TxnId)) (x : Option TxnId) → n < length h → k ≡ get_or h n d →
-    ((t : ℕ) → get_or lines t unbegun ≡ lineage m (take n h) t) → x ≡ heir_in lines k.event → new ≡ old ++ x ∷ [] → old ≡ heirs_of m (take n h) → new ≡ heirs_of m (take (n + 1) h)
+    ((t : ℕ) → get_or lines t unbegun ≡ lineage (take n h) t) → x ≡ heir_in m lines k.event → new ≡ old ++ x ∷ [] → old ≡ heirs_of m (take n h) → new ≡ heirs_of m (take (n + 1) h)
 heirs-more m h n d k lines old new x within is lines_are step put old_are =
     put
     ∙ (λ i. old_are i ++ (step ∙ heir-tabled m (take n h) lines k.event lines_are ∙ ap (λ (q : Kept _). heir_by m (take n h) q.event) is) i ∷ [])

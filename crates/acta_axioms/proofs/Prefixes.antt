@@ -1,8 +1,8 @@
 -- What the first n items say: of a longer history the same.
-use Rattle.std.proofs.Common.{subst, if◌then◌else◌, ◌≡◌, ℕ, zero, suc, ◌+◌, ◌<◌, ◌≤◌, Bool, true, false, leb, List, [], ◌∷◌, ◌++◌, length, take, drop, filter, fold, Option, Some, None, option_map, is_some, refl, sym, ap, ◌∙◌, arith}
+use Rattle.std.proofs.Common.{subst, if◌then◌else◌, ◌≡◌, ℕ, zero, suc, ◌+◌, ◌<◌, ◌≤◌, Bool, true, leb, List, [], ◌∷◌, ◌++◌, length, take, drop, filter, fold, Option, Some, None, option_map, is_some, refl, sym, ap, ◌∙◌, arith}
 use Rattle.std.specs.Prelude.{slice_get}
 use Rattle.std.specs.List.{find, filter_map, flat_map, cons_option, AllByRecursion}
-use Rattle.std.specs.Option.{option_or, option_and_then, option_map_or}
+use Rattle.std.specs.Option.{option_or, option_and_then}
 use Rattle.std.proofs.lemmas.Option.{none-some, same_Some}
 use Rattle.std.proofs.lemmas.Bool.{le-leb, lt-leb, cond-true, cond-false, false≢true}
 use Rattle.std.proofs.lemmas.List.{length-take, length-drop, length_push, take-append-drop, take-append-le, take-take, append-nil, append_assoc}
@@ -12,14 +12,13 @@ use Rattle.acta_table.specs.declared.event.Event.{Event}
 use Rattle.acta_table.specs.declared.event.Event.TheVariants.{Operate}
 use Rattle.acta_table.specs.declared.event.Kept.{Kept}
 use Rattle.acta_table.specs.declared.model.Parts.{Parts}
-use Rattle.acta_table.specs.Classes.{class_at, has_heir}
 use Rattle.acta_table.specs.Events.{class_named}
-use Rattle.acta_axioms.specs.History.{Place, number, places_behind, places, first, starts, commits, aborts, joins, course, has_begun, class_number, spawner, parent_of}
-use Rattle.acta_axioms.specs.Operations.{Operation, operation_in, operation_at, operations, held_by, heir, carried, standing, standing_of, holder_at, fate_at}
+use Rattle.acta_axioms.specs.History.{Place, number, places_behind, places, first, starts, commits, aborts, joins, course, has_begun, class_number}
+use Rattle.acta_axioms.specs.Operations.{Operation, operation_in, operation_at, operations, held_by, carried, standing, standing_of, holder_at, fate_at}
 use Rattle.acta_axioms.specs.Faults.{faults_at, faults_in_places}
 use Rattle.acta_axioms.specs.Legal.{is_legal}
 use Rattle.acta_axioms.specs.Claims.{MeetsAxioms}
-use Rattle.acta_axioms.proofs.Growth.{found-passes, places_behind-append, option_map-or, heir-unbegun, places_within}
+use Rattle.acta_axioms.proofs.Growth.{found-passes, places_behind-append, option_map-or, places_within}
 
 -- the first n places are those of the first n items
 places_behind-take : {A : Type 0} (n : ℕ) (before h : List (Kept A)) → places_behind before (take n h) ≡ take n (places_behind before h)
@@ -100,10 +99,11 @@ course-take h n t = λ i. record {
   join = first-take (joins t) h n i;
 }
 
--- one that began among the first n items began where the whole history says
-first_start-take : {A : Type 0} (h : List (Kept A)) (n t : ℕ) → has_begun (take n h) t ≡ true → first (starts t) (take n h) ≡ first (starts t) h
-first_start-take {A} h n t begun =
-    of_first (first (starts t) (take n h)) (find (λ p. starts t p.kept.event) (places_behind (take n h) (drop n h))) begun ∙ sym split
+-- one that began among the first n items has the class that the whole history gives it
+pub class_number-take : {A : Type 0} (h : List (Kept A)) (n t : ℕ) → has_begun (take n h) t ≡ true → class_number (take n h) t ≡ class_number h t
+class_number-take {A} h n t begun =
+    of_first (first (starts t) (take n h)) (find (λ p. starts t p.kept.event) (places_behind (take n h) (drop n h))) begun
+    ∙ ap (option_and_then (λ (p : Place A). class_named p.kept.event)) (sym split)
   where
     split : first (starts t) h ≡ option_or (first (starts t) (take n h)) (find (λ p. starts t p.kept.event) (places_behind (take n h) (drop n h)))
     split =
@@ -111,25 +111,9 @@ first_start-take {A} h n t begun =
         ∙ ap (find (λ (p : Place A). starts t p.kept.event)) (places_behind-append [] (take n h) (drop n h))
         ∙ find-append (λ (p : Place A). starts t p.kept.event) (places (take n h)) (places_behind (take n h) (drop n h))
 
-    of_first : (o p : Option (Place A)) → is_some (option_map number o) ≡ true → o ≡ option_or o p
+    of_first : (o p : Option (Place A)) → is_some (option_map number o) ≡ true → option_and_then (λ (q : Place A). class_named q.kept.event) o ≡ option_and_then (λ (q : Place A). class_named q.kept.event) (option_or o p)
     of_first None p is = absurd (false≢true is)
     of_first (Some q) p is = refl
-
--- it has the class that the whole history gives it
-pub class_number-take : {A : Type 0} (h : List (Kept A)) (n t : ℕ) → has_begun (take n h) t ≡ true → class_number (take n h) t ≡ class_number h t
-class_number-take {A} h n t begun = ap (option_and_then (λ (p : Place A). class_named p.kept.event)) (first_start-take h n t begun)
-
--- and the parent
-pub parent_of-take : {A : Type 0} (h : List (Kept A)) (n t : ℕ) → has_begun (take n h) t ≡ true → parent_of (take n h) t ≡ parent_of h t
-parent_of-take {A} h n t begun = ap (option_and_then (λ (p : Place A). spawner p.before p.kept.event)) (first_start-take h n t begun)
-
--- and the heir; one that has not begun has none
-pub heir-take : {A : Type 0} (m : Parts A) (h : List (Kept A)) (n t : ℕ) → heir m (take n h) t ≡ (if has_begun (take n h) t then heir m h t else None)
-heir-take m h n t = of_test (has_begun (take n h) t) refl
-  where
-    of_test : (b : Bool) → has_begun (take n h) t ≡ b → heir m (take n h) t ≡ (if b then heir m h t else None)
-    of_test true begun = λ i. if option_map_or (λ k. has_heir k.at_commit) (option_and_then (class_at m) (class_number-take h n t begun i)) false then parent_of-take h n t begun i else None
-    of_test false unbegun = heir-unbegun m (take n h) t unbegun
 
 operations_past : {A : Type 0} (l : ℕ) (before h : List (Kept A)) → l ≤ length before → filter (λ o. leb o.place l) (filter_map operation_at (places_behind before h)) ≡ []
 operations_past l before [] low = refl

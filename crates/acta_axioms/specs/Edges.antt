@@ -1,24 +1,37 @@
 -- The edges that a history forms: which depend on which, in order of forming, each once.
-use Rattle.std.specs.Prelude.{List, [], ◌∷◌, flat_map}
+use Rattle.std.specs.Prelude.{ℕ, List, [], ◌∷◌, map, flat_map}
 use Rattle.std.specs.Option.{option_map_or}
 use Rattle.acta_table.specs.declared.dep.Edge.{Edge}
 use Rattle.acta_table.specs.declared.event.Event.{Event}
-use Rattle.acta_table.specs.declared.event.Event.TheVariants.{Spawn, Split, Form}
+use Rattle.acta_table.specs.declared.event.Event.TheVariants.{Spawn, Split, Form, Operate}
 use Rattle.acta_table.specs.declared.event.Kept.{Kept}
+use Rattle.acta_table.specs.declared.event.Op.{Op}
 use Rattle.acta_table.specs.declared.model.Parts.{Parts}
 use Rattle.acta_table.specs.Classes.{class_at}
 use Rattle.acta_table.specs.Edges.{formed}
+use Rattle.acta_table.specs.Numbered.{ascending}
+use Rattle.acta_table.specs.Policies.{edges_upon}
 use Rattle.acta_table.specs.Starts.{edges_between}
-use Rattle.acta_axioms.specs.History.{Place, places}
+use Rattle.acta_axioms.specs.History.{Place, places, class_of}
+use Rattle.acta_axioms.specs.Operations.{standing}
+use Rattle.acta_axioms.specs.Values.{conflicting}
+
+-- who holds the operations that an operation of t conflicts with, ascending, each once
+abbrev pub holders_against : {A : Type 0} → Parts A → List (Kept A) → ℕ → ℕ → Op → List ℕ
+holders_against m h t object op =
+    ascending (map (λ o. (standing m h o).holder) (conflicting m h t object op))
 
 -- the edges that an event forms, which stands behind these items: a spawn or a split forms those that the
--- class named wants, and none where it is not in the model
+-- class named wants, and none where it is not in the model; an operation forms those of its transaction on
+-- each who holds operations that it conflicts with, by the policy of the transaction's class
 abbrev pub formed_by : {A : Type 0} → Parts A → List (Kept A) → Event A → List Edge
 formed_by m before (Spawn t c class) =
     option_map_or (λ k. edges_between t c k.spawn_edges) (class_at m class.0) []
 formed_by m before (Split t u class ops) =
     option_map_or (λ k. edges_between t u k.split_edges) (class_at m class.0) []
 formed_by m before (Form kind j i) = (record { kind = kind; j = j; i = i }) ∷ []
+formed_by m before (Operate t object op) =
+    option_map_or (λ k. edges_upon k.policy t (holders_against m before t.0 object.0 op)) (class_of m before t.0) []
 formed_by m before _ = []
 
 -- the edges that are formed at a place

@@ -16,6 +16,7 @@ use Rattle.acta_table.specs.Events.{kind_of, named, acting, started, class_named
 use Rattle.acta_table.specs.Classes.{class_at, can_start, can_do, is_whole, has_heir}
 use Rattle.acta_table.specs.Dependencies.{is_begin_kind}
 use Rattle.acta_table.specs.Numbered.{smallest}
+use Rattle.acta_table.specs.Policies.{refuses}
 use Rattle.acta_table.specs.Sets.{numbers_of, is_named}
 use Rattle.acta_table.specs.WellFormed.{bad_number, bad_class, bad_object, same_transaction}
 use Rattle.acta_objects.specs.WellFormed.{bad_operation}
@@ -126,9 +127,12 @@ left_out m before e =
     then filter (λ o. not (is_named (operations_named e) o)) (held_numbers m before e)
     else []
 
--- conflict: the operation conflicts with operations of its transaction's conflict set
+-- conflict: the operation of one whose class refuses that conflicts with operations of its conflict set
 abbrev pub in_conflict : {A : Type 0} → Parts A → List (Kept A) → Event A → List ℕ
-in_conflict m before (Operate t object op) = map (λ o. o.number) (conflicting m before t.0 object.0 op)
+in_conflict m before (Operate t object op) =
+    if has_class (λ k. refuses k.policy) m before t.0
+    then map (λ o. o.number) (conflicting m before t.0 object.0 op)
+    else []
 in_conflict m before _ = []
 
 -- whether two returns are the same

@@ -1,15 +1,18 @@
 -- What the index of `Places` says: the words of the code's own contracts.
-use Rattle.std.specs.Prelude.{ℕ, ◌≡◌, ◌+◌, ◌-◌, Bool, true, false, ◌&&◌, not, ◌==◌, zero, suc, List, [], ◌∷◌, get_or, map, drop, fold, slice_get, if◌then◌else◌, Option, Some, None}
+use Rattle.std.specs.Prelude.{ℕ, ◌≡◌, ◌+◌, ◌-◌, Bool, true, false, ◌&&◌, not, ◌==◌, zero, suc, List, [], ◌∷◌, get_or, map, drop, fold, slice_get, if◌then◌else◌, Option, Some, None, option_map}
 use Rattle.std.specs.List.{position_from, cons_option}
 use Rattle.std.specs.Option.{option_map_or, option_and_then}
 use Rattle.acta_table.specs.declared.dep.Edge.{Edge}
 use Rattle.acta_table.specs.declared.answer.Fate.TheVariants.{Committed, Aborted}
+use Rattle.acta_table.specs.declared.event.ClassId.{ClassId}
 use Rattle.acta_table.specs.declared.event.Event.{Event}
 use Rattle.acta_table.specs.declared.event.Event.TheVariants.{Spawn, Split, Join, Delegate, Operate, Commit, Abort}
 use Rattle.acta_table.specs.declared.event.Kept.{Kept}
 use Rattle.acta_table.specs.declared.event.TxnId.{TxnId}
+use Rattle.acta_table.specs.declared.model.Class.{Class}
 use Rattle.acta_table.specs.declared.model.Parts.{Parts}
 use Rattle.acta_table.specs.Classes.{class_at, has_heir}
+use Rattle.acta_table.specs.Events.{class_named}
 use Rattle.acta_table.specs.Sets.{is_named}
 use Rattle.acta_axioms.specs.declared.follow.Held.{Held}
 use Rattle.acta_axioms.specs.declared.follow.Turn.{Turn}
@@ -18,7 +21,7 @@ use Rattle.acta_axioms.specs.declared.heirs.Lineage.{Lineage}
 use Rattle.acta_axioms.specs.declared.index.Firsts.{Firsts}
 use Rattle.acta_axioms.specs.declared.index.Onward.{Onward}
 use Rattle.acta_axioms.specs.declared.index.Traced.{Traced}
-use Rattle.acta_axioms.specs.History.{Place, Course, course, places, starts, commits, aborts, joins, has_begun}
+use Rattle.acta_axioms.specs.History.{Place, Course, course, places, starts, commits, aborts, joins, has_begun, class_number, parent_of}
 use Rattle.acta_axioms.specs.Operations.{Standing, held_by, carried, heir}
 use Rattle.acta_axioms.specs.Edges.{edges}
 
@@ -84,30 +87,44 @@ traced_from n (k ∷ ks) =
 
 -- one that has not begun
 abbrev pub unbegun : Lineage
-unbegun = record { is_begun = false; heir = None }
+unbegun = record { is_begun = false; class = None; parent = None }
 
--- whether t has begun in a history, and its heir there
-abbrev pub lineage : {A : Type 0} → Parts A → List (Kept A) → ℕ → Lineage
-lineage m h t = record { is_begun = has_begun h t; heir = heir m h t }
+-- the class of this number, if there is one
+abbrev pub class_id : Option ℕ → Option ClassId
+class_id class = option_map (λ n. record { 0 = n }) class
+
+-- whether t has begun in a history, and the class that it started with and its parent there
+abbrev pub lineage : {A : Type 0} → List (Kept A) → ℕ → Lineage
+lineage h t = record {
+  is_begun = has_begun h t;
+  class = class_id (class_number h t);
+  parent = parent_of h t;
+}
 
 -- whether t has begun by a table of lineages, which has none for those behind its end
 abbrev pub begun_in : List Lineage → ℕ → Bool
 begun_in lines t = (get_or lines t unbegun).is_begun
 
--- the heir of the one that an event starts, given who has begun before
-abbrev pub heir_started : {A : Type 0} → Parts A → (ℕ → Bool) → Event A → Option TxnId
-heir_started m begun (Spawn t c class) =
-    if option_map_or (λ k. has_heir k.at_commit) (class_at m class.0) false && begun t.0
-    then Some t
-    else None
-heir_started m begun _ = None
+-- the parent of the one that an event starts, given who has begun before
+abbrev pub spawner_by : {A : Type 0} → (ℕ → Bool) → Event A → Option TxnId
+spawner_by begun (Spawn t c class) = if begun t.0 then Some t else None
+spawner_by begun _ = None
 
 -- the lineage of t with one more event behind the others: its first start gives it
-abbrev pub with_start : {A : Type 0} → Parts A → (ℕ → Bool) → Event A → ℕ → Lineage → Lineage
-with_start m begun e t line =
+abbrev pub with_start : {A : Type 0} → (ℕ → Bool) → Event A → ℕ → Lineage → Lineage
+with_start begun e t line =
     if not line.is_begun && starts t e
-    then record { is_begun = true; heir = heir_started m begun e }
+    then record { is_begun = true; class = class_id (class_named e); parent = spawner_by begun e }
     else line
+
+-- the class of this lineage, where it is in the model
+abbrev pub class_by : {A : Type 0} → Parts A → Lineage → Option (Class A)
+class_by m line = option_and_then (λ class. class_at m class.0) line.class
+
+-- the heir of one of this lineage: its parent, where its class says so
+abbrev pub heir_of_line : {A : Type 0} → Parts A → Lineage → Option TxnId
+heir_of_line m line =
+    if option_map_or (λ k. has_heir k.at_commit) (class_by m line) false then line.parent else None
 
 -- the heir of the one that commits by an event that stands behind these items
 abbrev pub heir_by : {A : Type 0} → Parts A → List (Kept A) → Event A → Option TxnId
@@ -115,9 +132,9 @@ heir_by m before (Commit t) = heir m before t.0
 heir_by m before _ = None
 
 -- the same by a table of lineages
-abbrev pub heir_in : {A : Type 0} → List Lineage → Event A → Option TxnId
-heir_in lines (Commit t) = (get_or lines t.0 unbegun).heir
-heir_in lines _ = None
+abbrev pub heir_in : {A : Type 0} → Parts A → List Lineage → Event A → Option TxnId
+heir_in m lines (Commit t) = heir_of_line m (get_or lines t.0 unbegun)
+heir_in m lines _ = None
 
 -- the heir of the one that commits at a place
 abbrev pub heir_at : {A : Type 0} → Parts A → Place A → Option TxnId

@@ -8,4 +8,5 @@ pub mod Faults
 pub mod Claims
 pub mod Within
 pub mod Index
+pub mod Behind
 pub mod Shown

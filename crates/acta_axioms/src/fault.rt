@@ -21,8 +21,8 @@ pub enum Axiom {
     Responsible,
     /// One whose class wants it hands over all that it holds in progress.
     HandsWhole,
-    /// No operation conflicts with one of its transaction's conflict set: with one in progress that another
-    /// holds, who is no ancestor that the class leaves out.
+    /// Where the class refuses it, no operation conflicts with one of its transaction's conflict set: with one
+    /// in progress that another holds, who is no ancestor that the class leaves out.
     Conflict,
     /// Operations return what their replay does, and nothing else returns anything.
     Return,

@@ -2,27 +2,30 @@ ghost use Rattle.std.specs.Prelude.{◌≡◌, ◌<◌, ℕ, Option, option_map,
 ghost use Rattle.std.specs.List.{All};
 ghost use Rattle.std.specs.Option.{option_map_or};
 ghost use Rattle.acta_table.specs.Classes.{class_at, has_heir};
-ghost use Rattle.acta_table.specs.Events.{named, started};
-ghost use Rattle.acta_axioms.specs.Index.{unbegun, begun_in, heir_started, with_start, heir_in, heirs_of};
+ghost use Rattle.acta_table.specs.Events.{named, started, class_named};
+ghost use Rattle.acta_axioms.specs.Index.{unbegun, begun_in, class_id, spawner_by, with_start, heir_of_line, heir_in, heirs_of};
 
 use crate::index::largest_named;
 use acta_table::{AtCommit, ClassId, Event, Kept, Model, TxnId};
 use std::alloc::{AllocError, Allocator};
 
-/// Whether a transaction has begun, and its heir: the one to which it leaves what it holds when it commits.
+/// Whether a transaction has begun, and the class that it started with and its parent.
 #[derive(Clone, Copy, PartialEq, Eq, Debug)]
 pub struct Lineage {
     pub is_begun: bool,
-    pub heir: Option<TxnId>,
+    pub class: Option<ClassId>,
+    pub parent: Option<TxnId>,
 }
 
-const UNBEGUN: Lineage = Lineage {
+/// The lineage of one that has not begun.
+pub const UNBEGUN: Lineage = Lineage {
     is_begun: false,
-    heir: None,
+    class: None,
+    parent: None,
 };
 
-// The lineage of the transaction by the table, which has none for those behind its end.
-fn line(lines: &[Lineage], t: TxnId) -> Lineage
+/// The lineage of the transaction by the table, which has none for those behind its end.
+pub fn line(lines: &[Lineage], t: TxnId) -> Lineage
     ensures { result ≡ get_or lines.now t.0 unbegun }
 {
     match lines.get(t.0 as usize) {
@@ -53,17 +56,25 @@ fn started_by<A: Allocator>(event: &Event<A>) -> Option<TxnId>
     }
 }
 
-// The heir of the one that the event starts, by the table of those before.
-fn heir_of_started<A: Allocator>(
-    model: &Model<A>,
-    lines: &[Lineage],
-    event: &Event<A>,
-) -> Option<TxnId>
-    ensures { result ≡ heir_started model.now (begun_in lines.now) event.now }
+// The class with which the event starts a transaction.
+fn class_of_started<A: Allocator>(event: &Event<A>) -> Option<ClassId>
+    ensures { result ≡ class_id (class_named event.now) }
 {
     match event {
-        Event::Spawn(t, _, class) => {
-            if commits_to_parent(model, *class) && line(lines, *t).is_begun {
+        Event::Begin(_, class) => Some(*class),
+        Event::Spawn(_, _, class) => Some(*class),
+        Event::Split(_, _, class, _) => Some(*class),
+        _ => None,
+    }
+}
+
+// The parent of the one that the event starts, by the table of those before.
+fn parent_of_started<A: Allocator>(lines: &[Lineage], event: &Event<A>) -> Option<TxnId>
+    ensures { result ≡ spawner_by (begun_in lines.now) event.now }
+{
+    match event {
+        Event::Spawn(t, _, _) => {
+            if line(lines, *t).is_begun {
                 Some(*t)
             } else {
                 None
@@ -73,28 +84,42 @@ fn heir_of_started<A: Allocator>(
     }
 }
 
-// Puts an event that stands behind the others into the table.
-fn note_start<A: Allocator>(model: &Model<A>, lines: &mut [Lineage], event: &Event<A>)
+/// Puts an event that stands behind the others into the table.
+pub fn note_start<A: Allocator>(lines: &mut [Lineage], event: &Event<A>)
     requires { All (λ t. t < length lines.old) (named event.now) }
-    ensures { (t : ℕ) → get_or lines.new t unbegun ≡ with_start model.now (begun_in lines.old) event.now t (get_or lines.old t unbegun) }
+    ensures { (t : ℕ) → get_or lines.new t unbegun ≡ with_start (begun_in lines.old) event.now t (get_or lines.old t unbegun) }
 {
     if let Some(t) = started_by(event) {
         if !line(lines, t).is_begun {
-            let heir = heir_of_started(model, lines, event);
+            let class = class_of_started(event);
+            let parent = parent_of_started(lines, event);
             lines[t.0 as usize] = Lineage {
                 is_begun: true,
-                heir,
+                class,
+                parent,
             };
         }
     }
 }
 
-// The heir of the one that commits by the event, by the table.
-fn heir_of<A: Allocator>(lines: &[Lineage], event: &Event<A>) -> Option<TxnId>
-    ensures { result ≡ heir_in lines.now event.now }
+// The heir of one of this lineage: its parent, where its class says so.
+fn heir_of_line<A: Allocator>(model: &Model<A>, line: Lineage) -> Option<TxnId>
+    ensures { result ≡ heir_of_line model.now line }
+{
+    let class = line.class?;
+    if commits_to_parent(model, class) {
+        line.parent
+    } else {
+        None
+    }
+}
+
+/// The heir of the one that commits by the event, by the table.
+pub fn heir_of<A: Allocator>(model: &Model<A>, lines: &[Lineage], event: &Event<A>) -> Option<TxnId>
+    ensures { result ≡ heir_in model.now lines.now event.now }
 {
     match event {
-        Event::Commit(t) => line(lines, *t).heir,
+        Event::Commit(t) => heir_of_line(model, line(lines, *t)),
         _ => None,
     }
 }
@@ -121,8 +146,8 @@ pub fn heirs_of<A: Allocator + Copy>(
     let mut lines = vec![in alloc; UNBEGUN; largest_named(kept) as usize + 1]?;
     let mut made = Vec::new(alloc);
     for item in kept {
-        made.push(heir_of(lines.as_slice(), &item.event))?;
-        note_start(model, lines.as_mut_slice(), &item.event);
+        made.push(heir_of(model, lines.as_slice(), &item.event))?;
+        note_start(lines.as_mut_slice(), &item.event);
     }
     Ok(made)
 }

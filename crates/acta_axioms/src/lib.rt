@@ -5,6 +5,7 @@
 //! that it makes once.
 #![tactic(auto)]
 
+mod behind;
 mod edges;
 mod fault;
 mod follow;

@@ -1,7 +1,8 @@
 use crate::places::Places;
 use acta_table::{
-    AtCommit, Class, ClassId, Dep, Dependent, Edge, Event, Extent, Fate, Items, Kept, Kind, Kinds,
-    Model, ObjId, Object, Op, OpNo, OpSet, Parts, Ret, Scope, StartEdge, StartEdges, Starts, TxnId,
+    AtCommit, Class, ClassId, Dep, DepKinds, Dependent, Edge, Event, Extent, Fate, Items, Kept,
+    Kind, Kinds, Model, ObjId, Object, Op, OpNo, OpSet, Parts, Policy, Ret, Scope, StartEdge,
+    StartEdges, Starts, TxnId,
 };
 use std::alloc::Global;
 use std::test::Fail;
@@ -27,6 +28,7 @@ fn model_of(alloc: Global, split_edges: StartEdges<Global>) -> Result<Model<Glob
             .union(Kinds::COMMIT)
             .union(Kinds::ABORT),
         scope: Scope::Others,
+        policy: Policy::Refuse,
         at_commit: AtCommit::Keeps,
         extent: Extent::Any,
         spawn_edges: StartEdges::new(alloc),
@@ -74,6 +76,7 @@ fn nesting_class(
             .union(Kinds::COMMIT)
             .union(Kinds::ABORT),
         scope: Scope::NonAncestors,
+        policy: Policy::Refuse,
         at_commit,
         extent: Extent::Any,
         spawn_edges,
@@ -104,6 +107,47 @@ fn nesting(alloc: Global) -> Result<Model<Global>, Fail> {
     classes.push(nesting_class(alloc, b'b', spawned, AtCommit::ToParent, edges)?)?;
     let parts = Parts {
         objects: Items::new(alloc),
+        classes: Items::of(classes),
+    };
+    Ok(Model::check(parts)?)
+}
+
+// A class that starts by a begin and a spawn, and may delegate, operate, commit and abort: it depends by abort and
+// by termination on those who hold what its operations conflict with.
+fn loose_class(alloc: Global, name: u8, scope: Scope) -> Result<Class<Global>, Fail> {
+    Ok(Class {
+        name: Items::of(vec![in alloc; name]?),
+        starts: Starts {
+            begin: true,
+            spawned: true,
+            split: false,
+        },
+        may: Kinds::DELEGATE
+            .union(Kinds::OPERATE)
+            .union(Kinds::COMMIT)
+            .union(Kinds::ABORT),
+        scope,
+        policy: Policy::Depend(DepKinds::of(Dep::Ad).union(DepKinds::of(Dep::Td))),
+        at_commit: AtCommit::Keeps,
+        extent: Extent::Whole,
+        spawn_edges: StartEdges::new(alloc),
+        split_edges: StartEdges::new(alloc),
+    })
+}
+
+// A model of the register x and two such classes: the first can conflict with all others, the second with all but
+// its ancestors.
+fn loose(alloc: Global) -> Result<Model<Global>, Fail> {
+    let mut objects = Vec::new(alloc);
+    objects.push(Object {
+        name: Items::of(vec![in alloc; b'x']?),
+        kind: Kind::Register(0),
+    })?;
+    let mut classes = Vec::new(alloc);
+    classes.push(loose_class(alloc, b'a', Scope::Others)?)?;
+    classes.push(loose_class(alloc, b'b', Scope::NonAncestors)?)?;
+    let parts = Parts {
+        objects: Items::of(objects),
         classes: Items::of(classes),
     };
     Ok(Model::check(parts)?)
@@ -159,6 +203,13 @@ fn write(t: u16, ob: u16) -> Kept<Global> {
     Kept {
         event: Event::Operate(TxnId(t), ObjId(ob), Op::Write(5)),
         ret: Some(Ret::Done),
+    }
+}
+
+fn read(t: u16) -> Kept<Global> {
+    Kept {
+        event: Event::Operate(TxnId(t), ObjId(0), Op::Read),
+        ret: Some(Ret::Value(5)),
     }
 }
 
@@ -586,6 +637,93 @@ fn forms_no_edge_at_plain_splits(rt: HostRuntime) -> Result<(), Fail> {
     let formed = edge(Dep::Ad, 2, 1);
     let places = Places::of(rt.alloc(), &model, &kept)?;
     assert!(rt; are_first(places.edges(), 1, [formed; 4]));
+    Ok(())
+}
+
+// One hands what it wrote to a third, before a second reads it.
+fn read_behind_delegation(alloc: Global) -> Result<[Kept<Global>; 6], Fail> {
+    let handed = delegate(alloc, 1, 3, &[1])?;
+    Ok([begin(1), begin(2), begin(3), write(1, 0), handed, read(2)])
+}
+
+#[test]
+fn forms_edges_at_operations(rt: HostRuntime) -> Result<(), Fail> {
+    let model = loose(rt.alloc())?;
+    let plainly = [begin(1), begin(2), write(1, 0), read(2)];
+    let handed = read_behind_delegation(rt.alloc())?;
+    // Two hold what is read, one of them twice, and it is read once more when one of them has ended.
+    let by_two = [
+        begin(1),
+        begin(2),
+        begin(3),
+        write(3, 0),
+        write(1, 0),
+        write(3, 0),
+        read(2),
+        commit(3),
+        read(2),
+    ];
+    let (abort_first, end_first) = (edge(Dep::Ad, 2, 1), edge(Dep::Td, 2, 1));
+    let (abort_third, end_third) = (edge(Dep::Ad, 2, 3), edge(Dep::Td, 2, 3));
+    let from_first = [abort_first, end_first, abort_third, end_third];
+    let from_third = [abort_third, end_third, abort_first, end_first];
+    // A list, and how many of these edges it forms.
+    let rows = [
+        (&plainly[..], 2, from_first),
+        (&plainly[..3], 0, from_first),
+        (&handed[..], 2, from_third),
+        (&by_two[..], 4, from_first),
+    ];
+    for (kept, count, want) in rows {
+        assert!(rt; kept.len() <= 65536);
+        let places = Places::of(rt.alloc(), &model, kept)?;
+        assert!(rt; are_first(places.edges(), count, want));
+    }
+    Ok(())
+}
+
+// A class that refuses, and one that did not begin, form none; nor is one formed on what no other holds, or holds
+// on another object.
+#[test]
+fn forms_no_edge_at_plain_operations(rt: HostRuntime) -> Result<(), Fail> {
+    let refusing = atomic(rt.alloc())?;
+    let model = loose(rt.alloc())?;
+    let kept = [
+        begin(1),
+        begin(2),
+        write(1, 0),
+        read(1),
+        write(2, 200),
+        read(9),
+        begin(9),
+        abort(1),
+        read(2),
+    ];
+    let places = Places::of(rt.alloc(), &model, &kept)?;
+    assert_eq!(rt; places.edges().len(), 0);
+    let conflicting = [begin(1), begin(2), write(1, 0), read(2)];
+    let places = Places::of(rt.alloc(), &refusing, &conflicting)?;
+    assert_eq!(rt; places.edges().len(), 0);
+    Ok(())
+}
+
+// An edge is formed on a parent's parent, unless the class spares ancestors.
+#[test]
+fn forms_no_edge_on_spared_ancestors(rt: HostRuntime) -> Result<(), Fail> {
+    let model = loose(rt.alloc())?;
+    // The class of the last, and how many edges its read forms.
+    let rows = [(0, 2), (1, 0)];
+    for (class, count) in rows {
+        let kept = [
+            begin(1),
+            spawn(1, 2, 1),
+            spawn(2, 3, class),
+            write(1, 0),
+            read(3),
+        ];
+        let places = Places::of(rt.alloc(), &model, &kept)?;
+        assert_eq!(rt; places.edges().len(), count);
+    }
     Ok(())
 }
 

@@ -6,7 +6,7 @@
 use acta_axioms::Places;
 use acta_table::{
     AtCommit, Class, Event, Extent, Fate, Items, Kept, Kind, Kinds, Model, ObjId, Object, Op, OpNo,
-    Parts, Ret, Scope, StartEdges, Starts, TxnId,
+    Parts, Policy, Ret, Scope, StartEdges, Starts, TxnId,
 };
 use anyhow::{Context, Result, anyhow, ensure};
 use std::alloc::Global;
@@ -28,6 +28,7 @@ fn counting(alloc: Global) -> Result<Model<Global>> {
         },
         may: Kinds::OPERATE.union(Kinds::COMMIT),
         scope: Scope::Others,
+        policy: Policy::Refuse,
         at_commit: AtCommit::Keeps,
         extent: Extent::Whole,
         spawn_edges: StartEdges::new(alloc),

@@ -38,7 +38,7 @@ passes : (b : Bool) (t : ℕ) → (if b then None else Some t) ≡ None → b �
 passes true t e = refl
 passes false t e = cc
 
-is_begun : (x : Status) → is_in_progress x ≡ true → x ≡ InProgress
+pub is_begun : (x : Status) → is_in_progress x ≡ true → x ≡ InProgress
 is_begun NotBegun e = cc
 is_begun InProgress e = refl
 is_begun Committed e = cc

@@ -10,6 +10,8 @@ use Rattle.acta_table.specs.declared.answer.Rule.TheVariants.{NotInProgress, Alr
 use Rattle.acta_table.specs.declared.dep.Dep.{Dep}
 use Rattle.acta_table.specs.declared.dep.Edge.{Edge}
 use Rattle.acta_table.specs.declared.event.ClassId.{ClassId}
+use Rattle.acta_table.specs.declared.event.ObjId.{ObjId}
+use Rattle.acta_table.specs.declared.event.Op.{Op}
 use Rattle.acta_table.specs.declared.event.OpNo.{OpNo}
 use Rattle.acta_table.specs.declared.answer.Status.{Status}
 use Rattle.acta_table.specs.declared.event.Event.{Event}
@@ -36,8 +38,10 @@ use Rattle.acta_deps.specs.Statuses as by_status
 use Rattle.acta_machine.specs.Summary.{Summary}
 use Rattle.acta_machine.specs.Changes.{summary_of}
 use Rattle.acta_machine.specs.Rules.{not_in_progress, already_begun, form_too_late, fails, too_late, dependency}
-use Rattle.acta_machine.specs.Places.{ShowsPlaces, is_dependency_rule}
-use Rattle.acta_machine.proofs.Broken.{by_none, in_progress, not_begun}
+use Rattle.acta_machine.specs.Conflicts.{conflict_edges}
+use Rattle.acta_machine.specs.Places.{ShowsPlaces, AreHeldWell, is_dependency_rule}
+use Rattle.acta_machine.proofs.Broken.{by_none, is_begun, in_progress, not_begun}
+use Rattle.acta_machine.proofs.ConflictTies.{conflict_edges-places, holding-conflicts}
 use Rattle.acta_machine.proofs.Courses.{is_broken_by, clashes_by, is_legal_by}
 use Rattle.acta_machine.proofs.DependencyTies.{is_neutral, starts-exact, commits-exact, aborts-exact, joins-exact, owed-tie, forms-legal, all-legal, start-formed, start-rule, commit-rule, abort-rule, join-rule}
 use Rattle.acta_machine.proofs.EdgeSteps.{formed-begin, formed-other}
@@ -254,11 +258,18 @@ module _ {A : Type 0} (m : Parts A) (h : List (Kept A)) (shows : ShowsPlaces m h
       of_known true = sym (legal-by m h) ∙ meets.legal
       of_known false = forms-legal (course h) (edges m h) (record { kind = kind; j = j; i = i }) (sym (legal-by m h) ∙ meets.legal) (formed-holds kind j i (by_none FormTooLate _ u.time))
 
-  -- so does an operation
-  legal-operate : (t : TxnId) (ob : _) (op : _) (ret : Option Ret) → is_legal m (with_event (Operate t ob op) ret) ≡ true
-  legal-operate t ob op ret =
+  -- so does an operation, whose edges hold
+  legal-operate : IsChecked m s → AreHeldWell s → (t : TxnId) (ob : ObjId) (op : Op) (ret : Option Ret) → Unbroken m s (Operate t ob op) → is_legal m (with_event (Operate t ob op) ret) ≡ true
+  unfolding not_in_progress
+  legal-operate checked well t ob op ret u =
       let k : Kept A = record { event = Operate t ob op; ret = ret } in
-      legal-by m (h ++ k ∷ []) ∙ (λ n. is_legal_by (λ v. course-other h k v refl refl refl refl n) (edges-push m h k n)) ∙ sym (legal-by m h) ∙ meets.legal
+      let on = in_progress s NotInProgress t.0 u.progress in
+      let due = conflict_edges m s t ob op in
+      let grown : edges m (h ++ k ∷ []) ≡ formed (edges m h) due = edges-push m h k ∙ ap (formed (edges m h)) (sym (conflict_edges-places m h shows t ob op)) in
+      let open_on : (w : ℕ) → by_status.is_in_progress (s.status w) ≡ true → is_some (end (course h w)) ≡ false = λ w is. still_open w InProgress (is_begun (s.status w) is) refl in
+      legal-by m (h ++ k ∷ []) ∙ (λ n. is_legal_by (λ v. course-other h k v refl refl refl refl n) (grown n))
+      ∙ all-legal (course h) (edges m h) due (sym (legal-by m h) ∙ meets.legal)
+      (holding-conflicts m s (course h) (checked t.0 on) well t ob op (still_open t.0 InProgress on refl) open_on)
 
   -- and what is handed over
   legal-delegate : (t v : TxnId) (ops : _) (ret : Option Ret) → is_legal m (with_event (Delegate t v ops) ret) ≡ true
@@ -266,20 +277,20 @@ module _ {A : Type 0} (m : Parts A) (h : List (Kept A)) (shows : ShowsPlaces m h
       let k : Kept A = record { event = Delegate t v ops; ret = ret } in
       legal-by m (h ++ k ∷ []) ∙ (λ n. is_legal_by (λ w. course-other h k w refl refl refl refl n) (edges-push m h k n)) ∙ sym (legal-by m h) ∙ meets.legal
 
-  exact-of : IsChecked m s → (e : Event A) (ret : Option Ret) → Unbroken m s e → IsOrderly m (with_event e ret) → is_some (dependency s e) ≡ not (is_legal m (with_event e ret))
-  exact-of checked (Begin t class) ret u later = exact-begin t class ret u later
-  exact-of checked (Spawn t v class) ret u later = exact-spawn checked t v class ret u later
-  exact-of checked (Split t v class ops) ret u later = exact-split checked t v class ops ret u later
-  exact-of checked (Join t v) ret u later = exact-join t v ret u later
-  exact-of checked (Delegate t v ops) ret u later = ap not (sym (legal-delegate t v ops ret))
-  exact-of checked (Form kind j i) ret u later = ap not (sym (legal-form kind j i ret u))
-  exact-of checked (Operate t ob op) ret u later = ap not (sym (legal-operate t ob op ret))
-  exact-of checked (Commit t) ret u later = exact-commit t ret u later
-  exact-of checked (Abort t) ret u later = exact-abort t ret u later
+  exact-of : IsChecked m s → AreHeldWell s → (e : Event A) (ret : Option Ret) → Unbroken m s e → IsOrderly m (with_event e ret) → is_some (dependency s e) ≡ not (is_legal m (with_event e ret))
+  exact-of checked well (Begin t class) ret u later = exact-begin t class ret u later
+  exact-of checked well (Spawn t v class) ret u later = exact-spawn checked t v class ret u later
+  exact-of checked well (Split t v class ops) ret u later = exact-split checked t v class ops ret u later
+  exact-of checked well (Join t v) ret u later = exact-join t v ret u later
+  exact-of checked well (Delegate t v ops) ret u later = ap not (sym (legal-delegate t v ops ret))
+  exact-of checked well (Form kind j i) ret u later = ap not (sym (legal-form kind j i ret u))
+  exact-of checked well (Operate t ob op) ret u later = ap not (sym (legal-operate checked well t ob op ret u))
+  exact-of checked well (Commit t) ret u later = exact-commit t ret u later
+  exact-of checked well (Abort t) ret u later = exact-abort t ret u later
 
-pub exact-on : {A : Type 0} (m : Parts A) (h : List (Kept A)) (k : Kept A) → IsChecked m (summary_of m h) → ShowsPlaces m h (summary_of m h) → MeetsAxioms m h → IsOrderly m h → Unbroken m (summary_of m h) k.event → IsOrderly m (h ++ k ∷ [])
+pub exact-on : {A : Type 0} (m : Parts A) (h : List (Kept A)) (k : Kept A) → IsChecked m (summary_of m h) → AreHeldWell (summary_of m h) → ShowsPlaces m h (summary_of m h) → MeetsAxioms m h → IsOrderly m h → Unbroken m (summary_of m h) k.event → IsOrderly m (h ++ k ∷ [])
     → is_some (dependency (summary_of m h) k.event) ≡ not (is_legal m (h ++ k ∷ []))
-exact-on m h k checked shows meets orderly u later = exact-of m h shows meets orderly checked k.event k.ret u later
+exact-on m h k checked well shows meets orderly u later = exact-of m h shows meets orderly checked well k.event k.ret u later
 
 -- what is owed by the table is what is owed by places
 pub owed-places : {A : Type 0} (m : Parts A) (h : List (Kept A)) → ShowsPlaces m h (summary_of m h) → IsOrderly m h → owed_in (summary_of m h).status (summary_of m h).edges ≡ owed m h

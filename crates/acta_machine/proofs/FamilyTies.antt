@@ -30,6 +30,10 @@ pub has_class-places : {A : Type 0} (test : Class A → Bool) (m : Parts A) (h :
 has_class-places test m h s shows t =
     sym (ap (λ k. option_map_or test k false) (sym (through (class_at m) (λ c. c.0) (s.class t)) ∙ ap (option_and_then (class_at m)) (shows.class t)))
 
+-- the class of t
+pub class_of-places : {A : Type 0} (m : Parts A) (h : List (Kept A)) (s : Summary) → ShowsPlaces m h s → (t : ℕ) → class_of m s t ≡ by_places.class_of m h t
+class_of-places m h s shows t = sym (through (class_at m) (λ c. c.0) (s.class t)) ∙ ap (option_and_then (class_at m)) (shows.class t)
+
 -- the heirs
 pub heir-places : {A : Type 0} (m : Parts A) (h : List (Kept A)) (s : Summary) → ShowsPlaces m h s → (t : ℕ) → heir_of m s t ≡ heir m h t
 heir-places m h s shows t =

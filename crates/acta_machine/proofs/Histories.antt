@@ -77,7 +77,7 @@ changed_few m s k =
       | Delegate t u ops ↦ let same = length-moved 1 ops u s.operations in omega (arith, same)
       | Form kind j i ↦ omega arith
       | Operate t ob op ↦ simp length-append (omega arith)
-      | Commit t ↦ settled_few (linked s (edges_due m (Commit t))) t (heir_of m s t.0)
+      | Commit t ↦ settled_few (linked s (edges_due m s (Commit t))) t (heir_of m s t.0)
       | Abort t ↦ simp length-map (omega arith)
     ]
 

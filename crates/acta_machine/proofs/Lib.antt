@@ -1,4 +1,5 @@
 pub mod Broken
+pub mod ConflictTies
 pub mod Courses
 pub mod DependencyTies
 pub mod EdgeSteps
@@ -6,9 +7,11 @@ pub mod Exactness
 pub mod FamilyTies
 pub mod Handing
 pub mod Histories
+pub mod HolderGrowth
 pub mod Lines
 pub mod OperationGrowth
 pub mod SetTies
+pub mod Opponents
 pub mod Origins
 pub mod Starting
 pub mod StatusGrowth

@@ -12,7 +12,7 @@ use Rattle.acta_table.specs.declared.event.ClassId.{ClassId}
 use Rattle.acta_table.specs.declared.event.TxnId.{TxnId}
 use Rattle.acta_table.specs.declared.model.Class.{Class}
 use Rattle.acta_table.specs.declared.model.ModelFault.{ModelFault}
-use Rattle.acta_table.specs.declared.model.ModelFault.TheVariants.{BeginKindAtStart, HeirWithoutSpawn}
+use Rattle.acta_table.specs.declared.model.ModelFault.TheVariants.{BeginKindAtStart, HeirWithoutSpawn, BadPolicyKind}
 use Rattle.acta_table.specs.declared.model.Parts.{Parts}
 use Rattle.acta_table.specs.declared.start_edges.Dependent.{Dependent}
 use Rattle.acta_table.specs.declared.start_edges.Dependent.TheVariants.{Starter, Started}
@@ -20,6 +20,7 @@ use Rattle.acta_table.specs.declared.start_edges.StartEdge.{StartEdge}
 use Rattle.acta_table.specs.Classes.{class_at}
 use Rattle.acta_table.specs.Dependencies.{is_begin_kind}
 use Rattle.acta_table.specs.Faults.{lowest_fault, has_begin_edge, has_begin_kind, lacks_parents, fault_if}
+use Rattle.acta_table.specs.Policies.{is_bad_policy}
 use Rattle.acta_table.specs.Starts.{directed, edges_between}
 use Rattle.acta_deps.specs.Statuses.{with_status}
 use Rattle.acta_axioms.specs.History.{Course, end}
@@ -35,11 +36,11 @@ spawn_due m t u class = option_map_or (λ k. edges_between t u k.spawn_edges) (c
 abbrev pub split_due : {A : Type 0} → Parts A → TxnId → TxnId → ClassId → List Edge
 split_due m t u class = option_map_or (λ k. edges_between t u k.split_edges) (class_at m class.0) []
 
-no_fault : (b : Bool) (fault : ModelFault) → fault_if b fault ≡ None → b ≡ false
+pub no_fault : (b : Bool) (fault : ModelFault) → fault_if b fault ≡ None → b ≡ false
 no_fault true fault e = cc
 no_fault false fault e = refl
 
-any-at : {X : Type 0} (test : X → Bool) (xs : List X) (i : ℕ) → list_any test xs ≡ false → option_map_or test (slice_get xs i) false ≡ false
+pub any-at : {X : Type 0} (test : X → Bool) (xs : List X) (i : ℕ) → list_any test xs ≡ false → option_map_or test (slice_get xs i) false ≡ false
 any-at test [] i none = refl
 any-at test (x ∷ xs) zero none = (or_parts (test x) (list_any test xs) none).0
 any-at test (x ∷ xs) (suc i) none = any-at test xs i (or_parts (test x) (list_any test xs) none).1
@@ -47,7 +48,7 @@ any-at test (x ∷ xs) (suc i) none = any-at test xs i (or_parts (test x) (list_
 -- no class of a checked model wants an edge of a begin kind at a start
 plain-class : {A : Type 0} (m : Parts A) → lowest_fault m ≡ None → (class : ℕ) → option_map_or has_begin_kind (class_at m class) false ≡ false
 plain-class m faultless class =
-    any-at has_begin_kind m.classes class (no_fault (list_any has_begin_kind m.classes) BeginKindAtStart (or_none _ (fault_if (list_any has_begin_kind m.classes) BeginKindAtStart) (or_none _ (fault_if (list_any lacks_parents m.classes) HeirWithoutSpawn) faultless).0).1)
+    any-at has_begin_kind m.classes class (no_fault (list_any has_begin_kind m.classes) BeginKindAtStart (or_none _ (fault_if (list_any has_begin_kind m.classes) BeginKindAtStart) (or_none _ (fault_if (list_any lacks_parents m.classes) HeirWithoutSpawn) (or_none _ (fault_if (list_any (λ k. is_bad_policy k.policy) m.classes) BadPolicyKind) faultless).0).0).1)
 
 -- what holds of each edge of another kind between t and u holds of those that are due
 each-between : (p : Edge → Bool) (t u : TxnId) → ((kind : Dep) (d : Dependent) → is_begin_kind kind ≡ false → p (directed kind t u d) ≡ true)
@@ -113,4 +114,4 @@ holding-split m courses t u class faultless t_open u_open = each-split (holds_in
 -- no class of a checked model that can start by a begin or a split commits to a parent
 pub rooted-class : {A : Type 0} (m : Parts A) → lowest_fault m ≡ None → (class : ℕ) → option_map_or lacks_parents (class_at m class) false ≡ false
 rooted-class m faultless class =
-    any-at lacks_parents m.classes class (no_fault (list_any lacks_parents m.classes) HeirWithoutSpawn (or_none _ (fault_if (list_any lacks_parents m.classes) HeirWithoutSpawn) faultless).1)
+    any-at lacks_parents m.classes class (no_fault (list_any lacks_parents m.classes) HeirWithoutSpawn (or_none _ (fault_if (list_any lacks_parents m.classes) HeirWithoutSpawn) (or_none _ (fault_if (list_any (λ k. is_bad_policy k.policy) m.classes) BadPolicyKind) faultless).0).1)

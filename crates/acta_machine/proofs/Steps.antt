@@ -1,10 +1,11 @@
 -- An event that breaks no rule leaves a history that meets the axioms, and a summary that is that by places.
-use Rattle.std.proofs.Common.{◌≡◌, ℕ, Bool, true, false, ◌&&◌, ◌||◌, not, List, [], ◌∷◌, ◌++◌, map, filter, Option, Some, None, refl, sym, ap, ◌∙◌, subst, ◌⊎◌, inl, inr}
+use Rattle.std.proofs.Common.{◌≡◌, ℕ, Bool, true, false, ◌&&◌, ◌||◌, not, List, [], ◌∷◌, ◌++◌, map, filter, Option, Some, None, refl, sym, ap, ◌∙◌, subst, ◌⊎◌, inl, inr, ◌==◌, eq-eqb, arith}
 use Rattle.std.specs.Prelude.{option_map, option_and_then, option_to_list, is_some, IfSome, if◌then◌else◌}
-use Rattle.std.specs.List.{list_any}
+use Rattle.std.specs.List.{list_any, list_all}
 use Rattle.std.specs.Option.{option_map_or, option_or}
 use Rattle.std.specs.Ordering.{int_eq}
-use Rattle.std.proofs.lemmas.Bool.{true≢false}
+use Rattle.std.proofs.lemmas.Bool.{true≢false, ne_eqb}
+use Rattle.std.proofs.lemmas.Option.{same_Some, none-some}
 use Rattle.std.proofs.lemmas.Cmp.{int_eq_equiv}
 use Rattle.acta_table.specs.declared.dep.Dep.{Dep}
 use Rattle.acta_table.specs.declared.event.TxnId.{TxnId}
@@ -19,8 +20,8 @@ use Rattle.acta_table.specs.declared.event.Event.{Event}
 use Rattle.acta_table.specs.declared.event.Event.TheVariants.{Begin, Spawn, Split, Join, Delegate, Form, Operate, Commit, Abort}
 use Rattle.acta_table.specs.declared.event.Kept.{Kept}
 use Rattle.acta_table.specs.declared.answer.Status.{Status}
-use Rattle.acta_table.specs.declared.answer.Status.TheVariants.{NotBegun, InProgress, Committed as has_committed}
-use Rattle.acta_table.specs.declared.answer.Rule.TheVariants.{NotInProgress, AlreadyBegun, NotInModel, PartnerNotInProgress, NotResponsible, PartialDelegation, BadSet, Conflict, FormTooLate, NoHeir}
+use Rattle.acta_table.specs.declared.answer.Status.TheVariants.{NotBegun, InProgress, Committed as has_committed, Aborted as has_aborted, Joined as has_joined}
+use Rattle.acta_table.specs.declared.answer.Rule.TheVariants.{SameTransaction, NotInProgress, AlreadyBegun, NotInModel, PartnerNotInProgress, NotResponsible, PartialDelegation, BadSet, Conflict, FormTooLate, NoHeir}
 use Rattle.acta_table.specs.declared.answer.Refusal.{Refusal}
 use Rattle.acta_table.specs.declared.model.Class.{Class}
 use Rattle.acta_table.specs.declared.model.Kind.{Kind}
@@ -29,20 +30,22 @@ use Rattle.acta_table.specs.Classes.{class_at, kind_at, can_start, can_do, is_wh
 use Rattle.acta_table.specs.Dependencies.{is_begin_kind}
 use Rattle.acta_table.specs.Edges.{formed}
 use Rattle.acta_table.specs.Faults.{lowest_fault, lacks_parents}
-use Rattle.acta_table.specs.Numbered.{smallest}
+use Rattle.acta_table.specs.Numbered.{first_number, smallest}
+use Rattle.acta_table.specs.Policies.{refuses}
 use Rattle.acta_table.specs.Refusals.{broken_by}
 use Rattle.acta_table.specs.Sets.{numbers_of, is_named}
+use Rattle.acta_table.specs.WellFormed.{same_transaction}
 use Rattle.acta_table.specs.declared.event.OpNo.{OpNo}
 use Rattle.acta_objects.specs.Objects.{suits}
 use Rattle.acta_axioms.specs.History.{starts, class_number, has_class, has_begun, has_ended, is_in_progress, spawner, parent_of}
-use Rattle.acta_axioms.specs.Faults.{has_number, ill_formed, lacks_kind, cannot_form, without_heir, idle, formed_late, wrong_return, is_due, is_same_ret, when}
-use Rattle.acta_axioms.specs.History.{class_of}
-use Rattle.acta_axioms.specs.Operations.{heir}
+use Rattle.acta_axioms.specs.Faults.{has_number, ill_formed, lacks_kind, cannot_form, in_conflict, without_heir, idle, formed_late, wrong_return, is_due, is_same_ret, when}
+use Rattle.acta_axioms.specs.History.{course, class_of}
+use Rattle.acta_axioms.specs.Operations.{Operation, heir}
 use Rattle.acta_axioms.specs.Legal.{is_legal}
 use Rattle.acta_axioms.specs.Claims.{MeetsAxioms, IsOrderly, status_at}
 use Rattle.acta_axioms.specs.Values as by_places
 use Rattle.acta_axioms.proofs.EdgeGrowth.{EndsInProgress, edges-push, apart-push, course-orderly-push, orderly-none}
-use Rattle.acta_axioms.proofs.Growth.{class_in, class_of-push, parent_of-push}
+use Rattle.acta_axioms.proofs.Growth.{class_in, class_of-push, parent_of-push, started_within, parent_earlier}
 use Rattle.acta_axioms.proofs.Statuses.{is_under_way, is_ended_status, in_progress-status, has_begun-status, status_at-push}
 use Rattle.acta_axioms.proofs.Faultless.{IsFaultless, meets-none, meets-push, well_formed, faultless-begin, faultless-spawn, faultless-split, faultless-join, faultless-delegate, faultless-form, faultless-commit, faultless-abort}
 use Rattle.acta_table.specs.declared.answer.Fate.TheVariants.{Committed, Aborted}
@@ -50,20 +53,23 @@ use Rattle.acta_deps.specs.Statuses as by_status
 use Rattle.acta_sets.specs.Operations.{added, moved, handed, ended}
 use Rattle.acta_machine.specs.Summary.{Summary, stood, entered, linked, given, inherited, operated, fated, counted}
 use Rattle.acta_machine.specs.Changes.{settled, effect, summary_of}
+use Rattle.acta_machine.specs.Conflicts.{stands_against}
 use Rattle.acta_machine.specs.Families.{heir_of}
 use Rattle.acta_machine.specs.Families as families
 use Rattle.acta_machine.specs.Values.{return_due}
-use Rattle.acta_machine.specs.Rules.{not_in_progress, already_begun, not_in_model, partner_not_in_progress, not_responsible, wants_whole, partial_delegation, bad_set, conflict, form_too_late, fails, too_late, lost_heir, no_heir, lowest_broken, earlier_broken, dependency, txn_may, class_may, forms_none}
+use Rattle.acta_machine.specs.Rules.{not_in_progress, already_begun, not_in_model, partner_not_in_progress, not_responsible, wants_whole, partial_delegation, bad_set, refuses_conflicts, first_against, conflict, form_too_late, fails, too_late, lost_heir, no_heir, lowest_broken, earlier_broken, dependency, txn_may, class_may, forms_none}
 use Rattle.acta_machine.specs.Table.{State, kept_as, answered, answer_to}
-use Rattle.acta_machine.specs.Places.{items_at, HasParent, ShowsPlaces, FollowsPlaces, RefusesIllegal, is_dependency_rule, is_refused_by_dependency}
+use Rattle.acta_machine.specs.Places.{items_at, HasParent, is_held_well, AreHeldWell, ShowsPlaces, FollowsPlaces, RefusesIllegal, is_dependency_rule, is_refused_by_dependency}
 use Rattle.acta_machine.proofs.Broken.{by_none, not_broken, in_progress, not_begun}
 use Rattle.acta_machine.proofs.Unbroken.{Unbroken, unbroken, none-earlier, none-dependency, none-heirless}
+use Rattle.acta_machine.proofs.ConflictTies.{conflict_edges-places}
 use Rattle.acta_machine.proofs.FamilyTies.{has_class-places, heir-places}
 use Rattle.acta_machine.proofs.Exactness.{IsChecked, exact-on, dependency-rule}
 use Rattle.acta_machine.proofs.Histories.{summary_more}
 use Rattle.acta_machine.proofs.StatusGrowth.{statuses-begin, statuses-spawn, statuses-split, statuses-commit, statuses-abort, statuses-join, ended-places, begun-places, no_class, class-stays, classes-begin, classes-spawn, classes-split, parent-stays, parents-start}
 use Rattle.acta_machine.proofs.OperationGrowth.{operations-begin, operations-spawn, operations-split, operations-join, operations-delegate, operations-form, operations-operate, operations-commit, operations-inherited, operations-abort}
 use Rattle.acta_machine.proofs.Starting.{spawn_due, split_due, rooted-class}
+use Rattle.acta_machine.proofs.HolderGrowth.{well-started, well-given, well-handed, well-ended, well-added}
 use Rattle.acta_machine.proofs.Handing.{holds, named-held, held-named, none-unheld, none-left}
 use Rattle.acta_machine.proofs.SetTies.{held-places}
 use Rattle.acta_machine.proofs.ValueTies.{return-places, conflicting-none}
@@ -125,6 +131,14 @@ both_true false b e = cc
 
 no_class_lacks : {A : Type 0} (m : Parts A) (h : List (Kept A)) (kind : EventKind) (t : ℕ) → has_begun h t ≡ false → lacks_kind m h kind t ≡ false
 no_class_lacks m h kind t new = ap (λ n. option_map_or (λ k. not (can_do kind k)) (option_and_then (class_at m) n) false) (no_class h t new)
+
+-- two that are not one
+two : (t u : ℕ) → (if t == u then Some t else None) ≡ None → u ≡ t → ⊥
+two t u none same = of (t == u) (eq-eqb t u (sym same)) none
+  where
+    of : (b : Bool) → b ≡ true → (if b then Some t else None) ≡ None → ⊥
+    of true is e = none-some t (sym e)
+    of false is e = true≢false (sym is)
 
 -- one of three, where the first is with one of the others never
 no_heir_where : (has begin split : Bool) → (has && (begin || split)) ≡ false → (begin ≡ true) ⊎ (split ≡ true) → has ≡ false
@@ -199,6 +213,16 @@ module _ {A : Type 0} (m : Parts A) (h : List (Kept A)) (shows : ShowsPlaces m h
       of_class true None has e = absurd (true≢false (sym (has refl)))
       of_class true (Some p) has e = ap (λ b. when (not b) p.0) (on_places_test p.0 (in_progress s NoHeir p.0 (ap (broken_by NoHeir) e)))
 
+  -- an operation of one whose class refuses conflicts with none
+  refused-calm : (t : TxnId) (ob : ObjId) (op : Op) → first_against {A = A} m s (Operate t ob op) ≡ None → in_conflict m h (Operate t ob op) ≡ []
+  refused-calm t ob op none =
+      ap (λ b. if b then map (λ o. o.number) (by_places.conflicting m h t.0 ob.0 op) else []) (has_class-places (λ k. refuses k.policy) m h s shows t.0)
+      ∙ of_class (refuses_conflicts m s t.0) none
+    where
+      of_class : (b : Bool) → (if b then first_number (stands_against m s t.0 ob op) s.operations else None) ≡ None → (if b then map (λ (o : Operation). o.number) (by_places.conflicting m h t.0 ob.0 op) else []) ≡ []
+      of_class true e = ap (map (λ o. o.number)) (conflicting-none m h t.0 ob op shows e)
+      of_class false e = refl
+
   faultless-of : ((t : ℕ) → HasParent m h t) → (e : Event A) → Unbroken m s e → no_heir m s e ≡ None → IsFaultless m h (item e)
   unfolding already_begun not_in_progress not_in_model partner_not_in_progress not_responsible partial_delegation bad_set conflict form_too_late no_heir
   faultless-of parents (Begin t class) u ready =
@@ -247,7 +271,7 @@ module _ {A : Type 0} (m : Parts A) (h : List (Kept A)) (shows : ShowsPlaces m h
   faultless-of parents (Form kind j i) u ready =
       faultless-form m h kind j i (well-formed m s (Form kind j i) u) (λ n. when (may_form kind j i u n) j.0) (in_time kind j i (by_none FormTooLate _ u.time))
   faultless-of parents (Operate t ob op) u ready =
-      let calm = conflicting-none m h t.0 ob op shows (by_none Conflict _ u.conflict) in
+      let calm = refused-calm t ob op (by_none Conflict _ u.conflict) in
       let due = return-places m h s.operations ob.0 op shows.operations in
       record {
         begun_once = refl;
@@ -259,7 +283,7 @@ module _ {A : Type 0} (m : Parts A) (h : List (Kept A)) (shows : ShowsPlaces m h
         parties_in_progress = refl;
         responsible = refl;
         hands_whole = refl;
-        conflict = ap (map (λ o. o.number)) calm;
+        conflict = calm;
         return = ap (λ r. wrong_return m h r (Operate t ob op)) due ∙ due_return m h ob.0 _ op;
         heir = refl;
         formed_in_time = refl;
@@ -366,7 +390,7 @@ module _ {A : Type 0} (m : Parts A) (h : List (Kept A)) (shows : ShowsPlaces m h
         class = λ v. shows.class v ∙ sym (class-stays h k v refl);
         parent = λ v. shows.parent v ∙ sym (parent-stays h k v refl);
         operations = ap (λ items. added items t ob op) shows.operations ∙ sym (operations-operate m h ret t ob op);
-        edges = shows.edges ∙ sym (edges-push m h k);
+        edges = (λ i. formed (shows.edges i) (conflict_edges-places m h shows t ob op i)) ∙ sym (edges-push m h k);
       }
 
   -- what becomes of operations at a commit
@@ -455,6 +479,57 @@ module _ {A : Type 0} (m : Parts A) (h : List (Kept A)) (shows : ShowsPlaces m h
       of_start false true is has = started-parent faultless e u t is has
       of_start false false is has = absurd (true≢false (sym has))
 
+  -- a parent is another
+  other-parent : (t : ℕ) (p : TxnId) → s.status t ≡ InProgress → parent_of h t ≡ Some p → p.0 ≡ t → ⊥
+  other-parent t p on is same =
+      let at = started_within h t (born t on) in
+      let earlier = parent_earlier h t at.0 p is at.1 in
+      let here : earlier.0 ≡ at.0 = same_Some earlier.0 at.0 (sym earlier.1 ∙ ap (λ u. (course h u).start) same ∙ at.1) in
+      let low = earlier.2 in
+      omega (arith, here, low)
+
+  -- one that is in progress still is where another ends
+  still_on : (t : ℕ) (x : Status) (u : ℕ) → (u ≡ t → ⊥) → s.status u ≡ InProgress → by_status.is_in_progress (by_status.with_status s.status t x u) ≡ true
+  still_on t x u ne on = (λ i. by_status.is_in_progress (if ne_eqb u t ne i then x else on i))
+
+  -- whoever is left to is a parent
+  heir-parent : (t p : TxnId) → heir_of m s t.0 ≡ Some p → parent_of h t.0 ≡ Some p
+  heir-parent t p is = sym (shows.parent t.0) ∙ of_class (families.has_class (λ k. has_heir k.at_commit) m s t.0) (s.parent t.0) is
+    where
+      of_class : (b : Bool) (o : Option TxnId) → (if b then o else None) ≡ Some p → o ≡ Some p
+      of_class true o e = e
+      of_class false o e = cc
+
+  -- who holds an operation in progress still is in progress
+  well-settled : (t : TxnId) (o : Option TxnId) → s.status t.0 ≡ InProgress → ((p : TxnId) → o ≡ Some p → parent_of h t.0 ≡ Some p) → option_and_then (λ p. fails s by_status.is_in_progress p.0) o ≡ None → AreHeldWell s
+      → AreHeldWell (counted (settled (stood s t has_committed) t o))
+  unfolding stood inherited fated counted
+  well-settled t None on at none well = well-ended s.status t.0 has_committed Committed refl s.operations well
+  well-settled t (Some p) on at none well =
+      well-handed s.status t.0 has_committed p (still_on t.0 has_committed p.0 (other-parent t.0 p on (at p refl)) (in_progress s NoHeir p.0 (ap (broken_by NoHeir) none))) s.operations well
+
+  well-after : (e : Event A) → Unbroken m s e → no_heir m s e ≡ None → AreHeldWell s → AreHeldWell (effect m s e)
+  unfolding not_in_progress partner_not_in_progress same_transaction no_heir stood entered linked given inherited operated fated counted
+  well-after (Begin t class) u ready well = well-started s.status t.0 s.operations well
+  well-after (Spawn t v class) u ready well = well-started s.status v.0 s.operations well
+  well-after (Split t v class ops) u ready well =
+      well-given (by_status.with_status s.status v.0 InProgress) ops v
+      (ap (λ b. by_status.is_in_progress (if b then InProgress else s.status v.0)) (eq-eqb v.0 v.0 refl))
+      s.operations (well-started s.status v.0 s.operations well)
+  well-after (Join t v) u ready well =
+      well-handed s.status t.0 has_joined v (still_on t.0 has_joined v.0 (two t.0 v.0 (by_none SameTransaction _ u.same)) (in_progress s PartnerNotInProgress v.0 u.partner)) s.operations well
+  well-after (Delegate t v ops) u ready well =
+      well-given s.status ops v (ap by_status.is_in_progress (in_progress s PartnerNotInProgress v.0 u.partner)) s.operations well
+  well-after (Form kind j i) u ready well = well
+  well-after (Operate t ob op) u ready well =
+      well-added s.status t ob op (ap by_status.is_in_progress (in_progress s NotInProgress t.0 u.progress)) s.operations well
+  well-after (Commit t) u ready well =
+      well-settled t (heir_of m s t.0) (in_progress s NotInProgress t.0 u.progress) (heir-parent t) (by_none NoHeir _ ready) well
+  well-after (Abort t) u ready well = well-ended s.status t.0 has_aborted Aborted refl s.operations well
+
+  holders-push : (e : Event A) (ret : Option Ret) → Unbroken m s e → no_heir m s e ≡ None → AreHeldWell s → AreHeldWell (summary_of m (h ++ (record { event = e; ret = ret }) ∷ []))
+  holders-push e ret u ready well = ap (λ (x : Summary). list_all (is_held_well x.status) x.operations) (summary_more m h (record { event = e; ret = ret })) ∙ well-after e u ready well
+
 -- what ends was in progress
 ends-in-progress : {A : Type 0} (m : Parts A) (h : List (Kept A)) (shows : ShowsPlaces m h (summary_of m h)) (e : Event A) → Unbroken m (summary_of m h) e → EndsInProgress h e
 unfolding not_in_progress
@@ -481,10 +556,10 @@ shows-push m h k shows u =
 
 -- the rules on dependencies refuse exactly what would be illegal
 
-pub exact-push : {A : Type 0} (m : Parts A) (h : List (Kept A)) (k : Kept A) → IsChecked m (summary_of m h) → ShowsPlaces m h (summary_of m h) → MeetsAxioms m h → IsOrderly m h → earlier_broken m (summary_of m h) k.event ≡ None → is_some (dependency (summary_of m h) k.event) ≡ not (is_legal m (h ++ k ∷ []))
-exact-push m h k checked shows meets orderly none =
+pub exact-push : {A : Type 0} (m : Parts A) (h : List (Kept A)) (k : Kept A) → IsChecked m (summary_of m h) → AreHeldWell (summary_of m h) → ShowsPlaces m h (summary_of m h) → MeetsAxioms m h → IsOrderly m h → earlier_broken m (summary_of m h) k.event ≡ None → is_some (dependency (summary_of m h) k.event) ≡ not (is_legal m (h ++ k ∷ []))
+exact-push m h k checked well shows meets orderly none =
     let u = unbroken m (summary_of m h) k.event none in
-    exact-on m h k checked shows meets orderly u (orderly-push m h k shows orderly u)
+    exact-on m h k checked well shows meets orderly u (orderly-push m h k shows orderly u)
 
 refused-by : {A : Type 0} (state : State A) (e : Event A) → earlier_broken state.model (summary_of state.model state.kept) e ≡ None → is_refused_by_dependency (answer_to state e) ≡ is_some (dependency (summary_of state.model state.kept) e)
 unfolding answer_to no_heir
@@ -501,12 +576,12 @@ refused-by state e none =
     of_rule None is lost = of_heir lost
     of_rule (Some r) is lost = is
 
-refuses-illegal : {A : Type 0} (m : Parts A) (h : List (Kept A)) → IsChecked m (summary_of m h) → ShowsPlaces m h (summary_of m h) → MeetsAxioms m h → IsOrderly m h → (e : Event A) → RefusesIllegal (record { model = m; kept = h }) e
-refuses-illegal m h checked shows meets orderly e none =
-    refused-by (record { model = m; kept = h }) e none ∙ exact-push m h (kept_as (record { model = m; kept = h }) e) checked shows meets orderly none
+refuses-illegal : {A : Type 0} (m : Parts A) (h : List (Kept A)) → IsChecked m (summary_of m h) → AreHeldWell (summary_of m h) → ShowsPlaces m h (summary_of m h) → MeetsAxioms m h → IsOrderly m h → (e : Event A) → RefusesIllegal (record { model = m; kept = h }) e
+refuses-illegal m h checked well shows meets orderly e none =
+    refused-by (record { model = m; kept = h }) e none ∙ exact-push m h (kept_as (record { model = m; kept = h }) e) checked well shows meets orderly none
 
-follows-of : {A : Type 0} (m : Parts A) (h : List (Kept A)) → IsChecked m (summary_of m h) → ShowsPlaces m h (summary_of m h) → MeetsAxioms m h → IsOrderly m h → ((t : ℕ) → HasParent m h t) → FollowsPlaces (record { model = m; kept = h })
-follows-of m h checked shows meets orderly parents = record { shows = shows; meets = meets; orderly = orderly; parents = parents; exact = refuses-illegal m h checked shows meets orderly }
+follows-of : {A : Type 0} (m : Parts A) (h : List (Kept A)) → IsChecked m (summary_of m h) → AreHeldWell (summary_of m h) → ShowsPlaces m h (summary_of m h) → MeetsAxioms m h → IsOrderly m h → ((t : ℕ) → HasParent m h t) → FollowsPlaces (record { model = m; kept = h })
+follows-of m h checked well shows meets orderly parents = record { shows = shows; meets = meets; orderly = orderly; parents = parents; holders = well; exact = refuses-illegal m h checked well shows meets orderly }
 
 -- an event that breaks no rule goes on as the places do
 pub follows-push : {A : Type 0} (m : Parts A) (h : List (Kept A)) (e : Event A) → lowest_fault m ≡ None → FollowsPlaces (record { model = m; kept = h }) → lowest_broken m (summary_of m h) e ≡ None
@@ -515,8 +590,8 @@ follows-push m h e faultless follows none =
     let earlier = none-earlier m (summary_of m h) e none in
     let u = unbroken m (summary_of m h) e earlier in
     let k = kept_as (record { model = m; kept = h }) e in
-    let legal = not_not _ (sym (exact-push m h k (λ t on. faultless) follows.shows follows.meets follows.orderly earlier) ∙ ap is_some (none-dependency m (summary_of m h) e none)) in
-    follows-of m (h ++ k ∷ []) (λ t on. faultless) (shows-push m h k follows.shows u)
+    let legal = not_not _ (sym (exact-push m h k (λ t on. faultless) follows.holders follows.shows follows.meets follows.orderly earlier) ∙ ap is_some (none-dependency m (summary_of m h) e none)) in
+    follows-of m (h ++ k ∷ []) (λ t on. faultless) (holders-push m h follows.shows e k.ret u (none-heirless m (summary_of m h) e none) follows.holders) (shows-push m h k follows.shows u)
     (meets-push m h k follows.meets (faultless-of m h follows.shows follows.parents e u (none-heirless m (summary_of m h) e none)) legal)
     (orderly-push m h k follows.shows follows.orderly u)
     (parents-push m h follows.shows faultless e k.ret u follows.parents)
@@ -525,4 +600,4 @@ follows-push m h e faultless follows none =
 pub follows-fresh : {A : Type 0} (m : Parts A) → FollowsPlaces (record { model = m; kept = [] })
 unfolding summary_of
 follows-fresh m =
-    follows-of m [] (λ t on. cc) (record { status = λ t. refl; class = λ t. refl; parent = λ t. refl; operations = refl; edges = refl }) (meets-none m) (orderly-none m) (λ t has. absurd (true≢false (sym has)))
+    follows-of m [] (λ t on. cc) refl (record { status = λ t. refl; class = λ t. refl; parent = λ t. refl; operations = refl; edges = refl }) (meets-none m) (orderly-none m) (λ t has. absurd (true≢false (sym has)))

@@ -116,7 +116,7 @@ is_nothing : (r : Option Refusal) → is_some r ≡ false → r ≡ None
 is_nothing None e = refl
 is_nothing (Some r) e = cc
 
-linked-dependency : {A : Type 0} (m : Parts A) (s : Summary) (e : Event A) → lowest_fault m ≡ None → not_in_progress s e ≡ None → dependency s e ≡ None → dependency (linked s (edges_due m e)) e ≡ None
+linked-dependency : {A : Type 0} (m : Parts A) (s : Summary) (e : Event A) → lowest_fault m ≡ None → not_in_progress s e ≡ None → dependency s e ≡ None → dependency (linked s (edges_due m s e)) e ≡ None
 unfolding linked not_in_progress
 linked-dependency m s (Begin t class) faultless on none = none
 linked-dependency m s (Spawn t u class) faultless on none =
@@ -132,18 +132,18 @@ linked-dependency m s (Operate t ob op) faultless on none = refl
 linked-dependency m s (Commit t) faultless on none = none
 linked-dependency m s (Abort t) faultless on none = none
 
-linked-progress : {A : Type 0} (m : Parts A) (s : Summary) (e : Event A) → not_in_progress (linked s (edges_due m e)) e ≡ not_in_progress s e
+linked-progress : {A : Type 0} (m : Parts A) (s : Summary) (e : Event A) → not_in_progress (linked s (edges_due m s e)) e ≡ not_in_progress s e
 unfolding linked not_in_progress
 linked-progress m s e = refl
 
-linked-begun : {A : Type 0} (m : Parts A) (s : Summary) (e : Event A) → already_begun (linked s (edges_due m e)) e ≡ already_begun s e
+linked-begun : {A : Type 0} (m : Parts A) (s : Summary) (e : Event A) → already_begun (linked s (edges_due m s e)) e ≡ already_begun s e
 unfolding linked already_begun
 linked-begun m s e = refl
 
 -- so an event that breaks no rule is still admissible when its edges are formed
-pub still-admissible : {A : Type 0} (m : Parts A) (s roomy later : Summary) (e : Event A) (due : List Edge) → lowest_fault m ≡ None → lowest_broken m s e ≡ None → due ≡ edges_due m e → roomy ≡ s → later ≡ linked roomy due → Admissible later e
-still-admissible m s roomy later e due faultless none is_due same forms =
-    let here : later ≡ linked s (edges_due m e) = forms ∙ (λ i. linked (same i) (is_due i)) in
+pub still-admissible : {A : Type 0} (m : Parts A) (s later : Summary) (e : Event A) (due : List Edge) → lowest_fault m ≡ None → lowest_broken m s e ≡ None → due ≡ edges_due m s e → later ≡ linked s due → Admissible later e
+still-admissible m s later e due faultless none is_due forms =
+    let here : later ≡ linked s (edges_due m s e) = forms ∙ (λ i. linked s (is_due i)) in
     let u = unbroken m s e (none-earlier m s e none) in
     record {
       progress = ap (λ (x : Summary). not_in_progress x e) here ∙ linked-progress m s e ∙ u.progress;
@@ -151,15 +151,10 @@ still-admissible m s roomy later e due faultless none is_due same forms =
       allowed = ap (λ (x : Summary). dependency x e) here ∙ linked-dependency m s e faultless u.progress (none-dependency m s e none);
     }
 
--- where an event forms no edge, nothing is changed by forming its edges
-pub linked-none : (s : Summary) (due : List Edge) → due ≡ [] → linked s due ≡ s
-unfolding linked
-linked-none s due none = ap (λ (more : List Edge). linked s more) none
-
 -- there is room for the edges of an event that breaks none of the earlier rules
-pub linked-room : {A : Type 0} (m : Parts A) (s : Summary) (e : Event A) → edges_full m s e ≡ None → length (formed s.edges (edges_due m e)) ≤ 16384
+pub linked-room : {A : Type 0} (m : Parts A) (s : Summary) (e : Event A) → edges_full m s e ≡ None → length (formed s.edges (edges_due m s e)) ≤ 16384
 unfolding edges_full
 linked-room m s e none =
-    let few = if_none (nat_lt 16384 (length (formed s.edges (edges_due m e)))) EdgesFull none in
-    let many : 16384 < length (formed s.edges (edges_due m e)) → ⊥ = λ l. true≢false (sym (lt-ltb 16384 (length (formed s.edges (edges_due m e))) l) ∙ few) in
+    let few = if_none (nat_lt 16384 (length (formed s.edges (edges_due m s e)))) EdgesFull none in
+    let many : 16384 < length (formed s.edges (edges_due m s e)) → ⊥ = λ l. true≢false (sym (lt-ltb 16384 (length (formed s.edges (edges_due m s e))) l) ∙ few) in
     omega (arith, many)

@@ -22,7 +22,7 @@ use Rattle.acta_axioms.proofs.ByOperations.{value-shown}
 use Rattle.acta_sets.specs.declared.item.Item.{Item}
 use Rattle.acta_sets.specs.Operations.{is_among, is_of_others}
 use Rattle.acta_machine.specs.Values.{live_on, live_ops}
-use Rattle.acta_machine.specs.Rules.{stands_against}
+use Rattle.acta_machine.specs.Conflicts.{stands_against}
 use Rattle.acta_machine.specs.Changes.{summary_of}
 use Rattle.acta_machine.specs.Families.{spared}
 use Rattle.acta_machine.specs.Places.{item_of, items_at, ShowsPlaces}

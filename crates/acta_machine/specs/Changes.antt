@@ -14,6 +14,7 @@ use Rattle.acta_table.specs.Classes.{class_at}
 use Rattle.acta_table.specs.Starts.{edges_between}
 use Rattle.acta_machine.specs.Summary.{Summary, nothing_yet, stood, entered, linked, given, inherited, operated, fated, counted}
 use Rattle.acta_machine.specs.Families.{heir_of}
+use Rattle.acta_machine.specs.Conflicts.{conflict_edges}
 
 -- t is in progress, with this class and this parent
 abbrev pub begun : Summary → TxnId → ClassId → Option TxnId → Summary
@@ -25,13 +26,14 @@ settled s t None = fated s t Committed
 settled s t (Some heir) = inherited s t heir
 
 -- the edges that the event forms, in order
-abbrev pub edges_due : {A : Type 0} → Parts A → Event A → List Edge
-edges_due m (Spawn t c class) =
+abbrev pub edges_due : {A : Type 0} → Parts A → Summary → Event A → List Edge
+edges_due m s (Spawn t c class) =
     option_map_or (λ k. edges_between t c k.spawn_edges) (class_at m class.0) []
-edges_due m (Split t u class ops) =
+edges_due m s (Split t u class ops) =
     option_map_or (λ k. edges_between t u k.split_edges) (class_at m class.0) []
-edges_due m (Form kind j i) = (record { kind = kind; j = j; i = i }) ∷ []
-edges_due m _ = []
+edges_due m s (Form kind j i) = (record { kind = kind; j = j; i = i }) ∷ []
+edges_due m s (Operate t ob op) = conflict_edges m s t ob op
+edges_due m s _ = []
 
 -- what the event does to transactions and operations
 abbrev pub changed : {A : Type 0} → Parts A → Summary → Event A → Summary
@@ -47,7 +49,7 @@ changed m s (Abort t) = fated (stood s t has_aborted) t Aborted
 
 -- the edges, the change, and one more event
 abbrev pub effect : {A : Type 0} → Parts A → Summary → Event A → Summary
-effect m s event = counted (changed m (linked s (edges_due m event)) event)
+effect m s event = counted (changed m (linked s (edges_due m s event)) event)
 
 -- after a history, from a summary
 abbrev pub summary_from : {A : Type 0} → Parts A → Summary → List (Kept A) → Summary

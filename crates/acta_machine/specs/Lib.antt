@@ -1,4 +1,5 @@
 pub mod Changes
+pub mod Conflicts
 pub mod Families
 pub mod Places
 pub mod Rules

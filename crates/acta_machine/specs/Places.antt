@@ -1,5 +1,6 @@
 -- That the written table and the places of the history say the same.
-use Rattle.std.specs.Prelude.{◌≡◌, ℕ, Bool, true, false, ◌&&◌, not, nat_le, List, [], ◌∷◌, ◌++◌, Option, None, map, option_map, is_some}
+use Rattle.std.specs.Prelude.{◌≡◌, ℕ, Bool, true, false, ◌&&◌, ◌||◌, not, nat_le, List, [], ◌∷◌, ◌++◌, Option, None, map, option_map, is_some}
+use Rattle.std.specs.List.{list_all}
 use Rattle.acta_table.specs.declared.event.Event.{Event}
 use Rattle.acta_table.specs.declared.event.Kept.{Kept}
 use Rattle.acta_table.specs.declared.event.OpNo.{OpNo}
@@ -7,6 +8,7 @@ use Rattle.acta_table.specs.declared.model.Parts.{Parts}
 use Rattle.acta_table.specs.declared.answer.Answer.{Answer}
 use Rattle.acta_table.specs.declared.answer.Answer.TheVariants.{Refused}
 use Rattle.acta_table.specs.declared.answer.Rule.{Rule}
+use Rattle.acta_table.specs.declared.answer.Status.{Status}
 use Rattle.acta_table.specs.Classes.{kind_at, has_heir}
 use Rattle.acta_table.specs.Numbers.{rule_number}
 use Rattle.acta_objects.specs.declared.state.ObjectState.{ObjectState}
@@ -16,7 +18,9 @@ use Rattle.acta_axioms.specs.Values.{value}
 use Rattle.acta_axioms.specs.Edges.{edges}
 use Rattle.acta_axioms.specs.Legal.{is_legal}
 use Rattle.acta_axioms.specs.Claims.{MeetsAxioms, IsOrderly, status_at}
+use Rattle.acta_deps.specs.Statuses.{is_in_progress}
 use Rattle.acta_sets.specs.declared.item.Item.{Item}
+use Rattle.acta_sets.specs.Operations.{is_open}
 use Rattle.acta_machine.specs.Summary.{Summary}
 use Rattle.acta_machine.specs.Changes.{summary_of}
 use Rattle.acta_machine.specs.Rules.{earlier_broken}
@@ -60,14 +64,23 @@ abbrev pub HasParent : {A : Type 0} → Parts A → List (Kept A) → ℕ → Ty
 HasParent m h t =
     has_class (λ k. has_heir k.at_commit) m h t ≡ true → is_some (parent_of h t) ≡ true
 
+-- whether the holder of the operation is in progress, or the operation is not
+abbrev pub is_held_well : (ℕ → Status) → Item → Bool
+is_held_well status i = not (is_open i.fate) || is_in_progress (status i.holder.0)
+
+-- who holds an operation in progress is in progress
+abbrev pub AreHeldWell : Summary → Type 0
+AreHeldWell s = list_all (is_held_well s.status) s.operations ≡ true
+
 -- the summary of the history is that by places; the history meets the axioms, and is orderly; each that
--- commits to its parent has one; and of each event that may come next the rules on dependencies refuse
--- exactly what would be illegal
+-- commits to its parent has one; who holds an operation in progress is in progress; and of each event that
+-- may come next the rules on dependencies refuse exactly what would be illegal
 pub record FollowsPlaces {A : Type 0} (state : State A) : Type 0 where
   pub shows : ShowsPlaces state.model state.kept (summary_of state.model state.kept)
   pub meets : MeetsAxioms state.model state.kept
   pub orderly : IsOrderly state.model state.kept
   pub parents : (t : ℕ) → HasParent state.model state.kept t
+  pub holders : AreHeldWell (summary_of state.model state.kept)
   pub exact : (event : Event A) → RefusesIllegal state event
 
 -- the numbers of operations

@@ -20,17 +20,17 @@ use Rattle.acta_table.specs.Edges.{formed}
 use Rattle.acta_table.specs.Events.{acting, started, partner, operations_named, hands_over}
 use Rattle.acta_table.specs.Numbered.{first_number, numbers_where, smallest}
 use Rattle.acta_table.specs.Sets.{numbers_of, is_named}
+use Rattle.acta_table.specs.Policies.{refuses}
 use Rattle.acta_table.specs.Refusals.{broken_if, broken_by, first_of}
 use Rattle.acta_table.specs.WellFormed.{bad_number, bad_class, bad_object, same_transaction}
 use Rattle.acta_objects.specs.WellFormed.{bad_operation}
-use Rattle.acta_objects.specs.Conflicts.{conflict_on}
 use Rattle.acta_deps.specs.Dependencies.{start_refusal, commit_refusal, abort_refusal, join_refusal}
 use Rattle.acta_deps.specs.Statuses.{is_new, has_begun, is_in_progress, has_ended}
-use Rattle.acta_sets.specs.declared.item.Item.{Item}
-use Rattle.acta_sets.specs.Operations.{operation_at, is_held, is_of_others}
+use Rattle.acta_sets.specs.Operations.{operation_at, is_held}
 use Rattle.acta_machine.specs.Summary.{Summary}
 use Rattle.acta_machine.specs.Changes.{edges_due}
-use Rattle.acta_machine.specs.Families.{has_class, spared, heir_of}
+use Rattle.acta_machine.specs.Families.{has_class, heir_of}
+use Rattle.acta_machine.specs.Conflicts.{stands_against}
 
 -- as many events are kept as there may be
 unfoldable pub full : Summary → Option Refusal
@@ -121,17 +121,17 @@ unknown_in s ops = smallest (filter (λ n. is_none (operation_at s.operations n)
 unfoldable pub bad_set : {A : Type 0} → Summary → Event A → Option Refusal
 bad_set s e = broken_by BadSet (unknown_in s (operations_named e))
 
--- whether the operation is in t's conflict set, on the same object, and conflicts
-abbrev pub stands_against : {A : Type 0} → Parts A → Summary → ℕ → ObjId → Op → Item → Bool
-stands_against m s t ob op i =
-    is_of_others t (spared m s t) i && (i.ob.0 == ob.0) && conflict_on m ob.0 i.op op
+-- whether t's class refuses operations that conflict
+abbrev pub refuses_conflicts : {A : Type 0} → Parts A → Summary → ℕ → Bool
+refuses_conflicts m s t = has_class (λ k. refuses k.policy) m s t
 
--- the smallest operation that stands against the event's
+-- the smallest operation that stands against the event's, where the class refuses
 abbrev pub first_against : {A : Type 0} → Parts A → Summary → Event A → Option ℕ
-first_against m s (Operate t ob op) = first_number (stands_against m s t.0 ob op) s.operations
+first_against m s (Operate t ob op) =
+    if refuses_conflicts m s t.0 then first_number (stands_against m s t.0 ob op) s.operations else None
 first_against m s _ = None
 
--- an operation stands against the event's
+-- an operation stands against the event's, and the class refuses
 unfoldable pub conflict : {A : Type 0} → Parts A → Summary → Event A → Option Refusal
 conflict m s e = broken_by Conflict (first_against m s e)
 
@@ -152,7 +152,7 @@ form_too_late s e = broken_by FormTooLate (formed_late s e)
 
 -- more edges would be in force than there may be
 unfoldable pub edges_full : {A : Type 0} → Parts A → Summary → Event A → Option Refusal
-edges_full m s e = broken_if (nat_lt 16384 (length (formed s.edges (edges_due m e)))) EdgesFull
+edges_full m s e = broken_if (nat_lt 16384 (length (formed s.edges (edges_due m s e)))) EdgesFull
 
 -- the lowest of the rules before those on dependencies that the event breaks
 abbrev pub earlier_broken : {A : Type 0} → Parts A → Summary → Event A → Option Refusal

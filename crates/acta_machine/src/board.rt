@@ -1,4 +1,4 @@
-ghost use Rattle.std.specs.Prelude.{◌≡◌, ◌+◌, ◌-◌, ◌<◌, ◌≤◌, ◌++◌, ◌∷◌, [], true, false, length, OnOk, OnErr, IfOk, IfSome, vec_capacity, None, Some, option_map};
+ghost use Rattle.std.specs.Prelude.{◌≡◌, take, ◌+◌, ◌-◌, ◌<◌, ◌≤◌, ◌++◌, ◌∷◌, [], true, false, length, OnOk, OnErr, IfOk, IfSome, vec_capacity, None, Some, option_map};
 ghost use Rattle.acta_table.specs.declared.answer.Status.{Status};
 ghost use Rattle.acta_table.specs.WellFormed.{bad_number};
 ghost use Rattle.acta_objects.specs.Limits.{IsSmall};
@@ -157,7 +157,7 @@ impl<A: Allocator + Copy> Board<A> {
 
     /// The edges that the event forms, in order. `Err` where there is no memory.
     pub(crate) fn edges_due(&self, event: &Event<A>) -> Result<Vec<Edge, A>, AllocError>
-        ensures due { IfOk result (λ edges. edges.items ≡ edges_due self.now.model event.now) }
+        ensures due { IfOk result (λ edges. edges.items ≡ edges_due self.now.model (shown self.now) event.now) }
         ensures faultless { lowest_fault self.now.model ≡ None }
     {
         let alloc = *self.kept.allocator();
@@ -179,20 +179,23 @@ impl<A: Allocator + Copy> Board<A> {
                 };
                 Vec::from_slice(alloc, &[edge])
             }
+            Event::Operate(t, ob, op) => self.conflict_edges(*t, *ob, op),
             _ => Ok(Vec::new(alloc)),
         }
     }
 
-    /// Forms these edges. `Err` where there is no memory, and then none is formed.
+    // Forms these edges, and answers how many are new. `Err` where there is no memory, and then none is formed.
     #[tactic(auto, unfolding(crate::specs::Summary::linked))]
-    pub(crate) fn link(&mut self, due: &[Edge]) -> Result<(), AllocError>
+    fn link(&mut self, due: &[Edge]) -> Result<usize, AllocError>
         requires { length (formed self.old.deps.edges due.now) ≤ 16384 }
         ensures shows { OnOk result (shown self.new ≡ linked (shown self.old) due.now) }
+        ensures count { IfOk result (λ count. length (shown self.new).edges ≡ length (shown self.old).edges + count) }
+        ensures kept { OnOk result (take (length (shown self.old).edges) (shown self.new).edges ≡ (shown self.old).edges) }
         ensures err { OnErr result (shown self.new ≡ shown self.old) }
         ensures others { self.new ≡ record self.old { deps = self.new.deps } }
     {
-        self.deps.form(due)?;
-        Ok(())
+        let count = self.deps.form(due)?;
+        Ok(count)
     }
 
     /// The operations in progress that others hold. `Err` where there is no memory.
@@ -225,6 +228,15 @@ impl<A: Allocator + Copy> Board<A> {
 }
 
 impl<A: Allocator> Board<A> {
+    // The last edges, so many of them, are in force no longer.
+    fn unlink(&mut self, count: usize)
+        requires { count ≤ length (shown self.old).edges }
+        ensures shows { shown self.new ≡ record (shown self.old) { edges = take (length (shown self.old).edges - count) (shown self.old).edges } }
+        ensures others { self.new ≡ record self.old { deps = self.new.deps } }
+    {
+        self.deps.take_back(count);
+    }
+
     /// How the transaction stands.
     pub(crate) fn status(&self, t: TxnId) -> Status
         ensures { result ≡ (shown self.now).status t.0 }
@@ -430,7 +442,6 @@ impl<A: Allocator> Board<A> {
         requires named { are_open (operations_named event.now) self.old.operations ≡ true }
         ensures shows { OnOk result (shown self.new ≡ changed self.old.model (shown self.old) event.now) }
         ensures err { OnErr result (shown self.new ≡ shown self.old) }
-        ensures edgeless { OnErr result (edges_due self.old.model event.now ≡ []) }
         ensures origins { length self.new.origins.items ≡ 4096 }
         ensures others { self.new ≡ record self.old { deps = self.new.deps; origins = self.new.origins; operations = self.new.operations } }
     {
@@ -450,27 +461,58 @@ impl<A: Allocator> Board<A> {
         }
         Ok(())
     }
+}
 
-    /// Does what an admitted event does beside forming edges. `Err` where there is no memory for an operation,
-    /// and then nothing is done.
-    pub(crate) fn admit(&mut self, event: &Event<A>, kept: Kept<A>) -> Result<(), AllocError>
+impl<A: Allocator + Copy> Board<A> {
+    // Forms these edges, and changes how transactions and operations stand. `Err` where there is no memory for
+    // an edge or an operation, and then nothing is changed: the edges that are new are taken back.
+    fn perform(&mut self, event: &Event<A>, due: &[Edge]) -> Result<(), AllocError>
+        requires origins { length self.old.origins.items ≡ 4096 }
+        requires few { length self.old.operations < 65536 }
+        requires fits { length (formed self.old.deps.edges due.now) ≤ 16384 }
+        requires number { bad_number event.now ≡ None }
+        requires progress { not_in_progress (linked (shown self.old) due.now) event.now ≡ None }
+        requires new { already_begun (linked (shown self.old) due.now) event.now ≡ None }
+        requires allowed { dependency (linked (shown self.old) due.now) event.now ≡ None }
+        requires named { are_open (operations_named event.now) self.old.operations ≡ true }
+        ensures shows { OnOk result (shown self.new ≡ changed self.old.model (linked (shown self.old) due.now) event.now) }
+        ensures err { OnErr result (shown self.new ≡ shown self.old) }
+        ensures origins { length self.new.origins.items ≡ 4096 }
+        ensures others { self.new ≡ record self.old { deps = self.new.deps; origins = self.new.origins; operations = self.new.operations } }
+    {
+        let formed = self.link(due)?;
+        if let Err(error) = self.change(event) {
+            self.unlink(formed);
+            return Err(error);
+        }
+        Ok(())
+    }
+
+    /// Does what an admitted event does: forms these edges, changes how transactions and operations stand, and
+    /// keeps the event. `Err` where there is no memory, and then nothing is done.
+    pub(crate) fn admit(
+        &mut self,
+        event: &Event<A>,
+        kept: Kept<A>,
+        due: &[Edge],
+    ) -> Result<(), AllocError>
         requires room { length self.old.kept.items < vec_capacity self.old.kept }
         requires origins { length self.old.origins.items ≡ 4096 }
         requires few { length self.old.operations < 65536 }
+        requires fits { length (formed self.old.deps.edges due.now) ≤ 16384 }
         requires number { bad_number event.now ≡ None }
-        requires progress { not_in_progress (shown self.old) event.now ≡ None }
-        requires new { already_begun (shown self.old) event.now ≡ None }
-        requires allowed { dependency (shown self.old) event.now ≡ None }
+        requires progress { not_in_progress (linked (shown self.old) due.now) event.now ≡ None }
+        requires new { already_begun (linked (shown self.old) due.now) event.now ≡ None }
+        requires allowed { dependency (linked (shown self.old) due.now) event.now ≡ None }
         requires named { are_open (operations_named event.now) self.old.operations ≡ true }
-        ensures shows { OnOk result (shown self.new ≡ counted (changed self.old.model (shown self.old) event.now)) }
+        ensures shows { OnOk result (shown self.new ≡ counted (changed self.old.model (linked (shown self.old) due.now) event.now)) }
         ensures kept { OnOk result (self.new.kept.items ≡ self.old.kept.items ++ kept ∷ []) }
         ensures model { self.new.model ≡ self.old.model }
         ensures origins { length self.new.origins.items ≡ 4096 }
         ensures err { OnErr result (shown self.new ≡ shown self.old) }
-        ensures edgeless { OnErr result (edges_due self.old.model event.now ≡ []) }
         ensures as_it_was { OnErr result (self.new.kept.items ≡ self.old.kept.items) }
     {
-        self.change(event)?;
+        self.perform(event, due)?;
         self.keep(kept);
         Ok(())
     }

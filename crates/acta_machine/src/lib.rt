@@ -4,6 +4,7 @@
 #![tactic(auto)]
 
 mod board;
+mod conflicts;
 mod machine;
 mod rules;
 mod values;

@@ -92,8 +92,7 @@ impl<A: Allocator + Copy> Machine<A> {
             ret,
         };
         self.board.make_room()?;
-        self.board.link(&due)?;
-        self.board.admit(event, kept)?;
+        self.board.admit(event, kept, &due)?;
         Ok(Answer::Admitted { place, ret })
     }
 

@@ -4,7 +4,7 @@ ghost use Rattle.std.specs.Option.{option_map_or};
 ghost use Rattle.acta_table.specs.declared.event.EventKind.{EventKind};
 ghost use Rattle.acta_table.specs.Events.{acting, started, partner, class_named, named};
 ghost use Rattle.acta_table.specs.Classes.{can_do};
-ghost use Rattle.acta_table.specs.Numbered.{first_number, smallest};
+ghost use Rattle.acta_table.specs.Numbered.{smallest};
 ghost use Rattle.acta_table.specs.WellFormed.{is_bad_number, bad_number, bad_class, bad_object, twice_in, same_transaction};
 ghost use Rattle.acta_objects.specs.WellFormed.{bad_operation};
 ghost use Rattle.acta_table.specs.Refusals.{broken_by};
@@ -12,15 +12,15 @@ ghost use Rattle.acta_table.specs.Sets.{is_named};
 ghost use Rattle.acta_deps.specs.Statuses.{has_ended, is_in_progress};
 ghost use Rattle.acta_sets.specs.Operations.{operation_at};
 ghost use Rattle.acta_machine.specs.Changes.{edges_due};
-ghost use Rattle.acta_machine.specs.Rules.{full, not_in_progress, already_begun, class_may, txn_may, forms_none, not_in_model, partner_not_in_progress, is_of_another, not_held, not_responsible, wants_whole, left_out, partial_delegation, unknown_in, bad_set, stands_against, conflict, too_late, form_too_late, edges_full, earlier_broken, dependency, fails, no_heir, lowest_broken};
+ghost use Rattle.acta_machine.specs.Rules.{full, not_in_progress, already_begun, class_may, txn_may, forms_none, not_in_model, partner_not_in_progress, is_of_another, not_held, not_responsible, wants_whole, left_out, partial_delegation, unknown_in, bad_set, refuses_conflicts, conflict, too_late, form_too_late, edges_full, earlier_broken, dependency, fails, no_heir, lowest_broken};
 ghost use Rattle.acta_machine.specs.Families.{heir_of};
 ghost use Rattle.acta_machine.specs.Shown.{shown};
 
 use crate::board::Board;
-use acta_objects::{ObjectState, is_of_kind};
+use acta_objects::is_of_kind;
 use acta_sets::Item;
 use acta_table::{
-    ClassId, Dep, Edge, Event, EventKind, Extent, ObjId, Op, OpNo, Refusal, Rule, Status, TxnId,
+    ClassId, Dep, Edge, Event, EventKind, Extent, OpNo, Refusal, Rule, Status, TxnId,
 };
 use std::alloc::Allocator;
 
@@ -462,31 +462,14 @@ impl<A: Allocator + Copy> Board<A> {
         }
     }
 
-    // Whether the operation is in the transaction's conflict set, on the same object, and conflicts.
-    fn stands_against(&self, t: TxnId, ob: ObjId, op: &Op, item: &Item) -> bool
-        ensures { result ≡ stands_against self.now.model (shown self.now) t.0 ob op.now item.now }
+    // Whether the transaction's class refuses operations that conflict.
+    fn refuses_conflicts(&self, t: TxnId) -> bool
+        ensures { result ≡ refuses_conflicts self.now.model (shown self.now) t.0 }
     {
-        if item.ob.0 != ob.0 || !item.is_of_others(t, &[]) || self.is_spared(item.holder, t) {
-            return false;
-        }
-        match self.model.objects().get(ob.0 as usize) {
-            Some(object) => ObjectState::<A>::conflicts(&object.kind, &item.op, op),
+        match self.class_of(t) {
+            Some(class) => class.policy.refuses(),
             None => false,
         }
-    }
-
-    // The number of the first operation that stands against this one.
-    fn first_against(&self, t: TxnId, ob: ObjId, op: &Op) -> Option<u32>
-        ensures { result ≡ first_number (stands_against self.now.model (shown self.now) t.0 ob op.now) self.now.operations }
-    {
-        let mut number = 1u32;
-        for item in self.operations.operations() {
-            if self.stands_against(t, ob, op, item) {
-                return Some(number);
-            }
-            number += 1;
-        }
-        None
     }
 
     #[tactic(auto, unfolding(crate::specs::Rules::conflict))]
@@ -496,6 +479,9 @@ impl<A: Allocator + Copy> Board<A> {
         let Event::Operate(t, ob, op) = event else {
             return None;
         };
+        if !self.refuses_conflicts(*t) {
+            return None;
+        }
         broken_by(Rule::Conflict, self.first_against(*t, *ob, op))
     }
 
@@ -526,7 +512,7 @@ impl<A: Allocator + Copy> Board<A> {
     // More edges would be in force than there may be, where the event forms these.
     #[tactic(auto, unfolding(crate::specs::Rules::edges_full))]
     fn edges_full(&self, event: &Event<A>, due: &[Edge]) -> Option<Refusal>
-        requires { due.now ≡ edges_due self.now.model event.now }
+        requires { due.now ≡ edges_due self.now.model (shown self.now) event.now }
         ensures { result ≡ edges_full self.now.model (shown self.now) event.now }
     {
         if self.deps.lacks(due) > MOST_EDGES - self.deps.edges().len() {
@@ -538,7 +524,7 @@ impl<A: Allocator + Copy> Board<A> {
 
     // The lowest of the rules before those on dependencies that the event breaks.
     fn earlier(&self, event: &Event<A>, due: &[Edge]) -> Option<Refusal>
-        requires { due.now ≡ edges_due self.now.model event.now }
+        requires { due.now ≡ edges_due self.now.model (shown self.now) event.now }
         ensures { result ≡ earlier_broken self.now.model (shown self.now) event.now }
     {
         self.full()
@@ -598,7 +584,7 @@ impl<A: Allocator + Copy> Board<A> {
 
     /// The lowest rule that the event breaks, where it forms these edges.
     pub(crate) fn refusal(&self, event: &Event<A>, due: &[Edge]) -> Option<Refusal>
-        requires { due.now ≡ edges_due self.now.model event.now }
+        requires { due.now ≡ edges_due self.now.model (shown self.now) event.now }
         ensures { result ≡ lowest_broken self.now.model (shown self.now) event.now }
     {
         self.earlier(event, due)

@@ -7,10 +7,11 @@ use Rattle.std.specs.Char.{is_ascii_alphabetic, is_ascii_alphanumeric}
 use Rattle.acta_table.specs.declared.model.Class.{Class}
 use Rattle.acta_table.specs.declared.model.Parts.{Parts}
 use Rattle.acta_table.specs.declared.model.ModelFault.{ModelFault}
-use Rattle.acta_table.specs.declared.model.ModelFault.TheVariants.{NoClass, TooManyClasses, TooManyObjects, DuplicateName, BadName, BeginKindAtStart, HeirWithoutSpawn}
+use Rattle.acta_table.specs.declared.model.ModelFault.TheVariants.{NoClass, TooManyClasses, TooManyObjects, DuplicateName, BadName, BeginKindAtStart, HeirWithoutSpawn, BadPolicyKind}
 use Rattle.acta_table.specs.declared.start_edges.StartEdge.{StartEdge}
 use Rattle.acta_table.specs.Classes.{has_heir}
 use Rattle.acta_table.specs.Dependencies.{is_begin_kind}
+use Rattle.acta_table.specs.Policies.{is_bad_policy}
 
 -- a name has 1 to 32 bytes: an ASCII letter first, then letters, digits or underscores
 abbrev pub is_name : List ℕ → Bool
@@ -57,4 +58,5 @@ lowest_fault m = fold option_or None (
     ∷ fault_if (not (list_all is_name (object_names m) && list_all is_name (class_names m))) BadName
     ∷ fault_if (list_any has_begin_kind m.classes) BeginKindAtStart
     ∷ fault_if (list_any lacks_parents m.classes) HeirWithoutSpawn
+    ∷ fault_if (list_any (λ class. is_bad_policy class.policy) m.classes) BadPolicyKind
     ∷ [])

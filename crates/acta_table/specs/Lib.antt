@@ -7,6 +7,7 @@ pub mod Faults
 pub mod Kinds
 pub mod Numbered
 pub mod Numbers
+pub mod Policies
 pub mod Refusals
 pub mod Sets
 pub mod Starts

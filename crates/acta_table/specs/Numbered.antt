@@ -1,5 +1,7 @@
 -- Lists whose items are numbered from 1 on, and lists of numbers.
-use Rattle.std.specs.Prelude.{ℕ, ◌+◌, Bool, List, [], ◌∷◌, min, if◌then◌else◌, Option, Some, None}
+use Rattle.std.specs.Prelude.{ℕ, ◌+◌, Bool, List, [], ◌∷◌, min, fold, if◌then◌else◌, Option, Some, None}
+use Rattle.std.specs.BTreeSet.{insert_key}
+use Rattle.std.specs.Ordering.{nat_cmp}
 use Rattle.std.specs.List.{position_from}
 use Rattle.std.specs.Option.{option_map_or}
 
@@ -21,3 +23,7 @@ first_number test xs = position_from test 1 xs
 abbrev pub smallest : List ℕ → Option ℕ
 smallest [] = None
 smallest (n ∷ ns) = Some (option_map_or (min n) (smallest ns) n)
+
+-- the numbers, ascending, each once
+abbrev pub ascending : List ℕ → List ℕ
+ascending ns = fold (insert_key nat_cmp) [] ns

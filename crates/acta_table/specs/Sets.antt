@@ -1,9 +1,8 @@
 -- Sets of operations, as their numbers in order.
-use Rattle.std.specs.Prelude.{ℕ, Bool, ◌==◌, List, [], map, fold}
+use Rattle.std.specs.Prelude.{ℕ, Bool, ◌==◌, List, map}
 use Rattle.std.specs.List.{list_any}
-use Rattle.std.specs.Ordering.{nat_cmp}
-use Rattle.std.specs.BTreeSet.{insert_key}
 use Rattle.acta_table.specs.declared.event.OpNo.{OpNo}
+use Rattle.acta_table.specs.Numbered.{ascending}
 
 -- the numbers of some operations
 abbrev pub numbers_of : List OpNo → List ℕ
@@ -15,7 +14,7 @@ numbered ns = map (λ n. record { 0 = n }) ns
 
 -- the operations, ascending, each once
 abbrev pub each_once : List OpNo → List OpNo
-each_once ops = numbered (fold (insert_key nat_cmp) [] (numbers_of ops))
+each_once ops = numbered (ascending (numbers_of ops))
 
 -- whether the set names operation n
 abbrev pub is_named : List OpNo → ℕ → Bool

@@ -9,6 +9,7 @@ mod items;
 mod kinds;
 mod model;
 mod op_set;
+mod policy;
 mod start_edges;
 
 pub use answer::{Answer, Fate, Refusal, Rule, Status};
@@ -18,4 +19,5 @@ pub use items::Items;
 pub use kinds::Kinds;
 pub use model::{AtCommit, Class, Extent, Kind, Model, ModelFault, Object, Parts, Scope, Starts};
 pub use op_set::OpSet;
+pub use policy::Policy;
 pub use start_edges::{Dependent, StartEdge, StartEdges};

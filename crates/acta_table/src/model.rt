@@ -2,10 +2,12 @@ ghost use Rattle.std.specs.Prelude.{◌≡◌, ◌||◌, ◌==◌, ℕ, List, ma
 ghost use Rattle.std.specs.List.{list_any, list_all};
 ghost use Rattle.std.specs.Str.{bytes_eq};
 ghost use Rattle.std.specs.Char.{is_ascii_alphanumeric};
+ghost use Rattle.acta_table.specs.Policies.{is_bad_policy};
 ghost use Rattle.acta_table.specs.Faults.{lowest_fault, is_name, has_twice, has_begin_edge, has_begin_kind, lacks_parents, fault_if};
 
 use crate::items::Items;
 use crate::kinds::Kinds;
+use crate::policy::Policy;
 use crate::start_edges::{StartEdge, StartEdges};
 use std::alloc::{AllocError, Allocator};
 
@@ -71,6 +73,7 @@ pub struct Class<A: Allocator> {
     pub starts: Starts,
     pub may: Kinds,
     pub scope: Scope,
+    pub policy: Policy,
     pub at_commit: AtCommit,
     pub extent: Extent,
     /// The edges that are formed where a transaction with this class is spawned.
@@ -104,6 +107,8 @@ pub enum ModelFault {
     BeginKindAtStart = 6,
     /// A class commits to parents, and its transactions can start by a begin or a split, so without one.
     HeirWithoutSpawn = 7,
+    /// A class depends by no kind, or by one other than CD, AD, WD and TD.
+    BadPolicyKind = 8,
 }
 
 /// A checked model: parts that have no fault.
@@ -244,6 +249,13 @@ fn have_heirless<A: Allocator>(classes: &[Class<A>]) -> bool
     classes.iter().any(|class| class.lacks_parents())
 }
 
+// Whether the policy of one of the classes is none that a model can have.
+fn have_bad_policies<A: Allocator>(classes: &[Class<A>]) -> bool
+    ensures { result ≡ list_any (λ class. is_bad_policy class.policy) classes.now }
+{
+    classes.iter().any(|class| class.policy.is_bad())
+}
+
 impl<A: Allocator> Parts<A> {
     // The lowest fault.
     fn fault(&self) -> Option<ModelFault>
@@ -255,6 +267,7 @@ impl<A: Allocator> Parts<A> {
         let is_well_named = are_named_well(objects) && are_named_well(classes);
         let is_begun_late = have_begin_kinds(classes);
         let is_heirless = have_heirless(classes);
+        let is_misled = have_bad_policies(classes);
         fault_where(classes.is_empty(), ModelFault::NoClass)
             .or(fault_where(classes.len() > 16, ModelFault::TooManyClasses))
             .or(fault_where(objects.len() > 256, ModelFault::TooManyObjects))
@@ -262,6 +275,7 @@ impl<A: Allocator> Parts<A> {
             .or(fault_where(!is_well_named, ModelFault::BadName))
             .or(fault_where(is_begun_late, ModelFault::BeginKindAtStart))
             .or(fault_where(is_heirless, ModelFault::HeirWithoutSpawn))
+            .or(fault_where(is_misled, ModelFault::BadPolicyKind))
     }
 }
 
@@ -317,6 +331,7 @@ impl<A: Allocator + Copy> Class<A> {
             starts: self.starts,
             may: self.may,
             scope: self.scope,
+            policy: self.policy,
             at_commit: self.at_commit,
             extent: self.extent,
             spawn_edges: self.spawn_edges.copy()?,

@@ -1,6 +1,7 @@
-use crate::models::{FLAT, atomic, inheriting, parts, wanting, wanting_at_spawn};
+use crate::models::{FLAT, atomic, inheriting, parts, wanting, wanting_at_spawn, with_policy};
 use acta_table::{
-    Dep, Event, EventKind, Kinds, Model, ModelFault, OpNo, OpSet, Rule, Starts, TxnId,
+    Dep, DepKinds, Event, EventKind, Kinds, Model, ModelFault, OpNo, OpSet, Policy, Rule, Starts,
+    TxnId,
 };
 use std::alloc::{AllocError, Allocator, Global};
 use std::process::Abort;
@@ -115,6 +116,37 @@ fn heirs_without_a_spawn(rt: HostRuntime) -> Result<(), Fail> {
     assert_eq!(rt; fault_of_heirs(rt.alloc(), true, false)?, fault);
     assert_eq!(rt; fault_of_heirs(rt.alloc(), false, true)?, fault);
     assert_eq!(rt; fault_of_heirs(rt.alloc(), false, false)?, None);
+    Ok(())
+}
+
+fn fault_of_policy<A: Allocator + Copy>(
+    alloc: A,
+    policy: Policy,
+) -> Result<Option<ModelFault>, AllocError> {
+    Ok(Model::check(with_policy(alloc, policy)?).err())
+}
+
+// The fault of a model whose class depends by AD and this kind.
+fn fault_of_kind<A: Allocator + Copy>(
+    alloc: A,
+    kind: Dep,
+) -> Result<Option<ModelFault>, AllocError> {
+    let kinds = DepKinds::of(Dep::Ad).union(DepKinds::of(kind));
+    fault_of_policy(alloc, Policy::Depend(kinds))
+}
+
+// A class depends by CD, AD, WD and TD, and by at least one of them.
+#[test]
+fn policies(rt: HostRuntime) -> Result<(), Fail> {
+    let fault = Some(ModelFault::BadPolicyKind);
+    for kind in Dep::ALL {
+        let is_good = matches!(kind, Dep::Cd | Dep::Ad | Dep::Wd | Dep::Td);
+        let due = if is_good { None } else { fault };
+        assert_eq!(rt; fault_of_kind(rt.alloc(), kind)?, due, "at {kind:?}");
+    }
+    let none = Policy::Depend(DepKinds::none());
+    assert_eq!(rt; fault_of_policy(rt.alloc(), none)?, fault);
+    assert_eq!(rt; fault_of_policy(rt.alloc(), Policy::Refuse)?, None);
     Ok(())
 }
 

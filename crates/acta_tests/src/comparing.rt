@@ -3,13 +3,15 @@
 
 use crate::dependencies::{course_of, is_false, payment};
 use crate::histories::{
-    CONTINGENT, DELEGATING, FAMILIES, FLAT, NESTED, PARTING, SPLIT_JOIN, UNTIED, WAITING,
+    CONTINGENT, DELEGATING, FAMILIES, FLAT, LENDING, NESTED, PARTING, RECOVERABLE, SPLIT_JOIN,
+    UNTIED, WAITING,
 };
 use crate::models::{
-    atomic, contingent, delegating, families, nested, nesting, parting, split_join,
+    atomic, contingent, delegating, families, lending, nested, nesting, parting, recoverable,
+    split_join,
 };
 use crate::places::status_by;
-use crate::script::{access_set, conflict_set, event, has_edges, is_due, owed, parted, view_set};
+use crate::script::{access_set, conflict_set, debts, event, has_edges, is_due, parted, view_set};
 use acta_axioms::Places;
 use acta_machine::Machine;
 use acta_table::{
@@ -155,15 +157,15 @@ fn shows_edges<A: Allocator + Copy>(
     machine: &Machine<A>,
     places: &Places<'_, A>,
 ) -> Result<bool, AllocError> {
-    let mut debts = Vec::new(alloc);
+    let mut due = Vec::new(alloc);
     let mut number = 0u64;
     for edge in places.edges() {
         number = number.saturating_add(1);
         if let Some(debt) = debt_by(places, edge, number) {
-            debts.push(debt)?;
+            due.push(debt)?;
         }
     }
-    Ok(has_edges(machine, places.edges()) && owed(machine)?.as_slice() == debts.as_slice())
+    Ok(has_edges(machine, places.edges()) && debts(machine)?.as_slice() == due.as_slice())
 }
 
 // The machine answers the event of the line as it says, and then shows what the places of its history say.
@@ -279,9 +281,29 @@ fn of_families(rt: HostRuntime) -> Result<(), Fail> {
     follow_families(&rt, rt.alloc())
 }
 
+fn follow_loose<A: Allocator + Copy>(rt: &impl Abort, alloc: A) -> Result<(), Fail> {
+    follow(rt, alloc, &recoverable(alloc)?, RECOVERABLE)?;
+    follow(rt, alloc, &lending(alloc)?, LENDING)
+}
+
+#[test]
+fn of_loose(rt: HostRuntime) -> Result<(), Fail> {
+    follow_loose(&rt, rt.alloc())
+}
+
 // The histories of each model.
-const HISTORIES: [&str; 9] = [
-    FLAT, CONTINGENT, SPLIT_JOIN, PARTING, DELEGATING, NESTED, UNTIED, WAITING, FAMILIES,
+const HISTORIES: [&str; 11] = [
+    FLAT,
+    CONTINGENT,
+    SPLIT_JOIN,
+    PARTING,
+    DELEGATING,
+    NESTED,
+    UNTIED,
+    WAITING,
+    FAMILIES,
+    RECOVERABLE,
+    LENDING,
 ];
 
 // The number of the rule by which the event of the line is refused.

@@ -1,5 +1,5 @@
 use crate::models::{FLAT, atomic, contingent};
-use crate::script::{has_edges, owed, played};
+use crate::script::{debts, has_edges, played};
 use acta_axioms::Places;
 use acta_machine::Machine;
 use acta_table::{Answer, Dep, Edge, EdgeNo, Event, Kept, Missing, Model, Owed, Rule, TxnId};
@@ -27,7 +27,7 @@ fn debt_on<A: Allocator + Copy>(
     rt: &impl Abort,
     machine: &Machine<A>,
 ) -> Result<Option<Owed>, AllocError> {
-    let owed = owed(machine)?;
+    let owed = debts(machine)?;
     assert!(rt; owed.len() < 2);
     Ok(owed.first().copied())
 }

@@ -669,3 +669,90 @@ pub const FAMILIES: &str = "# A class that may not spawn, and may form no edges
     commit 2 : ok 6
     do 1 x read : ok 7 5
     abort 1 : ok 8";
+
+/// Recoverable transactions: an edge of each kind, AD before TD, on each holder.
+pub const RECOVERABLE: &str = "# What is read before it is committed is waited for
+    begin 1 loose : ok 1
+    begin 2 loose : ok 2
+    do 1 x write 5 : ok 3 done
+    do 2 x read : ok 4 5
+    commit 2 : no 21 by 2
+    abort 1 : ok 5
+    commit 2 : no 22 by 1
+    abort 2 : ok 6
+    # A dependency is formed once
+    begin 1 loose : ok 1
+    begin 2 loose : ok 2
+    do 1 x write 5 : ok 3 done
+    do 2 x read : ok 4 5
+    do 2 x read : ok 5 5
+    abort 2 : no 21 by 2
+    commit 1 : ok 6
+    commit 2 : ok 7
+    # Those who commute depend on nobody
+    begin 1 loose : ok 1
+    begin 2 loose : ok 2
+    do 1 n add 5 : ok 3 done
+    do 2 n add 7 : ok 4 done
+    commit 2 : ok 5
+    abort 1 : ok 6
+    # Who holds several operations is waited for once, the smaller number first
+    begin 1 loose : ok 1
+    begin 2 loose : ok 2
+    begin 3 loose : ok 3
+    do 2 x write 5 : ok 4 done
+    do 1 x write 5 : ok 5 done
+    do 2 x write 5 : ok 6 done
+    do 3 x read : ok 7 5
+    commit 3 : no 21 by 2
+    commit 1 : ok 8
+    commit 3 : no 21 by 4
+    commit 2 : ok 9
+    commit 3 : ok 10
+    # Those who wait for one another never end
+    begin 1 loose : ok 1
+    begin 2 loose : ok 2
+    do 1 x write 5 : ok 3 done
+    do 2 n add 1 : ok 4 done
+    do 2 x read : ok 5 5
+    do 1 n get : ok 6 1
+    commit 1 : no 21 by 4
+    abort 1 : no 21 by 4
+    abort 2 : no 21 by 2
+    # Who has ended is depended on no more
+    begin 1 loose : ok 1
+    begin 2 loose : ok 2
+    do 1 x write 5 : ok 3 done
+    commit 1 : ok 4
+    do 2 x read : ok 5 5
+    commit 2 : ok 6";
+
+/// Transactions that lend: an edge of each kind, CD before WD, on each holder that is no ancestor.
+pub const LENDING: &str = "# One depends on the holder, and not on who did the operation
+    begin 1 loose : ok 1
+    begin 2 loose : ok 2
+    begin 3 loose : ok 3
+    do 1 x write 5 : ok 4 done
+    delegate 1 3 1 : ok 5
+    do 2 x read : ok 6 5
+    abort 1 : ok 7
+    commit 2 : ok 8
+    commit 3 : no 24 by 1
+    abort 3 : ok 9
+    # A child does not depend on its parent, and the parent can depend on the child
+    begin 1 loose : ok 1
+    spawn 1 2 loose : ok 2
+    do 1 x write 5 : ok 3 done
+    do 2 x read : ok 4 5
+    do 1 x write 6 : ok 5 done
+    abort 2 : ok 6
+    commit 1 : no 22 by 2
+    abort 1 : ok 7
+    # A debt comes only with an abort
+    begin 1 loose : ok 1
+    begin 2 loose : ok 2
+    do 1 x write 5 : ok 3 done
+    do 2 x write 6 : ok 4 done
+    do 2 x write 7 : ok 5 done
+    commit 1 : ok 6
+    commit 2 : ok 7";

@@ -11,6 +11,8 @@ mod delegation;
 #[cfg(test)]
 mod dependencies;
 #[cfg(test)]
+mod depending;
+#[cfg(test)]
 mod histories;
 #[cfg(test)]
 mod memory;

@@ -1,6 +1,6 @@
 use acta_table::{
-    AtCommit, Class, ClassId, Dep, Dependent, Extent, Items, Kind, Kinds, Model, ObjId, Object,
-    Parts, Scope, StartEdge, StartEdges, Starts,
+    AtCommit, Class, ClassId, Dep, DepKinds, Dependent, Extent, Items, Kind, Kinds, Model, ObjId,
+    Object, Parts, Policy, Scope, StartEdge, StartEdges, Starts,
 };
 use std::alloc::{AllocError, Allocator};
 use std::test::Fail;
@@ -43,6 +43,7 @@ fn class<A: Allocator + Copy>(
             .union(Kinds::ABORT)
             .union(more),
         scope: Scope::Others,
+        policy: Policy::Refuse,
         at_commit: AtCommit::Keeps,
         extent,
         spawn_edges: StartEdges::new(alloc),
@@ -159,11 +160,12 @@ fn part<A: Allocator + Copy>(
 
 // The set of the one edge of this kind, of what is started on the one that starts it.
 fn on_starter<A: Allocator + Copy>(alloc: A, kind: Dep) -> Result<StartEdges<A>, AllocError> {
-    let edge = StartEdge {
+    let mut edges = Vec::new(alloc);
+    edges.push(StartEdge {
         kind,
         dependent: Dependent::Started,
-    };
-    StartEdges::of(alloc, &[edge])
+    })?;
+    StartEdges::of(alloc, &edges)
 }
 
 /// The parts of a model whose class wants an edge of this kind at a split, of what is split off on the other.
@@ -206,6 +208,37 @@ pub fn delegating<A: Allocator + Copy>(alloc: A, extent: Extent) -> Result<Model
         alloc,
         class(alloc, "part", Kinds::DELEGATE.union(Kinds::FORM), extent)?,
     )
+}
+
+/// The parts of a model whose class has this policy.
+pub fn with_policy<A: Allocator + Copy>(alloc: A, policy: Policy) -> Result<Parts<A>, AllocError> {
+    let mut class = class(alloc, "loose", Kinds::none(), Extent::Whole)?;
+    class.policy = policy;
+    parts_of(alloc, class)
+}
+
+/// The standard model of recoverable transactions: the same objects, and the class `loose`, whose operations are
+/// admitted where they conflict; its transactions then end only after those that they depend on, and abort with
+/// them.
+pub fn recoverable<A: Allocator + Copy>(alloc: A) -> Result<Model<A>, Fail> {
+    let mut loose = class(alloc, "loose", Kinds::none(), Extent::Whole)?;
+    loose.policy = Policy::Depend(DepKinds::of(Dep::Ad).union(DepKinds::of(Dep::Td)));
+    standard(alloc, loose)
+}
+
+/// The model of transactions that lend: of the class `loose`, which depends by CD and WD; they also spawn others
+/// of their class, delegate as much as they like, and are in conflict with none of their ancestors.
+pub fn lending<A: Allocator + Copy>(alloc: A) -> Result<Model<A>, Fail> {
+    let mut loose = class(
+        alloc,
+        "loose",
+        Kinds::SPAWN.union(Kinds::DELEGATE),
+        Extent::Any,
+    )?;
+    loose.starts.spawned = true;
+    loose.scope = Scope::NonAncestors;
+    loose.policy = Policy::Depend(DepKinds::of(Dep::Cd).union(DepKinds::of(Dep::Wd)));
+    standard(alloc, loose)
 }
 
 // The class `top`: its transactions begin, spawn others, and are in conflict with none of their ancestors.

@@ -1,7 +1,7 @@
 use crate::models::{X, atomic, families, nested, nesting};
 use crate::script::{access_set, conflict_set, has_edges, played, plays, register};
 use acta_machine::Machine;
-use acta_table::{Dep, Edge, Model, OpNo, Status, TxnId};
+use acta_table::{Dep, Edge, Model, OpNo, TxnId};
 use std::alloc::Allocator;
 use std::process::Abort;
 use std::test::Fail;
@@ -62,18 +62,26 @@ const SPAWNED: &str = "begin 1 top : ok 1
 const COMMITTED: &str = "do 2 x write 6 : ok 4 done
     commit 2 : ok 5";
 
+// What the child did is held by its parent, and not by itself.
+fn is_held_by_parent<A: Allocator + Copy>(
+    rt: &impl Abort,
+    machine: &Machine<A>,
+) -> Result<(), Fail> {
+    assert!(rt; holds(machine, ONE, &[OpNo(1), OpNo(2)])?);
+    assert!(rt; holds(machine, TWO, &[])?);
+    Ok(())
+}
+
 // A child writes what its parent has written, and commits to it; the parent's abort takes both back.
 fn commits_to_parent<A: Allocator + Copy>(rt: &impl Abort, alloc: A) -> Result<(), Fail> {
     let model = nested(alloc)?;
     let mut machine = played(rt, alloc, &model, SPAWNED)?;
     assert!(rt; has_spawn_edges(&machine));
     go_on(rt, alloc, &model, &mut machine, COMMITTED)?;
-    assert!(rt; holds(&machine, ONE, &[OpNo(1), OpNo(2)])?);
-    assert!(rt; holds(&machine, TWO, &[])?);
-    assert_eq!(rt; register(&machine, X)?, Some(6));
+    is_held_by_parent(rt, &machine)?;
+    assert!(rt; register(&machine, X)? == Some(6));
     go_on(rt, alloc, &model, &mut machine, "abort 1 : ok 6")?;
-    assert_eq!(rt; register(&machine, X)?, Some(0));
-    assert_eq!(rt; machine.status(TWO), Status::Committed);
+    assert!(rt; register(&machine, X)? == Some(0));
     Ok(())
 }
 

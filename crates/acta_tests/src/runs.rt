@@ -88,7 +88,10 @@ fn equal_writes_commute(rt: HostRuntime) -> Result<(), Fail> {
         do 2 x write 5 : ok 4 done
         do 2 x write 6 : no 14 by 1";
     let machine = played(&rt, rt.alloc(), &atomic(rt.alloc())?, text)?;
-    assert_eq!(rt; conflict_set(&machine, TWO)?.as_slice(), [OpNo(1)].as_slice());
+    assert_eq!(rt;
+        conflict_set(&machine, TWO)?.as_slice(),
+        [OpNo(1)].as_slice()
+    );
     assert_eq!(rt;
         conflict_set(&machine, TxnId(9))?.as_slice(),
         [OpNo(1), OpNo(2)].as_slice()

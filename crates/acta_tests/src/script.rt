@@ -275,8 +275,16 @@ pub fn view_set<A: Allocator + Copy>(machine: &Machine<A>) -> Result<Vec<OpNo, A
 }
 
 /// What is owed.
-pub fn owed<A: Allocator + Copy>(machine: &Machine<A>) -> Result<Vec<Owed, A>, AllocError> {
+pub fn debts<A: Allocator + Copy>(machine: &Machine<A>) -> Result<Vec<Owed, A>, AllocError> {
     machine.owed()
+}
+
+// The value of an object.
+fn value<A: Allocator + Copy>(
+    machine: &Machine<A>,
+    ob: ObjId,
+) -> Result<Option<ObjectState<A>>, AllocError> {
+    machine.value(ob)
 }
 
 /// The value of a register.
@@ -284,7 +292,7 @@ pub fn register<A: Allocator + Copy>(
     machine: &Machine<A>,
     ob: ObjId,
 ) -> Result<Option<i32>, AllocError> {
-    Ok(match machine.value(ob)? {
+    Ok(match value(machine, ob)? {
         Some(ObjectState::Register(value)) => Some(value),
         _ => None,
     })
@@ -295,7 +303,7 @@ pub fn counter<A: Allocator + Copy>(
     machine: &Machine<A>,
     ob: ObjId,
 ) -> Result<Option<i64>, AllocError> {
-    Ok(match machine.value(ob)? {
+    Ok(match value(machine, ob)? {
         Some(ObjectState::Counter(value)) => Some(value),
         _ => None,
     })
@@ -303,7 +311,7 @@ pub fn counter<A: Allocator + Copy>(
 
 /// Whether there is an object of this number.
 pub fn has_value<A: Allocator + Copy>(machine: &Machine<A>, ob: ObjId) -> Result<bool, AllocError> {
-    Ok(machine.value(ob)?.is_some())
+    Ok(value(machine, ob)?.is_some())
 }
 
 /// Whether the machine has these edges.

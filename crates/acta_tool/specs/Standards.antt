@@ -9,6 +9,7 @@ use Rattle.acta_table.specs.declared.model.Extent.TheVariants.{Whole}
 use Rattle.acta_table.specs.declared.model.Object.{Object}
 use Rattle.acta_table.specs.declared.model.Parts.{Parts}
 use Rattle.acta_table.specs.declared.model.Kind.TheVariants.{Register}
+use Rattle.acta_table.specs.declared.policy.Policy.TheVariants.{Refuse}
 use Rattle.acta_table.specs.Kinds.{has_kind}
 use Rattle.acta_tool.specs.declared.args.Standard.{Standard}
 use Rattle.acta_tool.specs.declared.args.Standard.TheVariants.{Atomic}
@@ -25,14 +26,15 @@ flat_may Join = false
 flat_may Delegate = false
 flat_may Form = false
 
--- the class `flat`: it starts by begin alone, conflicts with all others, commits what it holds, hands over the
--- whole, and wants no edge at a start
+-- the class `flat`: it starts by begin alone, conflicts with all others and refuses it, commits what it holds,
+-- hands over the whole, and wants no edge at a start
 abbrev pub IsFlat : {A : Type 0} → Class A → Type 0
 IsFlat class =
     (class.name ≡ codes "flat")
     × (class.starts ≡ record { begin = true; spawned = false; split = false })
     × ((kind : EventKind) → has_kind class.may kind ≡ flat_may kind)
     × (class.scope ≡ Others)
+    × (class.policy ≡ Refuse)
     × (class.at_commit ≡ Keeps)
     × (class.extent ≡ Whole)
     × (class.spawn_edges ≡ [])

@@ -5,7 +5,8 @@ ghost use Rattle.acta_tool.specs.Standards.{IsStandard, IsFlat, IsRegisterX};
 
 use crate::args::Standard;
 use acta_table::{
-    AtCommit, Class, Extent, Items, Kind, Kinds, Model, Object, Parts, Scope, StartEdges, Starts,
+    AtCommit, Class, Extent, Items, Kind, Kinds, Model, Object, Parts, Policy, Scope, StartEdges,
+    Starts,
 };
 use std::alloc::{AllocError, Allocator};
 
@@ -49,6 +50,7 @@ fn flat<A: Allocator + Copy>(alloc: A) -> Result<Class<A>, AllocError>
         },
         may: Kinds::OPERATE.union(Kinds::COMMIT).union(Kinds::ABORT),
         scope: Scope::Others,
+        policy: Policy::Refuse,
         at_commit: AtCommit::Keeps,
         extent: Extent::Whole,
         spawn_edges: StartEdges::new(alloc),

@@ -15,7 +15,7 @@ loop-item-init g c =
     let long = ap length blank ∙ length-replicate (c.largest_named.result + 1) unbegun in
     record {
       wide = named-below c.args.kept.now c.largest_named.result (length c.in_ok-lines.lines.items) (omega arith) c.largest_named.ensures;
-      lines_are = λ t. lines-blank c.args.model.now c.in_ok-lines.lines.items (c.largest_named.result + 1) t blank;
+      lines_are = λ t. lines-blank c.args.kept.now c.in_ok-lines.lines.items (c.largest_named.result + 1) t blank;
       heirs_are = c.new-made.ensures.items;
     }
 
@@ -37,7 +37,7 @@ loop-item-preserved g c =
     record {
       wide = subst (λ rows. All (λ q. All (λ t. t < length rows) (named q.event)) h) (sym back) (subst (λ n. All (λ q. All (λ t. t < n) (named q.event)) h) (sym long) inv.wide);
       lines_are = λ t. ap (λ rows. get_or rows t unbegun) back
-          ∙ lines-more c.args.model.now h i k k c.as_mut_slice.result.now c.note_start.new.lines c.loop-item-test.true c.item-item.is (λ u. ap (λ rows. get_or rows u unbegun) lent ∙ inv.lines_are u) c.note_start.ensures t;
+          ∙ lines-more h i k k c.as_mut_slice.result.now c.note_start.new.lines c.loop-item-test.true c.item-item.is (λ u. ap (λ rows. get_or rows u unbegun) lent ∙ inv.lines_are u) c.note_start.ensures t;
       heirs_are =
           heirs-more c.args.model.now h i k k c.as_slice.result.now c.loop-item.made.items c.push.new.self.items c.heir_of.result c.loop-item-test.true c.item-item.is
           (λ u. ap (λ rows. get_or rows u unbegun) c.as_slice.ensures.value ∙ inv.lines_are u) c.heir_of.ensures c.in_ok-push.ensures.items inv.heirs_are;

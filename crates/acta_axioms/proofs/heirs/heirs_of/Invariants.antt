@@ -9,6 +9,6 @@ abbrev pub invariant-loop-item : goal.invariant-loop-item
 invariant-loop-item g l =
     record {
       wide : All (λ k. All (λ t. t < length l.lines.items) (named k.event)) l.kept;
-      lines_are : (t : ℕ) → get_or l.lines.items t unbegun ≡ lineage l.model (take l.item-index l.kept) t;
+      lines_are : (t : ℕ) → get_or l.lines.items t unbegun ≡ lineage (take l.item-index l.kept) t;
       heirs_are : l.made.items ≡ heirs_of l.model (take l.item-index l.kept);
     }

@@ -1,6 +1,6 @@
 use Rattle.std.proofs.Common.{◌≡◌, ◌+◌, drop}
 use Rattle.std.specs.List.{position_from}
-use Rattle.acta_machine.specs.Rules.{stands_against}
+use Rattle.acta_machine.specs.Conflicts.{stands_against}
 use Rattle.acta_machine.specs.Shown.{shown}
 use Rattle.acta_machine.proofs.board.Board.first_against.Given as goal
 

@@ -1,0 +1,97 @@
+ghost use Rattle.std.specs.Prelude.{◌≡◌, map, filter, IfOk, if◌then◌else◌};
+ghost use Rattle.std.specs.BTreeSet.{insert_key};
+ghost use Rattle.std.specs.Ordering.{nat_cmp};
+ghost use Rattle.acta_table.specs.Numbered.{first_number, ascending};
+ghost use Rattle.acta_machine.specs.Conflicts.{stands_against, conflict_edges};
+ghost use Rattle.acta_machine.specs.Shown.{shown};
+
+use crate::board::Board;
+use acta_objects::ObjectState;
+use acta_sets::Item;
+use acta_table::{Edge, ObjId, Op, TxnId};
+use std::alloc::{AllocError, Allocator};
+use std::collections::BTreeSet;
+
+impl<A: Allocator + Copy> Board<A> {
+    // Whether the operation is in the transaction's conflict set, on the same object, and conflicts.
+    fn stands_against(&self, t: TxnId, ob: ObjId, op: &Op, item: &Item) -> bool
+        ensures { result ≡ stands_against self.now.model (shown self.now) t.0 ob op.now item.now }
+    {
+        if item.ob.0 != ob.0 || !item.is_of_others(t, &[]) || self.is_spared(item.holder, t) {
+            return false;
+        }
+        match self.model.objects().get(ob.0 as usize) {
+            Some(object) => ObjectState::<A>::conflicts(&object.kind, &item.op, op),
+            None => false,
+        }
+    }
+
+    /// The number of the first operation that stands against this one.
+    pub(crate) fn first_against(&self, t: TxnId, ob: ObjId, op: &Op) -> Option<u32>
+        ensures { result ≡ first_number (stands_against self.now.model (shown self.now) t.0 ob op.now) self.now.operations }
+    {
+        let mut number = 1u32;
+        for item in self.operations.operations() {
+            if self.stands_against(t, ob, op, item) {
+                return Some(number);
+            }
+            number += 1;
+        }
+        None
+    }
+
+    // Puts the holder of the operation among the others, where the operation stands against this one.
+    fn put_opponent(
+        &self,
+        t: TxnId,
+        ob: ObjId,
+        op: &Op,
+        item: &Item,
+        holders: &mut BTreeSet<u16, A>,
+    ) -> Result<(), AllocError>
+        ensures { IfOk result (λ _. holders.new.keys ≡ (if stands_against self.now.model (shown self.now) t.0 ob op.now item.now then insert_key nat_cmp holders.old.keys item.now.holder.0 else holders.old.keys)) }
+    {
+        if self.stands_against(t, ob, op, item) {
+            holders.insert(item.holder.0)?;
+        }
+        Ok(())
+    }
+
+    // Who holds those of the operations that stand against this one. `Err` where there is no memory.
+    fn opponents_among(
+        &self,
+        t: TxnId,
+        ob: ObjId,
+        op: &Op,
+        items: &[Item],
+    ) -> Result<BTreeSet<u16, A>, AllocError>
+        ensures { IfOk result (λ holders. holders.keys ≡ ascending (map (λ i. i.holder.0) (filter (stands_against self.now.model (shown self.now) t.0 ob op.now) items.now))) }
+    {
+        let mut holders = BTreeSet::new(*self.kept.allocator());
+        for item in items {
+            self.put_opponent(t, ob, op, item, &mut holders)?;
+        }
+        Ok(holders)
+    }
+
+    /// The edges that the operation forms, by the policy of the transaction's class. `Err` where there is no
+    /// memory.
+    pub(crate) fn conflict_edges(
+        &self,
+        t: TxnId,
+        ob: ObjId,
+        op: &Op,
+    ) -> Result<Vec<Edge, A>, AllocError>
+        ensures { IfOk result (λ edges. edges.items ≡ conflict_edges self.now.model (shown self.now) t ob op.now) }
+    {
+        let alloc = *self.kept.allocator();
+        let Some(class) = self.class_of(t) else {
+            return Ok(Vec::new(alloc));
+        };
+        if class.policy.refuses() {
+            return Ok(Vec::new(alloc));
+        }
+        let holders = self.opponents_among(t, ob, op, self.operations.operations())?;
+        class.policy.edges_upon(alloc, t, &holders)
+    }
+}
