@@ -18,8 +18,9 @@ use Rattle.acta_table.specs.declared.policy.Policy.{Policy}
 use Rattle.acta_table.specs.Dependencies.{all_kinds}
 use Rattle.acta_table.specs.Numbered.{ascending}
 use Rattle.acta_table.specs.Policies.{forms, edge_on, edges_on, edges_upon}
+use Rattle.acta_table.specs.Fates.{is_open}
 use Rattle.acta_axioms.specs.Edges.{holders_against}
-use Rattle.acta_axioms.specs.Operations.{Operation, Standing, is_open, is_spared, is_of_others, standing, operations, conflict_set}
+use Rattle.acta_axioms.specs.Operations.{Operation, Standing, is_spared, is_of_others, standing, operations, conflict_set}
 use Rattle.acta_axioms.specs.Values.{do_conflict, conflicting}
 
 all-insert : (p : ℕ → Bool) (ns : List ℕ) (n : ℕ) → list_all p ns ≡ true → p n ≡ true → list_all p (insert_key nat_cmp ns n) ≡ true

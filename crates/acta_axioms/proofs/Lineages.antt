@@ -56,9 +56,17 @@ lineage-push h k t =
     of_tests false true is = λ i. record { is_begun = true; class = class_id (class_named k.event); parent = spawner-begun h k.event i }
     of_tests false false is = λ i. let l : Lineage = record { is_begun = false; class = class_id (sym (class-unbegun h t is) i); parent = sym (parent-unbegun h t is) i } in l
 
+-- a class is the one of its number
+class-of_number : (class : Option ClassId) (number : Option ℕ) → option_map (λ c. c.0) class ≡ number → class ≡ class_id number
+class-of_number class number is = itself class ∙ ap class_id is
+  where
+    itself : (class : Option ClassId) → class ≡ class_id (option_map (λ c. c.0) class)
+    itself None = refl
+    itself (Some class) = refl
+
 -- a table in which the lineage of the one that an event starts is put
 pub started-more : {A : Type 0} (lines : List Lineage) (e : Event A) (s : TxnId) (line : Lineage) (class : Option ClassId) (parent : Option TxnId) → All (λ t. t < length lines) (named e) → started e ≡ Some s.0 →
-    line ≡ get_or lines s.0 unbegun → not line.is_begun ≡ true → class ≡ class_id (class_named e) → parent ≡ spawner_by (begun_in lines) e → (t : ℕ) →
+    line ≡ get_or lines s.0 unbegun → not line.is_begun ≡ true → option_map (λ c. c.0) class ≡ class_named e → parent ≡ spawner_by (begun_in lines) e → (t : ℕ) →
     get_or (slice_set lines s.0 (record { is_begun = true; class = class; parent = parent })) t unbegun ≡ with_start (begun_in lines) e t (get_or lines t unbegun)
 started-more {A} lines e s line class parent named_within is line_is fresh class_is parent_is t = of_test (s.0 == t) refl
   where
@@ -74,7 +82,7 @@ started-more {A} lines e s line class parent named_within is line_is fresh class
     of_test true same =
         let at : s.0 ≡ t = eqb-true s.0 t same in
         get_or-set_at lines s.0 t (record { is_begun = true; class = class; parent = parent }) unbegun (sym at) (named-started e s.0 (length lines) named_within is)
-        ∙ (λ i. let l : Lineage = record { is_begun = true; class = class_is i; parent = parent_is i } in l)
+        ∙ (λ i. let l : Lineage = record { is_begun = true; class = class-of_number class (class_named e) class_is i; parent = parent_is i } in l)
         ∙ (λ i. if sym (ap (λ (l : Lineage). not l.is_begun) (sym (line_is ∙ ap (λ u. get_or lines u unbegun) at)) ∙ fresh) i && sym (here ∙ same) i then (record { is_begun = true; class = class_id (class_named e); parent = spawner_by (begun_in lines) e }) else get_or lines t unbegun)
     of_test false same =
         get_or-set_other lines s.0 t (record { is_begun = true; class = class; parent = parent }) unbegun (λ at. true≢false (sym (eq-eqb s.0 t (sym at)) ∙ same))

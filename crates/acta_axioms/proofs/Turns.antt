@@ -14,11 +14,12 @@ use Rattle.acta_table.specs.declared.event.Kept.{Kept}
 use Rattle.acta_table.specs.declared.event.TxnId.{TxnId}
 use Rattle.acta_table.specs.declared.model.Parts.{Parts}
 use Rattle.acta_table.specs.Sets.{is_named}
+use Rattle.acta_table.specs.Fates.{is_open}
 use Rattle.acta_axioms.specs.declared.follow.Turn.{Turn}
 use Rattle.acta_axioms.specs.declared.follow.Turn.TheVariants.{On, Ended}
 use Rattle.acta_axioms.specs.declared.index.Onward.{Onward}
 use Rattle.acta_axioms.specs.History.{Place, places_behind, places}
-use Rattle.acta_axioms.specs.Operations.{Standing, held_by, ended_by, heir, is_open, followed, carried}
+use Rattle.acta_axioms.specs.Operations.{Standing, held_by, ended_by, heir, followed, carried}
 use Rattle.acta_axioms.specs.Index.{turns, turn_from, heir_by, heirs_of, onward_in, onward_from, left_to, turned_by, held_from}
 use Rattle.acta_axioms.proofs.Growth.{length-places}
 use Rattle.acta_axioms.proofs.Lineages.{heir-there}

@@ -16,13 +16,14 @@ use Rattle.acta_table.specs.Ancestors.{ancestors_from}
 use Rattle.acta_table.specs.Classes.{spares}
 use Rattle.acta_table.specs.Policies.{refuses}
 use Rattle.acta_table.specs.Sets.{is_named}
+use Rattle.acta_table.specs.Fates.{is_open}
 use Rattle.acta_objects.specs.Conflicts.{conflict_on}
 use Rattle.acta_axioms.specs.declared.behind.HeldOp.{HeldOp}
 use Rattle.acta_axioms.specs.declared.follow.Held.{Held}
 use Rattle.acta_axioms.specs.declared.heirs.Lineage.{Lineage}
 use Rattle.acta_axioms.specs.Edges.{formed_by}
 use Rattle.acta_axioms.specs.Index.{unbegun, lineage}
-use Rattle.acta_axioms.specs.Operations.{Operation, Standing, is_operate, is_open, standing, operations}
+use Rattle.acta_axioms.specs.Operations.{Operation, Standing, is_operate, standing, operations}
 
 -- an operation with how it stands
 abbrev pub held_op : Operation → Standing → HeldOp

@@ -13,6 +13,7 @@ use Rattle.acta_table.specs.declared.answer.Fate.TheVariants.{InProgress, Commit
 use Rattle.acta_table.specs.declared.model.Parts.{Parts}
 use Rattle.acta_table.specs.Classes.{spares, has_heir}
 use Rattle.acta_table.specs.Sets.{is_named}
+use Rattle.acta_table.specs.Fates.{is_open, is_aborted}
 use Rattle.acta_axioms.specs.History.{Place, number, places, has_class, parent_of, ancestors}
 
 -- an operation of a history: its number, its place, and what was asked and returned there
@@ -81,16 +82,6 @@ followed m before o t (Commit s) =
     if s.0 == t then option_map_or (λ u. held_by u.0) (heir m before t) (ended_by t Committed) else held_by t
 followed m before o t (Abort s) = if s.0 == t then ended_by t Aborted else held_by t
 followed m before o t _ = held_by t
-
--- whether an operation of this fate has not ended
-abbrev pub is_open : Fate → Bool
-is_open InProgress = true
-is_open _ = false
-
--- whether it was aborted
-abbrev pub is_aborted : Fate → Bool
-is_aborted Aborted = true
-is_aborted _ = false
 
 -- operation o, one place further; once committed or aborted it stays so
 abbrev pub carried : {A : Type 0} → Parts A → ℕ → Standing → Place A → Standing

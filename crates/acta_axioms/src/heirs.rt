@@ -2,8 +2,8 @@ ghost use Rattle.std.specs.Prelude.{◌≡◌, ◌<◌, ℕ, Option, option_map,
 ghost use Rattle.std.specs.List.{All};
 ghost use Rattle.std.specs.Option.{option_map_or};
 ghost use Rattle.acta_table.specs.Classes.{class_at, has_heir};
-ghost use Rattle.acta_table.specs.Events.{named, started, class_named};
-ghost use Rattle.acta_axioms.specs.Index.{unbegun, begun_in, class_id, spawner_by, with_start, heir_of_line, heir_in, heirs_of};
+ghost use Rattle.acta_table.specs.Events.{named};
+ghost use Rattle.acta_axioms.specs.Index.{unbegun, begun_in, spawner_by, with_start, heir_of_line, heir_in, heirs_of};
 
 use crate::index::largest_named;
 use acta_table::{AtCommit, ClassId, Event, Kept, Model, TxnId};
@@ -44,30 +44,6 @@ fn commits_to_parent<A: Allocator>(model: &Model<A>, class: ClassId) -> bool
     }
 }
 
-// The transaction that the event starts.
-fn started_by<A: Allocator>(event: &Event<A>) -> Option<TxnId>
-    ensures { option_map (λ t. t.0) result ≡ started event.now }
-{
-    match event {
-        Event::Begin(t, _) => Some(*t),
-        Event::Spawn(_, c, _) => Some(*c),
-        Event::Split(_, u, _, _) => Some(*u),
-        _ => None,
-    }
-}
-
-// The class with which the event starts a transaction.
-fn class_of_started<A: Allocator>(event: &Event<A>) -> Option<ClassId>
-    ensures { result ≡ class_id (class_named event.now) }
-{
-    match event {
-        Event::Begin(_, class) => Some(*class),
-        Event::Spawn(_, _, class) => Some(*class),
-        Event::Split(_, _, class, _) => Some(*class),
-        _ => None,
-    }
-}
-
 // The parent of the one that the event starts, by the table of those before.
 fn parent_of_started<A: Allocator>(lines: &[Lineage], event: &Event<A>) -> Option<TxnId>
     ensures { result ≡ spawner_by (begun_in lines.now) event.now }
@@ -89,9 +65,9 @@ pub fn note_start<A: Allocator>(lines: &mut [Lineage], event: &Event<A>)
     requires { All (λ t. t < length lines.old) (named event.now) }
     ensures { (t : ℕ) → get_or lines.new t unbegun ≡ with_start (begun_in lines.old) event.now t (get_or lines.old t unbegun) }
 {
-    if let Some(t) = started_by(event) {
+    if let Some(t) = event.started() {
         if !line(lines, t).is_begun {
-            let class = class_of_started(event);
+            let class = event.class();
             let parent = parent_of_started(lines, event);
             lines[t.0 as usize] = Lineage {
                 is_begun: true,

@@ -6,6 +6,8 @@
 #![tactic(auto)]
 
 mod behind;
+#[cfg(test)]
+mod edge_tests;
 mod edges;
 mod fault;
 mod follow;
@@ -14,6 +16,8 @@ mod index;
 mod places;
 #[cfg(test)]
 mod tests;
+#[cfg(test)]
+mod written;
 
 pub use fault::{Axiom, Fault};
 pub use places::Places;

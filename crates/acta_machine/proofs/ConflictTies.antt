@@ -1,17 +1,13 @@
 -- The edges of an operation by the table are those by places; they join its transaction to others in progress,
 -- and their formulas hold.
 use Rattle.std.proofs.Common.{◌≡◌, ℕ, Bool, true, false, ◌&&◌, ◌||◌, not, ◌==◌, List, [], ◌∷◌, map, filter, Option, Some, None, is_some, refl, sym, ap, ◌∙◌}
-use Rattle.std.specs.Prelude.{option_map, option_and_then, if◌then◌else◌}
+use Rattle.std.specs.Prelude.{option_and_then, if◌then◌else◌}
 use Rattle.std.specs.List.{list_any, list_all}
 use Rattle.std.specs.Option.{option_map_or}
 use Rattle.std.proofs.lemmas.Bool.{true≢false}
-use Rattle.acta_table.specs.declared.answer.Fate.{Fate}
-use Rattle.acta_table.specs.declared.answer.Fate.TheVariants.{InProgress, Committed, Aborted}
 use Rattle.acta_table.specs.declared.answer.Status.{Status}
 use Rattle.acta_table.specs.declared.dep.Dep.{Dep}
 use Rattle.acta_table.specs.declared.dep.Dep.TheVariants.{Cd, Scd, Ad, Wd, Td, Ed, Cmd, Bd, Sd, Bcd, Bad, Wcd}
-use Rattle.acta_table.specs.declared.dep.Edge.{Edge}
-use Rattle.acta_table.specs.declared.event.Event.{Event}
 use Rattle.acta_table.specs.declared.event.Event.TheVariants.{Operate}
 use Rattle.acta_table.specs.declared.event.Kept.{Kept}
 use Rattle.acta_table.specs.declared.event.ObjId.{ObjId}
@@ -25,20 +21,18 @@ use Rattle.acta_table.specs.Classes.{class_at}
 use Rattle.acta_table.specs.Dependencies.{all_kinds, is_begin_kind}
 use Rattle.acta_table.specs.Faults.{lowest_fault, fault_if}
 use Rattle.acta_table.specs.Numbered.{ascending}
-use Rattle.acta_table.specs.Policies.{refuses, forms, is_policy_kind, forms_other, is_bad_policy, edge_on, edges_upon}
-use Rattle.acta_objects.specs.Conflicts.{conflict_on}
-use Rattle.acta_axioms.specs.History.{Course, course, end}
-use Rattle.acta_axioms.specs.History as by_places
+use Rattle.acta_table.specs.Policies.{refuses, forms, is_policy_kind, forms_other, is_bad_policy, edges_upon}
+use Rattle.acta_table.specs.Fates.{is_open}
+use Rattle.acta_axioms.specs.History.{Course, end}
 use Rattle.acta_axioms.specs.Operations.{Operation, operations, standing}
 use Rattle.acta_axioms.specs.Values.{do_conflict}
 use Rattle.acta_axioms.specs.Edges.{holders_against, formed_by}
-use Rattle.acta_axioms.specs.Formulas.{is_false}
 use Rattle.acta_axioms.proofs.ByOperations.{holders-shown}
 use Rattle.acta_axioms.proofs.Conflicts.{do_conflict-on}
 use Rattle.acta_axioms.proofs.Holders.{all-ascending, all-upon}
 use Rattle.acta_deps.specs.Statuses.{is_in_progress}
 use Rattle.acta_sets.specs.declared.item.Item.{Item}
-use Rattle.acta_sets.specs.Operations.{is_open, is_of_others}
+use Rattle.acta_sets.specs.Operations.{is_of_others}
 use Rattle.acta_machine.specs.Summary.{Summary}
 use Rattle.acta_machine.specs.Changes.{summary_of}
 use Rattle.acta_machine.specs.Conflicts.{stands_against, opponents, conflict_edges}

@@ -1,5 +1,5 @@
 -- The rules on dependencies, read from the statuses, against the formulas of the edges, read from the courses.
-use Rattle.std.proofs.Common.{◌≡◌, ℕ, ◌+◌, Bool, true, false, ◌&&◌, ◌||◌, not, ◌==◌, nat_le, if◌then◌else◌, List, [], ◌∷◌, ◌++◌, map, filter, Option, Some, None, is_some, is_none, option_map, refl, sym, ap, ◌∙◌, inl, inr, eq-eqb, arith}
+use Rattle.std.proofs.Common.{◌≡◌, ℕ, ◌+◌, Bool, true, false, ◌&&◌, ◌||◌, not, ◌==◌, if◌then◌else◌, List, [], ◌∷◌, ◌++◌, map, filter, Option, Some, None, is_some, is_none, option_map, refl, sym, ap, ◌∙◌, inl, inr, eq-eqb, arith}
 use Rattle.std.specs.List.{list_any, list_all, filter_map, cons_option, position_from, enumerate_from}
 use Rattle.std.specs.Option.{option_or}
 use Rattle.std.proofs.lemmas.Bool.{true≢false, eqb-true, ne_eqb, cases_eq, and_parts, or_parts}
@@ -15,10 +15,8 @@ use Rattle.acta_table.specs.declared.dep.Dep.TheVariants.{Cd, Scd, Ad, Wd, Ed, C
 use Rattle.acta_table.specs.declared.dep.Edge.{Edge}
 use Rattle.acta_table.specs.declared.dep.Missing.{Missing}
 use Rattle.acta_table.specs.declared.dep.Missing.TheVariants.{Commit, Abort}
-use Rattle.acta_table.specs.declared.dep.Owed.{Owed}
 use Rattle.acta_table.specs.Dependencies.{is_begin_kind}
 use Rattle.acta_table.specs.Edges.{is_among, with_edge, formed}
-use Rattle.acta_table.specs.Numbers.{rule_number}
 use Rattle.acta_table.specs.Numbered.{first_number, smallest}
 use Rattle.acta_table.specs.Refusals.{broken_by}
 use Rattle.acta_deps.specs.Statuses.{with_status, has_committed, has_aborted}

@@ -4,7 +4,7 @@ use Rattle.std.proofs.Common.{◌≡◌, ℕ, ◌+◌, Bool, true, false, ◌&&�
 use Rattle.std.specs.Prelude.{is_some, IfSome, if◌then◌else◌}
 use Rattle.std.specs.List.{list_any, list_all}
 use Rattle.std.proofs.lemmas.Bool.{true≢false}
-use Rattle.acta_table.specs.declared.answer.Status.TheVariants.{NotBegun, InProgress, Committed, Aborted, Joined}
+use Rattle.acta_table.specs.declared.answer.Status.TheVariants.{NotBegun, InProgress}
 use Rattle.acta_table.specs.declared.answer.Refusal.{Refusal}
 use Rattle.acta_table.specs.declared.answer.Rule.TheVariants.{NotInProgress, AlreadyBegun, FormTooLate}
 use Rattle.acta_table.specs.declared.dep.Dep.{Dep}
@@ -25,7 +25,7 @@ use Rattle.acta_table.specs.Edges.{is_among, formed}
 use Rattle.acta_table.specs.Faults.{lowest_fault}
 use Rattle.acta_table.specs.Numbered.{smallest}
 use Rattle.acta_table.specs.Refusals.{broken_by}
-use Rattle.acta_axioms.specs.History.{Course, course, end, has_begun, has_ended}
+use Rattle.acta_axioms.specs.History.{Course, course, end, has_ended}
 use Rattle.acta_axioms.specs.Edges.{edges}
 use Rattle.acta_axioms.specs.Formulas.{is_false}
 use Rattle.acta_axioms.specs.Legal.{is_legal, owed}

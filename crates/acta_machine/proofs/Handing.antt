@@ -1,11 +1,9 @@
 -- What is handed over: the rules on it and the axioms on it say the same.
-use Rattle.std.proofs.Common.{◌≡◌, ℕ, zero, suc, ◌+◌, ◌<◌, Bool, true, false, ◌&&◌, ◌||◌, not, ◌==◌, List, [], ◌∷◌, map, filter, find, Option, Some, None, is_none, slice_get, refl, sym, ap, ◌∙◌, arith, eq-eqb}
+use Rattle.std.proofs.Common.{◌≡◌, ℕ, zero, suc, ◌+◌, ◌<◌, Bool, true, false, ◌&&◌, ◌||◌, not, ◌==◌, List, [], ◌∷◌, filter, find, Option, Some, None, is_none, slice_get, refl, sym, ap, ◌∙◌, arith, eq-eqb}
 use Rattle.std.specs.Prelude.{if◌then◌else◌}
-use Rattle.std.specs.List.{list_any, list_all, AllByRecursion}
+use Rattle.std.specs.List.{AllByRecursion}
 use Rattle.std.specs.Option.{option_map_or}
 use Rattle.std.proofs.lemmas.Bool.{true≢false, ne_eqb, eqb-true}
-use Rattle.acta_table.specs.declared.answer.Fate.{Fate}
-use Rattle.acta_table.specs.declared.answer.Fate.TheVariants.{InProgress, Committed, Aborted}
 use Rattle.acta_table.specs.declared.answer.Rule.TheVariants.{NotResponsible, BadSet}
 use Rattle.acta_table.specs.declared.event.Event.{Event}
 use Rattle.acta_table.specs.declared.event.Event.TheVariants.{Begin, Spawn, Split, Join, Delegate, Form, Operate, Commit, Abort}
@@ -14,9 +12,10 @@ use Rattle.acta_table.specs.declared.model.Parts.{Parts}
 use Rattle.acta_table.specs.Events.{operations_named}
 use Rattle.acta_table.specs.Numbered.{numbers_from, numbers_where, smallest}
 use Rattle.acta_table.specs.Sets.{numbers_of, is_named}
+use Rattle.acta_table.specs.Fates.{is_open}
 use Rattle.acta_axioms.specs.Faults.{has_number}
 use Rattle.acta_sets.specs.declared.item.Item.{Item}
-use Rattle.acta_sets.specs.Operations.{is_open, is_held, operation_at, is_open_in, are_open}
+use Rattle.acta_sets.specs.Operations.{is_held, operation_at, are_open}
 use Rattle.acta_machine.specs.Summary.{Summary}
 use Rattle.acta_machine.specs.Rules.{is_of_another, not_held, unknown_in, left_out, not_responsible, bad_set}
 use Rattle.acta_machine.proofs.Broken.{by_none}

@@ -9,14 +9,13 @@ use Rattle.acta_sets.specs.Operations.{moved_from}
 use Rattle.acta_table.specs.declared.model.Parts.{Parts}
 use Rattle.acta_table.specs.declared.event.Event.TheVariants.{Begin, Spawn, Split, Join, Delegate, Form, Operate, Commit, Abort}
 use Rattle.acta_table.specs.declared.event.Kept.{Kept}
-use Rattle.acta_table.specs.declared.answer.Status.{Status}
 use Rattle.acta_table.specs.declared.answer.Status.TheVariants.{NotBegun, Committed}
 use Rattle.acta_deps.specs.Deps.{DepState}
 use Rattle.acta_sets.specs.declared.item.Item.{Item}
 use Rattle.acta_machine.specs.Summary.{Summary, nothing_yet, stood, entered, linked, given, inherited, operated, fated, counted}
 use Rattle.acta_machine.specs.Changes.{edges_due, settled, effect, summary_from, summary_of}
 use Rattle.acta_machine.specs.Families.{heir_of}
-use Rattle.acta_machine.specs.Shown.{unborn, origin_in, summary_in}
+use Rattle.acta_machine.specs.Shown.{unbegun, origin_in, summary_in}
 
 summary_from_more : {A : Type 0} (m : Parts A) (s : Summary) (history : List (Kept A)) (k : Kept A) → summary_from m s (history ++ k ∷ []) ≡ effect m (summary_from m s history) k.event
 summary_from_more m s [] k = refl
@@ -36,12 +35,12 @@ fresh_table {X} x table is_fresh u =
     ∙ unwrap_or-slice_get (replicate 4096 x) u x ∙ fresh_entry x 4096 u
 
 -- fresh tables with nothing kept show the summary before any event
-pub fresh_summary : {A : Type 0} (m : Parts A) (deps : DepState) (origins : List Origin) (operations : List Item) (kept : List (Kept A)) → deps ≡ record { statuses = replicate 4096 NotBegun; edges = [] } → origins ≡ replicate 4096 unborn → operations ≡ [] → kept ≡ [] → summary_in deps origins operations kept ≡ summary_of m kept
+pub fresh_summary : {A : Type 0} (m : Parts A) (deps : DepState) (origins : List Origin) (operations : List Item) (kept : List (Kept A)) → deps ≡ record { statuses = replicate 4096 NotBegun; edges = [] } → origins ≡ replicate 4096 unbegun → operations ≡ [] → kept ≡ [] → summary_in deps origins operations kept ≡ summary_of m kept
 unfolding summary_of
 fresh_summary m deps origins operations kept new none no_operation empty =
     let statuses = ap (λ (d : DepState). d.statuses) new in
     let edges = ap (λ (d : DepState). d.edges) new in
-    let origin : (u : ℕ) → origin_in origins u ≡ unborn = fresh_table unborn origins none in
+    let origin : (u : ℕ) → origin_in origins u ≡ unbegun = fresh_table unbegun origins none in
     let shows : summary_in deps origins operations kept ≡ nothing_yet =
     λ i. record {
       kept = length (empty i);

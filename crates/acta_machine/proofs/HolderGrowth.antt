@@ -1,5 +1,5 @@
 -- Who holds an operation in progress is in progress, and stays so when one event has its effect.
-use Rattle.std.proofs.Common.{◌≡◌, ℕ, ◌+◌, ◌==◌, Bool, true, false, ◌&&◌, ◌||◌, not, List, [], ◌∷◌, ◌++◌, map, Option, Some, None, refl, sym, ap, ◌∙◌, eq-eqb, inl, inr}
+use Rattle.std.proofs.Common.{◌≡◌, ℕ, ◌+◌, ◌==◌, Bool, true, false, ◌&&◌, ◌||◌, not, List, [], ◌∷◌, ◌++◌, map, refl, ap, eq-eqb, inl, inr}
 use Rattle.std.specs.Prelude.{if◌then◌else◌}
 use Rattle.std.specs.List.{list_all}
 use Rattle.std.proofs.lemmas.Bool.{ne_eqb, cases_eq}
@@ -12,9 +12,10 @@ use Rattle.acta_table.specs.declared.event.Op.{Op}
 use Rattle.acta_table.specs.declared.event.OpNo.{OpNo}
 use Rattle.acta_table.specs.declared.event.TxnId.{TxnId}
 use Rattle.acta_table.specs.Sets.{is_named}
+use Rattle.acta_table.specs.Fates.{is_open}
 use Rattle.acta_deps.specs.Statuses.{is_in_progress, with_status}
 use Rattle.acta_sets.specs.declared.item.Item.{Item}
-use Rattle.acta_sets.specs.Operations.{is_open, handed_item, handed, ended_item, ended, moved_from, moved, added}
+use Rattle.acta_sets.specs.Operations.{handed_item, handed, ended_item, ended, moved_from, moved, added}
 use Rattle.acta_machine.specs.Places.{is_held_well}
 
 both : (a b : Bool) → (a && b) ≡ true → (a ≡ true) × (b ≡ true)

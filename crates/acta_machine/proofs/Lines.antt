@@ -1,5 +1,5 @@
 -- The line of ancestors, walked one by one.
-use Rattle.std.proofs.Common.{◌≡◌, ℕ, suc, ◌+◌, ◌-◌, ◌<◌, ◌∷◌, List, Option, Some, sym, ap, ◌∙◌, arith}
+use Rattle.std.proofs.Common.{◌≡◌, ℕ, suc, ◌+◌, ◌-◌, ◌<◌, ◌∷◌, Option, Some, sym, ap, ◌∙◌, arith}
 use Rattle.acta_table.specs.declared.event.TxnId.{TxnId}
 use Rattle.acta_table.specs.Ancestors.{ancestors_from}
 

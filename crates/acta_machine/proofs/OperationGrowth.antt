@@ -20,11 +20,12 @@ use Rattle.acta_table.specs.declared.model.Parts.{Parts}
 use Rattle.acta_table.specs.declared.event.Event.{Event}
 use Rattle.acta_table.specs.declared.event.OpNo.{OpNo}
 use Rattle.acta_table.specs.Sets.{is_named}
+use Rattle.acta_table.specs.Fates.{is_open}
 use Rattle.acta_axioms.specs.History.{places_behind}
-use Rattle.acta_axioms.specs.Operations.{Operation, Standing, held_by, ended_by, heir, carried, followed, standing, operations, is_operate, number_after, operation_in, operation_at}
+use Rattle.acta_axioms.specs.Operations.{Operation, Standing, held_by, ended_by, heir, carried, standing, operations, is_operate, number_after, operation_in, operation_at}
 use Rattle.acta_axioms.proofs.Growth.{at_end, shown-push, number_after-push}
 use Rattle.acta_sets.specs.declared.item.Item.{Item}
-use Rattle.acta_sets.specs.Operations.{is_open, is_held, handed_item, handed, ended_item, ended, moved_from, moved, added}
+use Rattle.acta_sets.specs.Operations.{is_held, handed_item, handed, ended_item, ended, moved_from, moved, added}
 use Rattle.acta_machine.specs.Places.{item_of, items_at}
 use Rattle.acta_machine.proofs.Handing.{holds}
 
@@ -33,7 +34,7 @@ map-same f g same [] = refl
 map-same f g same (x ∷ xs) = λ i. same x i ∷ map-same f g same xs i
 
 -- an event that ends nobody leaves an operation as it stands
-idle : (fate : Fate) (t : ℕ) → (if Rattle.acta_axioms.specs.Operations.is_open fate then held_by t else record { holder = t; fate = fate }) ≡ record { holder = t; fate = fate }
+idle : (fate : Fate) (t : ℕ) → (if is_open fate then held_by t else record { holder = t; fate = fate }) ≡ record { holder = t; fate = fate }
 idle InProgress t = refl
 idle Committed t = refl
 idle Aborted t = refl
@@ -78,7 +79,7 @@ and_false false = refl
 
 -- what is handed over, by the table and by places
 gives : (t : ℕ) (u : TxnId) (b : Bool) (o : Operation) (holder : ℕ) (fate : Fate) → (b ≡ true → ((holder == t) && is_open fate) ≡ true) →
-    item_of o (if Rattle.acta_axioms.specs.Operations.is_open fate then (if (t == holder) && b then held_by u.0 else held_by holder) else record { holder = holder; fate = fate })
+    item_of o (if is_open fate then (if (t == holder) && b then held_by u.0 else held_by holder) else record { holder = holder; fate = fate })
     ≡ (if b then record (item_of o (record { holder = holder; fate = fate })) { holder = u } else item_of o (record { holder = holder; fate = fate }))
 gives t u false o holder InProgress held = kept (t == holder)
   where
@@ -140,7 +141,7 @@ operations-split {A} m h ret t u class ops held =
 
 -- what t held when it joins u, by the table and by places
 hands : (t v : ℕ) (u : TxnId) (o : Operation) (old : Fate) →
-    item_of o (if Rattle.acta_axioms.specs.Operations.is_open old then (if t == v then held_by u.0 else held_by v) else record { holder = v; fate = old })
+    item_of o (if is_open old then (if t == v then held_by u.0 else held_by v) else record { holder = v; fate = old })
     ≡ handed_item t u (item_of o (record { holder = v; fate = old }))
 hands t v u o Committed = elim (cases_eq v t) [ inl e ↦ rw (eq-eqb v t e) refl | inr ne ↦ rw (ne_eqb v t ne) refl ]
 hands t v u o Aborted = elim (cases_eq v t) [ inl e ↦ rw (eq-eqb v t e) refl | inr ne ↦ rw (ne_eqb v t ne) refl ]
@@ -160,7 +161,7 @@ operations-join {A} m h ret t u =
 
 -- the end of t, by the table and by places
 ends : (t u : ℕ) (o : Operation) (fate old : Fate) →
-    item_of o (if Rattle.acta_axioms.specs.Operations.is_open old then (if t == u then ended_by u fate else held_by u) else record { holder = u; fate = old })
+    item_of o (if is_open old then (if t == u then ended_by u fate else held_by u) else record { holder = u; fate = old })
     ≡ ended_item t fate (item_of o (record { holder = u; fate = old }))
 ends t u o fate Committed = elim (cases_eq u t) [ inl e ↦ rw (eq-eqb u t e) refl | inr ne ↦ rw (ne_eqb u t ne) refl ]
 ends t u o fate Aborted = elim (cases_eq u t) [ inl e ↦ rw (eq-eqb u t e) refl | inr ne ↦ rw (ne_eqb u t ne) refl ]
@@ -173,7 +174,7 @@ ends t u o fate InProgress =
 -- the commit of t, by places, where the heirs are these
 abbrev settled_by : (ℕ → Option TxnId) → ℕ → ℕ → Fate → Standing
 settled_by heirs t v old =
-    if Rattle.acta_axioms.specs.Operations.is_open old
+    if is_open old
     then (if t == v then option_map_or (λ u. held_by u.0) (heirs v) (ended_by v Committed) else held_by v)
     else record { holder = v; fate = old }
 

@@ -1,20 +1,19 @@
 -- The sets and values that the machine's readers show are those by places.
-use Rattle.std.proofs.Common.{◌≡◌, ℕ, Bool, true, false, ◌&&◌, not, ◌==◌, List, [], ◌∷◌, map, filter, Option, Some, None, refl, sym, ap, ◌∙◌}
+use Rattle.std.proofs.Common.{◌≡◌, ℕ, Bool, true, false, ◌&&◌, ◌==◌, List, [], ◌∷◌, map, filter, Option, Some, None, refl, sym, ap, ◌∙◌}
 use Rattle.std.specs.Prelude.{if◌then◌else◌, option_map}
 use Rattle.std.proofs.lemmas.Simd.{map-map}
 use Rattle.acta_table.specs.declared.event.Kept.{Kept}
-use Rattle.acta_table.specs.declared.answer.Fate.{Fate}
-use Rattle.acta_table.specs.declared.answer.Fate.TheVariants.{InProgress, Committed, Aborted}
 use Rattle.acta_table.specs.declared.model.Kind.{Kind}
 use Rattle.acta_table.specs.declared.model.Parts.{Parts}
 use Rattle.acta_table.specs.Classes.{kind_at}
 use Rattle.acta_table.specs.Numbered.{numbers_where}
+use Rattle.acta_table.specs.Fates.{is_open}
 use Rattle.acta_objects.specs.Objects.{first_state, state_after}
 use Rattle.acta_axioms.specs.Operations.{Operation, standing, operations}
 use Rattle.acta_axioms.specs.Operations as by_places
 use Rattle.acta_axioms.proofs.Numbers.{numbers-shown}
 use Rattle.acta_sets.specs.declared.item.Item.{Item}
-use Rattle.acta_sets.specs.Operations.{is_open, is_aborted, is_held, is_of_others, is_live, operations_where}
+use Rattle.acta_sets.specs.Operations.{is_held, is_of_others, is_live, operations_where}
 use Rattle.acta_machine.specs.Values.{live_ops}
 use Rattle.acta_machine.specs.Changes.{summary_of}
 use Rattle.acta_machine.specs.Families.{spared}
@@ -41,27 +40,17 @@ and_swap true false = refl
 and_swap false true = refl
 and_swap false false = refl
 
-open_alike : (fate : Fate) → is_open fate ≡ by_places.is_open fate
-open_alike InProgress = refl
-open_alike Committed = refl
-open_alike Aborted = refl
-
-aborted_alike : (fate : Fate) → is_aborted fate ≡ by_places.is_aborted fate
-aborted_alike InProgress = refl
-aborted_alike Committed = refl
-aborted_alike Aborted = refl
-
 -- the numbers of t's access set by places, by the table
 pub held-places : {A : Type 0} (m : Parts A) (h : List (Kept A)) (items : List Item) (t : ℕ) → items ≡ items_at m h → map (λ o. o.number) (by_places.access_set m h t) ≡ numbers_where (is_held t) items
 held-places m h items t same =
-    ap (map (λ (o : Operation). o.number)) (sym (filter-same (λ o. is_held t (item_of o (standing m h o))) (λ o. by_places.is_held_by t (standing m h o)) (λ o. let s = standing m h o in and_swap (s.holder == t) (is_open s.fate) ∙ ap (λ b. b && (s.holder == t)) (open_alike s.fate)) (operations h)))
+    ap (map (λ (o : Operation). o.number)) (sym (filter-same (λ o. is_held t (item_of o (standing m h o))) (λ o. by_places.is_held_by t (standing m h o)) (λ o. let s = standing m h o in and_swap (s.holder == t) (is_open s.fate)) (operations h)))
     ∙ numbers-shown (λ o. item_of o (standing m h o)) (is_held t) h
     ∙ ap (numbers_where (is_held t)) (sym same)
 
 pub access-places : {A : Type 0} (state : State A) (t : ℕ) → FollowsPlaces state → access_set_in state t ≡ numbers_of (by_places.access_set state.model state.kept t)
 access-places state t follows =
     where-places state.model state.kept _ (is_held t) (λ o. by_places.is_held_by t (standing state.model state.kept o)) follows.shows.operations
-    (λ o. let s = standing state.model state.kept o in and_swap (s.holder == t) (is_open s.fate) ∙ ap (λ b. b && (s.holder == t)) (open_alike s.fate))
+    (λ o. let s = standing state.model state.kept o in and_swap (s.holder == t) (is_open s.fate))
 
 pub conflict-places : {A : Type 0} (state : State A) (t : ℕ) → FollowsPlaces state → conflict_set_in state t ≡ numbers_of (by_places.conflict_set state.model state.kept t)
 conflict-places state t follows =
@@ -71,7 +60,7 @@ conflict-places state t follows =
 pub view-places : {A : Type 0} (state : State A) → FollowsPlaces state → view_set_in state ≡ numbers_of (by_places.view_set state.model state.kept)
 view-places state follows =
     where-places state.model state.kept _ is_live (λ o. by_places.is_in_view (standing state.model state.kept o)) follows.shows.operations
-    (λ o. ap not (aborted_alike (standing state.model state.kept o).fate))
+    (λ o. refl)
 
 pub values-places : {A : Type 0} (state : State A) (object : ℕ) → FollowsPlaces state → value_in state object ≡ value_at state object
 values-places {A} state object follows = of (kind_at state.model object)

@@ -1,11 +1,11 @@
 -- The edges that a spawn or a split forms: they bar no start, nothing is owed by them, and their formulas hold.
-use Rattle.std.proofs.Common.{◌≡◌, ℕ, zero, suc, Bool, true, false, ◌&&◌, ◌||◌, not, ◌==◌, List, [], ◌∷◌, map, slice_get, Option, Some, None, is_some, refl, sym, ap, ◌∙◌, eq-eqb}
+use Rattle.std.proofs.Common.{◌≡◌, ℕ, zero, suc, Bool, true, false, ◌&&◌, not, ◌==◌, List, [], ◌∷◌, slice_get, Option, Some, None, is_some, refl, ap, eq-eqb}
 use Rattle.std.specs.Prelude.{if◌then◌else◌}
 use Rattle.std.specs.List.{list_any, list_all}
-use Rattle.std.specs.Option.{option_map_or, option_or}
+use Rattle.std.specs.Option.{option_map_or}
 use Rattle.std.proofs.lemmas.Bool.{or_parts}
 use Rattle.acta_table.specs.declared.answer.Status.{Status}
-use Rattle.acta_table.specs.declared.answer.Status.TheVariants.{NotBegun, InProgress}
+use Rattle.acta_table.specs.declared.answer.Status.TheVariants.{InProgress}
 use Rattle.acta_table.specs.declared.dep.Dep.{Dep}
 use Rattle.acta_table.specs.declared.dep.Edge.{Edge}
 use Rattle.acta_table.specs.declared.event.ClassId.{ClassId}

@@ -12,7 +12,7 @@ use Rattle.acta_table.specs.declared.event.Ret.{Ret}
 use Rattle.acta_table.specs.declared.answer.Status.{Status}
 use Rattle.acta_table.specs.declared.answer.Status.TheVariants.{NotBegun, InProgress, Committed, Aborted, Joined}
 use Rattle.acta_table.specs.Events.{class_named}
-use Rattle.acta_axioms.specs.History.{Place, number, first, starts, course, has_begun, has_ended, class_number, spawner, parent_of}
+use Rattle.acta_axioms.specs.History.{Place, number, first, starts, has_begun, has_ended, class_number, spawner, parent_of}
 use Rattle.acta_axioms.specs.Claims.{status_at}
 use Rattle.acta_axioms.proofs.Growth.{class_number-push, parent_of-push}
 use Rattle.acta_axioms.proofs.Statuses.{is_under_way, is_ended_status, has_begun-status, has_ended-status, when_begun, when_aborted, when_joined, status_after, status_at-push}

@@ -1,16 +1,9 @@
 -- Tables by number, seen as functions of the number.
-use Rattle.std.proofs.Common.{◌≡◌, sym, ap, ◌∙◌, ℕ, Option, ◌<◌, List, length, slice_get, slice_set, unwrap_or, eq-eqb, inl, inr}
+use Rattle.std.proofs.Common.{◌≡◌, sym, ◌∙◌, ℕ, ◌<◌, List, length, slice_get, slice_set, unwrap_or, eq-eqb, inl, inr}
 use Rattle.std.proofs.lemmas.Bool.{ne_eqb, cases_eq}
 use Rattle.std.proofs.lemmas.Option.{unwrap_or-slice_get}
 use Rattle.std.proofs.lemmas.List.{get_or-set_same, get_or-set_other}
-use Rattle.acta_table.specs.declared.event.ClassId.{ClassId}
-use Rattle.acta_table.specs.declared.event.TxnId.{TxnId}
-use Rattle.acta_table.specs.declared.event.Kept.{Kept}
-use Rattle.acta_table.specs.declared.answer.Status.{Status}
-use Rattle.acta_table.specs.declared.answer.Status.TheVariants.{NotBegun}
-use Rattle.acta_sets.specs.declared.item.Item.{Item}
-use Rattle.acta_machine.specs.Summary.{with_entry, stood}
-use Rattle.acta_machine.specs.Shown.{summary_in}
+use Rattle.acta_machine.specs.Summary.{with_entry}
 
 at_set : {X : Type 0} (none : X) (xs : List X) (t : ℕ) (x : X) → t < length xs → (u : ℕ) → unwrap_or (slice_get (slice_set xs t x) u) none ≡ with_entry (λ v. unwrap_or (slice_get xs v) none) t x u
 at_set none xs t x h u =

@@ -12,6 +12,7 @@ use Rattle.acta_table.specs.declared.model.Kind.{Kind}
 use Rattle.acta_table.specs.declared.model.Parts.{Parts}
 use Rattle.acta_table.specs.Classes.{kind_at}
 use Rattle.acta_table.specs.Numbered.{first_number}
+use Rattle.acta_table.specs.Fates.{is_open, is_aborted}
 use Rattle.acta_objects.specs.Objects.{suits, first_state, state_after, returned}
 use Rattle.acta_objects.specs.Conflicts.{conflict_on}
 use Rattle.acta_axioms.specs.Operations.{Operation, Standing, standing, operations, is_in_view, view_set, conflict_set}
@@ -20,7 +21,7 @@ use Rattle.acta_axioms.specs.Values.{asked_of, is_well_formed, do_conflict, conf
 use Rattle.acta_axioms.specs.Values as by_places_value
 use Rattle.acta_axioms.proofs.ByOperations.{value-shown}
 use Rattle.acta_sets.specs.declared.item.Item.{Item}
-use Rattle.acta_sets.specs.Operations.{is_among, is_of_others}
+use Rattle.acta_sets.specs.Operations.{is_of_others}
 use Rattle.acta_machine.specs.Values.{live_on, live_ops}
 use Rattle.acta_machine.specs.Conflicts.{stands_against}
 use Rattle.acta_machine.specs.Changes.{summary_of}
@@ -29,8 +30,8 @@ use Rattle.acta_machine.specs.Places.{item_of, items_at, ShowsPlaces}
 use Rattle.acta_machine.proofs.FamilyTies.{spared-places}
 
 pick_live : (here : Bool) (fate : Fate) (fits : Bool) (op : Op) →
-    (if here && not (Rattle.acta_sets.specs.Operations.is_aborted fate) && fits then Some op else None)
-    ≡ (if not (by_places.is_aborted fate) then (if here && fits then Some op else None) else None)
+    (if here && not (is_aborted fate) && fits then Some op else None)
+    ≡ (if not (is_aborted fate) then (if here && fits then Some op else None) else None)
 pick_live true InProgress fits op = refl
 pick_live true Committed fits op = refl
 pick_live true Aborted fits op = refl
@@ -73,17 +74,11 @@ both : (a b : Bool) → (a && b) ≡ true → (a ≡ true) × (b ≡ true)
 both true b e = (refl, e)
 both false b e = absurd (true≢false (sym e))
 
-pub others_alike : (fate : Fate) (t holder : ℕ) (spared : Bool) → (by_places.is_open fate && not (holder == t) && not spared) ≡ (Rattle.acta_sets.specs.Operations.is_open fate && not (holder == t) && not spared)
-others_alike InProgress t holder spared = refl
-others_alike Committed t holder spared = refl
-others_alike Aborted t holder spared = refl
-
 -- the operations of others by the table are those by places
 pub others-places : {A : Type 0} (m : Parts A) (h : List (Kept A)) → ShowsPlaces m h (summary_of m h) → (t : ℕ) (o : Operation) → is_of_others t (spared m (summary_of m h) t) (item_of o (standing m h o)) ≡ by_places.is_of_others m h t (standing m h o)
 others-places m h shows t o =
     let s = standing m h o in
-    sym (others_alike s.fate t s.holder (is_among (spared m (summary_of m h) t) (record { 0 = s.holder })))
-    ∙ ap (λ b. by_places.is_open s.fate && not (s.holder == t) && not b) (sym (spared-places m h shows t (record { 0 = s.holder })))
+    ap (λ b. is_open s.fate && not (s.holder == t) && not b) (sym (spared-places m h shows t (record { 0 = s.holder })))
 
 -- where nothing in the table stands against an operation, nothing conflicts by places
 pub conflicting-none : {A : Type 0} (m : Parts A) (h : List (Kept A)) (t : ℕ) (ob : ObjId) (op : Op) → ShowsPlaces m h (summary_of m h) → first_number (stands_against m (summary_of m h) t ob op) (summary_of m h).operations ≡ None → conflicting m h t ob.0 op ≡ []

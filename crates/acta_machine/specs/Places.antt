@@ -11,6 +11,7 @@ use Rattle.acta_table.specs.declared.answer.Rule.{Rule}
 use Rattle.acta_table.specs.declared.answer.Status.{Status}
 use Rattle.acta_table.specs.Classes.{kind_at, has_heir}
 use Rattle.acta_table.specs.Numbers.{rule_number}
+use Rattle.acta_table.specs.Fates.{is_open}
 use Rattle.acta_objects.specs.declared.state.ObjectState.{ObjectState}
 use Rattle.acta_axioms.specs.History.{class_number, has_class, parent_of}
 use Rattle.acta_axioms.specs.Operations.{Operation, Standing, operations, standing}
@@ -20,7 +21,6 @@ use Rattle.acta_axioms.specs.Legal.{is_legal}
 use Rattle.acta_axioms.specs.Claims.{MeetsAxioms, IsOrderly, status_at}
 use Rattle.acta_deps.specs.Statuses.{is_in_progress}
 use Rattle.acta_sets.specs.declared.item.Item.{Item}
-use Rattle.acta_sets.specs.Operations.{is_open}
 use Rattle.acta_machine.specs.Summary.{Summary}
 use Rattle.acta_machine.specs.Changes.{summary_of}
 use Rattle.acta_machine.specs.Rules.{earlier_broken}

@@ -8,12 +8,12 @@ use Rattle.acta_machine.specs.declared.board.Origin.{Origin}
 use Rattle.acta_machine.specs.Summary.{Summary}
 
 -- the origin of one that has not begun
-abbrev pub unborn : Origin
-unborn = record { class = None; parent = None }
+abbrev pub unbegun : Origin
+unbegun = record { class = None; parent = None }
 
 -- the origin of a transaction by the table, which has none for those behind its end
 abbrev pub origin_in : List Origin → ℕ → Origin
-origin_in origins t = unwrap_or (slice_get origins t) unborn
+origin_in origins t = unwrap_or (slice_get origins t) unbegun
 
 -- statuses and edges, the table of origins by number, the operations, and the events kept
 abbrev pub summary_in : {A : Type 0} → DepState → List Origin → List Item → List (Kept A) → Summary

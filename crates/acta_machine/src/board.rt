@@ -4,7 +4,8 @@ ghost use Rattle.acta_table.specs.WellFormed.{bad_number};
 ghost use Rattle.acta_objects.specs.Limits.{IsSmall};
 ghost use Rattle.acta_table.specs.Events.{operations_named};
 ghost use Rattle.acta_deps.specs.Debts.{owed_in};
-ghost use Rattle.acta_sets.specs.Operations.{is_open, are_open};
+ghost use Rattle.acta_table.specs.Fates.{is_open};
+ghost use Rattle.acta_sets.specs.Operations.{are_open};
 ghost use Rattle.acta_table.specs.Faults.{lowest_fault};
 ghost use Rattle.acta_table.specs.Edges.{formed};
 ghost use Rattle.acta_table.specs.Starts.{edges_between};
@@ -40,7 +41,7 @@ pub(crate) struct Origin {
 
 impl Origin {
     /// The origin of one that has not begun.
-    pub(crate) const UNBORN: Origin = Origin {
+    pub(crate) const UNBEGUN: Origin = Origin {
         class: None,
         parent: None,
     };
@@ -249,7 +250,7 @@ impl<A: Allocator> Board<A> {
     {
         match self.origins.get(t.0 as usize) {
             Some(origin) => *origin,
-            None => Origin::UNBORN,
+            None => Origin::UNBEGUN,
         }
     }
 

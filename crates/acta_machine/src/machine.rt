@@ -1,6 +1,6 @@
 ghost use Rattle.std.specs.Prelude.{◌≡◌, ◌≤◌, length, None, OnOk, OnErr, IfOk, replicate};
 ghost use Rattle.acta_machine.specs.Changes.{summary_of};
-ghost use Rattle.acta_machine.specs.Shown.{unborn};
+ghost use Rattle.acta_machine.specs.Shown.{unbegun};
 ghost use Rattle.acta_axioms.specs.Claims.{status_at};
 ghost use Rattle.acta_axioms.specs.Edges as edges_by_places;
 ghost use Rattle.acta_axioms.specs.Legal as debts_by_places;
@@ -44,9 +44,9 @@ impl<A: Allocator> std::marker::Model for Machine<A> {
 
 // The origins of transactions that have not begun.
 fn no_origins<A: Allocator>(alloc: A) -> Result<Vec<Origin, A>, AllocError>
-    ensures { IfOk result (λ table. table.items ≡ replicate 4096 unborn) }
+    ensures { IfOk result (λ table. table.items ≡ replicate 4096 unbegun) }
 {
-    let origin = Origin::UNBORN;
+    let origin = Origin::UNBEGUN;
     vec![in alloc; origin; TABLE_SIZE]
 }
 

@@ -46,34 +46,12 @@ fn acting_of<A: Allocator>(event: &Event<A>) -> Option<TxnId>
     }
 }
 
-// The transaction that is started.
-fn started_of<A: Allocator>(event: &Event<A>) -> Option<TxnId>
-    ensures { started event.now ≡ option_map (λ t. t.0) result }
-{
-    match event {
-        Event::Begin(t, _) | Event::Spawn(_, t, _) | Event::Split(_, t, _, _) => Some(*t),
-        _ => None,
-    }
-}
-
 // The transaction that is handed something, and has to be in progress too.
 fn partner_of<A: Allocator>(event: &Event<A>) -> Option<TxnId>
     ensures { partner event.now ≡ option_map (λ t. t.0) result }
 {
     match event {
         Event::Join(_, u) | Event::Delegate(_, u, _) => Some(*u),
-        _ => None,
-    }
-}
-
-// The class that is named.
-fn class_of<A: Allocator>(event: &Event<A>) -> Option<ClassId>
-    ensures { class_named event.now ≡ option_map (λ class. class.0) result }
-{
-    match event {
-        Event::Begin(_, class) | Event::Spawn(_, _, class) | Event::Split(_, _, class, _) => {
-            Some(*class)
-        }
         _ => None,
     }
 }
@@ -198,7 +176,7 @@ impl<A: Allocator + Copy> Board<A> {
     fn bad_class(&self, event: &Event<A>) -> Option<Refusal>
         ensures { result ≡ bad_class self.now.model event.now }
     {
-        let class = class_of(event)?;
+        let class = event.class()?;
         if (class.0 as usize) < self.model.classes().len() {
             None
         } else {
@@ -247,7 +225,7 @@ impl<A: Allocator + Copy> Board<A> {
     fn already_begun(&self, event: &Event<A>) -> Option<Refusal>
         ensures { result ≡ already_begun (shown self.now) event.now }
     {
-        let t = started_of(event)?;
+        let t = event.started()?;
         if self.status(t) == Status::NotBegun {
             None
         } else {

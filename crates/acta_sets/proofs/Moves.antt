@@ -10,8 +10,9 @@ use Rattle.std.proofs.lemmas.List.Folds.{list_any-append}
 use Rattle.acta_table.specs.declared.event.TxnId.{TxnId}
 use Rattle.acta_table.specs.declared.event.OpNo.{OpNo}
 use Rattle.acta_sets.specs.declared.item.Item.{Item}
-use Rattle.acta_sets.specs.Operations.{is_open, operation_at, is_open_in, are_open, moved_from, moved}
+use Rattle.acta_sets.specs.Operations.{operation_at, is_open_in, are_open, moved_from, moved}
 use Rattle.acta_table.specs.Sets.{is_named}
+use Rattle.acta_table.specs.Fates.{is_open}
 
 -- an operation, held by u where it is named
 abbrev held_if : Bool → TxnId → Item → Item

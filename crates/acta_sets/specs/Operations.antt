@@ -1,5 +1,5 @@
 -- The operations of a history, numbered from 1 on: the sets of them, and what changes them.
-use Rattle.std.specs.Prelude.{ℕ, zero, suc, ◌+◌, Bool, true, false, ◌&&◌, not, ◌==◌, List, [], ◌∷◌, ◌++◌, map, if◌then◌else◌, Option, None, slice_get}
+use Rattle.std.specs.Prelude.{ℕ, zero, suc, ◌+◌, Bool, false, ◌&&◌, not, ◌==◌, List, [], ◌∷◌, ◌++◌, map, if◌then◌else◌, Option, None, slice_get}
 use Rattle.std.specs.List.{list_any, list_all}
 use Rattle.std.specs.Option.{option_map_or}
 use Rattle.acta_table.specs.declared.event.TxnId.{TxnId}
@@ -7,20 +7,11 @@ use Rattle.acta_table.specs.declared.event.ObjId.{ObjId}
 use Rattle.acta_table.specs.declared.event.OpNo.{OpNo}
 use Rattle.acta_table.specs.declared.event.Op.{Op}
 use Rattle.acta_table.specs.declared.answer.Fate.{Fate}
-use Rattle.acta_table.specs.declared.answer.Fate.TheVariants.{InProgress, Aborted}
+use Rattle.acta_table.specs.declared.answer.Fate.TheVariants.{InProgress}
 use Rattle.acta_table.specs.Numbered.{numbers_where}
 use Rattle.acta_table.specs.Sets.{is_named}
+use Rattle.acta_table.specs.Fates.{is_open, is_aborted}
 use Rattle.acta_sets.specs.declared.item.Item.{Item}
-
--- still in progress
-abbrev pub is_open : Fate → Bool
-is_open InProgress = true
-is_open _ = false
-
--- aborted
-abbrev pub is_aborted : Fate → Bool
-is_aborted Aborted = true
-is_aborted _ = false
 
 -- whether t holds the operation in progress
 abbrev pub is_held : ℕ → Item → Bool

@@ -1,5 +1,6 @@
 ghost use Rattle.std.specs.Prelude.{◌≡◌, ◌<◌, ◌≤◌, ◌+◌, [], true, false, IfOk, OnOk, OnErr, length};
-ghost use Rattle.acta_sets.specs.Operations.{is_open, are_open, access_set, conflict_set, view_set, added, moved, ended, handed};
+ghost use Rattle.acta_table.specs.Fates.{is_open};
+ghost use Rattle.acta_sets.specs.Operations.{are_open, access_set, conflict_set, view_set, added, moved, ended, handed};
 
 use crate::item::Item;
 use crate::selection::{Selection, numbers_of};

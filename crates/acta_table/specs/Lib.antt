@@ -3,6 +3,7 @@ pub mod Classes
 pub mod Dependencies
 pub mod Edges
 pub mod Events
+pub mod Fates
 pub mod Faults
 pub mod Kinds
 pub mod Numbered

@@ -1,5 +1,5 @@
-ghost use Rattle.std.specs.Prelude.{◌≡◌, IfOk};
-ghost use Rattle.acta_table.specs.Events.{kind_of};
+ghost use Rattle.std.specs.Prelude.{◌≡◌, option_map, IfOk};
+ghost use Rattle.acta_table.specs.Events.{kind_of, started, class_named};
 
 use crate::dep::Dep;
 use crate::op_set::OpSet;
@@ -114,6 +114,28 @@ impl<A: Allocator> Event<A> {
             Event::Operate(_, _, _) => EventKind::Operate,
             Event::Commit(_) => EventKind::Commit,
             Event::Abort(_) => EventKind::Abort,
+        }
+    }
+
+    /// The transaction that the event starts, by a begin, a spawn or a split.
+    pub fn started(&self) -> Option<TxnId>
+        ensures { option_map (λ t. t.0) result ≡ started self.now }
+    {
+        match self {
+            Event::Begin(t, _) | Event::Spawn(_, t, _) | Event::Split(_, t, _, _) => Some(*t),
+            _ => None,
+        }
+    }
+
+    /// The class that the event names for the transaction that it starts.
+    pub fn class(&self) -> Option<ClassId>
+        ensures { option_map (λ class. class.0) result ≡ class_named self.now }
+    {
+        match self {
+            Event::Begin(_, class) | Event::Spawn(_, _, class) | Event::Split(_, _, class, _) => {
+                Some(*class)
+            }
+            _ => None,
         }
     }
 }

@@ -10,13 +10,12 @@ use crate::models::{
     atomic, contingent, delegating, families, lending, nested, nesting, parting, recoverable,
     split_join,
 };
-use crate::places::status_by;
 use crate::script::{access_set, conflict_set, debts, event, has_edges, is_due, parted, view_set};
 use acta_axioms::Places;
 use acta_machine::Machine;
 use acta_table::{
     ClassId, Dep, Dependent, Edge, EdgeNo, Event, Extent, Fate, Kept, Model, OpNo, Owed, Scope,
-    StartEdge, TxnId,
+    StartEdge, Status, TxnId,
 };
 use std::alloc::{AllocError, Allocator};
 use std::process::Abort;
@@ -103,6 +102,21 @@ fn shows_sets<A: Allocator + Copy>(
         shows &= access.contains(&op) == is_held && others.contains(&op) == is_other;
     }
     Ok(shows)
+}
+
+// How a transaction stands, by its first places.
+fn status_by<A: Allocator>(places: &Places<'_, A>, t: TxnId) -> Status {
+    if places.commit(t).is_some() {
+        Status::Committed
+    } else if places.abort(t).is_some() {
+        Status::Aborted
+    } else if places.join(t).is_some() {
+        Status::Joined
+    } else if places.start(t).is_some() {
+        Status::InProgress
+    } else {
+        Status::NotBegun
+    }
 }
 
 // The machine shows how each transaction stands, and its sets.

@@ -21,8 +21,6 @@ mod models;
 #[cfg(test)]
 mod nesting;
 #[cfg(test)]
-mod places;
-#[cfg(test)]
 mod runs;
 #[cfg(test)]
 mod script;

@@ -19,6 +19,7 @@ mod tests;
 use args::{ModelName, parse};
 use fault::UsageFault;
 use run::{Status, run_tool};
+use source::Metered;
 use standard::standard;
 use std::alloc::AllocError;
 use std::process::ExitCode;
@@ -45,7 +46,7 @@ fn serve(rt: &HostRuntime) -> Result<Status, UsageFault> {
         rt.alloc(),
         &args,
         &model,
-        &mut rt.reader(),
+        &mut Metered::new(rt.reader()),
         &mut io::writer(rt),
     ))
 }

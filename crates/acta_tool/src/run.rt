@@ -1,17 +1,16 @@
 //! The run of the tool over any reader and writer.
 
-ghost use Rattle.std.specs.Prelude.{◌≡◌, ◌≤◌, true, false};
-ghost use Rattle.acta_tool.specs.declared.run.Status.TheVariants.{Unread as unread};
-ghost use Rattle.acta_tool.specs.Outcome.{KeepsUnread, IsUnreadTooLong, code_of};
+ghost use Rattle.std.specs.Prelude.{◌≡◌, ◌≤◌, ◌+◌};
+ghost use Rattle.acta_tool.specs.Outcome.{FailsBy, IsUnreadTooLong, KeepsUnread, code_of, reason_of};
 
 use crate::answers::{write_answer, write_fault};
 use crate::args::{Args, Command};
 use crate::lines::{LineFault, Lines, read_event};
-use crate::source::{Metered, Source, read_all};
+use crate::source::{ReadFault, Source, read_all};
 use acta_machine::Machine;
 use acta_table::{Event, Model};
 use std::alloc::{AllocError, Allocator};
-use std::io::{Read, Write};
+use std::io::Write;
 
 /// How a run ended.
 #[derive(Clone, Copy, Debug, PartialEq, Eq)]
@@ -21,7 +20,7 @@ pub enum Status {
     /// A line of the input says no event: the answers to the lines before it, and its fault, were written.
     Refused,
     /// A read failed, the input is too long or there was no memory: nothing was written.
-    Unread,
+    Unread(ReadFault),
     /// The write failed: part of the answer may have been written.
     Unwritten,
 }
@@ -34,7 +33,7 @@ impl Status {
         match self {
             Status::Done => 0,
             Status::Refused => 1,
-            Status::Unread | Status::Unwritten => 3,
+            Status::Unread(_) | Status::Unwritten => 3,
         }
     }
 }
@@ -122,26 +121,27 @@ fn answer<A: Allocator + Copy>(
     }
 }
 
-// The run, over a reader whose reads are counted.
-fn run_counted<A: Allocator + Copy, S: Source, W: Write>(
+/// Reads the whole input, does what the words asked for, and writes the answer in one go. `Unread`
+/// where a read fails, the input is over 16,777,216 bytes or doesn't end, or there is no memory, and
+/// then nothing is written; `Unwritten` where the write fails.
+pub fn run_tool<A: Allocator + Copy, S: Source, W: Write>(
     alloc: A,
     args: &Args,
     model: &Model<A>,
     input: &mut S,
     output: &mut W,
 ) -> Status
-    requires { S.reads input.old ≡ 0 }
-    ensures reads { S.reads input.new ≤ 16777217 }
-    // An error of a read ends the run.
-    ensures failed { S.has_failed input.old ≡ false → S.has_failed input.new ≡ true → result ≡ unread }
-    ensures too_long { IsUnreadTooLong (S.remaining input.old) result }
-    ensures unread { KeepsUnread result (W.contents output.old) (W.contents output.new) }
+    ensures reads { S.reads input.new ≤ S.reads input.old + 16777217 }
+    ensures failed { FailsBy (reason_of result) (S.has_failed input.old) (S.has_failed input.new) }
+    ensures too_long { IsUnreadTooLong (S.remaining input.old) (reason_of result) }
+    ensures unread { KeepsUnread (reason_of result) (W.contents output.old) (W.contents output.new) }
 {
-    let Ok(bytes) = read_all(alloc, input) else {
-        return Status::Unread;
+    let bytes = match read_all(alloc, input) {
+        Ok(bytes) => bytes,
+        Err(reason) => return Status::Unread(reason),
     };
     let Ok(report) = answer(alloc, args, model, bytes.as_slice()) else {
-        return Status::Unread;
+        return Status::Unread(ReadFault::Memory);
     };
     if output.write_all(report.text.as_bytes()).is_err() || output.flush().is_err() {
         return Status::Unwritten;
@@ -151,21 +151,4 @@ fn run_counted<A: Allocator + Copy, S: Source, W: Write>(
     } else {
         Status::Done
     }
-}
-
-/// Reads the whole input, does what the words asked for, and writes the answer in one go. `Unread`
-/// where a read fails, the input is over 16,777,216 bytes or doesn't end, or there is no memory, and
-/// then nothing is written; `Unwritten` where the write fails.
-pub fn run_tool<A: Allocator + Copy, R: Read, W: Write>(
-    alloc: A,
-    args: &Args,
-    model: &Model<A>,
-    input: &mut R,
-    output: &mut W,
-) -> Status
-    ensures too_long { IsUnreadTooLong (R.remaining input.old) result }
-    ensures unread { KeepsUnread result (W.contents output.old) (W.contents output.new) }
-{
-    let mut metered = Metered::new(input);
-    run_counted(alloc, args, model, &mut metered, output)
 }

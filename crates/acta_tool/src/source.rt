@@ -1,9 +1,10 @@
 //! All the bytes of a reader whose reads are counted, so that a contract can say how often it was read
 //! and whether a read failed.
 
-ghost use Rattle.std.specs.Prelude.{◌≡◌, ◌≤◌, ◌+◌, ◌<◌, ◌^◌, ◌-◌, ℕ, List, Bool, Option, IsTrue, length, vec_len, IfOk, IfErr, OnOk, OnErr, IfSome, true, false};
+ghost use Rattle.std.specs.Prelude.{◌≡◌, ◌≤◌, ◌+◌, ◌<◌, ◌^◌, ◌-◌, ℕ, min, List, Bool, Option, length, vec_len, IfOk, IfErr, OnOk, OnErr, IfSome, MatchResult, None, Some, true, false};
 ghost use Rattle.std.specs.Io.{ReadsAtMost};
-ghost use Rattle.std.specs.Io.KnownBytes.{ReadConsumes, IsAtEnd};
+ghost use Rattle.std.specs.Io.KnownBytes.{ReadConsumes};
+ghost use Rattle.acta_tool.specs.Outcome.{FailsBy};
 ghost use Rattle.acta_tool.specs.declared.source.ReadFault.TheVariants.{TooMuch as too_much};
 
 use std::alloc::Allocator;
@@ -14,18 +15,18 @@ const MOST_BYTES: usize = 16_777_216;
 
 const MOST_READS: u32 = 16_777_217;
 
-/// Why a reader's bytes were not all taken.
+/// Why input was not taken, or not answered.
 #[derive(Clone, Copy, Debug, PartialEq, Eq)]
 pub enum ReadFault {
     /// A read failed.
     Device,
     /// The reader has more than 16,777,216 bytes, or it doesn't end.
     TooMuch,
-    /// There is no memory for the bytes.
+    /// There is no memory for the bytes, or for their answer.
     Memory,
 }
 
-/// A reader that tells how often it was read, and whether a read has failed.
+/// A reader that tells how often it was read, up to 4,294,967,295 times, and whether a read has failed.
 pub trait Source {
     ghost remaining: { Self → Option (List ℕ) };
 
@@ -35,10 +36,9 @@ pub trait Source {
 
     /// Reads into the buffer, as `Read::read` does.
     fn read(&mut self, buf: &mut [u8]) -> io::Result<usize>
-        requires { reads self.old < 2 ^ 32 - 1 }
         ensures bound { ReadsAtMost result buf.new }
         ensures bytes { ReadConsumes (remaining self.old) (remaining self.new) result buf.new }
-        ensures counted { reads self.new ≡ reads self.old + 1 }
+        ensures counted { reads self.new ≡ min (reads self.old + 1) (2 ^ 32 - 1) }
         ensures failed { OnErr result (has_failed self.new ≡ true) }
         ensures worked { OnOk result (has_failed self.new ≡ has_failed self.old) };
 }
@@ -55,6 +55,7 @@ impl<R: Read> Metered<R> {
     /// The reader, not read yet.
     pub fn new(inner: R) -> Metered<R>
         ensures reads { result.reads ≡ 0 }
+        ensures failed { result.has_failed ≡ false }
         ensures same { result.inner ≡ inner }
     {
         Metered {
@@ -73,7 +74,7 @@ impl<R: Read> Source for Metered<R> {
     ghost has_failed = { λ m. m.has_failed };
 
     fn read(&mut self, buf: &mut [u8]) -> io::Result<usize> {
-        self.reads += 1;
+        self.reads = self.reads.saturating_add(1);
         let result = self.inner.read(buf);
         if result.is_err() {
             self.has_failed = true;
@@ -86,13 +87,12 @@ impl<R: Read> Source for Metered<R> {
 /// `Device` where a read fails, and then no other read follows; `TooMuch` where the reader has more
 /// bytes or doesn't end; `Memory` where there is none.
 pub fn read_all<A: Allocator, S: Source>(alloc: A, reader: &mut S) -> Result<Vec<u8, A>, ReadFault>
-    requires { S.reads reader.old ≡ 0 }
     ensures bytes { IfOk result (λ v. IfSome (S.remaining reader.old) (λ xs. v.items ≡ xs)) }
     ensures size { IfOk result (λ v. vec_len v ≤ 16777216) }
     ensures too_much { IfErr result (λ e. e ≡ too_much → IfSome (S.remaining reader.old) (λ xs. 16777216 < length xs)) }
-    ensures reads { S.reads reader.new ≤ 16777217 }
-    // An error of a read is the answer.
-    ensures whole { OnOk result (S.has_failed reader.new ≡ S.has_failed reader.old) }
+    ensures reads { S.reads reader.new ≤ S.reads reader.old + 16777217 }
+    // An error of a read is the answer, and `Device` comes for nothing else.
+    ensures failed { MatchResult result (λ _. FailsBy None (S.has_failed reader.old) (S.has_failed reader.new)) (λ e. FailsBy (Some e) (S.has_failed reader.old) (S.has_failed reader.new)) }
 {
     let mut bytes = Vec::new(alloc);
     let mut chunk = [0u8; 4096];

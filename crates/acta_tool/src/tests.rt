@@ -3,10 +3,11 @@
 use crate::args::{Args, Command, ModelName, Standard, parse};
 use crate::fault::UsageFault;
 use crate::run::{Status, run_tool};
+use crate::source::{Metered, ReadFault};
 use crate::standard::standard;
 use acta_table::Model;
 use refusing::Refusing;
-use std::alloc::{AllocError, Global};
+use std::alloc::{AllocError, Allocator, Global};
 use std::io;
 use std::io::{ErrorKind, Read, Write};
 use std::process::Abort;
@@ -16,6 +17,16 @@ const RUN_ATOMIC: Args = Args {
     command: Command::Run,
     model: ModelName::Standard(Standard::Atomic),
 };
+
+// The run over this reader.
+fn run<A: Allocator + Copy, R: Read, W: Write>(
+    alloc: A,
+    model: &Model<A>,
+    input: &mut R,
+    output: &mut W,
+) -> Status {
+    run_tool(alloc, &RUN_ATOMIC, model, &mut Metered::new(input), output)
+}
 
 fn atomic(alloc: Global) -> Result<Model<Global>, AllocError> {
     standard(alloc, Standard::Atomic)
@@ -104,7 +115,7 @@ fn expect_run(
     let model = atomic(rt.alloc())?;
     let mut reader = input.as_bytes();
     let mut output = Vec::new(rt.alloc());
-    let ended = run_tool(rt.alloc(), &RUN_ATOMIC, &model, &mut reader, &mut output);
+    let ended = run(rt.alloc(), &model, &mut reader, &mut output);
     assert_eq!(rt; output.as_slice(), want.as_bytes(), "at {input:?}");
     assert_eq!(rt; ended, status, "at {input:?}");
     Ok(())
@@ -214,8 +225,8 @@ fn each_read_fails_in_turn(rt: HostRuntime) -> Result<(), Fail> {
             reads: 0,
         };
         let mut output = Vec::new(rt.alloc());
-        let status = run_tool(rt.alloc(), &RUN_ATOMIC, &model, &mut input, &mut output);
-        assert_eq!(rt; status, Status::Unread);
+        let status = run(rt.alloc(), &model, &mut input, &mut output);
+        assert_eq!(rt; status, Status::Unread(ReadFault::Device));
         assert_eq!(rt; input.reads, fails_at);
         assert!(rt; output.is_empty());
     }
@@ -226,7 +237,7 @@ fn each_read_fails_in_turn(rt: HostRuntime) -> Result<(), Fail> {
         reads: 0,
     };
     let mut output = Vec::new(rt.alloc());
-    let status = run_tool(rt.alloc(), &RUN_ATOMIC, &model, &mut input, &mut output);
+    let status = run(rt.alloc(), &model, &mut input, &mut output);
     assert_eq!(rt; status, Status::Done);
     assert_eq!(rt; input.reads, 8);
     assert_eq!(rt; output.as_slice(), b"ok 1\n".as_slice());
@@ -238,8 +249,8 @@ fn a_reader_without_end(rt: HostRuntime) -> Result<(), Fail> {
     let model = atomic(rt.alloc())?;
     let mut input = Unending { reads: 0 };
     let mut output = Vec::new(rt.alloc());
-    let status = run_tool(rt.alloc(), &RUN_ATOMIC, &model, &mut input, &mut output);
-    assert_eq!(rt; status, Status::Unread);
+    let status = run(rt.alloc(), &model, &mut input, &mut output);
+    assert_eq!(rt; status, Status::Unread(ReadFault::TooMuch));
     assert_eq!(rt; input.reads, 16_777_217);
     assert!(rt; output.is_empty());
     Ok(())
@@ -250,11 +261,11 @@ fn a_writer_that_fails(rt: HostRuntime) -> Result<(), Fail> {
     let model = atomic(rt.alloc())?;
     let mut input = b"begin 1 flat\n".as_slice();
     let mut output = Stuck { writes: 0 };
-    let status = run_tool(rt.alloc(), &RUN_ATOMIC, &model, &mut input, &mut output);
+    let status = run(rt.alloc(), &model, &mut input, &mut output);
     assert_eq!(rt; status, Status::Unwritten);
     assert_eq!(rt; output.writes, 1);
     let mut input = b"begin 1 flat\n".as_slice();
-    let status = run_tool(rt.alloc(), &RUN_ATOMIC, &model, &mut input, &mut Unflushed);
+    let status = run(rt.alloc(), &model, &mut input, &mut Unflushed);
     assert_eq!(rt; status, Status::Unwritten);
     Ok(())
 }
@@ -268,7 +279,7 @@ fn each_allocation_is_refused_in_turn(rt: HostRuntime) -> Result<(), Fail> {
         let mut input = b"begin 1 flat\ndo 1 x write 5\ncommit x\n".as_slice();
         let mut output = Vec::new(rt.alloc());
         heap.refuse(nth);
-        let status = run_tool(&heap, &RUN_ATOMIC, &model, &mut input, &mut output);
+        let status = run(&heap, &model, &mut input, &mut output);
         if heap.is_waiting() {
             assert_eq!(rt; status, Status::Refused);
             assert_eq!(rt;
@@ -278,7 +289,7 @@ fn each_allocation_is_refused_in_turn(rt: HostRuntime) -> Result<(), Fail> {
             break;
         }
         refusals = nth;
-        assert_eq!(rt; status, Status::Unread);
+        assert_eq!(rt; status, Status::Unread(ReadFault::Memory));
         assert!(rt; output.is_empty());
     }
     assert!(rt; refusals > 4 && refusals < 999);
@@ -289,7 +300,7 @@ fn each_allocation_is_refused_in_turn(rt: HostRuntime) -> Result<(), Fail> {
 fn the_codes(rt: HostRuntime) {
     assert_eq!(rt; Status::Done.code(), 0);
     assert_eq!(rt; Status::Refused.code(), 1);
-    assert_eq!(rt; Status::Unread.code(), 3);
+    assert_eq!(rt; Status::Unread(ReadFault::Device).code(), 3);
     assert_eq!(rt; Status::Unwritten.code(), 3);
 }
 

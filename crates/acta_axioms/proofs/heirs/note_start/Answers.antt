@@ -4,5 +4,5 @@ use Rattle.acta_axioms.proofs.heirs.note_start.Goals as goal
 
 pub returns-then-not-line : goal.returns-then-not-line
 returns-then-not-line g c =
-    started-more c.args.lines.now c.args.event.now c.in-Some.t c.line.result c.class_of_started-class.result c.parent_of_started-parent.result c.requires
-    (sym c.started_by.ensures ∙ ap (option_map (λ t. t.0)) c.in-Some.is) c.line.ensures c.if-not-line.true c.class_of_started-class.ensures c.parent_of_started-parent.ensures
+    started-more c.args.lines.now c.args.event.now c.in-Some.t c.line.result c.class-class.result c.parent_of_started-parent.result c.requires
+    (sym c.started.ensures ∙ ap (option_map (λ t. t.0)) c.in-Some.is) c.line.ensures c.if-not-line.true c.class-class.ensures c.parent_of_started-parent.ensures

@@ -1,4 +1,3 @@
-use Rattle.std.proofs.Common.{◌≡◌, None}
 use Rattle.acta_table.specs.declared.answer.Rule.TheVariants.{NotInProgress}
 use Rattle.acta_table.specs.WellFormed.{bad_number}
 use Rattle.acta_machine.specs.Rules.{not_in_progress}

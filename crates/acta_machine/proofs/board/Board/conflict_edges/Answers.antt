@@ -1,4 +1,4 @@
-use Rattle.std.proofs.Common.{◌≡◌, ◌∙◌, ap, sym, [], Option, option_map}
+use Rattle.std.proofs.Common.{◌∙◌, ap, sym, [], Option, option_map}
 use Rattle.std.specs.Option.{option_map_or}
 use Rattle.acta_table.specs.declared.model.Class.{Class}
 use Rattle.acta_table.specs.Policies.{edges_upon}

@@ -1,4 +1,4 @@
-use Rattle.std.proofs.Common.{◌≡◌, ◌<◌, arith, ◌||◌, ◌+◌, ◌-◌, length, sym, ap, ◌∙◌}
+use Rattle.std.proofs.Common.{◌<◌, arith, ◌||◌, ◌+◌, ◌-◌, length, sym, ap, ◌∙◌}
 use Rattle.std.proofs.lemmas.Bool.{ne_eqb}
 use Rattle.acta_table.specs.Ancestors.{ancestors_from}
 use Rattle.acta_sets.specs.Operations.{is_among}

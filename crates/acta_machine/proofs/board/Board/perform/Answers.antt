@@ -1,4 +1,4 @@
-use Rattle.std.proofs.Common.{◌≡◌, ◌-◌, ◌+◌, take, length, List, ap, ◌∙◌, arith}
+use Rattle.std.proofs.Common.{◌≡◌, ◌-◌, take, length, List, ap, ◌∙◌, arith}
 use Rattle.acta_table.specs.declared.dep.Edge.{Edge}
 use Rattle.acta_machine.specs.Summary.{Summary, linked}
 use Rattle.acta_machine.specs.Shown.{shown}

@@ -1,4 +1,4 @@
-use Rattle.std.proofs.Common.{◌≡◌, ◌<◌, arith, ◌++◌, ◌+◌, ◌-◌, ◌∷◌, [], length, sym, ap, ◌∙◌}
+use Rattle.std.proofs.Common.{◌<◌, arith, ◌++◌, ◌+◌, ◌-◌, ◌∷◌, [], length, sym, ap, ◌∙◌}
 use Rattle.std.proofs.lemmas.List.{append_assoc}
 use Rattle.acta_table.specs.Ancestors.{ancestors_from}
 use Rattle.acta_machine.specs.Shown.{shown}

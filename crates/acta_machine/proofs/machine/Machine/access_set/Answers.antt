@@ -1,4 +1,4 @@
-use Rattle.std.proofs.Common.{◌≡◌, ◌∙◌, ap, subst, [], List, IfOk}
+use Rattle.std.proofs.Common.{◌≡◌, ◌∙◌, ap, subst, List, IfOk}
 use Rattle.acta_table.specs.declared.event.OpNo.{OpNo}
 use Rattle.acta_axioms.specs.Operations as by_places
 use Rattle.acta_sets.specs.Operations.{access_set}

@@ -1,4 +1,4 @@
-use Rattle.std.proofs.Common.{◌≡◌, sym, ◌∙◌, ap, subst, ◌++◌, ◌∷◌, [], List, length, length-append, arith, None}
+use Rattle.std.proofs.Common.{◌≡◌, sym, ◌∙◌, ap, subst, ◌++◌, ◌∷◌, [], length, length-append, arith, None}
 use Rattle.acta_table.specs.declared.event.Kept.{Kept}
 use Rattle.acta_machine.specs.Summary.{Summary, linked, counted}
 use Rattle.acta_machine.specs.Changes.{edges_due, changed, summary_of}

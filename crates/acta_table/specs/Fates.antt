@@ -1,0 +1,14 @@
+-- What became of an operation.
+use Rattle.std.specs.Prelude.{Bool, true, false}
+use Rattle.acta_table.specs.declared.answer.Fate.{Fate}
+use Rattle.acta_table.specs.declared.answer.Fate.TheVariants.{InProgress, Aborted}
+
+-- still in progress
+abbrev pub is_open : Fate → Bool
+is_open InProgress = true
+is_open _ = false
+
+-- aborted
+abbrev pub is_aborted : Fate → Bool
+is_aborted Aborted = true
+is_aborted _ = false
