@@ -6,18 +6,12 @@
 #![tactic(auto)]
 
 mod behind;
-#[cfg(test)]
-mod edge_tests;
 mod edges;
 mod fault;
 mod follow;
 mod heirs;
 mod index;
 mod places;
-#[cfg(test)]
-mod tests;
-#[cfg(test)]
-mod written;
 
 pub use fault::{Axiom, Fault};
 pub use places::Places;

@@ -21,6 +21,8 @@ mod models;
 #[cfg(test)]
 mod nesting;
 #[cfg(test)]
+mod placing;
+#[cfg(test)]
 mod runs;
 #[cfg(test)]
 mod script;

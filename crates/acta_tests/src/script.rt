@@ -23,11 +23,13 @@ use std::process::Abort;
 use std::str::{FromStr, SplitWhitespace};
 use std::test::Fail;
 
-fn number<N: FromStr<Err: Drop>>(words: &mut SplitWhitespace<'_>) -> Option<N> {
+/// The number that is the next word.
+pub fn number<N: FromStr<Err: Drop>>(words: &mut SplitWhitespace<'_>) -> Option<N> {
     words.next()?.parse().ok()
 }
 
-fn txn(words: &mut SplitWhitespace<'_>) -> Option<TxnId> {
+/// The transaction whose number is the next word.
+pub fn txn(words: &mut SplitWhitespace<'_>) -> Option<TxnId> {
     Some(TxnId(number(words)?))
 }
 
