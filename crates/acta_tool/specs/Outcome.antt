@@ -20,8 +20,7 @@ reason_of Done = None
 reason_of Refused = None
 reason_of Unwritten = None
 
--- a read failed, as the second mark says, where the reason is the device, and for no other reason did it change
--- from what the first mark says
+-- whether a read has failed, before and after: after, one has where the reason is the device, and else it is as before
 abbrev pub FailsBy : Option ReadFault → Bool → Bool → Type 0
 FailsBy None old new = new ≡ old
 FailsBy (Some Device) old new = new ≡ true

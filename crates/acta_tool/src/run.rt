@@ -121,9 +121,9 @@ fn answer<A: Allocator + Copy>(
     }
 }
 
-/// Reads the whole input, does what the words asked for, and writes the answer in one go. `Unread`
-/// where a read fails, the input is over 16,777,216 bytes or doesn't end, or there is no memory, and
-/// then nothing is written; `Unwritten` where the write fails.
+/// Reads the whole input, does what the words asked for, and writes the answer in one go. `Unread` with
+/// `Device` where a read fails, with `TooMuch` where the input is over 16,777,216 bytes or doesn't end,
+/// and with `Memory` where there is none, and then nothing is written; `Unwritten` where the write fails.
 pub fn run_tool<A: Allocator + Copy, S: Source, W: Write>(
     alloc: A,
     args: &Args,

@@ -91,7 +91,7 @@ pub fn read_all<A: Allocator, S: Source>(alloc: A, reader: &mut S) -> Result<Vec
     ensures size { IfOk result (λ v. vec_len v ≤ 16777216) }
     ensures too_much { IfErr result (λ e. e ≡ too_much → IfSome (S.remaining reader.old) (λ xs. 16777216 < length xs)) }
     ensures reads { S.reads reader.new ≤ S.reads reader.old + 16777217 }
-    // An error of a read is the answer, and `Device` comes for nothing else.
+    // Where none had failed before, `Device` is the answer exactly where a read fails.
     ensures failed { MatchResult result (λ _. FailsBy None (S.has_failed reader.old) (S.has_failed reader.new)) (λ e. FailsBy (Some e) (S.has_failed reader.old) (S.has_failed reader.new)) }
 {
     let mut bytes = Vec::new(alloc);
