@@ -5,8 +5,8 @@
 
 use acta_axioms::Places;
 use acta_table::{
-    AtCommit, Class, Event, Extent, Fate, Items, Kept, Kind, Kinds, Model, ObjId, Object, Op, OpNo,
-    Parts, Policy, Ret, Scope, StartEdges, Starts, TxnId,
+    AtCommit, Class, Event, EventKind, Extent, Fate, Items, Kept, Kind, Kinds, Model, ObjId,
+    Object, Op, OpNo, Parts, Policy, Ret, Scope, StartEdges, Starts, TxnId,
 };
 use anyhow::{Context, Result, anyhow, ensure};
 use std::alloc::Global;
@@ -26,7 +26,7 @@ fn counting(alloc: Global) -> Result<Model<Global>> {
             spawned: false,
             split: false,
         },
-        may: Kinds::OPERATE.union(Kinds::COMMIT),
+        may: Kinds::of(EventKind::Operate).union(Kinds::of(EventKind::Commit)),
         scope: Scope::Others,
         policy: Policy::Refuse,
         at_commit: AtCommit::Keeps,

@@ -168,6 +168,13 @@ impl<A: Allocator + Copy> Machine<A> {
 }
 
 impl<A: Allocator> Machine<A> {
+    /// The model on which the machine runs.
+    pub fn model(&self) -> &Model<A>
+        ensures { result.now ≡ self.now.model }
+    {
+        &self.board.model
+    }
+
     /// How the transaction stands. A number that no transaction can have has not begun.
     pub fn status(&self, t: TxnId) -> Status
         ensures status { result ≡ status_in self.now t.0 }
@@ -190,6 +197,8 @@ impl<A: Allocator> Machine<A> {
     pub fn history(&self) -> &[Kept<A>]
         ensures history { result.now ≡ self.now.kept }
         ensures within { length self.now.kept ≤ 65536 }
+        // The axioms, the legality and all else that `take` says of it.
+        ensures follows { FollowsPlaces self.now }
     {
         self.board.kept.as_slice()
     }

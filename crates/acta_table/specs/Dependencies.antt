@@ -1,5 +1,5 @@
 -- The kinds of dependency: their codes and words, and the sets of them as the bits of a number.
-use Rattle.std.specs.Prelude.{ℕ, Bool, true, false, List, [], ◌∷◌, codes}
+use Rattle.std.specs.Prelude.{ℕ, ◌^◌, Bool, true, false, List, [], ◌∷◌, codes}
 use Rattle.acta_table.specs.declared.dep.Dep.{Dep}
 use Rattle.acta_table.specs.declared.dep.Dep.TheVariants.{Cd, Scd, Ad, Wd, Td, Ed, Cmd, Bd, Sd, Bcd, Bad, Wcd}
 use Rattle.acta_table.specs.Kinds.{has_bit}
@@ -50,3 +50,7 @@ is_begin_kind _ = false
 -- whether the kind is in the set
 abbrev pub has_dep : ℕ → Dep → Bool
 has_dep kinds kind = has_bit kinds (code_of kind)
+
+-- the set of the kind alone
+abbrev pub only_dep : Dep → ℕ
+only_dep kind = 2 ^ code_of kind

@@ -1,5 +1,5 @@
 -- Sets of kinds of event, as the bits of a number.
-use Rattle.std.specs.Prelude.{ℕ, Bool, false, ◌==◌, Option, Some, None}
+use Rattle.std.specs.Prelude.{ℕ, ◌^◌, Bool, false, ◌==◌, Option, Some, None}
 use Rattle.std.specs.Int.{bit_at}
 use Rattle.std.specs.Option.{option_map_or}
 use Rattle.acta_table.specs.declared.event.EventKind.{EventKind}
@@ -24,3 +24,7 @@ has_bit bits code = bit_at bits code == 1
 -- whether the kind is in the set; Begin is in none
 abbrev pub has_kind : ℕ → EventKind → Bool
 has_kind kinds kind = option_map_or (has_bit kinds) (kind_code kind) false
+
+-- the set of the kind alone; no kind for Begin
+abbrev pub only_kind : EventKind → ℕ
+only_kind kind = option_map_or (λ code. 2 ^ code) (kind_code kind) 0

@@ -1,7 +1,9 @@
--- The number of each rule: the rules are read in this order.
+-- The numbers of the rules and of the faults of models: they are read in this order.
 use Rattle.std.specs.Prelude.{ℕ}
 use Rattle.acta_table.specs.declared.answer.Rule.{Rule}
 use Rattle.acta_table.specs.declared.answer.Rule.TheVariants.{Full, BadNumber, BadClass, BadObject, BadOperation, SameTransaction, NotInProgress, AlreadyBegun, NotInModel, PartnerNotInProgress, NotResponsible, PartialDelegation, BadSet, Conflict, FormTooLate, EdgesFull, BeginDep, SerialDep, BeginOnCommit, BeginOnAbort, TerminationDep, OwesAbort, OwesCommit, CommitOrder, WeakBegin, Unpayable, Clash, NoHeir}
+use Rattle.acta_table.specs.declared.model.ModelFault.{ModelFault}
+use Rattle.acta_table.specs.declared.model.ModelFault.TheVariants as fault
 
 abbrev pub rule_number : Rule → ℕ
 rule_number Full = 1
@@ -32,3 +34,13 @@ rule_number WeakBegin = 25
 rule_number Unpayable = 26
 rule_number Clash = 27
 rule_number NoHeir = 28
+
+abbrev pub model_fault_number : ModelFault → ℕ
+model_fault_number fault.NoClass = 1
+model_fault_number fault.TooManyClasses = 2
+model_fault_number fault.TooManyObjects = 3
+model_fault_number fault.DuplicateName = 4
+model_fault_number fault.BadName = 5
+model_fault_number fault.BeginKindAtStart = 6
+model_fault_number fault.HeirWithoutSpawn = 7
+model_fault_number fault.BadPolicyKind = 8

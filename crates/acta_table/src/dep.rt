@@ -1,6 +1,6 @@
-ghost use Rattle.std.specs.Prelude.{◌≡◌, ◌||◌, ◌<◌, ◌^◌, ◌↔◌, false, IfSome, IsSome};
+ghost use Rattle.std.specs.Prelude.{◌≡◌, ◌||◌, bit_or, ◌<◌, ◌^◌, ◌↔◌, false, IfSome, IsSome};
 ghost use Rattle.acta_table.specs.declared.dep.Dep.{Dep};
-ghost use Rattle.acta_table.specs.Dependencies.{code_of, word_of, is_begin_kind, has_dep};
+ghost use Rattle.acta_table.specs.Dependencies.{code_of, word_of, is_begin_kind, has_dep, only_dep};
 ghost use Rattle.acta_table.specs.Edges.{same_edge, is_among};
 
 use crate::event::TxnId;
@@ -187,7 +187,8 @@ impl std::marker::Model for DepKinds {
 impl DepKinds {
     /// No kind.
     pub fn none() -> DepKinds
-        ensures { (kind : Dep) → has_dep result kind ≡ false }
+        ensures empty { (kind : Dep) → has_dep result kind ≡ false }
+        ensures bits { result ≡ 0 }
     {
         DepKinds {
             bits: DepBits::empty(),
@@ -196,14 +197,15 @@ impl DepKinds {
 
     /// The set of this kind alone.
     pub fn of(kind: Dep) -> DepKinds
-        ensures { result ≡ 2 ^ code_of kind }
+        ensures { result ≡ only_dep kind }
     {
         DepKinds { bits: bit_of(kind) }
     }
 
     /// The kinds that are in one of the two sets.
     pub fn union(self, other: DepKinds) -> DepKinds
-        ensures { (kind : Dep) → has_dep result kind ≡ (has_dep self kind || has_dep other kind) }
+        ensures either { (kind : Dep) → has_dep result kind ≡ (has_dep self kind || has_dep other kind) }
+        ensures bits { result ≡ bit_or self other }
     {
         DepKinds {
             bits: self.bits.union(other.bits),
@@ -216,6 +218,11 @@ impl DepKinds {
     {
         self.bits.contains(bit_of(kind))
     }
+
+    // No other bit is set: a fact of the type.
+    pub(crate) fn known(self)
+        ensures { self < 2 ^ 12 }
+    {}
 
     /// The number whose bits name the kinds, below 4,096.
     pub fn bits(self) -> u16

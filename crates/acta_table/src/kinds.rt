@@ -1,6 +1,6 @@
-ghost use Rattle.std.specs.Prelude.{◌≡◌, ◌||◌, ◌<◌, ◌^◌, ◌↔◌, false, IfSome, IsSome, option_map};
+ghost use Rattle.std.specs.Prelude.{◌≡◌, ◌||◌, bit_or, ◌<◌, ◌^◌, ◌↔◌, false, IfSome, IsSome, option_map};
 ghost use Rattle.acta_table.specs.declared.event.EventKind.{EventKind};
-ghost use Rattle.acta_table.specs.Kinds.{has_kind, kind_code};
+ghost use Rattle.acta_table.specs.Kinds.{has_kind, kind_code, only_kind};
 
 use crate::event::EventKind;
 use bitflags::{Flag, Flags, bitflag_items};
@@ -83,58 +83,30 @@ impl std::marker::Model for Kinds {
 }
 
 impl Kinds {
-    /// The set of `Spawn` alone.
-    pub const SPAWN: Kinds = Kinds {
-        bits: KindBits::SPAWN,
-    };
-
-    /// The set of `Split` alone.
-    pub const SPLIT: Kinds = Kinds {
-        bits: KindBits::SPLIT,
-    };
-
-    /// The set of `Join` alone.
-    pub const JOIN: Kinds = Kinds {
-        bits: KindBits::JOIN,
-    };
-
-    /// The set of `Delegate` alone.
-    pub const DELEGATE: Kinds = Kinds {
-        bits: KindBits::DELEGATE,
-    };
-
-    /// The set of `Form` alone.
-    pub const FORM: Kinds = Kinds {
-        bits: KindBits::FORM,
-    };
-
-    /// The set of `Operate` alone.
-    pub const OPERATE: Kinds = Kinds {
-        bits: KindBits::OPERATE,
-    };
-
-    /// The set of `Commit` alone.
-    pub const COMMIT: Kinds = Kinds {
-        bits: KindBits::COMMIT,
-    };
-
-    /// The set of `Abort` alone.
-    pub const ABORT: Kinds = Kinds {
-        bits: KindBits::ABORT,
-    };
-
     /// No kind.
     pub fn none() -> Kinds
-        ensures { (kind : EventKind) → has_kind result kind ≡ false }
+        ensures empty { (kind : EventKind) → has_kind result kind ≡ false }
+        ensures bits { result ≡ 0 }
     {
         Kinds {
             bits: KindBits::empty(),
         }
     }
 
+    /// The set of this kind alone; no kind for Begin, which is in no set.
+    pub fn of(kind: EventKind) -> Kinds
+        ensures { result ≡ only_kind kind }
+    {
+        match bit_of(kind) {
+            Some(bits) => Kinds { bits },
+            None => Kinds::none(),
+        }
+    }
+
     /// The kinds that are in one of the two sets.
     pub fn union(self, other: Kinds) -> Kinds
-        ensures { (kind : EventKind) → has_kind result kind ≡ (has_kind self kind || has_kind other kind) }
+        ensures either { (kind : EventKind) → has_kind result kind ≡ (has_kind self kind || has_kind other kind) }
+        ensures bits { result ≡ bit_or self other }
     {
         Kinds {
             bits: self.bits.union(other.bits),
@@ -150,6 +122,11 @@ impl Kinds {
             None => false,
         }
     }
+
+    // No other bit is set: a fact of the type.
+    pub(crate) fn known(self)
+        ensures { self < 2 ^ 8 }
+    {}
 
     /// The number whose bits name the kinds, below 256.
     pub fn bits(self) -> u16

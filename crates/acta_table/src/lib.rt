@@ -17,7 +17,9 @@ pub use dep::{Dep, DepKinds, Edge, EdgeNo, Missing, Owed};
 pub use event::{ClassId, Event, EventKind, Kept, ObjId, Op, OpNo, Ret, TxnId};
 pub use items::Items;
 pub use kinds::Kinds;
-pub use model::{AtCommit, Class, Extent, Kind, Model, ModelFault, Object, Parts, Scope, Starts};
+pub use model::{
+    AtCommit, Class, Extent, Kind, Model, ModelFault, Object, Parts, Scope, Starts, is_named_well,
+};
 pub use op_set::OpSet;
 pub use policy::Policy;
 pub use start_edges::{Dependent, StartEdge, StartEdges};

@@ -2,7 +2,9 @@ ghost use Rattle.std.specs.Prelude.{◌≡◌, ◌||◌, ◌==◌, ℕ, List, ma
 ghost use Rattle.std.specs.List.{list_any, list_all};
 ghost use Rattle.std.specs.Str.{bytes_eq};
 ghost use Rattle.std.specs.Char.{is_ascii_alphanumeric};
+ghost use Rattle.acta_table.specs.Numbers.{model_fault_number};
 ghost use Rattle.acta_table.specs.Policies.{is_bad_policy};
+ghost use Rattle.acta_table.specs.SetsOfClasses.{HasSets};
 ghost use Rattle.acta_table.specs.Faults.{lowest_fault, is_name, has_twice, has_begin_edge, has_begin_kind, lacks_parents, fault_if};
 
 use crate::items::Items;
@@ -111,6 +113,15 @@ pub enum ModelFault {
     BadPolicyKind = 8,
 }
 
+impl ModelFault {
+    /// The number of the fault, from 1 to 8, as the program prints it.
+    pub fn number(self) -> u8
+        ensures { result ≡ model_fault_number self }
+    {
+        self as u8
+    }
+}
+
 /// A checked model: parts that have no fault.
 #[derive(Drop)]
 pub struct Model<A: Allocator> {
@@ -137,8 +148,8 @@ fn has_name_bytes(name: &[u8]) -> bool
     name.iter().all(|b| b.is_ascii_alphanumeric() || *b == b'_')
 }
 
-// Whether the bytes are a name.
-fn is_named_well(name: &[u8]) -> bool
+/// Whether the bytes are a name: 1 to 32 of them, an ASCII letter first, then letters, digits or underscores.
+pub fn is_named_well(name: &[u8]) -> bool
     ensures { result ≡ is_name name.now }
 {
     !name.is_empty() && name.len() <= 32 && name[0].is_ascii_alphabetic() && has_name_bytes(name)
@@ -204,6 +215,18 @@ fn are_named_well<T: Named>(items: &[T]) -> bool
         }
     }
     true
+}
+
+impl<A: Allocator> Class<A> {
+    /// Its sets are sets: a fact of the types of its fields, for laws that need it.
+    pub fn known(&self)
+        ensures { HasSets self.now }
+    {
+        self.may.known();
+        self.policy.known();
+        self.spawn_edges.as_slice();
+        self.split_edges.as_slice();
+    }
 }
 
 fn fault_where(is_there: bool, fault: ModelFault) -> Option<ModelFault>

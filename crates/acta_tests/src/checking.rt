@@ -206,17 +206,19 @@ fn a_copy(rt: HostRuntime) -> Result<(), Fail> {
 #[test]
 fn sets_of_kinds(rt: HostRuntime) {
     let kinds = [
-        (Kinds::SPAWN, EventKind::Spawn, 1u16),
-        (Kinds::SPLIT, EventKind::Split, 2),
-        (Kinds::JOIN, EventKind::Join, 4),
-        (Kinds::DELEGATE, EventKind::Delegate, 8),
-        (Kinds::FORM, EventKind::Form, 16),
-        (Kinds::OPERATE, EventKind::Operate, 32),
-        (Kinds::COMMIT, EventKind::Commit, 64),
-        (Kinds::ABORT, EventKind::Abort, 128),
+        (EventKind::Begin, 0u16),
+        (EventKind::Spawn, 1),
+        (EventKind::Split, 2),
+        (EventKind::Join, 4),
+        (EventKind::Delegate, 8),
+        (EventKind::Form, 16),
+        (EventKind::Operate, 32),
+        (EventKind::Commit, 64),
+        (EventKind::Abort, 128),
     ];
-    for (set, kind, bits) in kinds {
-        assert!(rt; set.has(kind));
+    for (kind, bits) in kinds {
+        let set = Kinds::of(kind);
+        assert_eq!(rt; set.has(kind), bits != 0);
         assert_eq!(rt; set.bits(), bits);
         assert_eq!(rt; Kinds::from_bits(bits), Some(set));
         assert!(rt; !Kinds::none().has(kind));
@@ -229,6 +231,8 @@ fn numbers_and_kinds(rt: HostRuntime) {
     assert_eq!(rt; Rule::Full.number(), 1);
     assert_eq!(rt; Rule::Conflict.number(), 14);
     assert_eq!(rt; Rule::NoHeir.number(), 28);
+    assert_eq!(rt; ModelFault::NoClass.number(), 1);
+    assert_eq!(rt; ModelFault::BadPolicyKind.number(), 8);
     let begin: Event<Global> = Event::Begin(TxnId(1), FLAT);
     assert_eq!(rt; begin.kind(), EventKind::Begin);
 }

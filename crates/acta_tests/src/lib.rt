@@ -28,3 +28,5 @@ mod runs;
 mod script;
 #[cfg(test)]
 mod splitting;
+#[cfg(test)]
+mod standards;

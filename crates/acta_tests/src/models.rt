@@ -1,6 +1,6 @@
 use acta_table::{
-    AtCommit, Class, ClassId, Dep, DepKinds, Dependent, Extent, Items, Kind, Kinds, Model, ObjId,
-    Object, Parts, Policy, Scope, StartEdge, StartEdges, Starts,
+    AtCommit, Class, ClassId, Dep, DepKinds, Dependent, EventKind, Extent, Items, Kind, Kinds,
+    Model, ObjId, Object, Parts, Policy, Scope, StartEdge, StartEdges, Starts,
 };
 use std::alloc::{AllocError, Allocator};
 use std::test::Fail;
@@ -38,9 +38,9 @@ fn class<A: Allocator + Copy>(
             spawned: false,
             split: false,
         },
-        may: Kinds::OPERATE
-            .union(Kinds::COMMIT)
-            .union(Kinds::ABORT)
+        may: Kinds::of(EventKind::Operate)
+            .union(Kinds::of(EventKind::Commit))
+            .union(Kinds::of(EventKind::Abort))
             .union(more),
         scope: Scope::Others,
         policy: Policy::Refuse,
@@ -143,7 +143,10 @@ pub fn atomic<A: Allocator + Copy>(alloc: A) -> Result<Model<A>, Fail> {
 /// The standard model of contingent transactions: the same objects, and the class `try`, which may also form
 /// edges.
 pub fn contingent<A: Allocator + Copy>(alloc: A) -> Result<Model<A>, Fail> {
-    standard(alloc, class(alloc, "try", Kinds::FORM, Extent::Whole)?)
+    standard(
+        alloc,
+        class(alloc, "try", Kinds::of(EventKind::Form), Extent::Whole)?,
+    )
 }
 
 // The class `part`: its transactions begin or are split off, and may split and join, and these kinds of event.
@@ -152,7 +155,9 @@ fn part<A: Allocator + Copy>(
     more: Kinds,
     extent: Extent,
 ) -> Result<Class<A>, AllocError> {
-    let parts = Kinds::SPLIT.union(Kinds::JOIN).union(Kinds::DELEGATE);
+    let parts = Kinds::of(EventKind::Split)
+        .union(Kinds::of(EventKind::Join))
+        .union(Kinds::of(EventKind::Delegate));
     let mut part = class(alloc, "part", parts.union(more), extent)?;
     part.starts.split = true;
     Ok(part)
@@ -177,14 +182,14 @@ pub fn wanting<A: Allocator + Copy>(alloc: A, kind: Dep) -> Result<Parts<A>, All
 
 /// The parts of a model whose class wants an edge of this kind at a spawn, of what is spawned on the other.
 pub fn wanting_at_spawn<A: Allocator + Copy>(alloc: A, kind: Dep) -> Result<Parts<A>, AllocError> {
-    let mut sub = sub(alloc, Kinds::SPAWN)?;
+    let mut sub = sub(alloc, Kinds::of(EventKind::Spawn))?;
     sub.spawn_edges = on_starter(alloc, kind)?;
     parts_of(alloc, sub)
 }
 
 /// The parts of a model whose class commits to parents, and whose transactions start so.
 pub fn inheriting<A: Allocator + Copy>(alloc: A, starts: Starts) -> Result<Parts<A>, AllocError> {
-    let mut sub = sub(alloc, Kinds::SPAWN)?;
+    let mut sub = sub(alloc, Kinds::of(EventKind::Spawn))?;
     sub.starts = starts;
     parts_of(alloc, sub)
 }
@@ -197,7 +202,7 @@ pub fn split_join<A: Allocator + Copy>(alloc: A) -> Result<Model<A>, Fail> {
 
 /// The same, where `part` has to hand over the whole, may also form edges, and wants these formed at a split.
 pub fn parting<A: Allocator + Copy>(alloc: A, edges: &[StartEdge]) -> Result<Model<A>, Fail> {
-    let mut part = part(alloc, Kinds::FORM, Extent::Whole)?;
+    let mut part = part(alloc, Kinds::of(EventKind::Form), Extent::Whole)?;
     part.split_edges = StartEdges::of(alloc, edges)?;
     standard(alloc, part)
 }
@@ -206,7 +211,12 @@ pub fn parting<A: Allocator + Copy>(alloc: A, edges: &[StartEdge]) -> Result<Mod
 pub fn delegating<A: Allocator + Copy>(alloc: A, extent: Extent) -> Result<Model<A>, Fail> {
     standard(
         alloc,
-        class(alloc, "part", Kinds::DELEGATE.union(Kinds::FORM), extent)?,
+        class(
+            alloc,
+            "part",
+            Kinds::of(EventKind::Delegate).union(Kinds::of(EventKind::Form)),
+            extent,
+        )?,
     )
 }
 
@@ -232,7 +242,7 @@ pub fn lending<A: Allocator + Copy>(alloc: A) -> Result<Model<A>, Fail> {
     let mut loose = class(
         alloc,
         "loose",
-        Kinds::SPAWN.union(Kinds::DELEGATE),
+        Kinds::of(EventKind::Spawn).union(Kinds::of(EventKind::Delegate)),
         Extent::Any,
     )?;
     loose.starts.spawned = true;
@@ -267,9 +277,12 @@ fn sub<A: Allocator + Copy>(alloc: A, may: Kinds) -> Result<Class<A>, AllocError
 /// The model of nested transactions: the same objects, and the classes `top` and `sub`, where `sub` wants these
 /// edges formed at a spawn.
 pub fn nesting<A: Allocator + Copy>(alloc: A, edges: &[StartEdge]) -> Result<Model<A>, Fail> {
-    let mut sub = sub(alloc, Kinds::SPAWN)?;
+    let mut sub = sub(alloc, Kinds::of(EventKind::Spawn))?;
     sub.spawn_edges = StartEdges::of(alloc, edges)?;
-    let mut classes = one(alloc, top(alloc, Kinds::SPAWN, Extent::Whole)?)?;
+    let mut classes = one(
+        alloc,
+        top(alloc, Kinds::of(EventKind::Spawn), Extent::Whole)?,
+    )?;
     classes.push(sub)?;
     standard_of(alloc, classes)
 }
@@ -301,11 +314,11 @@ fn leaf<A: Allocator + Copy>(alloc: A) -> Result<Class<A>, AllocError> {
 /// those of `top` split too, or are split off, and hand over as much as they like. And the class `leaf`, of those
 /// that are spawned, and otherwise are flat.
 pub fn families<A: Allocator + Copy>(alloc: A) -> Result<Model<A>, Fail> {
-    let may = Kinds::SPAWN
-        .union(Kinds::JOIN)
-        .union(Kinds::DELEGATE)
-        .union(Kinds::FORM);
-    let mut top = top(alloc, may.union(Kinds::SPLIT), Extent::Any)?;
+    let may = Kinds::of(EventKind::Spawn)
+        .union(Kinds::of(EventKind::Join))
+        .union(Kinds::of(EventKind::Delegate))
+        .union(Kinds::of(EventKind::Form));
+    let mut top = top(alloc, may.union(Kinds::of(EventKind::Split)), Extent::Any)?;
     top.starts.split = true;
     let mut classes = one(alloc, top)?;
     classes.push(sub(alloc, may)?)?;

@@ -1,2 +1,5 @@
+pub mod KeptInModel
+pub mod Lines
 pub mod Named
+pub mod Outputs
 pub mod Turns

@@ -1,20 +1,30 @@
 -- What the words of a command line ask for, in the words of `clap`.
-use Rattle.std.specs.Prelude.{◌≡◌, ◌==◌, ⊤, Bool, true, false, ◌⊎◌, List, [], Option, Some, option_map, IfSome, slice_index, codes}
-use Rattle.std.specs.Option.{option_and_then}
-use Rattle.clap.specs.Words.{App, Row, Text, IsAmong, Kinds, fault_of, first_of, kind_of, new_app, new_rule, subcommand_of, with_rule, with_subcommand}
-use Rattle.clap.specs.declared.builder.ArgAction.TheVariants.{Set}
+use Rattle.std.specs.Prelude.{◌≡◌, ◌≢◌, ◌==◌, ⊤, ℕ, Bool, true, false, ◌⊎◌, List, [], ◌∷◌, Option, Some, None, option_map, IsSomeAnd, slice_index, codes}
+use Rattle.std.specs.Option.{option_and_then, option_map_or}
+use Rattle.std.specs.Str.{bytes_eq}
+use Rattle.clap.specs.Words.{App, Row, Rule, Text, IsAmong, Kinds, fault_of, first_of, kind_of, new_app, new_rule, subcommand_of, with_rule, with_subcommand}
+use Rattle.clap.specs.declared.builder.ArgAction.TheVariants.{Set, SetTrue}
+use Rattle.acta_models.specs.declared.texts.Standard.{Standard as StandardModel}
+use Rattle.acta_models.specs.Standards.{name_of_standard}
 use Rattle.acta_tool.specs.declared.args.Args.{Args}
 use Rattle.acta_tool.specs.declared.args.Command.{Command}
 use Rattle.acta_tool.specs.declared.args.Command.TheVariants.{Run}
 use Rattle.acta_tool.specs.declared.args.ModelName.{ModelName}
-use Rattle.acta_tool.specs.declared.args.ModelName.TheVariants.{Standard}
-use Rattle.acta_tool.specs.declared.args.Standard.TheVariants.{Atomic}
+use Rattle.acta_tool.specs.declared.args.ModelName.TheVariants.{Standard, Path}
 use Rattle.acta_tool.specs.declared.fault.UsageFault.{UsageFault}
 use Rattle.acta_tool.specs.declared.fault.UsageFault.TheVariants.{Usage, UnknownModel, NotText, Memory}
 
--- the command `run`, whose one argument MODEL has to be there
+-- the one argument of a command, MODEL, which has to be there
+abbrev pub model_rule : Rule
+model_rule = record (new_rule (codes "MODEL")) { required = true; action = Some Set }
+
+-- the flag `--kept`
+abbrev pub kept_rule : Rule
+kept_rule = record (new_rule (codes "kept")) { long = Some (codes "kept"); action = Some SetTrue }
+
+-- the command `run`
 abbrev pub run_app : App
-run_app = with_rule (new_app (codes "run")) (record (new_rule (codes "MODEL")) { required = true; action = Some Set })
+run_app = with_rule (with_rule (new_app (codes "run")) model_rule) kept_rule
 
 -- the program without its commands, of which one has to be there
 abbrev pub bare_app : App
@@ -26,42 +36,59 @@ bare_app =
 abbrev pub tool_app : App
 tool_app = with_subcommand bare_app run_app.top
 
--- the command and the model that stand in what was read of the words
-abbrev pub named_in : Option (Text × List Row) → Option (Text × Text)
-named_in = option_and_then (λ p. option_map (λ model. (p.0, model)) (first_of (codes "MODEL") p.1))
+-- a command line as it is spelled: the command, whether the flag stands with it, and the model
+pub record Named : Type 0 where
+  pub command : Text
+  pub is_kept : Bool
+  pub model : Text
 
--- the command and the model that the words name
-unfoldable pub spelled_by : List Text → Option (Text × Text)
-spelled_by words = named_in (subcommand_of tool_app words)
+-- whether a flag was set
+abbrev pub is_set : Text → List Row → Bool
+is_set flag rows = option_map_or (bytes_eq (codes "true")) (first_of flag rows) false
+
+-- what was read of the words, by the command that stands in them
+abbrev pub named_in : Option (Text × List Row) → Option Named
+named_in = option_and_then (λ p.
+    option_map (λ model. record { command = p.0; is_kept = is_set (codes "kept") p.1; model = model }) (first_of (codes "MODEL") p.1))
+
+-- what the words name
+unfoldable pub named_by : List Text → Option Named
+named_by words = named_in (subcommand_of tool_app words)
 
 -- the kinds of error for which `clap` refuses the words: none where they are written as they should be
 unfoldable pub faults_of : List Text → Kinds
 faults_of words = fault_of tool_app words
 
--- how a command is spelled, and a model
-abbrev pub command_text : Command → Text
-command_text Run = codes "run"
+-- the model is named after an `@`
+abbrev pub begins_at : Text → Bool
+begins_at model = slice_index model 0 == 64
 
-abbrev pub model_text : ModelName → Text
-model_text (Standard Atomic) = codes "@atomic"
+-- the name of a standard model, after its `@`
+abbrev pub standard_text : StandardModel → Text
+standard_text name = 64 ∷ name_of_standard name
+
+-- the command is this one
+abbrev pub IsCommand : Named → Command → Type 0
+IsCommand line (Run kept) = (line.command ≡ codes "run") × (line.is_kept ≡ kept)
+
+-- the model is this one: a standard one, or a file
+abbrev pub IsModel : Text → ModelName → Type 0
+IsModel text (Standard name) = text ≡ standard_text name
+IsModel text (Path path) = (begins_at text ≡ false) × (path.now ≡ text)
+
+-- the model has an `@` first and is none of the standard ones
+abbrev pub IsUnknown : Text → Type 0
+IsUnknown text = (begins_at text ≡ true) × ((name : StandardModel) → text ≢ standard_text name)
 
 -- the words are written as they should be, and name this command and this model
 abbrev pub AsksFor : List Text → Args → Type 0
 AsksFor words args =
-    (faults_of words ≡ []) × (spelled_by words ≡ Some (command_text args.command, model_text args.model))
+    (faults_of words ≡ []) × IsSomeAnd (named_by words) (λ line. IsCommand line args.command × IsModel line.model args.model)
 
--- the model that the words name has an `@` first
-abbrev pub begins_at : Text → Bool
-begins_at model = slice_index model 0 == 64
-
--- the words are written as they should be, and name a model with an `@` first, or one without
-abbrev pub NamesAt : List Text → Bool → Type 0
-NamesAt words has_at = (faults_of words ≡ []) × IfSome (spelled_by words) (λ p. begins_at p.1 ≡ has_at)
-
--- why the words are refused: `clap` refuses them for what the error says, or their model is a file; or no
--- model has the name after the `@`; or there is no memory
+-- why the words are refused: `clap` refuses them for what the error says, or they name no command with its model; or
+-- no model has the name after the `@`; or there is no memory
 abbrev pub IsFaultOf : List Text → UsageFault → Type 0
-IsFaultOf words (Usage e) = IsAmong (kind_of e) (faults_of words) ⊎ NamesAt words false
-IsFaultOf words UnknownModel = NamesAt words true × ((args : Args) → ¬ (AsksFor words args))
+IsFaultOf words (Usage e) = IsAmong (kind_of e) (faults_of words) ⊎ ¬ (IsSomeAnd (named_by words) (λ line. line.command ≡ codes "run"))
+IsFaultOf words UnknownModel = (faults_of words ≡ []) × IsSomeAnd (named_by words) (λ line. IsUnknown line.model)
 IsFaultOf words NotText = ⊥
 IsFaultOf words (Memory e) = ⊤

@@ -1,4 +1,5 @@
 pub mod CommandLines
-pub mod Lines
 pub mod Outcome
-pub mod Standards
+pub mod Output
+pub mod Reports
+pub mod Spelling

@@ -1,17 +1,34 @@
 -- What a run leaves.
-use Rattle.std.specs.Prelude.{◌≡◌, ◌<◌, ℕ, List, Bool, true, Option, Some, None, IfSome, IsSome, length, ⊤}
-use Rattle.std.specs.Io.KnownBytes.{Keeps}
-use Rattle.acta_tool.specs.declared.run.Status.{Status}
-use Rattle.acta_tool.specs.declared.run.Status.TheVariants.{Done, Refused, Unread, Unwritten}
+use Rattle.std.specs.Prelude.{◌≡◌, ◌<◌, ◌⊎◌, ℕ, List, Bool, true, false, Option, Some, None, Result, Ok, Err, IfSome, IsSome, length, ⊤}
+use Rattle.std.specs.Io.KnownBytes.{Appends, Keeps}
+use Rattle.acta_tool.specs.declared.args.Command.{Command}
+use Rattle.acta_tool.specs.declared.args.Command.TheVariants.{Run}
+use Rattle.acta_tool.specs.declared.fault.UsageFault.{UsageFault}
+use Rattle.acta_tool.specs.declared.fault.UsageFault.TheVariants.{Usage, UnknownModel, NotText, Memory as no_memory}
+use Rattle.acta_tool.specs.declared.status.Status.{Status}
+use Rattle.acta_tool.specs.declared.status.Status.TheVariants.{Done, Refused, Unread, Unwritten}
 use Rattle.acta_tool.specs.declared.source.ReadFault.{ReadFault}
 use Rattle.acta_tool.specs.declared.source.ReadFault.TheVariants.{Device, TooMuch, Memory}
+use Rattle.acta_tool.specs.Output.{Output}
 
--- the exit status
+-- the number of a run's end
 abbrev pub code_of : Status → ℕ
 code_of Done = 0
 code_of Refused = 1
 code_of (Unread reason) = 3
 code_of Unwritten = 3
+
+-- the exit status of the program, by what came of its words and of its run
+abbrev pub exit_status_of : Result Status UsageFault → ℕ
+exit_status_of (Ok status) = code_of status
+exit_status_of (Err (Usage e)) = 2
+exit_status_of (Err UnknownModel) = 2
+exit_status_of (Err NotText) = 2
+exit_status_of (Err (no_memory e)) = 3
+
+-- whether the kept events are wanted alone
+abbrev pub is_kept : Command → Bool
+is_kept (Run kept) = kept
 
 -- why the input was not answered, where it was not
 abbrev pub reason_of : Status → Option ReadFault
@@ -27,12 +44,29 @@ FailsBy (Some Device) old new = new ≡ true
 FailsBy (Some TooMuch) old new = new ≡ old
 FailsBy (Some Memory) old new = new ≡ old
 
+-- whether a write has failed, before and after: after, one has where the run is unwritten, and else it is as before
+abbrev pub WritesBy : Status → Bool → Bool → Type 0
+WritesBy Unwritten old new = new ≡ true
+WritesBy Done old new = new ≡ old
+WritesBy Refused old new = new ≡ old
+WritesBy (Unread reason) old new = new ≡ old
+
 -- input that wasn't answered leaves what the writer held
 abbrev pub KeepsUnread : Option ReadFault → Option (List ℕ) → Option (List ℕ) → Type 0
 KeepsUnread None old new = ⊤
 KeepsUnread (Some reason) old new = Keeps old new
 
--- input of more than 16,777,216 bytes is not answered, and where that is the reason the input is so long
-abbrev pub IsUnreadTooLong : Option (List ℕ) → Option ReadFault → Type 0
-IsUnreadTooLong input reason =
-    IfSome input (λ bytes. (16777216 < length bytes → IsSome reason) × (reason ≡ Some TooMuch → 16777216 < length bytes))
+-- where the input was answered, the writer got the output and nothing else, and the status says whether it was refused
+abbrev pub Answers : Status → Output → Option (List ℕ) → Option (List ℕ) → Type 0
+Answers Done out old new = (out.is_refused ≡ false) × Appends old new out.text
+Answers Refused out old new = (out.is_refused ≡ true) × Appends old new out.text
+Answers (Unread reason) out old new = ⊤
+Answers Unwritten out old new = ⊤
+
+-- a model or an input of more than 16,777,216 bytes is not answered, and where that is the reason one of them is so long
+abbrev pub IsUnreadTooLong : List ℕ → Option (List ℕ) → Option ReadFault → Type 0
+IsUnreadTooLong model input reason =
+    (16777216 < length model → IsSome reason)
+    × IfSome input (λ bytes.
+    (16777216 < length bytes → IsSome reason)
+    × (reason ≡ Some TooMuch → (16777216 < length model) ⊎ (16777216 < length bytes)))

@@ -1,10 +1,15 @@
 //! What the words of a command line ask for.
 
-ghost use Rattle.std.specs.Prelude.{◌≡◌, [], Some, map, option_map, string_bytes, IfOk, IfErr, IfSome};
-ghost use Rattle.clap.specs.Words.{app_of, subcommand_rows_of};
-ghost use Rattle.acta_tool.specs.CommandLines.{AsksFor, IsFaultOf, begins_at, command_text, faults_of, model_text, named_in, spelled_by, tool_app};
+ghost use Rattle.std.specs.Prelude.{◌≡◌, ◌≢◌, [], map, option_map, string_bytes, codes, false, IfOk, IfErr, IfSome, IfNone};
+ghost use Rattle.std.specs.Option.{option_map_or};
+ghost use Rattle.std.specs.Str.{bytes_eq};
+ghost use Rattle.clap.specs.Words.{app_of, first_value, found_of, rule_of, subcommand_rows_of};
+ghost use Rattle.acta_models.specs.declared.texts.Standard.{Standard as StandardModel};
+ghost use Rattle.acta_tool.specs.CommandLines.{AsksFor, IsCommand, IsFaultOf, IsModel, IsUnknown, bare_app, begins_at, faults_of, kept_rule, model_rule, named_by, named_in, standard_text, tool_app};
+ghost use Rattle.acta_tool.specs.Spelling.{IsUsage, named_of};
 
 use crate::fault::UsageFault;
+use acta_models::Standard;
 use clap::error::ErrorKind;
 use clap::{Arg, ArgAction, ArgMatches};
 use std::alloc::{AllocError, Global};
@@ -12,49 +17,59 @@ use std::alloc::{AllocError, Global};
 /// What is to be done.
 #[derive(Clone, Copy, Debug, PartialEq, Eq)]
 pub enum Command {
-    /// Answers the event lines of the standard input.
-    Run,
+    /// Answers the event lines of the standard input; or, where `kept`, tells the events that were kept, with what
+    /// they returned, and nothing else.
+    Run { kept: bool },
 }
 
-/// A model that the program holds.
+/// Where the text of the model is.
 #[derive(Clone, Copy, Debug, PartialEq, Eq)]
-pub enum Standard {
-    /// Flat transactions on one register.
-    Atomic,
-}
-
-/// Which model the events are read against.
-#[derive(Clone, Copy, Debug, PartialEq, Eq)]
-pub enum ModelName {
-    /// One that the program holds, named after an `@`.
+pub enum ModelName<'a> {
+    /// The program holds it: it was named after an `@`.
     Standard(Standard),
+    /// In the file at this path.
+    Path(&'a str),
 }
 
 /// A command line that was taken.
 #[derive(Clone, Copy, Debug, PartialEq, Eq)]
-pub struct Args {
+pub struct Args<'a> {
     pub command: Command,
-    pub model: ModelName,
+    pub model: ModelName<'a>,
 }
 
-// The command of this name.
-fn command_named(name: &str) -> Option<Command>
-    ensures some { IfSome result (λ command. name.now ≡ command_text command) }
-    ensures all { (command : Command) → name.now ≡ command_text command → result ≡ Some command }
+// A command line as it is spelled.
+#[derive(Clone, Copy)]
+struct Spelled<'a> {
+    command: &'a str,
+    is_kept: bool,
+    model: &'a str,
+}
+
+// The command that is spelled so.
+fn command_named(spelled: &Spelled<'_>) -> Option<Command>
+    ensures some { IfSome result (IsCommand (named_of spelled.now)) }
+    ensures none { IfNone result (spelled.now.command.now ≢ codes "run") }
 {
-    match name {
-        "run" => Some(Command::Run),
+    match spelled.command {
+        "run" => Some(Command::Run {
+            kept: spelled.is_kept,
+        }),
         _ => None,
     }
 }
 
-// The model of this name, which begins with an `@`.
-fn model_named(name: &str) -> Option<ModelName>
-    ensures some { IfSome result (λ model. name.now ≡ model_text model) }
-    ensures all { (model : ModelName) → name.now ≡ model_text model → result ≡ Some model }
+// The standard model that is named so, after an `@`.
+fn standard_named(model: &str) -> Option<Standard>
+    ensures some { IfSome result (λ standard. model.now ≡ standard_text standard) }
+    ensures none { IfNone result ((standard : StandardModel) → model.now ≢ standard_text standard) }
 {
-    match name {
-        "@atomic" => Some(ModelName::Standard(Standard::Atomic)),
+    match model {
+        "@atomic" => Some(Standard::Atomic),
+        "@nested" => Some(Standard::Nested),
+        "@split_join" => Some(Standard::SplitJoin),
+        "@recoverable" => Some(Standard::Recoverable),
+        "@contingent" => Some(Standard::Contingent),
         _ => None,
     }
 }
@@ -66,43 +81,104 @@ fn begins_with_at(model: &str) -> bool
     model.starts_with('@')
 }
 
+// The model that is named so, if it is a file or a standard one.
+fn model_named(model: &str) -> Option<ModelName<'_>>
+    ensures some { IfSome result (IsModel model.now) }
+    ensures none { IfNone result (IsUnknown model.now) }
+{
+    if begins_with_at(model) {
+        let standard = standard_named(model)?;
+        Some(ModelName::Standard(standard))
+    } else {
+        Some(ModelName::Path(model))
+    }
+}
+
+// The program without its commands.
+fn bare_command<'a>(alloc: Global) -> clap::Command<'a>
+    ensures { app_of result ≡ bare_app }
+{
+    clap::Command::new(alloc, "acta_tool")
+        .about("Runs histories of events against extended transaction models, as ACTA writes them")
+        .subcommand_required(true)
+}
+
+// Where the model is: the one argument of a command.
+fn model_argument<'a>(alloc: Global) -> Arg<'a>
+    ensures rule { rule_of result ≡ model_rule }
+    ensures local { result.global ≡ false }
+{
+    Arg::new(alloc, "MODEL")
+        .required(true)
+        .action(ArgAction::Set)
+        .help(
+            "A file with the model's text, or one of @atomic, @nested, @split_join, @recoverable, @contingent",
+        )
+}
+
+// Whether the events that were kept are told alone.
+fn kept_flag<'a>(alloc: Global) -> Arg<'a>
+    ensures rule { rule_of result ≡ kept_rule }
+    ensures local { result.global ≡ false }
+{
+    Arg::new(alloc, "kept")
+        .long("kept")
+        .action(ArgAction::SetTrue)
+        .help("Tells the events that were kept, with what they returned, and nothing else")
+}
+
 // The command line that the program takes.
 fn surface<'a>(alloc: Global) -> Result<clap::Command<'a>, AllocError>
     ensures { IfOk result (λ command. app_of command ≡ tool_app) }
 {
-    let model = Arg::new(alloc, "MODEL")
-        .required(true)
-        .action(ArgAction::Set);
-    let run = clap::Command::new(alloc, "run").arg(model)?;
-    clap::Command::new(alloc, "acta_tool")
-        .subcommand_required(true)
-        .subcommand(run)
+    let run = clap::Command::new(alloc, "run")
+        .about(
+            "Answers the events of the standard input, one line for each, and tells what is owed",
+        )
+        .arg(model_argument(alloc))?
+        .arg(kept_flag(alloc))?;
+    bare_command(alloc).subcommand(run)
 }
 
-// The command that was named, and its model, as they are spelled.
-fn named<'a>(matches: &ArgMatches<'a>) -> Option<(&'a str, &'a str)>
-    ensures { option_map (λ p. (p.0.now, p.1.now)) result ≡ named_in (subcommand_rows_of matches.now) }
+// Whether the flag was set.
+fn is_set(matches: &ArgMatches<'_>, flag: &str) -> bool
+    ensures { result ≡ option_map_or (bytes_eq (codes "true")) (first_value (found_of matches.now) flag.now) false }
+{
+    match matches.get_str(flag) {
+        Some(value) => value == "true",
+        None => false,
+    }
+}
+
+// The command that was named, with its flag and its model, as they are spelled.
+fn spelling<'a>(matches: &ArgMatches<'a>) -> Option<Spelled<'a>>
+    ensures { option_map named_of result ≡ named_in (subcommand_rows_of matches.now) }
 {
     let Some((command, inner)) = matches.subcommand() else {
         return None;
     };
+    let is_kept = is_set(inner, "kept");
     let Some(model) = inner.get_str("MODEL") else {
         return None;
     };
-    Some((command, model))
+    Some(Spelled {
+        command,
+        is_kept,
+        model,
+    })
 }
 
-// The command that the words name, and its model, where the words are written as they should be.
-fn named_by<'a>(
+// What the words name, where they are written as they should be.
+fn spelled_by<'a>(
     surface: &mut clap::Command<'a>,
     words: &'a [String],
-) -> Result<Option<(&'a str, &'a str)>, UsageFault>
+) -> Result<Option<Spelled<'a>>, UsageFault>
     requires { app_of surface.old ≡ tool_app }
-    ensures ok { IfOk result (λ found. (faults_of (map string_bytes words.now) ≡ []) × (option_map (λ p. (p.0.now, p.1.now)) found ≡ spelled_by (map string_bytes words.now))) }
+    ensures ok { IfOk result (λ found. (faults_of (map string_bytes words.now) ≡ []) × (option_map named_of found ≡ named_by (map string_bytes words.now))) }
     ensures err { IfErr result (IsFaultOf (map string_bytes words.now)) }
 {
     match surface.try_get_matches_from_mut(words) {
-        Ok(matches) => Ok(named(&matches)),
+        Ok(matches) => Ok(spelling(&matches)),
         Err(e) => match e.kind() {
             ErrorKind::OutOfMemory => Err(UsageFault::Memory(AllocError)),
             _ => Err(UsageFault::Usage(e)),
@@ -110,36 +186,31 @@ fn named_by<'a>(
     }
 }
 
-// What the spelled command and model ask for.
-fn args_spelled(command: &str, model: &str) -> Option<Args>
-    ensures some { IfSome result (λ args. (command.now ≡ command_text args.command) × (model.now ≡ model_text args.model)) }
-    ensures all { (args : Args) → command.now ≡ command_text args.command → model.now ≡ model_text args.model → result ≡ Some args }
+// The fault of words that name no command.
+fn no_command(surface: &mut clap::Command<'_>) -> UsageFault
+    ensures { IsUsage result }
 {
-    Some(Args {
-        command: command_named(command)?,
-        model: model_named(model)?,
-    })
+    match surface.error(ErrorKind::MissingSubcommand, "a command is wanted") {
+        Ok(error) => UsageFault::Usage(error),
+        Err(e) => UsageFault::Memory(e),
+    }
 }
 
-/// What the words ask for; the first is the program's name. `Usage` where they are no command with
-/// its model, or the model is a file, since files can't be read yet; `UnknownModel` where no
-/// standard model has the name after the `@`; `Memory` where there is none.
-pub fn parse<'a>(alloc: Global, words: &'a [String]) -> Result<Args, UsageFault>
+/// What the words ask for; the first is the program's name. `Usage` where they are no command with its model, with the
+/// text of `clap`; `UnknownModel` where no standard model has the name after the `@`; `Memory` where there is none.
+pub fn parse<'a>(alloc: Global, words: &'a [String]) -> Result<Args<'a>, UsageFault>
     ensures ok { IfOk result (AsksFor (map string_bytes words.now)) }
     ensures err { IfErr result (IsFaultOf (map string_bytes words.now)) }
 {
     let mut surface = surface(alloc).map_err(UsageFault::Memory)?;
-    if let Some((command, model)) = named_by(&mut surface, words)? {
-        if let Some(args) = args_spelled(command, model) {
-            return Ok(args);
-        }
-        if begins_with_at(model) {
-            return Err(UsageFault::UnknownModel);
-        }
+    let Some(spelled) = spelled_by(&mut surface, words)? else {
+        return Err(no_command(&mut surface));
+    };
+    let Some(command) = command_named(&spelled) else {
+        return Err(no_command(&mut surface));
+    };
+    match model_named(spelled.model) {
+        Some(model) => Ok(Args { command, model }),
+        None => Err(UsageFault::UnknownModel),
     }
-    let message = "model files can't be read yet";
-    let error = surface
-        .error(ErrorKind::InvalidValue, message)
-        .map_err(UsageFault::Memory)?;
-    Err(UsageFault::Usage(error))
 }

@@ -11,7 +11,8 @@ use std::alloc::Allocator;
 use std::io;
 use std::io::Read;
 
-const MOST_BYTES: usize = 16_777_216;
+/// The most bytes that an input or a model has (our limit).
+pub const MOST_BYTES: usize = 16_777_216;
 
 const MOST_READS: u32 = 16_777_217;
 

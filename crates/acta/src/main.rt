@@ -1,0 +1,92 @@
+//! The program `acta_tool COMMAND [OPTIONS] MODEL`. Its words say what is to be done and with which model, a file or one
+//! that the program holds; the standard input holds the lines of a history. The model and the whole input are read before
+//! anything is written, and the answer is written in one go, so that a run whose input can't be read, or whose memory runs
+//! out, prints nothing. It ends with status 0 where all was answered, 1 where the model or a line was refused, 2 where the
+//! words are wrong, and 3 where a read, a write or the memory failed.
+#![tactic(auto)]
+
+ghost use Rattle.std.specs.Prelude.{◌≤◌, IfOk, vec_len};
+
+use acta_models::Standard;
+use acta_tool::{
+    Args, Metered, ModelName, ReadFault, Status, UsageFault, Watched, exit_status, parse, read_all,
+    run_tool,
+};
+use std::alloc::AllocError;
+use std::process::ExitCode;
+use std::{env, fs, io};
+
+// The words of the command line; the first is the program's name.
+fn words(rt: &HostRuntime) -> Result<Vec<String>, UsageFault> {
+    match env::args(rt) {
+        Ok(words) => Ok(words.collect(rt.alloc())?),
+        Err(e) => match e.kind() {
+            io::ErrorKind::OutOfMemory => Err(UsageFault::Memory(AllocError)),
+            _ => Err(UsageFault::NotText),
+        },
+    }
+}
+
+// The bytes of a model file, at most 16,777,216.
+fn read_model(rt: &HostRuntime, path: &str) -> Result<Vec<u8>, ReadFault>
+    ensures { IfOk result (λ bytes. vec_len bytes ≤ 16777216) }
+{
+    match fs::open(rt, path) {
+        Ok(file) => read_all(rt.alloc(), &mut Metered::new(file)),
+        Err(_) => Err(ReadFault::Device),
+    }
+}
+
+// Runs the tool on the bytes of a model, over the standard input and output.
+fn run_on(rt: &HostRuntime, args: &Args<'_>, model: &[u8]) -> Status {
+    let mut input = Metered::new(rt.reader());
+    let mut output = Watched::new(io::writer(rt));
+    run_tool(rt.alloc(), args, model, &mut input, &mut output)
+}
+
+// Does what the words ask for.
+fn serve(rt: &HostRuntime) -> Result<Status, UsageFault> {
+    let words = words(rt)?;
+    let args = parse(rt.alloc(), words.as_slice())?;
+    Ok(match args.model {
+        ModelName::Standard(name) => run_on(rt, &args, name.text().as_bytes()),
+        ModelName::Path(path) => match read_model(rt, path) {
+            Ok(model) => run_on(rt, &args, model.as_slice()),
+            Err(reason) => Status::Unread(reason),
+        },
+    })
+}
+
+// Lists the standard models.
+fn tell_standards(rt: &HostRuntime) {
+    let _ = eprintln!(rt; "the standard models are:");
+    for name in Standard::ALL {
+        let name = name.name();
+        let _ = eprintln!(rt; "    @{name}");
+    }
+}
+
+// Says why the words ask for nothing. Where there is no memory, nothing is said.
+fn explain(rt: &HostRuntime, fault: &UsageFault) {
+    match fault {
+        UsageFault::Memory(_) => {}
+        UsageFault::Usage(e) => {
+            let _ = eprint!(rt; "{e}");
+        }
+        UsageFault::NotText => {
+            let _ = eprintln!(rt; "{fault}");
+        }
+        UsageFault::UnknownModel => {
+            let _ = eprintln!(rt; "{fault}");
+            tell_standards(rt);
+        }
+    }
+}
+
+fn main(rt: HostRuntime) -> ExitCode {
+    let outcome = serve(&rt);
+    if let Err(fault) = &outcome {
+        explain(&rt, fault);
+    }
+    ExitCode::from(exit_status(&outcome))
+}

@@ -1,0 +1,12 @@
+pub mod EdgesAgain
+mod Examples
+pub mod FormsAgain
+pub mod Held
+pub mod NameLists
+pub mod NoCodes
+pub mod ReadAgain
+pub mod Sound
+pub mod Tidy
+pub mod Turns
+pub mod WordLists
+pub mod Writing

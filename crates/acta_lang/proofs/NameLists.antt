@@ -1,0 +1,28 @@
+-- Names behind references are found where the names are.
+use Rattle.std.proofs.Common.{◌≡◌, ℕ, Bool, true, false, cond, ◌||◌, List, [], ◌∷◌, ◌++◌, map, Option, Some, is_some, refl, ap, ◌∙◌, true≢false}
+use Rattle.std.specs.List.{list_any}
+use Rattle.std.specs.Map.{keys_of, lookup}
+use Rattle.std.specs.Str.{bytes_eq}
+use Rattle.indexmap.specs.IndexMap.{insert_entry}
+use denote.Ref.{Bor}
+
+found : {V : Type 0} (hit : Bool) (v : V) (o : Option V) → is_some (cond hit (Some v) o) ≡ (hit || is_some o)
+found true v o = refl
+found false v o = refl
+
+-- something is found under a name where the name is among the names
+pub is_found : {V : Type 0} (test : List ℕ → Bool) (es : List (Bor (List ℕ) × V)) → is_some (lookup (λ k. test k.now) es) ≡ list_any test (map (λ k. k.now) (keys_of es))
+is_found test [] = refl
+is_found test (e ∷ es) = found (test e.0.now) e.1 (lookup (λ k. test k.now) es) ∙ ap (λ b. test e.0.now || b) (is_found test es)
+
+placed : {V : Type 0} (hit : Bool) (e new : Bor (List ℕ) × V) (other es put : List (Bor (List ℕ) × V)) (rest : Bool) → (hit || rest) ≡ false → (rest ≡ false → put ≡ es ++ new ∷ [])
+    → cond hit other (e ∷ put) ≡ e ∷ es ++ new ∷ []
+placed true e new other es put rest h step = absurd (true≢false h)
+placed false e new other es put rest h step = λ i. e ∷ step h i
+
+-- a new name goes behind the others
+pub goes_last : {V : Type 0} (name : Bor (List ℕ)) (v : V) (es : List (Bor (List ℕ) × V)) → list_any (bytes_eq name.now) (map (λ k. k.now) (keys_of es)) ≡ false
+    → insert_entry (λ k l. bytes_eq k.now l.now) es name v ≡ es ++ (name, v) ∷ []
+goes_last name v [] absent = refl
+goes_last name v (e ∷ es) absent =
+    placed (bytes_eq name.now e.0.now) e (name, v) ((e.0, v) ∷ es) es (insert_entry (λ k l. bytes_eq k.now l.now) es name v) (list_any (bytes_eq name.now) (map (λ k. k.now) (keys_of es))) absent (goes_last name v es)

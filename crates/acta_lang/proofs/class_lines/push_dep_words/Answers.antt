@@ -1,0 +1,9 @@
+use Rattle.std.proofs.Common.{arith, ◌∙◌}
+use Rattle.acta_table.specs.Dependencies.{all_kinds, has_dep, word_of}
+use Rattle.acta_lang.proofs.Writing.{word_step}
+use Rattle.acta_lang.proofs.class_lines.push_dep_words.Goals as goal
+
+pub loop-kind-preserved : goal.loop-kind-preserved
+loop-kind-preserved g c =
+    word_step word_of (has_dep c.args.kinds) all_kinds c.loop-kind.kind-index _ c.loop-kind.text.items _ c.as_bytes.result.now c.has.result (omega arith) c.in_ok-push_word_if.ensures c.has.ensures (c.as_bytes.ensures.value ∙ c.word.ensures)
+    ∙ c.loop-kind.invariant

@@ -1,0 +1,10 @@
+pub mod Canonical
+pub mod Drafts
+pub mod Faults
+pub mod FirstValues
+pub mod Forms
+pub mod Meaning
+pub mod Named
+pub mod Shown
+pub mod Words
+pub mod Written

@@ -1,0 +1,102 @@
+//! The lowest code of a line: each test stands for itself, and the first that passes, in their order, is answered.
+
+ghost use Rattle.std.specs.Prelude.{◌≡◌, map};
+ghost use Rattle.std.specs.List.{list_all};
+ghost use Rattle.acta_lang.specs.Drafts.{extended};
+ghost use Rattle.acta_lang.specs.Faults.{bad_name, bad_number, bad_policy_kind, bad_word, begin_kind_at_start, code_if, is_printable, lowest_of, not_ascii};
+ghost use Rattle.acta_lang.specs.Shown.{shown};
+
+use crate::draft::{Draft, name_in, value_in};
+use crate::fault::Code;
+use crate::form::Form;
+use acta_table::is_named_well;
+use acta_words::read_i32;
+use std::alloc::Allocator;
+
+fn is_printable(line: &[u8]) -> bool
+    ensures { result ≡ list_all is_printable line.now }
+{
+    line.iter()
+        .all(|b| *b == b'\t' || (b' ' <= *b && *b <= b'~'))
+}
+
+#[tactic(auto, unfolding(crate::specs::Faults::not_ascii))]
+fn not_ascii(line: &[u8]) -> bool
+    ensures { result ≡ not_ascii line.now }
+{
+    !is_printable(line)
+}
+
+#[tactic(auto, unfolding(crate::specs::Faults::bad_word))]
+fn bad_word(said: &Form) -> bool
+    ensures { result ≡ bad_word said.now }
+{
+    matches!(said, Form::Unknown)
+}
+
+#[tactic(auto, unfolding(crate::specs::Faults::bad_name))]
+fn bad_name(words: &[&[u8]], said: &Form) -> bool
+    ensures { result ≡ bad_name (map (λ word. word.now) words.now) said.now }
+{
+    (said.is_object() || said.is_class()) && !is_named_well(name_in(words))
+}
+
+#[tactic(auto, unfolding(crate::specs::Faults::bad_number))]
+fn bad_number(words: &[&[u8]], said: &Form) -> bool
+    ensures { result ≡ bad_number (map (λ word. word.now) words.now) said.now }
+{
+    match said {
+        Form::Register | Form::Counter => read_i32(value_in(words)).is_none(),
+        _ => false,
+    }
+}
+
+#[tactic(auto, unfolding(crate::specs::Faults::begin_kind_at_start))]
+fn begin_kind_at_start(said: &Form) -> bool
+    ensures { result ≡ begin_kind_at_start said.now }
+{
+    match said {
+        Form::Spawn(edge) | Form::Split(edge) => edge.kind.is_begin_kind(),
+        _ => false,
+    }
+}
+
+#[tactic(auto, unfolding(crate::specs::Faults::bad_policy_kind))]
+fn bad_policy_kind(said: &Form) -> bool
+    ensures { result ≡ bad_policy_kind said.now }
+{
+    match said {
+        Form::Policy(policy) => policy.is_bad(),
+        _ => false,
+    }
+}
+
+fn code_where(is_there: bool, code: Code) -> Option<Code>
+    ensures { result ≡ code_if is_there code }
+{
+    if is_there { Some(code) } else { None }
+}
+
+/// The lowest code of a line of these words, of this form.
+pub(crate) fn lowest_code<'a, A: Allocator + Copy>(
+    draft: &Draft<'a, A>,
+    is_last: bool,
+    line: &[u8],
+    words: &[&'a [u8]],
+    said: &Form,
+) -> Option<Code>
+    ensures { result ≡ lowest_of (shown draft.now) (extended (shown draft.now) (map (λ word. word.now) words.now) said.now) is_last line.now (map (λ word. word.now) words.now) said.now }
+{
+    code_where(not_ascii(line), Code::NotAscii)
+        .or(code_where(bad_word(said), Code::BadWord))
+        .or(code_where(bad_name(words, said), Code::BadName))
+        .or(code_where(draft.duplicate_name(words, said), Code::DuplicateName))
+        .or(code_where(draft.wrong_place(said), Code::WrongPlace))
+        .or(code_where(bad_number(words, said), Code::BadNumber))
+        .or(code_where(draft.too_many(said), Code::TooMany))
+        .or(code_where(draft.missing_end(is_last, words, said), Code::MissingEnd))
+        .or(code_where(draft.missing_part(is_last, words, said), Code::MissingPart))
+        .or(code_where(begin_kind_at_start(said), Code::BeginKindAtStart))
+        .or(code_where(draft.heir_without_spawn(said), Code::HeirWithoutSpawn))
+        .or(code_where(bad_policy_kind(said), Code::BadPolicyKind))
+}

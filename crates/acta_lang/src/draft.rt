@@ -1,0 +1,270 @@
+//! What the lines so far declare: objects and classes under their names, and the class that is open. Names are borrowed
+//! from the text, and copied only when the model is made.
+
+ghost use Rattle.std.specs.Prelude.{◌≡◌, map, option_map, false, IfOk, OnOk};
+ghost use Rattle.std.specs.Option.{option_map_or};
+ghost use Rattle.std.specs.Str.{bytes_eq};
+ghost use Rattle.acta_words.specs.Text.{is_word_among};
+ghost use Rattle.acta_lang.specs.Drafts.{extended, nothing_yet, parts_of, first_value, with_object, with_closed, with_said};
+ghost use Rattle.acta_lang.specs.Faults.{class_names, duplicate_name, heir_without_spawn, missing_end, missing_part, object_names, too_many, wrong_place};
+ghost use Rattle.acta_lang.specs.Forms.{name_in, value_in};
+ghost use Rattle.acta_lang.specs.Shown.{is_current_taken, shown};
+
+use crate::form::Form;
+use crate::names::{Named, add_name, is_named};
+use crate::said::Said;
+use acta_table::{Class, Items, Kind, Object, Parts};
+use acta_words::read_i32;
+use std::alloc::{AllocError, Allocator};
+use std::hash::BuildHasherDefault;
+
+// The most objects that a text can declare.
+const MOST_OBJECTS: usize = 256;
+
+// The most classes that it can declare.
+const MOST_CLASSES: usize = 16;
+
+/// A class that is open.
+#[derive(Drop)]
+pub(crate) struct ClassDraft<'a, A: Allocator> {
+    name: &'a [u8],
+    said: Said<A>,
+}
+
+/// What some lines declare.
+#[derive(Drop)]
+pub(crate) struct Draft<'a, A: Allocator> {
+    objects: Named<'a, Kind, A>,
+    classes: Named<'a, Said<A>, A>,
+    current: Option<ClassDraft<'a, A>>,
+}
+
+/// The word that stands for a name.
+pub(crate) fn name_in<'a>(words: &[&'a [u8]]) -> &'a [u8]
+    ensures { result.now ≡ name_in (map (λ word. word.now) words.now) }
+{
+    match words {
+        [_, name, ..] => name,
+        _ => b"".as_slice(),
+    }
+}
+
+/// The word that stands for a first value.
+pub(crate) fn value_in<'a>(words: &[&'a [u8]]) -> &'a [u8]
+    ensures { result.now ≡ value_in (map (λ word. word.now) words.now) }
+{
+    match words {
+        [_, _, _, value, ..] => value,
+        _ => b"".as_slice(),
+    }
+}
+
+// The first value that a line has, and 0 where it is no number.
+fn first_value(words: &[&[u8]]) -> i32
+    ensures { result ≡ first_value (value_in (map (λ word. word.now) words.now)) }
+{
+    read_i32(value_in(words)).unwrap_or(0)
+}
+
+impl<'a, A: Allocator + Copy> Draft<'a, A> {
+    /// Before any line. Takes no memory.
+    pub(crate) fn nothing(alloc: A) -> Draft<'a, A>
+        ensures { shown result ≡ nothing_yet }
+    {
+        Draft {
+            objects: Named::with_hasher(alloc, BuildHasherDefault::new()),
+            classes: Named::with_hasher(alloc, BuildHasherDefault::new()),
+            current: None,
+        }
+    }
+
+    // Whether an object has this name.
+    fn has_object(&self, name: &'a [u8]) -> bool
+        ensures { result ≡ is_word_among (object_names (shown self.now)) name.now }
+    {
+        is_named(&self.objects, name)
+    }
+
+    // Whether a class has this name, the open one too.
+    fn has_class(&self, name: &'a [u8]) -> bool
+        ensures { result ≡ is_word_among (class_names (shown self.now)) name.now }
+    {
+        is_named(&self.classes, name) || self.is_current(name)
+    }
+
+    // Whether the class that is open has this name.
+    fn is_current(&self, name: &[u8]) -> bool
+        ensures { result ≡ option_map_or (λ class. bytes_eq name.now class.name) (shown self.now).current false }
+    {
+        match &self.current {
+            Some(class) => name == class.name,
+            None => false,
+        }
+    }
+
+    /// Whether an earlier line names such an object, or such a class.
+    #[tactic(auto, unfolding(crate::specs::Faults::duplicate_name))]
+    pub(crate) fn duplicate_name(&self, words: &[&'a [u8]], said: &Form) -> bool
+        ensures { result ≡ duplicate_name (shown self.now) (map (λ word. word.now) words.now) said.now }
+    {
+        let name = name_in(words);
+        said.is_object() && self.has_object(name) || said.is_class() && self.has_class(name)
+    }
+
+    /// Whether the line stands inside a class and should not, or outside one and should not, or says what its class
+    /// has said already.
+    #[tactic(auto, unfolding(crate::specs::Faults::wrong_place))]
+    pub(crate) fn wrong_place(&self, said: &Form) -> bool
+        ensures { result ≡ wrong_place (shown self.now) said.now }
+    {
+        if matches!(said, Form::Blank) {
+            return false;
+        }
+        match &self.current {
+            Some(class) => said.is_object() || said.is_class() || class.said.has(said),
+            None => !(said.is_object() || said.is_class()),
+        }
+    }
+
+    /// Whether there is one object or one class too many.
+    #[tactic(auto, unfolding(crate::specs::Faults::too_many))]
+    pub(crate) fn too_many(&self, said: &Form) -> bool
+        ensures { result ≡ too_many (shown self.now) said.now }
+    {
+        said.is_object() && self.objects.len() >= MOST_OBJECTS
+            || said.is_class() && self.classes.len() >= MOST_CLASSES
+    }
+
+    /// Whether a class is open behind the line, and it is the last.
+    #[tactic(auto, unfolding(crate::specs::Faults::missing_end, crate::specs::Drafts::extended))]
+    pub(crate) fn missing_end(&self, is_last: bool, words: &[&[u8]], said: &Form) -> bool
+        ensures { result ≡ missing_end is_last (extended (shown self.now) (map (λ word. word.now) words.now) said.now) }
+    {
+        let is_open = match said {
+            Form::Class => true,
+            Form::End => false,
+            _ => self.current.is_some(),
+        };
+        is_last && is_open
+    }
+
+    /// Whether the line ends a class that hasn't said all, or is the last and there is no class.
+    #[tactic(auto, unfolding(crate::specs::Faults::missing_part, crate::specs::Drafts::extended))]
+    pub(crate) fn missing_part(&self, is_last: bool, words: &[&[u8]], said: &Form) -> bool
+        ensures { result ≡ missing_part is_last (shown self.now) (extended (shown self.now) (map (λ word. word.now) words.now) said.now) said.now }
+    {
+        if said.is_end() {
+            match &self.current {
+                Some(class) => !class.said.is_all(),
+                None => is_last && self.classes.len() == 0,
+            }
+        } else {
+            is_last && self.classes.len() == 0
+        }
+    }
+
+    /// Whether the line ends a class that commits to parents, and some of whose transactions have none.
+    #[tactic(auto, unfolding(crate::specs::Faults::heir_without_spawn))]
+    pub(crate) fn heir_without_spawn(&self, said: &Form) -> bool
+        ensures { result ≡ heir_without_spawn (shown self.now) said.now }
+    {
+        match &self.current {
+            Some(class) => said.is_end() && class.said.lacks_parents(),
+            None => false,
+        }
+    }
+
+    fn add_object(&mut self, name: &'a [u8], kind: Kind) -> Result<(), AllocError>
+        requires { is_word_among (map (λ o. o.name) (shown self.old).objects) name.now ≡ false }
+        ensures { OnOk result (shown self.new ≡ with_object (shown self.old) name.now kind) }
+    {
+        add_name(&mut self.objects, name, kind)
+    }
+
+    // Closes the class that is open, if one is.
+    fn close(&mut self) -> Result<(), AllocError>
+        requires { is_current_taken (shown self.old) ≡ false }
+        ensures { OnOk result (shown self.new ≡ with_closed (shown self.old) (shown self.old).current) }
+    {
+        match self.current.take() {
+            Some(class) => {
+                let ClassDraft { name, said } = class;
+                add_name(&mut self.classes, name, said)
+            }
+            None => Ok(()),
+        }
+    }
+
+    // Adds what a line inside a class says, if one is open.
+    fn say(&mut self, said: &Form) -> Result<(), AllocError>
+        ensures { OnOk result (shown self.new ≡ record (shown self.old) { current = option_map (with_said said.now) (shown self.old).current }) }
+    {
+        match &mut self.current {
+            Some(class) => class.said.add(said),
+            None => Ok(()),
+        }
+    }
+
+    /// Adds what the line declares. `Err` where there is no memory.
+    #[tactic(auto, unfolding(crate::specs::Drafts::extended, crate::specs::Faults::duplicate_name))]
+    pub(crate) fn extend(
+        &mut self,
+        alloc: A,
+        words: &[&'a [u8]],
+        said: &Form,
+    ) -> Result<(), AllocError>
+        requires new { duplicate_name (shown self.old) (map (λ word. word.now) words.now) said.now ≡ false }
+        requires current_is_new { is_current_taken (shown self.old) ≡ false }
+        ensures { OnOk result (shown self.new ≡ extended (shown self.old) (map (λ word. word.now) words.now) said.now) }
+    {
+        match said {
+            Form::Register => self.add_object(name_in(words), Kind::Register(first_value(words))),
+            Form::Counter => self.add_object(name_in(words), Kind::Counter(first_value(words))),
+            Form::Elements => self.add_object(name_in(words), Kind::Elements),
+            Form::Class => {
+                self.current = Some(ClassDraft {
+                    name: name_in(words),
+                    said: Said::nothing(alloc),
+                });
+                Ok(())
+            }
+            Form::End => self.close(),
+            _ => self.say(said),
+        }
+    }
+
+    // The objects, with names of their own.
+    fn objects(&self, alloc: A) -> Result<Items<Object<A>, A>, AllocError>
+        ensures { IfOk result (λ objects. objects ≡ (shown self.now).objects) }
+    {
+        let mut objects = Vec::with_capacity(alloc, self.objects.len())?;
+        for (name, kind) in self.objects.iter() {
+            objects.push(Object {
+                name: Items::of(Vec::from_slice(alloc, name)?),
+                kind: *kind,
+            })?;
+        }
+        Ok(Items::of(objects))
+    }
+
+    // The classes that are closed, with names of their own.
+    fn classes(&self, alloc: A) -> Result<Items<Class<A>, A>, AllocError>
+        ensures { IfOk result (λ classes. classes ≡ (shown self.now).classes) }
+    {
+        let mut classes = Vec::with_capacity(alloc, self.classes.len())?;
+        for (name, said) in self.classes.iter() {
+            classes.push(said.class(alloc, name)?)?;
+        }
+        Ok(Items::of(classes))
+    }
+
+    /// The parts of the model that the lines declare. `Err` where there is no memory.
+    pub(crate) fn parts(&self, alloc: A) -> Result<Parts<A>, AllocError>
+        ensures { IfOk result (λ parts. parts ≡ parts_of (shown self.now)) }
+    {
+        Ok(Parts {
+            objects: self.objects(alloc)?,
+            classes: self.classes(alloc)?,
+        })
+    }
+}

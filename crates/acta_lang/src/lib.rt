@@ -1,0 +1,24 @@
+//! The language of models. A text is read line by line into a draft of the objects and classes that it declares, up
+//! to the first line at which something is wrong; a draft without a fault is a checked model. And each model has a
+//! canonical text, which means it again.
+#![tactic(auto)]
+
+mod assembling;
+mod class_forms;
+mod class_lines;
+mod codes;
+mod declare;
+mod draft;
+mod fault;
+mod form;
+mod line_forms;
+mod names;
+mod object_lines;
+mod policy_forms;
+mod printing;
+mod said;
+mod words;
+
+pub use assembling::assemble;
+pub use fault::{AsmError, AsmFault, Code};
+pub use printing::print_model;

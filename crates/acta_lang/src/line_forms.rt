@@ -1,0 +1,110 @@
+//! The form of a line, by its words.
+
+ghost use Rattle.std.specs.Prelude.{◌≡◌, map};
+ghost use Rattle.acta_lang.specs.Forms.{form_of, object_form, class_form, spawn_form, split_form, end_form};
+
+use crate::class_forms::{
+    commit_form, delegation_form, edge_said, may_form, scope_form, starts_form,
+};
+use crate::form::Form;
+use crate::policy_forms::policy_form;
+
+// NAME register INT, NAME counter INT, NAME set
+fn object_form(words: &[&[u8]]) -> Form
+    ensures { result ≡ object_form (map (λ word. word.now) words.now) }
+{
+    match words {
+        [_, kind] => {
+            if *kind == b"set".as_slice() {
+                Form::Elements
+            } else {
+                Form::Unknown
+            }
+        }
+        [_, kind, _] => {
+            if *kind == b"register".as_slice() {
+                Form::Register
+            } else if *kind == b"counter".as_slice() {
+                Form::Counter
+            } else {
+                Form::Unknown
+            }
+        }
+        _ => Form::Unknown,
+    }
+}
+
+// NAME
+fn class_form(words: &[&[u8]]) -> Form
+    ensures { result ≡ class_form (map (λ word. word.now) words.now) }
+{
+    match words {
+        [_] => Form::Class,
+        _ => Form::Unknown,
+    }
+}
+
+// spawn starter KIND started, spawn started KIND starter
+fn spawn_form(words: &[&[u8]]) -> Form
+    ensures { result ≡ spawn_form (map (λ word. word.now) words.now) }
+{
+    match edge_said(words) {
+        Some(edge) => Form::Spawn(edge),
+        None => Form::Unknown,
+    }
+}
+
+// split starter KIND started, split started KIND starter
+fn split_form(words: &[&[u8]]) -> Form
+    ensures { result ≡ split_form (map (λ word. word.now) words.now) }
+{
+    match edge_said(words) {
+        Some(edge) => Form::Split(edge),
+        None => Form::Unknown,
+    }
+}
+
+fn end_form(words: &[&[u8]]) -> Form
+    ensures { result ≡ end_form (map (λ word. word.now) words.now) }
+{
+    if words.is_empty() {
+        Form::End
+    } else {
+        Form::Unknown
+    }
+}
+
+/// The form of a line of these words: the first tells what the others must be.
+pub(crate) fn form_of(words: &[&[u8]]) -> Form
+    ensures { result ≡ form_of (map (λ word. word.now) words.now) }
+{
+    let [first, rest @ ..] = words else {
+        return Form::Blank;
+    };
+    let first = *first;
+    if first == b"object".as_slice() {
+        object_form(rest)
+    } else if first == b"class".as_slice() {
+        class_form(rest)
+    } else if first == b"starts".as_slice() {
+        starts_form(rest)
+    } else if first == b"may".as_slice() {
+        may_form(rest)
+    } else if first == b"scope".as_slice() {
+        scope_form(rest)
+    } else if first == b"policy".as_slice() {
+        policy_form(rest)
+    } else if first == b"commit".as_slice() {
+        commit_form(rest)
+    } else if first == b"delegation".as_slice() {
+        delegation_form(rest)
+    } else if first == b"spawn".as_slice() {
+        spawn_form(rest)
+    } else if first == b"split".as_slice() {
+        split_form(rest)
+    } else if first == b"end".as_slice() {
+        end_form(rest)
+    } else {
+        Form::Unknown
+    }
+}

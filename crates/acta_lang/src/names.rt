@@ -1,0 +1,32 @@
+//! Names in the order in which they were declared, each with what was declared under it. They are found by a hash.
+
+ghost use Rattle.std.specs.Prelude.{◌≡◌, ◌++◌, ◌∷◌, [], false, OnOk};
+ghost use Rattle.acta_words.specs.Text.{is_word_among};
+ghost use Rattle.acta_lang.specs.Named.{names_in};
+
+use indexmap::IndexMap;
+use std::alloc::{AllocError, Allocator};
+use std::hash::{BuildHasherDefault, FoldHasher};
+
+/// What is named, by the names as they stand in the text.
+pub(crate) type Named<'a, V, A> = IndexMap<&'a [u8], V, BuildHasherDefault<FoldHasher>, A>;
+
+/// Whether something has this name. Takes no memory.
+pub(crate) fn is_named<'a, V, A: Allocator + Copy>(named: &Named<'a, V, A>, name: &'a [u8]) -> bool
+    ensures { result ≡ is_word_among (names_in named.now) name.now }
+{
+    named.contains_key(&name)
+}
+
+/// Declares it behind all others. `Err` where there is no memory.
+pub(crate) fn add_name<'a, V: Drop, A: Allocator + Copy>(
+    named: &mut Named<'a, V, A>,
+    name: &'a [u8],
+    value: V,
+) -> Result<(), AllocError>
+    requires { is_word_among (names_in named.old) name.now ≡ false }
+    ensures { OnOk result (named.new.entries ≡ named.old.entries ++ (name.entry, value) ∷ []) }
+{
+    named.insert(name, value)?;
+    Ok(())
+}

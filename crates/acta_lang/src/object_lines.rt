@@ -1,0 +1,41 @@
+//! The line of an object, written behind a text.
+
+ghost use Rattle.std.specs.Prelude.{◌≡◌, ◌++◌, ◌∷◌, [], OnOk};
+ghost use Rattle.acta_lang.specs.Canonical.{kind_words, object_words};
+ghost use Rattle.acta_lang.specs.Written.{spaced, written};
+
+use acta_table::{Kind, Object};
+use acta_words::{push_integer, push_word};
+use std::alloc::{AllocError, Allocator};
+
+// The words behind `object NAME`.
+fn push_kind<A: Allocator>(text: &mut Vec<u8, A>, kind: Kind) -> Result<(), AllocError>
+    ensures { OnOk result (text.new.items ≡ text.old.items ++ spaced (kind_words kind)) }
+{
+    match kind {
+        Kind::Register(first) => {
+            push_word(text, b"register".as_slice())?;
+            push_integer(text, i64::from(first))?;
+        }
+        Kind::Counter(first) => {
+            push_word(text, b"counter".as_slice())?;
+            push_integer(text, i64::from(first))?;
+        }
+        Kind::Elements => push_word(text, b"set".as_slice())?,
+    }
+    Ok(())
+}
+
+/// Writes the line of the object behind the text. `Err` where there is no memory.
+pub(crate) fn push_object<A: Allocator>(
+    text: &mut Vec<u8, A>,
+    object: &Object<A>,
+) -> Result<(), AllocError>
+    ensures { OnOk result (text.new.items ≡ text.old.items ++ written (object_words object.now ∷ [])) }
+{
+    text.extend_from_slice(b"object".as_slice())?;
+    push_word(text, object.name.as_slice())?;
+    push_kind(text, object.kind)?;
+    text.push(b'\n')?;
+    Ok(())
+}

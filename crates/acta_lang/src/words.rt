@@ -1,0 +1,129 @@
+//! The words of the language, and what they stand for: one table for reading and for printing.
+
+ghost use Rattle.std.specs.Prelude.{◌≡◌, map};
+ghost use Rattle.acta_words.specs.Text.{is_word_among};
+ghost use Rattle.acta_lang.specs.Words.{start_words, may_word, may_named, dep_named, scope_word, commit_word, extent_word, scope_named, commit_named, extent_named};
+
+use acta_table::{AtCommit, Dep, EventKind, Extent, Scope};
+
+/// The kinds of event that a class may do, by code.
+pub(crate) const MAY: [EventKind; 8] = [
+    EventKind::Spawn,
+    EventKind::Split,
+    EventKind::Join,
+    EventKind::Delegate,
+    EventKind::Form,
+    EventKind::Operate,
+    EventKind::Commit,
+    EventKind::Abort,
+];
+
+/// Whether the word is one of these.
+pub(crate) fn is_among(words: &[&[u8]], word: &[u8]) -> bool
+    ensures { result ≡ is_word_among (map (λ word. word.now) words.now) word.now }
+{
+    words.iter().any(|other| word == *other)
+}
+
+/// Whether the word says how a transaction may start.
+pub(crate) fn is_start(word: &[u8]) -> bool
+    ensures { result ≡ is_word_among start_words word.now }
+{
+    word == b"begin".as_slice() || word == b"spawned".as_slice() || word == b"split".as_slice()
+}
+
+/// The word of a kind of event.
+pub(crate) fn may_word(kind: EventKind) -> &'static str
+    ensures { result.now ≡ may_word kind }
+{
+    match kind {
+        EventKind::Begin => "begin",
+        EventKind::Spawn => "spawn",
+        EventKind::Split => "split",
+        EventKind::Join => "join",
+        EventKind::Delegate => "delegate",
+        EventKind::Form => "form",
+        EventKind::Operate => "operate",
+        EventKind::Commit => "commit",
+        EventKind::Abort => "abort",
+    }
+}
+
+/// The kind of event that a class may do, by its word.
+pub(crate) fn may_named(word: &[u8]) -> Option<EventKind>
+    ensures { result ≡ may_named word.now }
+{
+    MAY.iter()
+        .copied()
+        .find(|kind| word == may_word(*kind).as_bytes())
+}
+
+/// The kind of dependency that a word names.
+pub(crate) fn dep_named(word: &[u8]) -> Option<Dep>
+    ensures { result ≡ dep_named word.now }
+{
+    Dep::ALL
+        .iter()
+        .copied()
+        .find(|kind| word == kind.word().as_bytes())
+}
+
+/// The word of a scope.
+pub(crate) fn scope_word(scope: Scope) -> &'static str
+    ensures { result.now ≡ scope_word scope }
+{
+    match scope {
+        Scope::Others => "others",
+        Scope::NonAncestors => "nonancestors",
+    }
+}
+
+/// The scope that a word names.
+pub(crate) fn scope_named(word: &[u8]) -> Option<Scope>
+    ensures { result ≡ scope_named word.now }
+{
+    [Scope::Others, Scope::NonAncestors]
+        .iter()
+        .copied()
+        .find(|scope| word == scope_word(*scope).as_bytes())
+}
+
+/// The word of what becomes of operations at a commit.
+pub(crate) fn commit_word(at_commit: AtCommit) -> &'static str
+    ensures { result.now ≡ commit_word at_commit }
+{
+    match at_commit {
+        AtCommit::Keeps => "keeps",
+        AtCommit::ToParent => "toparent",
+    }
+}
+
+/// What a word says becomes of operations at a commit.
+pub(crate) fn commit_named(word: &[u8]) -> Option<AtCommit>
+    ensures { result ≡ commit_named word.now }
+{
+    [AtCommit::Keeps, AtCommit::ToParent]
+        .iter()
+        .copied()
+        .find(|at_commit| word == commit_word(*at_commit).as_bytes())
+}
+
+/// The word of how much is handed over.
+pub(crate) fn extent_word(extent: Extent) -> &'static str
+    ensures { result.now ≡ extent_word extent }
+{
+    match extent {
+        Extent::Whole => "whole",
+        Extent::Any => "any",
+    }
+}
+
+/// How much is handed over, by its word.
+pub(crate) fn extent_named(word: &[u8]) -> Option<Extent>
+    ensures { result ≡ extent_named word.now }
+{
+    [Extent::Whole, Extent::Any]
+        .iter()
+        .copied()
+        .find(|extent| word == extent_word(*extent).as_bytes())
+}

@@ -1,0 +1,11 @@
+use Rattle.std.proofs.Common.{◌≡◌, ℕ, List, subst, ap, sym, ◌∙◌}
+use Rattle.std.specs.Prelude.{Err}
+use Rattle.acta_lang.specs.Meaning.{meaning, IsWhy}
+use Rattle.acta_models.proofs.Meanings.{no_fault}
+use Rattle.acta_models.proofs.loading.load.Goals as goal
+
+-- no text has a fault
+pub unreachable-requires : goal.unreachable-requires
+unreachable-requires g c =
+    let meant = λ (text : List ℕ). meaning {A = g.row.A.Denot} text in
+    no_fault {A = g.row.A.Denot} c.args.name c.in-Err-Fault.field-0-0 (ap meant (sym (c.as_bytes.ensures.value ∙ c.text.ensures)) ∙ subst (IsWhy (meant c.as_bytes.result.now)) c.in-Err-Fault.field-0-is c.in-Err-Fault.ensures.fault)

@@ -1,0 +1,9 @@
+//! The five standard models: one for each of ACTA's well-known kinds of transaction, as the canonical texts that the
+//! program holds. All have the objects `x` (a register), `n` and `m` (counters) and `s` (a set).
+#![tactic(auto)]
+
+mod loading;
+mod texts;
+
+pub use loading::load_all;
+pub use texts::{Standard, atomic, contingent, nested, recoverable, split_join};

@@ -1,0 +1,34 @@
+-- Numbers that are read or written one after another.
+use Rattle.std.proofs.Common.{◌≡◌, ℕ, List, [], ◌∷◌, ◌++◌, map, decimal, length, get_or, take, drop, ◌≤◌, ◌-◌, arith, Option, Some, None, option_map, refl, sym, ap, ◌∙◌}
+use Rattle.std.specs.List.{join_with_byte, flat_map}
+use Rattle.std.proofs.lemmas.List.{append_assoc, append-nil, take_all}
+use Rattle.acta_table.specs.declared.event.OpNo.{OpNo}
+use Rattle.acta_table.specs.Sets.{numbers_of, numbered}
+use Rattle.acta_script.specs.Writing.{operations_word}
+
+-- the operations so far, with what the words that are left give
+abbrev pub with_left : List OpNo → Option (List ℕ) → Option (List OpNo)
+with_left ops left = option_map (λ ns. ops ++ numbered ns) left
+
+-- one word more
+pub with_left-more : (ops : List OpNo) (n : ℕ) (left : Option (List ℕ)) → with_left (ops ++ record { 0 = n } ∷ []) left ≡ with_left ops (option_map (λ ns. n ∷ ns) left)
+with_left-more ops n None = refl
+with_left-more ops n (Some ns) = ap Some (append_assoc ops (record { 0 = n } ∷ []) (numbered ns))
+
+-- some numbers, each behind a comma
+abbrev pub behind_commas : List OpNo → List ℕ
+behind_commas ops = flat_map (λ op. 44 ∷ decimal op.0) ops
+
+joined : (w : List ℕ) (ops : List OpNo) → join_with_byte 44 (w ∷ map decimal (numbers_of ops)) ≡ w ++ behind_commas ops
+joined w [] = sym (append-nil w)
+joined w (op ∷ ops) = ap (λ t. w ++ 44 ∷ t) (joined (decimal op.0) ops)
+
+-- the word of a set that has a first number
+pub word-joined : (op : OpNo) (ops : List OpNo) → operations_word (op ∷ ops) ≡ decimal op.0 ++ behind_commas ops
+word-joined op ops = joined (decimal op.0) ops
+
+-- the same, from the parts of a slice
+pub word-parts : (ops : List OpNo) → 1 ≤ length ops → operations_word ops ≡ decimal (get_or ops 0 record { 0 = 0 }).0 ++ behind_commas (take (length ops - 1) (drop 1 ops))
+word-parts [] some = absurd (omega arith)
+word-parts (op ∷ ops) some =
+    word-joined op ops ∙ ap (λ (os : List OpNo). decimal op.0 ++ behind_commas os) (sym (take_all (length (op ∷ ops) - 1) ops (omega arith)))

@@ -1,0 +1,12 @@
+mod Examples
+pub mod Again
+pub mod Ascending
+pub mod Checked
+pub mod Joined
+pub mod Lines
+pub mod Named
+pub mod OperationsAgain
+pub mod Signs
+pub mod Spelled
+pub mod SplitSaid
+pub mod Told

@@ -1,0 +1,5 @@
+pub mod Answers
+pub mod Laws
+pub mod Ranges
+pub mod Reading
+pub mod Writing

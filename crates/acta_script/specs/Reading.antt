@@ -1,0 +1,249 @@
+-- The event or the kept item that a line says, or its fault. In each form unknown words are looked for first, then
+-- the number of words, then numbers, then names: so the fault is the lowest.
+use Rattle.std.specs.Prelude.{◌≡◌, ℕ, Bool, true, false, ◌==◌, nat_le, List, [], ◌∷◌, if◌then◌else◌, codes, find, Option, Some, None, ok_or, option_map, Result, Ok, Err, ℤ, ⊤}
+use Rattle.std.specs.List.{list_any, slice_split, before_first, after_first, position_from}
+use Rattle.std.specs.Str.{bytes_eq}
+use Rattle.acta_table.specs.declared.dep.Dep.{Dep}
+use Rattle.acta_table.specs.declared.event.ClassId.{ClassId}
+use Rattle.acta_table.specs.declared.event.Event.{Event}
+use Rattle.acta_table.specs.declared.event.Event.TheVariants.{Begin, Spawn, Split, Join, Delegate, Form, Operate, Commit, Abort}
+use Rattle.acta_table.specs.declared.event.Kept.{Kept}
+use Rattle.acta_table.specs.declared.event.ObjId.{ObjId}
+use Rattle.acta_table.specs.declared.event.Op.{Op}
+use Rattle.acta_table.specs.declared.event.Op.TheVariants.{Read, Write, Get, Add, Insert, Remove, Has, Size}
+use Rattle.acta_table.specs.declared.event.OpNo.{OpNo}
+use Rattle.acta_table.specs.declared.event.Ret.{Ret}
+use Rattle.acta_table.specs.declared.event.Ret.TheVariants.{Done, Value, Flag}
+use Rattle.acta_table.specs.declared.event.TxnId.{TxnId}
+use Rattle.acta_table.specs.declared.model.Parts.{Parts}
+use Rattle.acta_table.specs.Dependencies.{all_kinds, word_of}
+use Rattle.acta_words.specs.Numerals.{read_natural, read_integer}
+use Rattle.acta_table.specs.Sets.{each_once, numbered}
+use Rattle.acta_words.specs.Text.{words_of, each_read}
+use Rattle.acta_script.specs.declared.fault.LineError.{LineError}
+use Rattle.acta_script.specs.declared.fault.LineError.TheVariants as error
+use Rattle.acta_script.specs.declared.fault.LineFault.{LineFault}
+use Rattle.acta_script.specs.declared.fault.LineFault.TheVariants.{Empty, Word, Arity, Number, Name}
+
+abbrev pub fault_number : LineFault → ℕ
+fault_number Empty = 1
+fault_number Word = 2
+fault_number Arity = 3
+fault_number Number = 4
+fault_number Name = 5
+
+-- what comes of the first, if it has no fault, and else that fault
+infixl 10 ◌>>=◌
+abbrev pub ◌>>=◌ : {X Y : Type 0} → Result X LineFault → (X → Result Y LineFault) → Result Y LineFault
+(Ok x) >>= f = f x
+(Err fault) >>= f = Err fault
+
+-- T, a transaction: digits with a value of 16 bits
+abbrev pub txn_said : List ℕ → Result TxnId LineFault
+txn_said word = ok_or (option_map (λ n. record { 0 = n }) (read_natural 0xffff word)) Number
+
+-- INT: digits, with a minus before them or not, with a value of 32 bits
+abbrev pub integer_said : List ℕ → Result ℤ LineFault
+integer_said word = ok_or (read_integer 0x8000_0000 word) Number
+
+-- CLASS and OBJECT: the number of the one that has this name
+abbrev pub class_said : {A : Type 0} → Parts A → List ℕ → Result ClassId LineFault
+class_said m word =
+    ok_or (option_map (λ n. record { 0 = n }) (position_from (λ c. bytes_eq word c.name) 0 m.classes)) Name
+
+abbrev pub object_said : {A : Type 0} → Parts A → List ℕ → Result ObjId LineFault
+object_said m word =
+    ok_or (option_map (λ n. record { 0 = n }) (position_from (λ o. bytes_eq word o.name) 0 m.objects)) Name
+
+-- KIND, a kind of dependency
+abbrev pub kind_said : List ℕ → Result Dep LineFault
+kind_said word = ok_or (find (λ kind. bytes_eq word (word_of kind)) all_kinds) Word
+
+-- numbers of 32 bits joined by commas, as operations
+abbrev pub numbers_said : List ℕ → Result (List OpNo) LineFault
+numbers_said word =
+    ok_or (option_map numbered (each_read (read_natural 0xffff_ffff) (slice_split (λ b. b == 44) word))) Number
+
+-- OPS: a minus, or numbers of 32 bits joined by commas, in any order; a number that stands twice counts once
+abbrev pub operations_said : List ℕ → Result (List OpNo) LineFault
+operations_said word =
+    if bytes_eq word (codes "-") then Ok []
+    else numbers_said word >>= (λ ops. Ok (each_once ops))
+
+-- the value, where no word is left
+abbrev pub alone : {X : Type 0} → X → List (List ℕ) → Result X LineFault
+alone x [] = Ok x
+alone x _ = Err Arity
+
+-- the INT that is the one word left
+abbrev pub integer_alone : List (List ℕ) → Result ℤ LineFault
+integer_alone (word ∷ []) = integer_said word
+integer_alone _ = Err Arity
+
+-- the operation with the INT that is the one word left
+abbrev pub with_integer : (ℤ → Op) → List (List ℕ) → Result Op LineFault
+with_integer op words = do
+  v ← integer_alone words
+  Ok (op v)
+
+-- OP [INT], an operation
+abbrev pub operation_said : List ℕ → List (List ℕ) → Result Op LineFault
+operation_said word words =
+    if bytes_eq word (codes "read") then alone Read words
+    else if bytes_eq word (codes "get") then alone Get words
+    else if bytes_eq word (codes "size") then alone Size words
+    else if bytes_eq word (codes "write") then with_integer (λ v. Write v) words
+    else if bytes_eq word (codes "add") then with_integer (λ v. Add v) words
+    else if bytes_eq word (codes "insert") then with_integer (λ v. Insert v) words
+    else if bytes_eq word (codes "remove") then with_integer (λ v. Remove v) words
+    else if bytes_eq word (codes "has") then with_integer (λ v. Has v) words
+    else Err Word
+
+-- begin T CLASS
+unfoldable pub begin_said : {A : Type 0} → Parts A → List (List ℕ) → Result (Event A) LineFault
+begin_said m (t ∷ class ∷ []) = do
+  t ← txn_said t
+  class ← class_said m class
+  Ok (Begin t class)
+begin_said m _ = Err Arity
+
+-- spawn T C CLASS
+unfoldable pub spawn_said : {A : Type 0} → Parts A → List (List ℕ) → Result (Event A) LineFault
+spawn_said m (t ∷ c ∷ class ∷ []) = do
+  t ← txn_said t
+  c ← txn_said c
+  class ← class_said m class
+  Ok (Spawn t c class)
+spawn_said m _ = Err Arity
+
+-- split T U CLASS OPS
+unfoldable pub split_said : {A : Type 0} → Parts A → List (List ℕ) → Result (Event A) LineFault
+split_said m (t ∷ u ∷ class ∷ ops ∷ []) = do
+  t ← txn_said t
+  u ← txn_said u
+  ops ← operations_said ops
+  class ← class_said m class
+  Ok (Split t u class ops)
+split_said m _ = Err Arity
+
+-- join T U
+unfoldable pub join_said : {A : Type 0} → List (List ℕ) → Result (Event A) LineFault
+join_said (t ∷ u ∷ []) = do
+  t ← txn_said t
+  u ← txn_said u
+  Ok (Join t u)
+join_said _ = Err Arity
+
+-- delegate T U OPS
+unfoldable pub delegate_said : {A : Type 0} → List (List ℕ) → Result (Event A) LineFault
+delegate_said (t ∷ u ∷ ops ∷ []) = do
+  t ← txn_said t
+  u ← txn_said u
+  ops ← operations_said ops
+  Ok (Delegate t u ops)
+delegate_said _ = Err Arity
+
+-- J I, behind a kind
+abbrev pub form_of_kind : {A : Type 0} → Dep → List (List ℕ) → Result (Event A) LineFault
+form_of_kind kind (j ∷ i ∷ []) = do
+  j ← txn_said j
+  i ← txn_said i
+  Ok (Form kind j i)
+form_of_kind kind _ = Err Arity
+
+-- form KIND J I
+unfoldable pub form_said : {A : Type 0} → List (List ℕ) → Result (Event A) LineFault
+form_said [] = Err Arity
+form_said (kind ∷ words) = do
+  kind ← kind_said kind
+  form_of_kind kind words
+
+-- do T OBJECT OP [INT]
+unfoldable pub do_said : {A : Type 0} → Parts A → List (List ℕ) → Result (Event A) LineFault
+do_said m (t ∷ object ∷ op ∷ words) = do
+  op ← operation_said op words
+  t ← txn_said t
+  object ← object_said m object
+  Ok (Operate t object op)
+do_said m _ = Err Arity
+
+-- commit T
+unfoldable pub commit_said : {A : Type 0} → List (List ℕ) → Result (Event A) LineFault
+commit_said (t ∷ []) = do
+  t ← txn_said t
+  Ok (Commit t)
+commit_said _ = Err Arity
+
+-- abort T
+unfoldable pub abort_said : {A : Type 0} → List (List ℕ) → Result (Event A) LineFault
+abort_said (t ∷ []) = do
+  t ← txn_said t
+  Ok (Abort t)
+abort_said _ = Err Arity
+
+-- the event that words say
+unfoldable pub event_said : {A : Type 0} → Parts A → List (List ℕ) → Result (Event A) LineFault
+event_said m [] = Err Empty
+event_said m (word ∷ words) =
+    if bytes_eq word (codes "begin") then begin_said m words
+    else if bytes_eq word (codes "spawn") then spawn_said m words
+    else if bytes_eq word (codes "split") then split_said m words
+    else if bytes_eq word (codes "join") then join_said words
+    else if bytes_eq word (codes "delegate") then delegate_said words
+    else if bytes_eq word (codes "form") then form_said words
+    else if bytes_eq word (codes "do") then do_said m words
+    else if bytes_eq word (codes "commit") then commit_said words
+    else if bytes_eq word (codes "abort") then abort_said words
+    else Err Word
+
+-- the event that a line says, or its lowest fault
+abbrev pub event_of : {A : Type 0} → Parts A → List ℕ → Result (Event A) LineFault
+event_of m line = event_said m (words_of line)
+
+-- the return that a word says: a number has 64 bits
+abbrev pub return_named : List ℕ → Option Ret
+return_named word =
+    if bytes_eq word (codes "done") then Some Done
+    else if bytes_eq word (codes "yes") then Some (Flag true)
+    else if bytes_eq word (codes "no") then Some (Flag false)
+    else option_map (λ v. Value v) (read_integer 0x8000_0000_0000_0000 word)
+
+-- the return that the words behind a `=` say
+unfoldable pub return_said : List (List ℕ) → Result Ret LineFault
+return_said (word ∷ []) = ok_or (return_named word) Number
+return_said _ = Err Arity
+
+-- the lower of two faults
+abbrev pub lower : LineFault → LineFault → LineFault
+lower f g = if nat_le (fault_number f) (fault_number g) then f else g
+
+-- the event with its return; of two faults the lower counts
+abbrev pub both_said : {A : Type 0} → Result (Event A) LineFault → Result Ret LineFault → Result (Kept A) LineFault
+both_said (Ok event) (Ok ret) = Ok (record { event = event; ret = Some ret })
+both_said (Ok event) (Err fault) = Err fault
+both_said (Err fault) (Ok ret) = Err fault
+both_said (Err f) (Err g) = Err (lower f g)
+
+-- whether the word stands between an event and its return
+abbrev pub is_equals : List ℕ → Bool
+is_equals word = bytes_eq word (codes "=")
+
+-- an event without a return
+abbrev pub plain : {A : Type 0} → Event A → Result (Kept A) LineFault
+plain event = Ok (record { event = event; ret = None })
+
+-- the kept item that words say: an event and, behind the first `=`, if one stands there, its return
+unfoldable pub kept_said : {A : Type 0} → Parts A → List (List ℕ) → Result (Kept A) LineFault
+kept_said m words =
+    if list_any is_equals words
+    then both_said (event_said m (before_first is_equals words)) (return_said (after_first is_equals words))
+    else event_said m words >>= plain
+
+-- the kept item that a line says, or its lowest fault
+abbrev pub kept_of : {A : Type 0} → Parts A → List ℕ → Result (Kept A) LineFault
+kept_of m line = kept_said m (words_of line)
+
+-- an error says why the line gave nothing: its fault, or want of memory, which says nothing of the line
+abbrev pub IsWhy : {X : Type 0} → Result X LineFault → LineError → Type 0
+IsWhy said error.Memory = ⊤
+IsWhy said (error.Fault f) = said ≡ Err f

@@ -1,0 +1,79 @@
+-- The lines of events and of kept items, as they are written.
+use Rattle.std.specs.Prelude.{ℕ, true, false, List, [], ◌∷◌, ◌++◌, map, codes, decimal, slice_get}
+use Rattle.std.specs.Fmt.{signed_decimal}
+use Rattle.std.specs.List.{join_with_byte}
+use Rattle.std.specs.Option.{option_map_or}
+use Rattle.acta_table.specs.declared.event.ClassId.{ClassId}
+use Rattle.acta_table.specs.declared.event.Event.{Event}
+use Rattle.acta_table.specs.declared.event.Event.TheVariants.{Begin, Spawn, Split, Join, Delegate, Form, Operate, Commit, Abort}
+use Rattle.acta_table.specs.declared.event.Kept.{Kept}
+use Rattle.acta_table.specs.declared.event.ObjId.{ObjId}
+use Rattle.acta_table.specs.declared.event.Op.{Op}
+use Rattle.acta_table.specs.declared.event.Op.TheVariants.{Read, Write, Get, Add, Insert, Remove, Has, Size}
+use Rattle.acta_table.specs.declared.event.OpNo.{OpNo}
+use Rattle.acta_table.specs.declared.event.Ret.{Ret}
+use Rattle.acta_table.specs.declared.event.Ret.TheVariants.{Done, Value, Flag}
+use Rattle.acta_table.specs.declared.event.TxnId.{TxnId}
+use Rattle.acta_table.specs.declared.model.Parts.{Parts}
+use Rattle.acta_table.specs.Classes.{class_at}
+use Rattle.acta_table.specs.Dependencies.{word_of}
+use Rattle.acta_table.specs.Sets.{numbers_of}
+use Rattle.acta_words.specs.Text.{line_of}
+
+-- the word of a transaction
+abbrev pub txn_word : TxnId → List ℕ
+txn_word t = decimal t.0
+
+-- the names of a class and of an object; one that is not in the model has none
+abbrev pub class_word : {A : Type 0} → Parts A → ClassId → List ℕ
+class_word m class = option_map_or (λ c. c.name) (class_at m class.0) []
+
+abbrev pub object_word : {A : Type 0} → Parts A → ObjId → List ℕ
+object_word m object = option_map_or (λ o. o.name) (slice_get m.objects object.0) []
+
+-- the word of a set of operations: a minus, or their numbers, ascending, joined by commas
+abbrev pub operations_word : List OpNo → List ℕ
+operations_word [] = codes "-"
+operations_word (o ∷ os) = join_with_byte 44 (map decimal (numbers_of (o ∷ os)))
+
+-- the words of an operation
+abbrev pub operation_words : Op → List (List ℕ)
+operation_words Read = codes "read" ∷ []
+operation_words (Write v) = codes "write" ∷ signed_decimal v ∷ []
+operation_words Get = codes "get" ∷ []
+operation_words (Add n) = codes "add" ∷ signed_decimal n ∷ []
+operation_words (Insert x) = codes "insert" ∷ signed_decimal x ∷ []
+operation_words (Remove x) = codes "remove" ∷ signed_decimal x ∷ []
+operation_words (Has x) = codes "has" ∷ signed_decimal x ∷ []
+operation_words Size = codes "size" ∷ []
+
+-- the words of an event
+abbrev pub event_words : {A : Type 0} → Parts A → Event A → List (List ℕ)
+event_words m (Begin t class) = codes "begin" ∷ txn_word t ∷ class_word m class ∷ []
+event_words m (Spawn t c class) = codes "spawn" ∷ txn_word t ∷ txn_word c ∷ class_word m class ∷ []
+event_words m (Split t u class ops) =
+    codes "split" ∷ txn_word t ∷ txn_word u ∷ class_word m class ∷ operations_word ops ∷ []
+event_words m (Join t u) = codes "join" ∷ txn_word t ∷ txn_word u ∷ []
+event_words m (Delegate t u ops) = codes "delegate" ∷ txn_word t ∷ txn_word u ∷ operations_word ops ∷ []
+event_words m (Form kind j i) = codes "form" ∷ word_of kind ∷ txn_word j ∷ txn_word i ∷ []
+event_words m (Operate t ob op) = codes "do" ∷ txn_word t ∷ object_word m ob ∷ operation_words op
+event_words m (Commit t) = codes "commit" ∷ txn_word t ∷ []
+event_words m (Abort t) = codes "abort" ∷ txn_word t ∷ []
+
+-- the word of a return
+abbrev pub return_word : Ret → List ℕ
+return_word Done = codes "done"
+return_word (Value v) = signed_decimal v
+return_word (Flag true) = codes "yes"
+return_word (Flag false) = codes "no"
+
+-- the words of a kept item
+abbrev pub kept_words : {A : Type 0} → Parts A → Kept A → List (List ℕ)
+kept_words m kept = event_words m kept.event ++ option_map_or (λ ret. codes "=" ∷ return_word ret ∷ []) kept.ret []
+
+-- the line of an event, and of a kept item
+unfoldable pub event_line : {A : Type 0} → Parts A → Event A → List ℕ
+event_line m event = line_of (event_words m event)
+
+unfoldable pub kept_line : {A : Type 0} → Parts A → Kept A → List ℕ
+kept_line m kept = line_of (kept_words m kept)

@@ -1,0 +1,97 @@
+//! Kept lines: an event and, behind a `=`, its return.
+
+ghost use Rattle.std.specs.Prelude.{◌≡◌, map, position, Ok, IfOk, IfErr};
+ghost use Rattle.std.specs.Option.{option_map_or};
+ghost use Rattle.acta_script.specs.Laws.{IsInModel};
+ghost use Rattle.acta_script.specs.Reading.{IsWhy, is_equals, lower, kept_said, kept_of};
+ghost use Rattle.acta_script.specs.Writing.{kept_line};
+
+use crate::fault::{LineError, LineFault};
+use crate::laws::kept_again;
+use crate::reading::event_said;
+use crate::returns::{push_return, return_said};
+use crate::writing::push_event;
+use acta_table::{Kept, Model};
+use acta_words::{push_word, words_of};
+use std::alloc::{AllocError, Allocator};
+
+// The position of the first `=`.
+fn sign_place(words: &[&[u8]]) -> Option<usize>
+    ensures { result ≡ position (λ word. is_equals word.now) words.now }
+{
+    words.iter().position(|word| *word == b"=".as_slice())
+}
+
+// The lower of the fault and the other, if there is one.
+fn lowest(fault: LineFault, other: Option<LineFault>) -> LineFault
+    ensures { result ≡ option_map_or (lower fault) other fault }
+{
+    match other {
+        Some(other) if other.number() < fault.number() => other,
+        _ => fault,
+    }
+}
+
+// The kept item that the words say.
+#[tactic(auto, unfolding(crate::specs::Reading::kept_said))]
+fn kept_said<A: Allocator + Copy>(
+    alloc: A,
+    model: &Model<A>,
+    words: &[&[u8]],
+) -> Result<Kept<A>, LineError>
+    ensures ok { IfOk result (λ kept. kept_said model.now (map (λ word. word.now) words.now) ≡ Ok kept) }
+    ensures fault { IfErr result (IsWhy (kept_said model.now (map (λ word. word.now) words.now))) }
+    ensures in_model { IfOk result (λ kept. IsInModel model.now kept.event) }
+{
+    let Some(at) = sign_place(words) else {
+        let event = event_said(alloc, model, words)?;
+        return Ok(Kept { event, ret: None });
+    };
+    let ret = return_said(&words[at + 1..]);
+    match event_said(alloc, model, &words[..at]) {
+        Ok(event) => Ok(Kept {
+            event,
+            ret: Some(ret?),
+        }),
+        Err(LineError::Fault(fault)) => Err(lowest(fault, ret.err()).into()),
+        Err(LineError::Memory) => Err(LineError::Memory),
+    }
+}
+
+/// The kept item that the line says: an event, and behind the first `=`, if one stands there, its return, of which a
+/// number has 64 bits (ours). `Fault` has the lowest fault of both parts, and `Memory` comes where there is none.
+pub fn read_kept<A: Allocator + Copy>(
+    alloc: A,
+    model: &Model<A>,
+    line: &[u8],
+) -> Result<Kept<A>, LineError>
+    ensures ok { IfOk result (λ kept. kept_of model.now line.now ≡ Ok kept) }
+    ensures fault { IfErr result (IsWhy (kept_of model.now line.now)) }
+    ensures in_model { IfOk result (λ kept. IsInModel model.now kept.event) }
+{
+    let words = words_of(alloc, line)?;
+    kept_said(alloc, model, &words)
+}
+
+/// The line of the kept item: that of its event, and for a return ` = ` and its word (ours). Read again it gives the item.
+/// `Err` where there is no memory.
+#[tactic(auto, using(crate::proofs::Lines::kept_line_plain, crate::proofs::Lines::kept_line_with))]
+pub fn write_kept<A: Allocator + Copy>(
+    alloc: A,
+    model: &Model<A>,
+    kept: &Kept<A>,
+) -> Result<Vec<u8, A>, AllocError>
+    requires { IsInModel model.now kept.now.event }
+    ensures line { IfOk result (λ line. line.items ≡ kept_line model.now kept.now) }
+    ensures again { kept_of model.now (kept_line model.now kept.now) ≡ Ok kept.now }
+{
+    kept_again(model, kept);
+    let mut line = Vec::new(alloc);
+    push_event(&mut line, model, &kept.event)?;
+    let Some(ret) = kept.ret else {
+        return Ok(line);
+    };
+    push_word(&mut line, b"=")?;
+    push_return(&mut line, ret)?;
+    Ok(line)
+}

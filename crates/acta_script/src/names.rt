@@ -1,0 +1,85 @@
+//! The names of classes and objects, and the short names of the kinds of dependency.
+
+ghost use Rattle.std.specs.Prelude.{◌≡◌, ◌<◌, length, find, IfOk, IfSome};
+ghost use Rattle.std.specs.List.{position_from};
+ghost use Rattle.std.specs.Str.{bytes_eq};
+ghost use Rattle.acta_table.specs.Dependencies.{all_kinds, word_of};
+ghost use Rattle.acta_script.specs.Reading.{class_said, object_said, kind_said};
+ghost use Rattle.acta_script.specs.Writing.{class_word, object_word};
+
+use crate::fault::LineFault;
+use acta_table::{Class, ClassId, Dep, Model, ObjId, Object};
+use std::alloc::Allocator;
+
+// The position of the first class that has this name.
+fn class_place<A: Allocator>(classes: &[Class<A>], word: &[u8]) -> Option<usize>
+    ensures first { result ≡ position_from (λ class. bytes_eq word.now class.name) 0 classes.now }
+    ensures within { IfSome result (λ place. place < length classes.now) }
+{
+    classes
+        .iter()
+        .position(|class| word == class.name.as_slice())
+}
+
+// The position of the first object that has this name.
+fn object_place<A: Allocator>(objects: &[Object<A>], word: &[u8]) -> Option<usize>
+    ensures first { result ≡ position_from (λ object. bytes_eq word.now object.name) 0 objects.now }
+    ensures within { IfSome result (λ place. place < length objects.now) }
+{
+    objects
+        .iter()
+        .position(|object| word == object.name.as_slice())
+}
+
+/// The class of the model that has this name.
+#[tactic(auto, using(crate::proofs::Checked::few_classes))]
+pub(crate) fn class_said<A: Allocator>(model: &Model<A>, word: &[u8]) -> Result<ClassId, LineFault>
+    ensures said { result ≡ class_said model.now word.now }
+    ensures within { IfOk result (λ class. class.0 < length model.now.classes) }
+{
+    let place = class_place(model.classes(), word).ok_or(LineFault::Name)?;
+    Ok(ClassId(place as u8))
+}
+
+/// The object of the model that has this name.
+#[tactic(auto, using(crate::proofs::Checked::few_objects))]
+pub(crate) fn object_said<A: Allocator>(model: &Model<A>, word: &[u8]) -> Result<ObjId, LineFault>
+    ensures said { result ≡ object_said model.now word.now }
+    ensures within { IfOk result (λ object. object.0 < length model.now.objects) }
+{
+    let place = object_place(model.objects(), word).ok_or(LineFault::Name)?;
+    Ok(ObjId(place as u16))
+}
+
+// The first kind of dependency that has this short name.
+fn kind_named(word: &[u8]) -> Option<Dep>
+    ensures { result ≡ find (λ kind. bytes_eq word.now (word_of kind)) all_kinds }
+{
+    Dep::ALL
+        .iter()
+        .copied()
+        .find(|kind| word == kind.word().as_bytes())
+}
+
+/// The kind of dependency that has this short name.
+pub(crate) fn kind_said(word: &[u8]) -> Result<Dep, LineFault>
+    ensures { result ≡ kind_said word.now }
+{
+    kind_named(word).ok_or(LineFault::Word)
+}
+
+/// The name of the class.
+pub(crate) fn class_name<A: Allocator>(model: &Model<A>, class: ClassId) -> &[u8]
+    requires { class.0 < length model.now.classes }
+    ensures { result.now ≡ class_word model.now class }
+{
+    model.classes()[usize::from(class.0)].name.as_slice()
+}
+
+/// The name of the object.
+pub(crate) fn object_name<A: Allocator>(model: &Model<A>, object: ObjId) -> &[u8]
+    requires { object.0 < length model.now.objects }
+    ensures { result.now ≡ object_word model.now object }
+{
+    model.objects()[usize::from(object.0)].name.as_slice()
+}

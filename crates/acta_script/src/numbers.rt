@@ -1,0 +1,32 @@
+//! The words of numbers: transactions, and the numbers of operations on objects.
+
+ghost use Rattle.std.specs.Prelude.{◌≡◌, ◌++◌, ◌∷◌, OnOk};
+ghost use Rattle.acta_script.specs.Reading.{txn_said, integer_said};
+ghost use Rattle.acta_script.specs.Writing.{txn_word};
+
+use crate::fault::LineFault;
+use acta_table::TxnId;
+use acta_words::{push_natural, read_i32, read_u16};
+use std::alloc::{AllocError, Allocator};
+
+/// The transaction of a word of digits, of 16 bits.
+pub(crate) fn txn_said(word: &[u8]) -> Result<TxnId, LineFault>
+    ensures { result ≡ txn_said word.now }
+{
+    let number = read_u16(word).ok_or(LineFault::Number)?;
+    Ok(TxnId(number))
+}
+
+/// The number of 32 bits of a word of digits, with a minus before them or not.
+pub(crate) fn integer_said(word: &[u8]) -> Result<i32, LineFault>
+    ensures { result ≡ integer_said word.now }
+{
+    read_i32(word).ok_or(LineFault::Number)
+}
+
+/// Writes a space and the number of the transaction. `Err` where there is no memory.
+pub(crate) fn push_txn<A: Allocator>(line: &mut Vec<u8, A>, txn: TxnId) -> Result<(), AllocError>
+    ensures { OnOk result (line.new.items ≡ line.old.items ++ 32 ∷ txn_word txn) }
+{
+    push_natural(line, u64::from(txn.0))
+}

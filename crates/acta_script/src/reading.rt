@@ -1,0 +1,212 @@
+//! The event that a line says. Each kind of event is read in stages: unknown words, then the number of words, then
+//! numbers, then names. So the fault that is told is the lowest.
+
+ghost use Rattle.std.specs.Prelude.{◌≡◌, map, Ok, IfOk, IfErr};
+ghost use Rattle.acta_script.specs.Laws.{IsInModel, NamesNothing};
+ghost use Rattle.acta_script.specs.Reading.{IsWhy, begin_said, spawn_said, split_said, join_said, delegate_said, form_said, form_of_kind, do_said, commit_said, abort_said, event_said, event_of};
+
+use crate::fault::{LineError, LineFault};
+use crate::names::{class_said, kind_said, object_said};
+use crate::numbers::txn_said;
+use crate::op_sets::operations_said;
+use crate::operations::operation_said;
+use acta_table::{Dep, Event, Model};
+use acta_words::words_of;
+use std::alloc::Allocator;
+
+// begin T CLASS
+#[tactic(auto, unfolding(crate::specs::Reading::begin_said))]
+fn begin_said<A: Allocator>(model: &Model<A>, words: &[&[u8]]) -> Result<Event<A>, LineFault>
+    ensures said { result ≡ begin_said model.now (map (λ word. word.now) words.now) }
+    ensures in_model { IfOk result (λ event. IsInModel model.now event) }
+{
+    let [t, class] = words else {
+        return Err(LineFault::Arity);
+    };
+    let t = txn_said(t)?;
+    let class = class_said(model, class)?;
+    Ok(Event::Begin(t, class))
+}
+
+// spawn T C CLASS
+#[tactic(auto, unfolding(crate::specs::Reading::spawn_said))]
+fn spawn_said<A: Allocator>(model: &Model<A>, words: &[&[u8]]) -> Result<Event<A>, LineFault>
+    ensures said { result ≡ spawn_said model.now (map (λ word. word.now) words.now) }
+    ensures in_model { IfOk result (λ event. IsInModel model.now event) }
+{
+    let [t, c, class] = words else {
+        return Err(LineFault::Arity);
+    };
+    let t = txn_said(t)?;
+    let c = txn_said(c)?;
+    let class = class_said(model, class)?;
+    Ok(Event::Spawn(t, c, class))
+}
+
+// split T U CLASS OPS
+#[tactic(auto, unfolding(crate::specs::Reading::split_said))]
+fn split_said<A: Allocator + Copy>(
+    alloc: A,
+    model: &Model<A>,
+    words: &[&[u8]],
+) -> Result<Event<A>, LineError>
+    ensures ok { IfOk result (λ event. split_said model.now (map (λ word. word.now) words.now) ≡ Ok event) }
+    ensures fault { IfErr result (IsWhy (split_said model.now (map (λ word. word.now) words.now))) }
+    ensures in_model { IfOk result (λ event. IsInModel model.now event) }
+{
+    let [t, u, class, ops] = words else {
+        return Err(LineFault::Arity.into());
+    };
+    let t = txn_said(t)?;
+    let u = txn_said(u)?;
+    let ops = operations_said(alloc, ops)?;
+    let class = class_said(model, class)?;
+    Ok(Event::Split(t, u, class, ops))
+}
+
+// join T U
+#[tactic(auto, unfolding(crate::specs::Reading::join_said))]
+fn join_said<A: Allocator>(words: &[&[u8]]) -> Result<Event<A>, LineFault>
+    ensures said { result ≡ join_said (map (λ word. word.now) words.now) }
+    ensures nowhere { IfOk result NamesNothing }
+{
+    let [t, u] = words else {
+        return Err(LineFault::Arity);
+    };
+    let t = txn_said(t)?;
+    let u = txn_said(u)?;
+    Ok(Event::Join(t, u))
+}
+
+// delegate T U OPS
+#[tactic(auto, unfolding(crate::specs::Reading::delegate_said))]
+fn delegate_said<A: Allocator + Copy>(alloc: A, words: &[&[u8]]) -> Result<Event<A>, LineError>
+    ensures ok { IfOk result (λ event. delegate_said (map (λ word. word.now) words.now) ≡ Ok event) }
+    ensures fault { IfErr result (IsWhy (delegate_said {A = A} (map (λ word. word.now) words.now))) }
+    ensures nowhere { IfOk result NamesNothing }
+{
+    let [t, u, ops] = words else {
+        return Err(LineFault::Arity.into());
+    };
+    let t = txn_said(t)?;
+    let u = txn_said(u)?;
+    let ops = operations_said(alloc, ops)?;
+    Ok(Event::Delegate(t, u, ops))
+}
+
+// J I, behind a kind
+fn form_of_kind<A: Allocator>(kind: Dep, words: &[&[u8]]) -> Result<Event<A>, LineFault>
+    ensures said { result ≡ form_of_kind kind (map (λ word. word.now) words.now) }
+    ensures nowhere { IfOk result NamesNothing }
+{
+    let [j, i] = words else {
+        return Err(LineFault::Arity);
+    };
+    let j = txn_said(j)?;
+    let i = txn_said(i)?;
+    Ok(Event::Form(kind, j, i))
+}
+
+// form KIND J I
+#[tactic(auto, unfolding(crate::specs::Reading::form_said))]
+fn form_said<A: Allocator>(words: &[&[u8]]) -> Result<Event<A>, LineFault>
+    ensures said { result ≡ form_said (map (λ word. word.now) words.now) }
+    ensures nowhere { IfOk result NamesNothing }
+{
+    let [kind, words @ ..] = words else {
+        return Err(LineFault::Arity);
+    };
+    form_of_kind(kind_said(kind)?, words)
+}
+
+// do T OBJECT OP [INT]
+#[tactic(auto, unfolding(crate::specs::Reading::do_said))]
+fn do_said<A: Allocator>(model: &Model<A>, words: &[&[u8]]) -> Result<Event<A>, LineFault>
+    ensures said { result ≡ do_said model.now (map (λ word. word.now) words.now) }
+    ensures in_model { IfOk result (λ event. IsInModel model.now event) }
+{
+    let [t, object, op, words @ ..] = words else {
+        return Err(LineFault::Arity);
+    };
+    let op = operation_said(op, words)?;
+    let t = txn_said(t)?;
+    let object = object_said(model, object)?;
+    Ok(Event::Operate(t, object, op))
+}
+
+// commit T
+#[tactic(auto, unfolding(crate::specs::Reading::commit_said))]
+fn commit_said<A: Allocator>(words: &[&[u8]]) -> Result<Event<A>, LineFault>
+    ensures said { result ≡ commit_said (map (λ word. word.now) words.now) }
+    ensures nowhere { IfOk result NamesNothing }
+{
+    let [t] = words else {
+        return Err(LineFault::Arity);
+    };
+    Ok(Event::Commit(txn_said(t)?))
+}
+
+// abort T
+#[tactic(auto, unfolding(crate::specs::Reading::abort_said))]
+fn abort_said<A: Allocator>(words: &[&[u8]]) -> Result<Event<A>, LineFault>
+    ensures said { result ≡ abort_said (map (λ word. word.now) words.now) }
+    ensures nowhere { IfOk result NamesNothing }
+{
+    let [t] = words else {
+        return Err(LineFault::Arity);
+    };
+    Ok(Event::Abort(txn_said(t)?))
+}
+
+/// The event that the words say.
+#[tactic(auto, unfolding(crate::specs::Reading::event_said))]
+pub(crate) fn event_said<A: Allocator + Copy>(
+    alloc: A,
+    model: &Model<A>,
+    words: &[&[u8]],
+) -> Result<Event<A>, LineError>
+    ensures ok { IfOk result (λ event. event_said model.now (map (λ word. word.now) words.now) ≡ Ok event) }
+    ensures fault { IfErr result (IsWhy (event_said model.now (map (λ word. word.now) words.now))) }
+    ensures in_model { IfOk result (λ event. IsInModel model.now event) }
+{
+    let [word, words @ ..] = words else {
+        return Err(LineFault::Empty.into());
+    };
+    if *word == b"begin".as_slice() {
+        Ok(begin_said(model, words)?)
+    } else if *word == b"spawn".as_slice() {
+        Ok(spawn_said(model, words)?)
+    } else if *word == b"split".as_slice() {
+        split_said(alloc, model, words)
+    } else if *word == b"join".as_slice() {
+        Ok(join_said(words)?)
+    } else if *word == b"delegate".as_slice() {
+        delegate_said(alloc, words)
+    } else if *word == b"form".as_slice() {
+        Ok(form_said(words)?)
+    } else if *word == b"do".as_slice() {
+        Ok(do_said(model, words)?)
+    } else if *word == b"commit".as_slice() {
+        Ok(commit_said(words)?)
+    } else if *word == b"abort".as_slice() {
+        Ok(abort_said(words)?)
+    } else {
+        Err(LineFault::Word.into())
+    }
+}
+
+/// The event that the line says (the line is our form for ACTA's events). `Fault` has the lowest fault of the line, and
+/// `Memory` comes where there is none. Transactions have 16 bits, numbers of operations 32, and an INT is a signed number
+/// of 32 bits; whether the model takes the event is no matter of lines.
+pub fn read_event<A: Allocator + Copy>(
+    alloc: A,
+    model: &Model<A>,
+    line: &[u8],
+) -> Result<Event<A>, LineError>
+    ensures ok { IfOk result (λ event. event_of model.now line.now ≡ Ok event) }
+    ensures fault { IfErr result (IsWhy (event_of model.now line.now)) }
+    ensures in_model { IfOk result (λ event. IsInModel model.now event) }
+{
+    let words = words_of(alloc, line)?;
+    event_said(alloc, model, &words)
+}

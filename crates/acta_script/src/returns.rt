@@ -1,0 +1,48 @@
+//! The words of returns.
+
+ghost use Rattle.std.specs.Prelude.{◌≡◌, ◌++◌, ◌∷◌, map, OnOk};
+ghost use Rattle.acta_script.specs.Reading.{return_named, return_said};
+ghost use Rattle.acta_script.specs.Writing.{return_word};
+
+use crate::fault::LineFault;
+use acta_table::Ret;
+use acta_words::{push_integer, push_word, read_i64};
+use std::alloc::{AllocError, Allocator};
+
+// The return that the word says.
+fn return_named(word: &[u8]) -> Option<Ret>
+    ensures { result ≡ return_named word.now }
+{
+    if word == b"done".as_slice() {
+        Some(Ret::Done)
+    } else if word == b"yes".as_slice() {
+        Some(Ret::Flag(true))
+    } else if word == b"no".as_slice() {
+        Some(Ret::Flag(false))
+    } else {
+        read_i64(word).map(Ret::Value)
+    }
+}
+
+/// The return that the words behind a `=` say.
+#[tactic(auto, unfolding(crate::specs::Reading::return_said))]
+pub(crate) fn return_said(words: &[&[u8]]) -> Result<Ret, LineFault>
+    ensures { result ≡ return_said (map (λ word. word.now) words.now) }
+{
+    match words {
+        [word] => return_named(word).ok_or(LineFault::Number),
+        _ => Err(LineFault::Arity),
+    }
+}
+
+/// Writes a space and the word of the return. `Err` where there is no memory.
+pub(crate) fn push_return<A: Allocator>(line: &mut Vec<u8, A>, ret: Ret) -> Result<(), AllocError>
+    ensures { OnOk result (line.new.items ≡ line.old.items ++ 32 ∷ return_word ret) }
+{
+    match ret {
+        Ret::Done => push_word(line, b"done"),
+        Ret::Value(value) => push_integer(line, value),
+        Ret::Flag(true) => push_word(line, b"yes"),
+        Ret::Flag(false) => push_word(line, b"no"),
+    }
+}

@@ -1,0 +1,14 @@
+//! Tests of what reaches the program: texts, lines, command lines and whole runs, as text; hostile bytes, readers and
+//! writers that fail, and each refused allocation. The values that they expect were computed by hand.
+#![tactic(auto)]
+
+#[cfg(test)]
+mod devices;
+#[cfg(test)]
+mod lines;
+#[cfg(test)]
+mod refusals;
+#[cfg(test)]
+mod running;
+#[cfg(test)]
+mod texts;

@@ -1,0 +1,236 @@
+//! Lines of events and of kept items, as text: each with what is written for what it says, or with its code.
+
+use acta_lang::assemble;
+use acta_models::Standard;
+use acta_script::{LineError, read_event, read_kept, write_event, write_kept};
+use acta_table::Model;
+use std::alloc::{AllocError, Allocator};
+use std::process::Abort;
+use std::test::Fail;
+
+// What is written for the event that a line says, or the code of its fault.
+fn event_again<A: Allocator + Copy>(
+    alloc: A,
+    model: &Model<A>,
+    line: &[u8],
+) -> Result<Vec<u8, A>, AllocError> {
+    match read_event(alloc, model, line) {
+        Ok(event) => write_event(alloc, model, &event),
+        Err(LineError::Fault(fault)) => Vec::from_slice(
+            alloc,
+            &[b'0'.saturating_add(fault.number())],
+        ),
+        Err(LineError::Memory) => Err(AllocError),
+    }
+}
+
+// The same of a kept item.
+fn kept_again<A: Allocator + Copy>(
+    alloc: A,
+    model: &Model<A>,
+    line: &[u8],
+) -> Result<Vec<u8, A>, AllocError> {
+    match read_kept(alloc, model, line) {
+        Ok(kept) => write_kept(alloc, model, &kept),
+        Err(LineError::Fault(fault)) => Vec::from_slice(
+            alloc,
+            &[b'0'.saturating_add(fault.number())],
+        ),
+        Err(LineError::Memory) => Err(AllocError),
+    }
+}
+
+// Plays the rows of a text: a line, and what is wanted behind an arrow.
+fn play<A: Allocator + Copy>(
+    rt: &impl Abort,
+    alloc: A,
+    name: Standard,
+    rows: &str,
+    are_kept: bool,
+) -> Result<(), Fail> {
+    let model = assemble(alloc, name.text().as_bytes())?;
+    for row in rows.lines() {
+        let (line, want) = row.split_once(" -> ").ok_or("a row has no arrow")?;
+        let said = if are_kept {
+            kept_again(alloc, &model, line.as_bytes())?
+        } else {
+            event_again(alloc, &model, line.as_bytes())?
+        };
+        assert_eq!(rt; said.as_slice(), want.as_bytes(), "at {line}");
+    }
+    Ok(())
+}
+
+// What each form says; numbers, blanks and comments as they may be written.
+const SAID: &str = "\
+begin 1 part -> begin 1 part
+begin 0 part -> begin 0 part
+begin 65535 part -> begin 65535 part
+begin 00000000000000000000000000000000000000000001 part -> begin 1 part
+\tbegin \t 1\tpart \t -> begin 1 part
+begin 1 part# of a comment -> begin 1 part
+begin 1 part # = 5 -> begin 1 part
+spawn 1 2 part -> spawn 1 2 part
+split 1 2 part - -> split 1 2 part -
+split 1 2 part 3 -> split 1 2 part 3
+split 1 2 part 9,2,1,2,9 -> split 1 2 part 1,2,9
+join 1 1 -> join 1 1
+delegate 1 2 - -> delegate 1 2 -
+delegate 1 2 00,4294967295 -> delegate 1 2 0,4294967295
+form WCD 4095 4096 -> form WCD 4095 4096
+form CD 1 1 -> form CD 1 1
+do 1 x read -> do 1 x read
+do 1 x write -2147483648 -> do 1 x write -2147483648
+do 1 x write 002147483647 -> do 1 x write 2147483647
+do 1 x write -0 -> do 1 x write 0
+do 1 n get -> do 1 n get
+do 1 n add -5 -> do 1 n add -5
+do 1 s insert 5 -> do 1 s insert 5
+do 1 s remove 5 -> do 1 s remove 5
+do 1 s has 5 -> do 1 s has 5
+do 1 s size -> do 1 s size
+do 1 s read -> do 1 s read
+commit 7 -> commit 7
+abort 7 -> abort 7";
+
+// Each code alone, and each two that can hold of one line.
+const FAULTY: &str = "\
+# nothing -> 1
+ -> 1
+\t  -> 1
+bgin 1 -> 2
+Begin 1 part -> 2
+be#gin 1 part -> 2
+form XX 1 1 -> 2
+do 1 x jump -> 2
+commit -> 3
+commit 1 1 -> 3
+begin 1 -> 3
+spawn 1 2 -> 3
+split 1 2 part -> 3
+join 1 -> 3
+delegate 1 2 -> 3
+form -> 3
+form CD 1 -> 3
+do 1 x -> 3
+do 1 x read 5 -> 3
+do 1 x write -> 3
+do 1 x write 5 5 -> 3
+commit x -> 4
+commit +1 -> 4
+commit -1 -> 4
+commit -0 -> 4
+commit 65536 -> 4
+commit 1\r -> 4
+delegate 1 2 1, -> 4
+delegate 1 2 ,1 -> 4
+delegate 1 2 1,,2 -> 4
+delegate 1 2 4294967296 -> 4
+delegate 1 2 -1 -> 4
+do 1 x write 2147483648 -> 4
+do 1 x write -2147483649 -> 4
+do 1 x write +5 -> 4
+do 1 x write --5 -> 4
+do 1 x write - -> 4
+begin 1 nosuch -> 5
+begin 1 x -> 5
+begin 1 part\r -> 5
+do 1 part read -> 5
+do 1 X read -> 5
+form XX -> 2
+do 1 x jump 1 2 3 -> 2
+form XX y 1 -> 2
+do y x jump -> 2
+do 1 nosuch jump -> 2
+commit x y -> 3
+begin x -> 3
+do x x write -> 3
+begin 1 nosuch part -> 3
+do 1 nosuch write -> 3
+begin x nosuch -> 4
+split 1 2 nosuch 1, -> 4
+do x nosuch read -> 4
+do 1 nosuch write x -> 4";
+
+// Kept lines: a return behind a sign, and the lower code of both parts.
+const KEPT: &str = "\
+begin 1 part -> begin 1 part
+do 1 x read = 5 -> do 1 x read = 5
+do 1 x read = -9223372036854775808 -> do 1 x read = -9223372036854775808
+do 1 x read = 009223372036854775807 -> do 1 x read = 9223372036854775807
+do 1 x read = -0 -> do 1 x read = 0
+do 1 x write 5 = done -> do 1 x write 5 = done
+do 1 s has 5 = yes -> do 1 s has 5 = yes
+do 1 s has 5 = no -> do 1 s has 5 = no
+do 1 x read -> do 1 x read
+commit 1 = done -> commit 1 = done
+ -> 1
+= -> 1
+= 5 -> 1
+= 5 6 -> 1
+= x -> 1
+jump = 5 -> 2
+jump = -> 2
+jump = x -> 2
+do 1 x read = -> 3
+do 1 x read = 5 6 -> 3
+do 1 x read = = -> 4
+do 1 x read = = 5 -> 3
+commit = x -> 3
+commit x = -> 3
+begin 1 nosuch = -> 3
+do 1 x read =5 -> 3
+do 1 x read = x -> 4
+do 1 x read = +5 -> 4
+do 1 x read = 9223372036854775808 -> 4
+do 1 x read = -9223372036854775809 -> 4
+do 1 x read = Done -> 4
+commit x = 5 -> 4
+begin 1 nosuch = x -> 4
+begin 1 nosuch = 5 -> 5";
+
+#[test]
+fn what_lines_say(rt: HostRuntime) -> Result<(), Fail> {
+    play(&rt, rt.alloc(), Standard::SplitJoin, SAID, false)
+}
+
+#[test]
+fn faulty_lines(rt: HostRuntime) -> Result<(), Fail> {
+    play(&rt, rt.alloc(), Standard::SplitJoin, FAULTY, false)
+}
+
+#[test]
+fn kept_lines(rt: HostRuntime) -> Result<(), Fail> {
+    play(&rt, rt.alloc(), Standard::SplitJoin, KEPT, true)
+}
+
+// Bytes that no text has belong to words, and long words and numbers are read to their end.
+#[test]
+fn hostile_lines(rt: HostRuntime) -> Result<(), Fail> {
+    let alloc = rt.alloc();
+    let model = assemble(alloc, Standard::Atomic.text().as_bytes())?;
+    assert_eq!(rt;
+        event_again(alloc, &model, b"commit 1\0")?.as_slice(),
+        b"4".as_slice()
+    );
+    assert_eq!(rt;
+        event_again(alloc, &model, b"commit\xff 1")?.as_slice(),
+        b"2".as_slice()
+    );
+    assert_eq!(rt;
+        event_again(alloc, &model, b"begin 1 flat\r")?.as_slice(),
+        b"5".as_slice()
+    );
+    let long = vec![in alloc; b'1'; 1_000_000]?;
+    assert_eq!(rt;
+        event_again(alloc, &model, long.as_slice())?.as_slice(),
+        b"2".as_slice()
+    );
+    let mut number = Vec::from_slice(alloc, b"commit ")?;
+    number.extend_from_slice(&long.as_slice()[..400])?;
+    assert_eq!(rt;
+        event_again(alloc, &model, number.as_slice())?.as_slice(),
+        b"4".as_slice()
+    );
+    Ok(())
+}

@@ -1,0 +1,423 @@
+//! Runs of the tool, as text. A case is a command line, `%` before each line of its model where that is a file, `|`
+//! before each line of its input, the lines that are wanted, and the exit status.
+
+use acta_tool::{Metered, ModelName, Status, Watched, exit_status, parse, run_tool};
+use std::alloc::{AllocError, Global};
+use std::process::Abort;
+use std::test::Fail;
+
+// A case as far as it was read.
+#[derive(Drop)]
+struct Case {
+    command: String,
+    model: Vec<u8>,
+    input: Vec<u8>,
+    want: Vec<u8>,
+}
+
+impl Case {
+    fn of(alloc: Global, command: &str) -> Result<Case, AllocError> {
+        Ok(Case {
+            command: String::from_str(alloc, command)?,
+            model: Vec::new(alloc),
+            input: Vec::new(alloc),
+            want: Vec::new(alloc),
+        })
+    }
+}
+
+// Adds a line to a text.
+fn add(text: &mut Vec<u8>, line: &str) -> Result<(), AllocError> {
+    text.extend_from_slice(line.as_bytes())?;
+    text.extend_from_slice(b"\n")
+}
+
+// The words of a command line, behind the program's name.
+fn words(alloc: Global, line: &str) -> Result<Vec<String>, AllocError> {
+    let mut words = Vec::new(alloc);
+    words.push(String::from_str(alloc, "acta_tool")?)?;
+    for word in line.split(' ') {
+        words.push(String::from_str(alloc, word)?)?;
+    }
+    Ok(words)
+}
+
+// Runs a case, and compares what it writes and how it ends.
+fn run(rt: &(impl Abort + AllocGlobal), case: &Case, status: &str) -> Result<(), Fail> {
+    let words = words(rt.alloc(), &case.command)?;
+    let args = match parse(rt.alloc(), words.as_slice()) {
+        Ok(args) => args,
+        Err(fault) => {
+            let code = exit_status(&Err(fault));
+            assert_eq!(rt; Some(code), status.parse().ok(), "at {}", case.command);
+            return Ok(());
+        }
+    };
+    let model = match args.model {
+        ModelName::Standard(name) => name.text().as_bytes(),
+        ModelName::Path(_) => case.model.as_slice(),
+    };
+    let mut input = Metered::new(case.input.as_slice());
+    let mut output = Vec::new(rt.alloc());
+    let ended = run_tool(
+        rt.alloc(),
+        &args,
+        model,
+        &mut input,
+        &mut Watched::new(&mut output),
+    );
+    assert_eq!(rt;
+        output.as_slice(),
+        case.want.as_slice(),
+        "at {}",
+        case.command
+    );
+    assert_eq!(rt;
+        Some(exit_status(&Ok(ended))),
+        status.parse().ok(),
+        "at {}",
+        case.command
+    );
+    Ok(())
+}
+
+// Plays the cases of a text.
+fn play(rt: &(impl Abort + AllocGlobal), cases: &str) -> Result<(), Fail> {
+    let mut case = Case::of(rt.alloc(), "")?;
+    for line in cases.lines() {
+        if let Some(command) = line.strip_prefix("$ ") {
+            case = Case::of(rt.alloc(), command)?;
+        } else if let Some(model) = line.strip_prefix("% ") {
+            add(&mut case.model, model)?;
+        } else if let Some(input) = line.strip_prefix("| ") {
+            add(&mut case.input, input)?;
+        } else if let Some(status) = line.strip_prefix("status ") {
+            run(rt, &case, status)?;
+        } else if !line.is_empty() {
+            add(&mut case.want, line)?;
+        }
+    }
+    Ok(())
+}
+
+const RUNS: &str = "\
+$ run @atomic
+status 0
+
+$ run @atomic
+| begin 1 flat
+| do 1 x write 5
+| commit 1
+ok 1
+ok 2 done
+ok 3
+status 0
+
+$ run @atomic
+| begin 1 flat
+| begin 1 flat
+| commit 2
+| commit 1
+| abort 1
+ok 1
+no 8 by 1
+no 7 by 2
+ok 2
+no 7 by 1
+status 0
+
+$ run @contingent
+| form SCD 2 1
+| begin 1 try
+| begin 2 try
+| commit 1
+ok 1
+ok 2
+ok 3
+ok 4
+owed 1 2 commit
+status 0
+
+$ run @contingent
+| form AD 2 1
+| form SCD 3 4
+| begin 1 try
+| begin 4 try
+| abort 1
+| commit 4
+ok 1
+ok 2
+ok 3
+ok 4
+ok 5
+ok 6
+owed 1 2 abort
+owed 2 3 commit
+status 0
+
+$ run @atomic
+| begin 1 flat
+| commit x
+ok 1
+line 2 fault 4
+status 1
+
+$ run @contingent
+| form SCD 2 1
+| begin 1 try
+| commit 1
+| commit
+ok 1
+ok 2
+ok 3
+line 4 fault 3
+status 1
+
+$ run --kept @atomic
+| begin 1 flat
+| begin 2 flat
+| do 1 x write 5
+| do 2 x write 5
+| do 2 x write 6
+begin 1 flat
+begin 2 flat
+do 1 x write 5 = done
+do 2 x write 5 = done
+status 0
+
+$ run --kept @contingent
+| form SCD 2 1
+| begin 1 try
+| commit 1
+| nothing
+form SCD 2 1
+begin 1 try
+commit 1
+line 4 fault 2
+status 1
+
+$ run --kept @nested
+| begin 1 top
+| do 1 s insert 3
+| do 1 s has 4
+| do 1 s size
+| do 1 n add -7
+| do 1 n get
+| spawn 1 2 sub
+| do 2 x read
+| commit 2
+| abort 1
+begin 1 top
+do 1 s insert 3 = yes
+do 1 s has 4 = no
+do 1 s size = 1
+do 1 n add -7 = done
+do 1 n get = -7
+spawn 1 2 sub
+do 2 x read = 0
+commit 2
+abort 1
+status 0
+
+$ run --kept @split_join
+| begin 1 part
+| do 1 x write 5
+| do 1 n add 3
+| split 1 2 part 2,1
+| join 1 2
+| begin 3 part
+| delegate 2 3 -
+| delegate 2 3 1,1
+begin 1 part
+do 1 x write 5 = done
+do 1 n add 3 = done
+split 1 2 part 1,2
+join 1 2
+begin 3 part
+delegate 2 3 -
+delegate 2 3 1
+status 0
+";
+
+// What a reader sees behind a commit and behind an abort.
+const ENDS: &str = "\
+$ run @atomic
+| begin 1 flat
+| do 1 x write 5
+| commit 1
+| begin 2 flat
+| do 2 x read
+ok 1
+ok 2 done
+ok 3
+ok 4
+ok 5 5
+status 0
+
+$ run @atomic
+| begin 1 flat
+| do 1 x write 5
+| do 1 n add 2
+| do 1 s insert 3
+| abort 1
+| begin 2 flat
+| do 2 x read
+| do 2 n get
+| do 2 s has 3
+ok 1
+ok 2 done
+ok 3 done
+ok 4 yes
+ok 5
+ok 6
+ok 7 0
+ok 8 0
+ok 9 no
+status 0
+
+$ run @recoverable
+| begin 1 loose
+| begin 2 loose
+| do 1 x write 5
+| do 2 x read
+| commit 2
+| abort 1
+| commit 2
+| abort 2
+ok 1
+ok 2
+ok 3 done
+ok 4 5
+no 21 by 2
+ok 5
+no 22 by 1
+ok 6
+status 0
+
+$ run @nested
+| begin 1 top
+| do 1 x write 5
+| spawn 1 2 sub
+| do 2 x write 6
+| commit 2
+| abort 1
+| begin 3 top
+| do 3 x read
+ok 1
+ok 2 done
+ok 3
+ok 4 done
+ok 5
+ok 6
+ok 7
+ok 8 0
+status 0
+
+$ run @split_join
+| begin 1 part
+| begin 2 part
+| do 1 x write 5
+| delegate 1 2 1
+| delegate 1 2 1
+| abort 1
+| commit 2
+| begin 3 part
+| do 3 x read
+ok 1
+ok 2
+ok 3 done
+ok 4
+no 11 by 1
+ok 5
+ok 6
+ok 7
+ok 8 5
+status 0
+";
+
+// Models in files, good and faulty, and command lines that ask for nothing.
+const FILES: &str = "\
+$ run a.model
+% object x register -3
+% class flat # a comment
+% delegation any
+% starts begin
+% commit keeps
+% policy refuse
+%  scope others
+% may operate commit abort
+% end
+| begin 1 flat
+| do 1 x read
+ok 1
+ok 2 -3
+status 0
+
+$ run a.model
+% class a
+% starts begin
+| begin 1 a
+model line 2 fault 8
+status 1
+
+$ run --kept a.model
+% class a
+% end
+model line 2 fault 9
+status 1
+
+$ run a.model
+model line 1 fault 9
+status 1
+
+$ run @atomic @atomic
+status 2
+
+$ run
+status 2
+
+$ jump @atomic
+status 2
+
+$ --help
+status 2
+
+$ run --help
+status 2
+
+$ run @nosuch
+status 2
+
+$ run @
+status 2
+
+$ run --keep @atomic
+status 2
+
+$ run @atomic --kept
+| begin 1 flat
+begin 1 flat
+status 0
+";
+
+#[test]
+fn runs(rt: HostRuntime) -> Result<(), Fail> {
+    play(&rt, RUNS)
+}
+
+#[test]
+fn what_is_seen_behind_an_end(rt: HostRuntime) -> Result<(), Fail> {
+    play(&rt, ENDS)
+}
+
+#[test]
+fn files_and_command_lines(rt: HostRuntime) -> Result<(), Fail> {
+    play(&rt, FILES)
+}
+
+#[test]
+fn the_statuses(rt: HostRuntime) {
+    assert_eq!(rt; exit_status(&Ok(Status::Done)), 0);
+    assert_eq!(rt; exit_status(&Ok(Status::Refused)), 1);
+    assert_eq!(rt; exit_status(&Ok(Status::Unwritten)), 3);
+}

@@ -1,0 +1,36 @@
+-- One line after another: what they say so far, before what the lines that are left say.
+use Rattle.std.proofs.Common.{◌≡◌, ℕ, ◌+◌, ◌==◌, Bool, true, false, cond, List, [], ◌∷◌, ◌++◌, length, refl, sym, ap, ◌∙◌}
+use Rattle.std.specs.Prelude.{Option, Some, None, option_map, Result, Ok, Err}
+use Rattle.std.proofs.lemmas.List.{append_assoc, append-nil}
+use Rattle.acta_script.specs.declared.fault.LineFault.{LineFault}
+use Rattle.acta_words.specs.Text.{lines_of, words_of}
+use Rattle.acta_tool.specs.declared.script.BadLine.{BadLine}
+use Rattle.acta_tool.specs.Output.{Said, said_by, said_from, said_in, with_line}
+
+-- these, before what else is said
+abbrev pub put_before : {X : Type 0} → List X → Said X → Said X
+put_before xs s = record s { said = xs ++ s.said }
+
+-- nothing has been read yet
+pub begins : {X : Type 0} (read : List ℕ → Result X LineFault) (input : List ℕ) (xs : List X) (left : List (List ℕ)) → xs ≡ [] → left ≡ lines_of input → put_before xs (said_from read 1 left) ≡ said_in read input
+unfolding said_in
+begins read input xs left none lines = λ i. put_before (none i) (said_from read 1 (lines i))
+
+-- no line is left
+pub ends : {X : Type 0} (read : List ℕ → Result X LineFault) (n : ℕ) (xs : List X) (left : List (List ℕ)) (all : Said X) → left ≡ [] → put_before xs (said_from read n left) ≡ all → all ≡ record { said = xs; stop = None }
+ends read n xs left all none h = sym h ∙ ap (λ l. put_before xs (said_from read n l)) none ∙ (λ i. record { said = append-nil xs i; stop = None })
+
+-- the next line, and those behind it
+pub turn : {X : Type 0} (read : List ℕ → Result X LineFault) (n : ℕ) (xs : List X) (line : List ℕ) (left rest : List (List ℕ)) (says : Option (Result X LineFault)) (all : Said X)
+    → left ≡ line ∷ rest → said_by read line ≡ says → put_before xs (said_from read n left) ≡ all
+    → put_before xs (with_line n says (said_from read (n + 1) rest)) ≡ all
+turn read n xs line left rest says all parts is h =
+    (λ i. put_before xs (with_line n (sym is i) (said_from read (n + 1) rest))) ∙ sym (ap (λ l. put_before xs (said_from read n l)) parts) ∙ h
+
+-- it says an event
+pub says_one : {X : Type 0} (n : ℕ) (xs : List X) (x : X) (rest all : Said X) → put_before xs (with_line n (Some (Ok x)) rest) ≡ all → put_before (xs ++ x ∷ []) rest ≡ all
+says_one n xs x rest all h = (λ i. record rest { said = append_assoc xs (x ∷ []) rest.said i }) ∙ h
+
+-- it is faulty
+pub stops : {X : Type 0} (n : ℕ) (xs : List X) (fault : LineFault) (rest all : Said X) → put_before xs (with_line n (Some (Err fault)) rest) ≡ all → all ≡ record { said = xs; stop = Some (record { line = n; fault = fault }) }
+stops n xs fault rest all h = sym h ∙ (λ i. record { said = append-nil xs i; stop = Some (record { line = n; fault = fault }) })

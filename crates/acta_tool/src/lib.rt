@@ -1,0 +1,19 @@
+//! The tool without its process: what the words of a command line ask for, and what is written for the bytes of a model
+//! and of an input, over any reader and writer. A program that only opens files and streams stands above it.
+#![tactic(auto)]
+
+mod args;
+mod fault;
+mod run;
+mod script;
+mod sink;
+mod source;
+mod status;
+mod telling;
+
+pub use args::{Args, Command, ModelName, parse};
+pub use fault::UsageFault;
+pub use run::run_tool;
+pub use sink::{Sink, Watched};
+pub use source::{Metered, ReadFault, Source, read_all};
+pub use status::{Status, exit_status};

@@ -1,0 +1,118 @@
+//! What a run tells, line by line.
+
+ghost use Rattle.std.specs.Prelude.{◌≡◌, ◌++◌, ◌∷◌, [], map, IfOk, OnOk};
+ghost use Rattle.acta_lang.specs.declared.fault.AsmFault.{AsmFault};
+ghost use Rattle.acta_machine.specs.Table.{debts_in};
+ghost use Rattle.acta_script.specs.Answers.{answer_line, owed_line};
+ghost use Rattle.acta_script.specs.Writing.{kept_line};
+ghost use Rattle.acta_words.specs.Text.{text_of};
+ghost use Rattle.acta_tool.specs.Output.{model_line, stop_line, told, told_last};
+
+use crate::script::BadLine;
+use acta_lang::AsmFault;
+use acta_machine::{Machine, Run};
+use acta_script::{answer_line, owed_line, write_kept};
+use acta_table::Answer;
+use acta_words::{push_line, push_natural, push_word};
+use std::alloc::{AllocError, Allocator};
+
+// Tells the answers, a line each.
+fn tell_answers<A: Allocator + Copy>(
+    alloc: A,
+    answers: &[Answer],
+    text: &mut Vec<u8, A>,
+) -> Result<(), AllocError>
+    ensures { OnOk result (text.new.items ≡ text.old.items ++ text_of (map answer_line answers.now)) }
+{
+    for answer in answers {
+        push_line(text, answer_line(alloc, answer)?.as_slice())?;
+    }
+    Ok(())
+}
+
+// Tells the events that the machine kept, with what they returned, a line each.
+fn tell_history<A: Allocator + Copy>(
+    alloc: A,
+    machine: &Machine<A>,
+    text: &mut Vec<u8, A>,
+) -> Result<(), AllocError>
+    ensures { OnOk result (text.new.items ≡ text.old.items ++ text_of (map (kept_line machine.now.model) machine.now.kept)) }
+{
+    for kept in machine.history() {
+        let line = write_kept(alloc, machine.model(), kept)?;
+        push_line(text, line.as_slice())?;
+    }
+    Ok(())
+}
+
+// Tells what is owed, a line each.
+fn tell_debts<A: Allocator + Copy>(
+    alloc: A,
+    machine: &Machine<A>,
+    text: &mut Vec<u8, A>,
+) -> Result<(), AllocError>
+    ensures { OnOk result (text.new.items ≡ text.old.items ++ text_of (map owed_line (debts_in machine.now))) }
+{
+    for owed in machine.owed()?.as_slice() {
+        push_line(text, owed_line(alloc, owed)?.as_slice())?;
+    }
+    Ok(())
+}
+
+// Tells the line that says no event.
+fn tell_stop<A: Allocator>(text: &mut Vec<u8, A>, stop: BadLine) -> Result<(), AllocError>
+    ensures { OnOk result (text.new.items ≡ text.old.items ++ text_of (stop_line stop ∷ [])) }
+{
+    text.extend_from_slice(b"line")?;
+    push_natural(text, stop.line as u64)?;
+    push_word(text, b"fault")?;
+    push_natural(text, u64::from(stop.fault.number()))?;
+    push_line(text, b"")
+}
+
+/// Tells the line of a model's text at which something is wrong.
+pub fn tell_model_fault<A: Allocator>(
+    text: &mut Vec<u8, A>,
+    fault: AsmFault,
+) -> Result<(), AllocError>
+    ensures { OnOk result (text.new.items ≡ text.old.items ++ text_of (model_line fault ∷ [])) }
+{
+    text.extend_from_slice(b"model line")?;
+    push_natural(text, fault.line as u64)?;
+    push_word(text, b"fault")?;
+    push_natural(text, u64::from(fault.code.number()))?;
+    push_line(text, b"")
+}
+
+/// Tells the answers to the events of a run; or, where `is_kept`, the events that were kept, with what they returned.
+pub fn tell_events<A: Allocator + Copy>(
+    alloc: A,
+    is_kept: bool,
+    run: &Run<A>,
+    text: &mut Vec<u8, A>,
+) -> Result<(), AllocError>
+    ensures { OnOk result (text.new.items ≡ text.old.items ++ text_of (told is_kept run.now.answers run.now.machine)) }
+{
+    if is_kept {
+        tell_history(alloc, &run.machine, text)
+    } else {
+        tell_answers(alloc, run.answers.as_slice(), text)
+    }
+}
+
+/// Tells the line that stopped a run, or else what is owed; nothing of this where the kept events are told.
+pub fn tell_end<A: Allocator + Copy>(
+    alloc: A,
+    is_kept: bool,
+    machine: &Machine<A>,
+    stop: Option<BadLine>,
+    text: &mut Vec<u8, A>,
+) -> Result<(), AllocError>
+    ensures { OnOk result (text.new.items ≡ text.old.items ++ text_of (told_last is_kept machine.now stop)) }
+{
+    match stop {
+        Some(stop) => tell_stop(text, stop),
+        None if is_kept => Ok(()),
+        None => tell_debts(alloc, machine, text),
+    }
+}

@@ -1,0 +1,54 @@
+//! A line as words. They stand apart by spaces or tabs, before the first `#`, which begins a comment, inside a word
+//! too. Every other byte belongs to its word.
+
+ghost use Rattle.std.specs.Prelude.{◌≡◌, ◌==◌, not, length, map, IfOk};
+ghost use Rattle.std.specs.List.{before_first, list_any, position_or_len};
+ghost use Rattle.acta_words.specs.Text.{is_blank, is_mark, words_of};
+
+use std::alloc::{AllocError, Allocator};
+
+// Where the comment of a line begins, or the line ends.
+fn comment_at(line: &[u8]) -> usize
+    ensures { result ≡ position_or_len is_mark line.now }
+{
+    for (i, byte) in line.iter().enumerate() {
+        if *byte == b'#' {
+            return i;
+        }
+    }
+    line.len()
+}
+
+fn without_comment(line: &[u8]) -> &[u8]
+    ensures { result.now ≡ before_first is_mark line.now }
+{
+    let at = comment_at(line);
+    if at < line.len() { &line[..at] } else { line }
+}
+
+/// The words of a line. `Err` where there is no memory.
+pub fn words_of<'a, A: Allocator + Copy>(
+    alloc: A,
+    line: &'a [u8],
+) -> Result<Vec<&'a [u8], A>, AllocError>
+    ensures { IfOk result (λ words. map (λ word. word.now) words.items ≡ words_of line.now) }
+{
+    without_comment(line)
+        .split(|byte| *byte == b' ' || *byte == b'\t')
+        .filter(|word| !word.is_empty())
+        .collect(alloc)
+}
+
+// Whether a byte is no blank.
+fn has_inside(bytes: &[u8]) -> bool
+    ensures { result ≡ list_any (λ b. not (is_blank b)) bytes.now }
+{
+    bytes.iter().any(|byte| *byte != b' ' && *byte != b'\t')
+}
+
+/// Whether the line has a word. Takes no memory.
+pub fn has_words(line: &[u8]) -> bool
+    ensures { result ≡ not (length (words_of line.now) == 0) }
+{
+    has_inside(without_comment(line))
+}
