@@ -16,31 +16,25 @@ use std::test::Fail;
 // More allocations than any of these calls makes.
 const MOST: u64 = 400;
 
-// Refuses the first allocation of the call, then the second, and so on, until it finds all its memory. Each call has to
-// answer `Err`, or what is wanted where it can do without; gives how often it answered `Err`.
-fn refuse_each<B: Allocator, A: Allocator, F: FnMut() -> Result<Vec<u8, A>, AllocError>>(
+// Whether the call that said this found all its memory. Then it has to have answered what is wanted; and so it has
+// where it could do without what was refused, or else `Err`.
+fn is_whole<A: Allocator, B: Allocator>(
     rt: &impl Abort,
     heap: &Refusing<B>,
+    said: Result<Vec<u8, A>, AllocError>,
     want: &[u8],
-    mut call: F,
-) -> u64
-    requires { F.IsAlwaysCallable call }
-{
-    let mut refused = 0u64;
-    for nth in 1..MOST {
-        heap.refuse(nth);
-        let result = call();
-        let is_whole = heap.is_waiting();
-        heap.refuse(0);
-        match result {
-            Ok(bytes) => assert_eq!(rt; bytes.as_slice(), want),
-            Err(_) => refused = nth,
-        }
-        if is_whole {
-            return refused;
-        }
+) -> bool {
+    let is_whole = heap.is_waiting();
+    heap.refuse(0);
+    match said {
+        Ok(bytes) => assert_eq!(rt; bytes.as_slice(), want),
+        Err(_) => assert!(rt; !is_whole),
     }
-    panic!(rt; "the call makes too many allocations")
+    is_whole
+}
+
+fn too_many() -> Fail {
+    Fail::new("a call makes too many allocations")
 }
 
 // The canonical text of what a text means.
@@ -54,6 +48,19 @@ fn printed<A: Allocator + Copy>(
         Err(AsmError::Memory) => Err(AllocError),
         Err(AsmError::Fault(_)) => panic!(rt; "a refused call answers a fault"),
     }
+}
+
+// Refuses each allocation of reading and printing a text.
+fn refuse_text<B: Allocator>(rt: &impl Abort, heap: &Refusing<B>, text: &[u8]) -> Result<(), Fail> {
+    for nth in 1..MOST {
+        heap.refuse(nth);
+        let said = printed(rt, heap, text);
+        if is_whole(rt, heap, said, text) {
+            assert!(rt; nth > 10);
+            return Ok(());
+        }
+    }
+    Err(too_many())
 }
 
 // The canonical texts of the standard models, one behind the other.
@@ -70,12 +77,18 @@ fn texts(rt: HostRuntime) -> Result<(), Fail> {
     let heap = Refusing::new(rt.alloc());
     let mut all = Vec::new(rt.alloc());
     for name in Standard::ALL {
-        let text = name.text().as_bytes();
-        assert!(rt; refuse_each(&rt, &heap, text, || printed(&rt, &heap, text)) > 10);
-        all.extend_from_slice(text)?;
+        refuse_text(&rt, &heap, name.text().as_bytes())?;
+        all.extend_from_slice(name.text().as_bytes())?;
     }
-    assert!(rt; refuse_each(&rt, &heap, all.as_slice(), || all_printed(&heap)) > 50);
-    Ok(())
+    for nth in 1..MOST {
+        heap.refuse(nth);
+        let said = all_printed(&heap);
+        if is_whole(&rt, &heap, said, all.as_slice()) {
+            assert!(rt; nth > 50);
+            return Ok(());
+        }
+    }
+    Err(too_many())
 }
 
 // What is written for what a kept line says.
@@ -106,49 +119,90 @@ fn event_again<A: Allocator + Copy>(
     }
 }
 
-#[test]
-fn lines(rt: HostRuntime) -> Result<(), Fail> {
-    let heap = Refusing::new(rt.alloc());
-    let model = assemble(&heap, Standard::SplitJoin.text().as_bytes())?;
-    for line in [
-        "delegate 1 2 1,2,9",
-        "split 1 2 part 4,7",
-        "do 1 x write 5 = done",
-        "begin 1 part",
-    ] {
-        let line = line.as_bytes();
-        assert!(rt; refuse_each(&rt, &heap, line, || kept_again(&rt, &heap, &model, line)) > 1);
+// Refuses each allocation of reading and writing a line.
+fn refuse_line<B: Allocator>(
+    rt: &impl Abort,
+    heap: &Refusing<B>,
+    line: &[u8],
+    is_kept: bool,
+) -> Result<(), Fail> {
+    let model = assemble(heap, Standard::SplitJoin.text().as_bytes())?;
+    for nth in 1..MOST {
+        heap.refuse(nth);
+        let said = if is_kept {
+            kept_again(rt, heap, &model, line)
+        } else {
+            event_again(rt, heap, &model, line)
+        };
+        if is_whole(rt, heap, said, line) {
+            assert!(rt; nth > 2);
+            return Ok(());
+        }
     }
-    let line = b"delegate 1 2 1,2,9".as_slice();
-    assert!(rt; refuse_each(&rt, &heap, line, || event_again(&rt, &heap, &model, line)) > 1);
-    Ok(())
+    Err(too_many())
 }
 
 #[test]
-fn answers(rt: HostRuntime) {
+fn lines(rt: HostRuntime) -> Result<(), Fail> {
     let heap = Refusing::new(rt.alloc());
-    let answer = Answer::Admitted {
-        place: 65_536,
-        ret: Some(Ret::Value(-9_223_372_036_854_775_808)),
-    };
-    let line = b"ok 65536 -9223372036854775808";
-    assert!(rt; refuse_each(&rt, &heap, line, || answer_line(&heap, &answer)) > 0);
-    let refused = Answer::Refused {
-        rule: Rule::NoHeir,
-        by: Some(4_294_967_295),
-    };
-    let line = b"no 28 by 4294967295";
-    assert!(rt; refuse_each(&rt, &heap, line, || answer_line(&heap, &refused)) > 0);
-    let owed = Owed {
-        edge: EdgeNo(16_384),
-        txn: TxnId(4095),
-        missing: Missing::Abort,
-    };
-    let line = b"owed 16384 4095 abort";
-    assert!(rt; refuse_each(&rt, &heap, line, || owed_line(&heap, &owed)) > 0);
-    let line = b"fault 33 65536 18446744073709551615";
-    let by = 18_446_744_073_709_551_615;
-    assert!(rt; refuse_each(&rt, &heap, line, || fault_line(&heap, 33, 65_536, by)) > 0);
+    refuse_line(&rt, &heap, b"delegate 1 2 1,2,9", false)?;
+    refuse_line(&rt, &heap, b"delegate 1 2 1,2,9", true)?;
+    refuse_line(&rt, &heap, b"split 1 2 part 4,7", true)?;
+    refuse_line(&rt, &heap, b"do 1 x write 5 = done", true)?;
+    refuse_line(&rt, &heap, b"begin 1 part", true)
+}
+
+// The line of an answer, of a debt and of a fault.
+fn told<A: Allocator + Copy>(alloc: A, which: u8) -> Result<Vec<u8, A>, AllocError> {
+    match which {
+        0 => {
+            let ret = Some(Ret::Value(-9_223_372_036_854_775_808));
+            answer_line(alloc, &Answer::Admitted { place: 65_536, ret })
+        }
+        1 => {
+            let by = Some(4_294_967_295);
+            answer_line(
+                alloc,
+                &Answer::Refused {
+                    rule: Rule::NoHeir,
+                    by,
+                },
+            )
+        }
+        2 => {
+            let (edge, txn) = (EdgeNo(16_384), TxnId(4095));
+            let missing = Missing::Abort;
+            owed_line(alloc, &Owed { edge, txn, missing })
+        }
+        _ => fault_line(alloc, 33, 65_536, 18_446_744_073_709_551_615),
+    }
+}
+
+// Refuses each allocation of such a line.
+fn refuse_told<B: Allocator>(
+    rt: &impl Abort,
+    heap: &Refusing<B>,
+    which: u8,
+    want: &[u8],
+) -> Result<(), Fail> {
+    for nth in 1..MOST {
+        heap.refuse(nth);
+        let said = told(heap, which);
+        if is_whole(rt, heap, said, want) {
+            assert!(rt; nth > 1);
+            return Ok(());
+        }
+    }
+    Err(too_many())
+}
+
+#[test]
+fn answers(rt: HostRuntime) -> Result<(), Fail> {
+    let heap = Refusing::new(rt.alloc());
+    refuse_told(&rt, &heap, 0, b"ok 65536 -9223372036854775808")?;
+    refuse_told(&rt, &heap, 1, b"no 28 by 4294967295")?;
+    refuse_told(&rt, &heap, 2, b"owed 16384 4095 abort")?;
+    refuse_told(&rt, &heap, 3, b"fault 33 65536 18446744073709551615")
 }
 
 // Refuses each allocation of a run in turn: a run that is cut short writes nothing.
