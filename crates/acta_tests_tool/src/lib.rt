@@ -12,3 +12,5 @@ mod refusals;
 mod running;
 #[cfg(test)]
 mod texts;
+#[cfg(test)]
+mod tour;

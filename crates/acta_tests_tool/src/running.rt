@@ -81,8 +81,8 @@ fn run(rt: &(impl Abort + AllocGlobal), case: &Case, status: &str) -> Result<(),
     Ok(())
 }
 
-// Plays the cases of a text.
-fn play(rt: &(impl Abort + AllocGlobal), cases: &str) -> Result<(), Fail> {
+/// Plays the cases of a text.
+pub fn play(rt: &(impl Abort + AllocGlobal), cases: &str) -> Result<(), Fail> {
     let mut case = Case::of(rt.alloc(), "")?;
     for line in cases.lines() {
         if let Some(command) = line.strip_prefix("$ ") {
