@@ -226,8 +226,9 @@ fn hostile_lines(rt: HostRuntime) -> Result<(), Fail> {
         event_again(alloc, &model, long.as_slice())?.as_slice(),
         b"2".as_slice()
     );
+    let digits = vec![in alloc; b'1'; 400]?;
     let mut number = Vec::from_slice(alloc, b"commit ")?;
-    number.extend_from_slice(&long.as_slice()[..400])?;
+    number.extend_from_slice(digits.as_slice())?;
     assert_eq!(rt;
         event_again(alloc, &model, number.as_slice())?.as_slice(),
         b"4".as_slice()
