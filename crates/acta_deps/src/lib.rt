@@ -14,6 +14,3 @@ mod forming;
 mod rules;
 
 pub use deps::Deps;
-
-#[cfg(test)]
-mod tests;

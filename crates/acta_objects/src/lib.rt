@@ -8,8 +8,6 @@ mod kinds;
 mod members;
 mod replays;
 mod state;
-#[cfg(test)]
-mod tests;
 
 pub use kinds::{Counter, ElementSet, ObjectKind, Register};
 pub use members::Members;

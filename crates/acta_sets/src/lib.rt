@@ -11,6 +11,3 @@ mod table;
 
 pub use item::Item;
 pub use table::OpTable;
-
-#[cfg(test)]
-mod tests;

@@ -1,11 +1,79 @@
-use crate::models::{FLAT, atomic, inheriting, parts, wanting, wanting_at_spawn, with_policy};
+//! What is wrong with parts of models, which no text can say: `assemble` tells the fault of the line. Each is a class of a
+//! text that is altered.
+
+use acta_lang::assemble;
+use acta_models::Standard;
 use acta_table::{
-    Dep, DepKinds, Event, EventKind, Kinds, Model, ModelFault, OpNo, OpSet, Policy, Rule, Starts,
-    TxnId,
+    Class, ClassId, Dep, DepKinds, Dependent, Event, EventKind, Items, Kind, Kinds, Model,
+    ModelFault, Object, OpNo, OpSet, Parts, Policy, Rule, StartEdge, StartEdges, TxnId,
 };
+use refusing::Refusing;
 use std::alloc::{AllocError, Allocator, Global};
 use std::process::Abort;
 use std::test::Fail;
+
+// The last class of the text.
+fn class_of<A: Allocator + Copy>(alloc: A, text: &str) -> Result<Class<A>, Fail> {
+    let model = assemble(alloc, text.as_bytes())?;
+    let class = model.classes().last().ok_or("a text has a class")?;
+    Ok(class.copy()?)
+}
+
+fn name_of<A: Allocator>(alloc: A, name: &str) -> Result<Items<u8, A>, AllocError> {
+    Ok(Items::of(Vec::from_slice(alloc, name.as_bytes())?))
+}
+
+// Registers of these names, which stand between single spaces.
+fn objects<A: Allocator + Copy>(alloc: A, names: &str) -> Result<Items<Object<A>, A>, AllocError> {
+    let mut objects = Vec::new(alloc);
+    if !names.is_empty() {
+        for name in names.split(' ') {
+            let name = name_of(alloc, name)?;
+            let kind = Kind::Register(0);
+            objects.push(Object { name, kind })?;
+        }
+    }
+    Ok(Items::of(objects))
+}
+
+// Classes of these names, which stand between single spaces, and otherwise as this one.
+fn classes<A: Allocator + Copy>(
+    alloc: A,
+    class: &Class<A>,
+    names: &str,
+) -> Result<Items<Class<A>, A>, AllocError> {
+    let mut classes = Vec::new(alloc);
+    if !names.is_empty() {
+        for name in names.split(' ') {
+            let mut class = class.copy()?;
+            class.name = name_of(alloc, name)?;
+            classes.push(class)?;
+        }
+    }
+    Ok(Items::of(classes))
+}
+
+// The fault of a model of such registers and such classes, all of them flat.
+fn fault_of<A: Allocator + Copy>(
+    alloc: A,
+    registers: &str,
+    flats: &str,
+) -> Result<Option<ModelFault>, Fail> {
+    let flat = class_of(alloc, Standard::Atomic.text())?;
+    let objects = objects(alloc, registers)?;
+    let classes = classes(alloc, &flat, flats)?;
+    Ok(Model::check(Parts { objects, classes }).err())
+}
+
+// The fault of a model of one class.
+fn fault_of_class<A: Allocator + Copy>(
+    alloc: A,
+    class: &Class<A>,
+) -> Result<Option<ModelFault>, AllocError> {
+    let objects = Items::new(alloc);
+    let classes = classes(alloc, class, "class")?;
+    Ok(Model::check(Parts { objects, classes }).err())
+}
 
 // Models of these registers and classes have this fault, or none; each line has the names of the registers and,
 // after `|`, those of the classes.
@@ -23,14 +91,6 @@ fn have_fault(
         );
     }
     Ok(())
-}
-
-fn fault_of<A: Allocator + Copy>(
-    alloc: A,
-    objects: &str,
-    classes: &str,
-) -> Result<Option<ModelFault>, AllocError> {
-    Ok(Model::check(parts(alloc, objects, classes)?).err())
 }
 
 #[test]
@@ -65,88 +125,63 @@ fn bad_names(rt: HostRuntime) -> Result<(), Fail> {
     have_fault(&rt, "x|y ", Some(ModelFault::BadName))
 }
 
-// An edge of a begin kind at a split is a fault, and none of another kind is.
-fn fault_at_a_split<A: Allocator + Copy>(
-    alloc: A,
-    kind: Dep,
-) -> Result<Option<ModelFault>, AllocError> {
-    Ok(Model::check(wanting(alloc, kind)?).err())
+// The one edge of this kind, of what is started on the one that starts it.
+fn on_starter<A: Allocator + Copy>(alloc: A, kind: Dep) -> Result<StartEdges<A>, AllocError> {
+    let dependent = Dependent::Started;
+    StartEdges::of(alloc, &[StartEdge { kind, dependent }])
 }
 
-// The same at a spawn.
-fn fault_at_a_spawn<A: Allocator + Copy>(
-    alloc: A,
-    kind: Dep,
-) -> Result<Option<ModelFault>, AllocError> {
-    Ok(Model::check(wanting_at_spawn(alloc, kind)?).err())
-}
-
+// An edge of a begin kind at a split or at a spawn is a fault, and none of another kind is.
 #[test]
 fn begin_kinds_at_a_start(rt: HostRuntime) -> Result<(), Fail> {
+    let alloc = rt.alloc();
     for kind in Dep::ALL {
         let fault = if kind.is_begin_kind() {
             Some(ModelFault::BeginKindAtStart)
         } else {
             None
         };
-        assert_eq!(rt; fault_at_a_split(rt.alloc(), kind)?, fault, "with {kind:?}");
-        assert_eq!(rt; fault_at_a_spawn(rt.alloc(), kind)?, fault, "with {kind:?}");
+        let mut part = class_of(alloc, Standard::SplitJoin.text())?;
+        part.split_edges = on_starter(alloc, kind)?;
+        assert_eq!(rt; fault_of_class(alloc, &part)?, fault, "with {kind:?}");
+        let mut sub = class_of(alloc, Standard::Nested.text())?;
+        sub.spawn_edges = on_starter(alloc, kind)?;
+        assert_eq!(rt; fault_of_class(alloc, &sub)?, fault, "with {kind:?}");
     }
     Ok(())
-}
-
-// The fault of a model whose class commits to parents, where its transactions start so.
-fn fault_of_heirs<A: Allocator + Copy>(
-    alloc: A,
-    begin: bool,
-    split: bool,
-) -> Result<Option<ModelFault>, AllocError> {
-    let starts = Starts {
-        begin,
-        spawned: true,
-        split,
-    };
-    Ok(Model::check(inheriting(alloc, starts)?).err())
 }
 
 // One that commits to its parent has one: it doesn't begin, and isn't split off.
 #[test]
 fn heirs_without_a_spawn(rt: HostRuntime) -> Result<(), Fail> {
+    let alloc = rt.alloc();
     let fault = Some(ModelFault::HeirWithoutSpawn);
-    assert_eq!(rt; fault_of_heirs(rt.alloc(), true, false)?, fault);
-    assert_eq!(rt; fault_of_heirs(rt.alloc(), false, true)?, fault);
-    assert_eq!(rt; fault_of_heirs(rt.alloc(), false, false)?, None);
+    let mut sub = class_of(alloc, Standard::Nested.text())?;
+    assert_eq!(rt; fault_of_class(alloc, &sub)?, None);
+    sub.starts.begin = true;
+    assert_eq!(rt; fault_of_class(alloc, &sub)?, fault);
+    sub.starts.begin = false;
+    sub.starts.split = true;
+    assert_eq!(rt; fault_of_class(alloc, &sub)?, fault);
     Ok(())
-}
-
-fn fault_of_policy<A: Allocator + Copy>(
-    alloc: A,
-    policy: Policy,
-) -> Result<Option<ModelFault>, AllocError> {
-    Ok(Model::check(with_policy(alloc, policy)?).err())
-}
-
-// The fault of a model whose class depends by AD and this kind.
-fn fault_of_kind<A: Allocator + Copy>(
-    alloc: A,
-    kind: Dep,
-) -> Result<Option<ModelFault>, AllocError> {
-    let kinds = DepKinds::of(Dep::Ad).union(DepKinds::of(kind));
-    fault_of_policy(alloc, Policy::Depend(kinds))
 }
 
 // A class depends by CD, AD, WD and TD, and by at least one of them.
 #[test]
 fn policies(rt: HostRuntime) -> Result<(), Fail> {
+    let alloc = rt.alloc();
     let fault = Some(ModelFault::BadPolicyKind);
+    let mut loose = class_of(alloc, Standard::Recoverable.text())?;
     for kind in Dep::ALL {
         let is_good = matches!(kind, Dep::Cd | Dep::Ad | Dep::Wd | Dep::Td);
         let due = if is_good { None } else { fault };
-        assert_eq!(rt; fault_of_kind(rt.alloc(), kind)?, due, "at {kind:?}");
+        loose.policy = Policy::Depend(DepKinds::of(Dep::Ad).union(DepKinds::of(kind)));
+        assert_eq!(rt; fault_of_class(alloc, &loose)?, due, "at {kind:?}");
     }
-    let none = Policy::Depend(DepKinds::none());
-    assert_eq!(rt; fault_of_policy(rt.alloc(), none)?, fault);
-    assert_eq!(rt; fault_of_policy(rt.alloc(), Policy::Refuse)?, None);
+    loose.policy = Policy::Depend(DepKinds::none());
+    assert_eq!(rt; fault_of_class(alloc, &loose)?, fault);
+    loose.policy = Policy::Refuse;
+    assert_eq!(rt; fault_of_class(alloc, &loose)?, None);
     Ok(())
 }
 
@@ -164,7 +199,7 @@ fn fault_of_many<A: Allocator + Copy>(
     alloc: A,
     objects: u16,
     classes: u16,
-) -> Result<Option<ModelFault>, AllocError> {
+) -> Result<Option<ModelFault>, Fail> {
     let (objects, classes) = (names(alloc, objects)?, names(alloc, classes)?);
     fault_of(alloc, objects.as_str(), classes.as_str())
 }
@@ -196,7 +231,7 @@ fn shows_flat<A: Allocator>(rt: &impl Abort, model: &Model<A>) {
 // A model shows the parts that were checked, and so does its copy.
 #[test]
 fn a_copy(rt: HostRuntime) -> Result<(), Fail> {
-    let model = atomic(rt.alloc())?;
+    let model = assemble(rt.alloc(), Standard::Atomic.text().as_bytes())?;
     shows_flat(&rt, &model);
     shows_flat(&rt, &model.copy()?);
     Ok(())
@@ -233,7 +268,7 @@ fn numbers_and_kinds(rt: HostRuntime) {
     assert_eq!(rt; Rule::NoHeir.number(), 28);
     assert_eq!(rt; ModelFault::NoClass.number(), 1);
     assert_eq!(rt; ModelFault::BadPolicyKind.number(), 8);
-    let begin: Event<Global> = Event::Begin(TxnId(1), FLAT);
+    let begin: Event<Global> = Event::Begin(TxnId(1), ClassId(0));
     assert_eq!(rt; begin.kind(), EventKind::Begin);
 }
 
@@ -246,4 +281,25 @@ fn sets(rt: HostRuntime) -> Result<(), Fail> {
     assert_eq!(rt; set.copy()?.as_slice(), set.as_slice());
     assert!(rt; OpSet::of(rt.alloc(), &[])?.as_slice().is_empty());
     Ok(())
+}
+
+// `Model::check` takes no memory: it answers while the next allocation would be refused.
+fn checks_without_memory<A: Allocator + Copy, B: Allocator>(
+    rt: &impl Abort,
+    heap: &Refusing<B>,
+    alloc: A,
+) -> Result<(), Fail> {
+    let flat = class_of(alloc, Standard::Atomic.text())?;
+    let objects = objects(alloc, "x")?;
+    let classes = classes(alloc, &flat, "flat")?;
+    heap.refuse(1);
+    assert!(rt; Model::check(Parts { objects, classes }).is_ok());
+    assert!(rt; heap.is_waiting());
+    Ok(())
+}
+
+#[test]
+fn no_memory_is_taken(rt: HostRuntime) -> Result<(), Fail> {
+    let heap = Refusing::new(rt.alloc());
+    checks_without_memory(&rt, &heap, &heap)
 }

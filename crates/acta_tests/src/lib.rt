@@ -1,32 +1,34 @@
-//! Tests that cross the crates: worked runs, each refused allocation, and the edges of checked models. The
-//! values that they expect were computed by hand.
+//! Tests that cross the crates: histories as text with their answers, lists of events and what their places say, each refused
+//! allocation, and the edges of checked models. The values that they expect were computed by hand.
 #![tactic(auto)]
 
 #[cfg(test)]
+mod agreeing;
+#[cfg(test)]
 mod checking;
 #[cfg(test)]
-mod comparing;
+mod following;
 #[cfg(test)]
-mod delegation;
+mod formulas;
 #[cfg(test)]
-mod dependencies;
-#[cfg(test)]
-mod depending;
+mod growths;
 #[cfg(test)]
 mod histories;
 #[cfg(test)]
-mod memory;
-#[cfg(test)]
 mod models;
 #[cfg(test)]
-mod nesting;
+mod objects;
+#[cfg(test)]
+mod orders;
+#[cfg(test)]
+mod parts;
 #[cfg(test)]
 mod placing;
 #[cfg(test)]
-mod runs;
+mod playing;
 #[cfg(test)]
-mod script;
+mod sets;
 #[cfg(test)]
-mod splitting;
+mod showing;
 #[cfg(test)]
 mod standards;

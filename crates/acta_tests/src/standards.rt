@@ -1,6 +1,6 @@
 //! The texts of the standard models against their parts, written out by hand: a model has one canonical text.
 
-use crate::models::{atomic, contingent, nested, recoverable, split_join};
+use crate::parts::{atomic, contingent, nested, recoverable, split_join};
 use acta_lang::print_model;
 use acta_models::Standard;
 use acta_table::Model;

@@ -41,7 +41,7 @@ fn play<A: Allocator + Copy>(rt: &impl Abort, alloc: A, rows: &str) -> Result<()
     Ok(())
 }
 
-// Each code alone, as far as it can hold alone, and each two that can hold at one line.
+// Each code alone, as far as it can hold alone, and each two that can hold at one line; those on too many follow below.
 const FAULTY: &str = "\
 %class a
 %starts begin
@@ -303,7 +303,55 @@ const FAULTY: &str = "\
 %commit toparent
 %starts begin
 %end
-4 9";
+4 9
+
+%object x set
+%object x set # \u{7f}
+%class a
+2 1
+
+%object x register y # \u{7f}
+%class a
+1 1
+
+%class a
+%end # \u{7f}
+2 1
+
+%class a
+%spawn starter BD started # \u{7f}
+%end
+2 1
+
+%class a
+%starts begin spawned
+%may commit
+%scope others
+%policy refuse
+%commit toparent
+%delegation any
+%end # \u{7f}
+8 1
+
+%class a
+%policy depend # \u{7f}
+%end
+2 1
+
+%class a
+%object x register y
+2 5
+
+%class a
+%starts begin
+%may commit
+%scope others
+%policy refuse
+%commit keeps
+%delegation any
+%end
+%class a
+9 4";
 
 // Texts that mean models.
 const GOOD: &str = "\
@@ -364,6 +412,17 @@ fn add_classes(alloc: Global, text: &mut Vec<u8>, count: u32) -> Result<(), Allo
     Ok(())
 }
 
+const LAST_CLASS: &str = "\
+class c15
+starts
+may
+scope others
+policy refuse
+commit keeps
+delegation any
+end
+";
+
 // The 257th object and the 17th class, alone and with what else can hold there.
 #[test]
 fn too_many(rt: HostRuntime) -> Result<(), Fail> {
@@ -371,6 +430,7 @@ fn too_many(rt: HostRuntime) -> Result<(), Fail> {
     add_objects(rt.alloc(), &mut text, 256)?;
     for (line, want) in [
         ("object one_more set\nclass a", "257 7"),
+        ("object one_more set # \u{7f}\nclass a", "257 1"),
         ("object 9 set\nclass a", "257 3"),
         ("object o7 set\nclass a", "257 4"),
         ("object one_more register x\nclass a", "257 6"),
@@ -385,7 +445,11 @@ fn too_many(rt: HostRuntime) -> Result<(), Fail> {
             "at {line}"
         );
     }
-    add_classes(rt.alloc(), &mut text, 16)?;
+    add_classes(rt.alloc(), &mut text, 15)?;
+    let mut inside = Vec::from_slice(rt.alloc(), text.as_slice())?;
+    inside.extend_from_slice(b"class c15\nclass one_more\nend")?;
+    assert!(rt; is_judged(rt.alloc(), inside.as_slice(), "378 5")?);
+    text.extend_from_slice(LAST_CLASS.as_bytes())?;
     assert!(rt; is_judged(rt.alloc(), text.as_slice(), "good")?);
     text.extend_from_slice(b"class one_more")?;
     assert!(rt; is_judged(rt.alloc(), text.as_slice(), "385 7")?);

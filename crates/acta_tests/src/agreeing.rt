@@ -1,21 +1,11 @@
-//! The histories of `histories`, event by event: each answer is the one written, and after each event, admitted or
-//! refused, what the machine shows is what the places of its history say.
+//! What a machine shows against what the places of its history say: how each transaction stands, its access set and its
+//! conflict set, the view, the edges, who holds each operation and what became of it, and what is owed.
 
-use crate::dependencies::{course_of, is_false, payment};
-use crate::histories::{
-    CONTINGENT, DELEGATING, FAMILIES, FLAT, LENDING, NESTED, PARTING, RECOVERABLE, SPLIT_JOIN,
-    UNTIED, WAITING,
-};
-use crate::models::{
-    atomic, contingent, delegating, families, lending, nested, nesting, parting, recoverable,
-    split_join,
-};
-use crate::script::{access_set, conflict_set, debts, event, has_edges, is_due, parted, view_set};
+use crate::formulas::{course_of, is_false, payment};
 use acta_axioms::Places;
 use acta_machine::Machine;
 use acta_table::{
-    ClassId, Dep, Dependent, Edge, EdgeNo, Event, Extent, Fate, Kept, Model, OpNo, Owed, Scope,
-    StartEdge, Status, TxnId,
+    ClassId, Edge, EdgeNo, Event, Fate, Kept, Model, OpNo, Owed, Scope, Status, TxnId,
 };
 use std::alloc::{AllocError, Allocator};
 use std::process::Abort;
@@ -89,8 +79,8 @@ fn shows_sets<A: Allocator + Copy>(
     places: &Places<'_, A>,
     t: TxnId,
 ) -> Result<bool, AllocError> {
-    let access = access_set(machine, t)?;
-    let others = conflict_set(machine, t)?;
+    let access = machine.access_set(t)?;
+    let others = machine.conflict_set(t)?;
     let mut shows = true;
     for number in 1..OPS {
         let op = OpNo(number);
@@ -139,7 +129,7 @@ fn shows_view<A: Allocator + Copy>(
     machine: &Machine<A>,
     places: &Places<'_, A>,
 ) -> Result<bool, AllocError> {
-    let view = view_set(machine)?;
+    let view = machine.view_set()?;
     let mut shows = true;
     for number in 1..OPS {
         let op = OpNo(number);
@@ -179,20 +169,17 @@ fn shows_edges<A: Allocator + Copy>(
             due.push(debt)?;
         }
     }
-    Ok(has_edges(machine, places.edges()) && debts(machine)?.as_slice() == due.as_slice())
+    Ok(machine.edges() == places.edges() && machine.owed()?.as_slice() == due.as_slice())
 }
 
-// The machine answers the event of the line as it says, and then shows what the places of its history say.
-fn step<A: Allocator + Copy>(
+/// The machine shows what the places of its history say. The line is told where it doesn't.
+pub fn agrees<A: Allocator + Copy>(
     rt: &impl Abort,
     alloc: A,
     model: &Model<A>,
-    machine: &mut Machine<A>,
+    machine: &Machine<A>,
     line: &str,
 ) -> Result<(), Fail> {
-    let (said, due) = parted(line)?;
-    let answer = machine.take(&event(alloc, model, said)?)?;
-    assert!(rt; is_due(answer, due), "at {line}, in place of {answer:?}");
     let places = Places::of(alloc, model, machine.history())?;
     assert!(rt;
         shows_txns(model, machine, &places)?,
@@ -201,159 +188,4 @@ fn step<A: Allocator + Copy>(
     assert!(rt; shows_view(machine, &places)?, "the view after {line}");
     assert!(rt; shows_edges(alloc, machine, &places)?, "edges after {line}");
     Ok(())
-}
-
-// Each of the histories, on a machine of its own.
-fn follow<A: Allocator + Copy>(
-    rt: &impl Abort,
-    alloc: A,
-    model: &Model<A>,
-    histories: &str,
-) -> Result<(), Fail> {
-    let mut machine = Machine::new(alloc, model.copy()?)?;
-    for line in histories.lines() {
-        if is_title(line) {
-            machine = Machine::new(alloc, model.copy()?)?;
-        } else {
-            step(rt, alloc, model, &mut machine, line)?;
-        }
-    }
-    Ok(())
-}
-
-fn is_title(line: &str) -> bool {
-    line.split_whitespace().next() == Some("#")
-}
-
-fn follow_flat<A: Allocator + Copy>(rt: &impl Abort, alloc: A) -> Result<(), Fail> {
-    follow(rt, alloc, &atomic(alloc)?, FLAT)
-}
-
-#[test]
-fn of_flat(rt: HostRuntime) -> Result<(), Fail> {
-    follow_flat(&rt, rt.alloc())
-}
-
-fn follow_contingent<A: Allocator + Copy>(rt: &impl Abort, alloc: A) -> Result<(), Fail> {
-    follow(rt, alloc, &contingent(alloc)?, CONTINGENT)
-}
-
-#[test]
-fn of_contingent(rt: HostRuntime) -> Result<(), Fail> {
-    follow_contingent(&rt, rt.alloc())
-}
-
-const AFTER: StartEdge = StartEdge {
-    kind: Dep::Cd,
-    dependent: Dependent::Starter,
-};
-
-const WITH: StartEdge = StartEdge {
-    kind: Dep::Wd,
-    dependent: Dependent::Started,
-};
-
-fn follow_parts<A: Allocator + Copy>(rt: &impl Abort, alloc: A) -> Result<(), Fail> {
-    follow(rt, alloc, &split_join(alloc)?, SPLIT_JOIN)?;
-    follow(rt, alloc, &parting(alloc, &[WITH, AFTER])?, PARTING)?;
-    follow(rt, alloc, &delegating(alloc, Extent::Whole)?, DELEGATING)
-}
-
-#[test]
-fn of_parts(rt: HostRuntime) -> Result<(), Fail> {
-    follow_parts(&rt, rt.alloc())
-}
-
-const PARENT_FOLLOWS: StartEdge = StartEdge {
-    kind: Dep::Ad,
-    dependent: Dependent::Starter,
-};
-
-const PARENT_WAITS: StartEdge = StartEdge {
-    kind: Dep::Td,
-    dependent: Dependent::Starter,
-};
-
-fn follow_nested<A: Allocator + Copy>(rt: &impl Abort, alloc: A) -> Result<(), Fail> {
-    follow(rt, alloc, &nested(alloc)?, NESTED)?;
-    follow(rt, alloc, &nesting(alloc, &[])?, UNTIED)?;
-    let waiting = nesting(alloc, &[PARENT_FOLLOWS, PARENT_WAITS])?;
-    follow(rt, alloc, &waiting, WAITING)
-}
-
-#[test]
-fn of_nested(rt: HostRuntime) -> Result<(), Fail> {
-    follow_nested(&rt, rt.alloc())
-}
-
-fn follow_families<A: Allocator + Copy>(rt: &impl Abort, alloc: A) -> Result<(), Fail> {
-    follow(rt, alloc, &families(alloc)?, FAMILIES)
-}
-
-#[test]
-fn of_families(rt: HostRuntime) -> Result<(), Fail> {
-    follow_families(&rt, rt.alloc())
-}
-
-fn follow_loose<A: Allocator + Copy>(rt: &impl Abort, alloc: A) -> Result<(), Fail> {
-    follow(rt, alloc, &recoverable(alloc)?, RECOVERABLE)?;
-    follow(rt, alloc, &lending(alloc)?, LENDING)
-}
-
-#[test]
-fn of_loose(rt: HostRuntime) -> Result<(), Fail> {
-    follow_loose(&rt, rt.alloc())
-}
-
-// The histories of each model.
-const HISTORIES: [&str; 11] = [
-    FLAT,
-    CONTINGENT,
-    SPLIT_JOIN,
-    PARTING,
-    DELEGATING,
-    NESTED,
-    UNTIED,
-    WAITING,
-    FAMILIES,
-    RECOVERABLE,
-    LENDING,
-];
-
-// The number of the rule by which the event of the line is refused.
-fn refused_by(line: &str) -> Option<u8> {
-    let (_, due) = line.split_once(':')?;
-    let mut words = due.split_whitespace();
-    if words.next() != Some("no") {
-        return None;
-    }
-    words.next()?.parse().ok()
-}
-
-// Whether a line of the histories has an event that is refused by this rule.
-fn meets(histories: &str, rule: u8) -> bool {
-    for line in histories.lines() {
-        if refused_by(line) == Some(rule) {
-            return true;
-        }
-    }
-    false
-}
-
-// Whether one of them meets the rule.
-fn is_met(rule: u8) -> bool {
-    for histories in HISTORIES {
-        if meets(histories, rule) {
-            return true;
-        }
-    }
-    false
-}
-
-// Together the histories meet each rule but those on too many events and on too many edges.
-#[test]
-fn meet_each_rule(rt: HostRuntime) {
-    for rule in 1..=28u8 {
-        assert_eq!(rt; is_met(rule), rule != 1 && rule != 16, "rule {rule}");
-    }
 }

@@ -1,9 +1,10 @@
+//! Values of objects, and what operations do to them.
+
 ghost use Rattle.std.specs.Prelude.{◌≡◌, false, [], ◌∷◌, IfOk, OnOk};
 
-use crate::kinds::{Counter, ElementSet, ObjectKind, Register};
-use crate::members::Members;
-use crate::replays::replay;
-use crate::state::{ObjectState, is_of_kind};
+use acta_objects::{
+    Counter, ElementSet, Members, ObjectKind, ObjectState, Register, is_of_kind, replay,
+};
 use acta_table::{Kind, Op, Ret};
 use std::alloc::{AllocError, Global};
 use std::test::Fail;

@@ -1,0 +1,58 @@
+//! The formulas of the kinds of dependency over first places, written out once more by hand.
+
+use acta_axioms::Places;
+use acta_table::{Dep, Missing, TxnId};
+use std::alloc::Allocator;
+
+/// The first places of a transaction.
+#[derive(Clone, Copy)]
+pub struct Course {
+    pub start: Option<u32>,
+    pub commit: Option<u32>,
+    pub abort: Option<u32>,
+}
+
+/// Where a transaction starts, commits and aborts.
+pub fn course_of<A: Allocator>(places: &Places<'_, A>, t: TxnId) -> Course {
+    Course {
+        start: places.start(t),
+        commit: places.commit(t),
+        abort: places.abort(t),
+    }
+}
+
+// Both places are there, and the first is the smaller.
+fn is_before(m: Option<u32>, n: Option<u32>) -> bool {
+    match (m, n) {
+        (Some(m), Some(n)) => m < n,
+        _ => false,
+    }
+}
+
+/// Whether the formula of the kind is false, written out once more.
+pub fn is_false(kind: Dep, j: Course, i: Course) -> bool {
+    let decided = j.commit.or(j.abort);
+    match kind {
+        Dep::Cd => j.commit.is_some() && i.commit.is_some() && !is_before(i.commit, j.commit),
+        Dep::Scd => i.commit.is_some() && j.commit.is_none(),
+        Dep::Ad => i.abort.is_some() && j.abort.is_none(),
+        Dep::Wd => i.abort.is_some() && !is_before(j.commit, i.abort) && j.abort.is_none(),
+        Dep::Td => decided.is_some() && !is_before(i.commit.or(i.abort), decided),
+        Dep::Ed => i.commit.is_some() && j.start.is_some() && j.abort.is_none(),
+        Dep::Cmd => i.abort.is_some() && j.commit.is_none(),
+        Dep::Bd => j.start.is_some() && !is_before(i.start, j.start),
+        Dep::Sd => j.start.is_some() && !is_before(i.commit.or(i.abort), j.start),
+        Dep::Bcd => j.start.is_some() && !is_before(i.commit, j.start),
+        Dep::Bad => j.start.is_some() && !is_before(i.abort, j.start),
+        Dep::Wcd => j.start.is_some() && i.commit.is_some() && !is_before(i.commit, j.start),
+    }
+}
+
+/// What could be owed by an edge of the kind.
+pub fn payment(kind: Dep) -> Option<Missing> {
+    match kind {
+        Dep::Scd | Dep::Cmd => Some(Missing::Commit),
+        Dep::Ad | Dep::Wd | Dep::Ed => Some(Missing::Abort),
+        _ => None,
+    }
+}

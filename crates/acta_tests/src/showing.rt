@@ -1,0 +1,99 @@
+//! What a machine shows, as words: each word has a space before it, and no word is nothing.
+
+use crate::models::Models;
+use acta_machine::Machine;
+use acta_objects::ObjectState;
+use acta_script::owed_line;
+use acta_table::{Edge, OpNo, Status, TxnId};
+use acta_words::{push_integer, push_natural, push_word, read_u16};
+use std::alloc::{AllocError, Allocator};
+use std::test::Fail;
+
+fn push_ops<A: Allocator>(line: &mut Vec<u8, A>, ops: &[OpNo]) -> Result<(), AllocError> {
+    for op in ops {
+        push_natural(line, u64::from(op.0))?;
+    }
+    Ok(())
+}
+
+/// Writes the edges: of each its kind, the one that depends, and the one that it depends on.
+pub fn push_edges<A: Allocator>(line: &mut Vec<u8, A>, edges: &[Edge]) -> Result<(), AllocError> {
+    for edge in edges {
+        push_word(line, edge.kind.word().as_bytes())?;
+        push_natural(line, u64::from(edge.j.0))?;
+        push_natural(line, u64::from(edge.i.0))?;
+    }
+    Ok(())
+}
+
+fn push_debts<A: Allocator + Copy>(
+    alloc: A,
+    line: &mut Vec<u8, A>,
+    machine: &Machine<A>,
+) -> Result<(), AllocError> {
+    for debt in &machine.owed()? {
+        push_word(line, &owed_line(alloc, debt)?)?;
+    }
+    Ok(())
+}
+
+// A value of an object: its number, or what is in the set.
+fn push_value<A: Allocator>(
+    line: &mut Vec<u8, A>,
+    value: &ObjectState<A>,
+) -> Result<(), AllocError> {
+    match value {
+        ObjectState::Register(value) => push_integer(line, i64::from(*value)),
+        ObjectState::Counter(value) => push_integer(line, *value),
+        ObjectState::Elements(members) => {
+            for member in members.items() {
+                push_integer(line, i64::from(*member))?;
+            }
+            Ok(())
+        }
+    }
+}
+
+fn status_word(status: Status) -> &'static str {
+    match status {
+        Status::NotBegun => "waiting",
+        Status::InProgress => "open",
+        Status::Committed => "committed",
+        Status::Aborted => "aborted",
+        Status::Joined => "joined",
+    }
+}
+
+/// The transaction of this number.
+pub fn txn(word: &str) -> Result<TxnId, Fail> {
+    Ok(TxnId(read_u16(word.as_bytes()).ok_or("a word is no transaction")?))
+}
+
+/// What the machine shows of what is asked: `status T`, `access T`, `conflict T`, `view`, `value OBJECT`, `edges`,
+/// `owed`.
+pub fn shown<A: Allocator + Copy>(
+    alloc: A,
+    models: &Models<A>,
+    machine: &Machine<A>,
+    asked: &str,
+) -> Result<Vec<u8, A>, Fail> {
+    let mut line = Vec::new(alloc);
+    let mut words = asked.split_whitespace();
+    match (words.next(), words.next()) {
+        (Some("status"), Some(t)) => {
+            push_word(&mut line, status_word(machine.status(txn(t)?)).as_bytes())?;
+        }
+        (Some("access"), Some(t)) => push_ops(&mut line, &machine.access_set(txn(t)?)?)?,
+        (Some("conflict"), Some(t)) => push_ops(&mut line, &machine.conflict_set(txn(t)?)?)?,
+        (Some("view"), None) => push_ops(&mut line, &machine.view_set()?)?,
+        (Some("value"), Some(name)) => {
+            if let Some(value) = machine.value(models.object(name)?)? {
+                push_value(&mut line, &value)?;
+            }
+        }
+        (Some("edges"), None) => push_edges(&mut line, machine.edges())?,
+        (Some("owed"), None) => push_debts(alloc, &mut line, machine)?,
+        _ => Err("a line asks nothing")?,
+    }
+    Ok(line)
+}
