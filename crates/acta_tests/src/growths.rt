@@ -3,7 +3,7 @@
 use crate::models::PARTING;
 use acta_axioms::Places;
 use acta_lang::assemble;
-use acta_machine::Machine;
+use acta_machine::{Machine, Run};
 use acta_models::Standard;
 use acta_objects::{ObjectState, replay};
 use acta_script::{answer_line, read_event};
@@ -43,6 +43,20 @@ fn refuse_each<T: Drop, B: Allocator, F: FnMut() -> Result<T, AllocError>>(
     (None, MOST)
 }
 
+// The call has as many growths. Gives what it answers with memory.
+fn grows<T: Drop, B: Allocator, F: FnMut() -> Result<T, AllocError>>(
+    rt: &impl Abort,
+    heap: &Refusing<B>,
+    growths: u64,
+    call: F,
+) -> Result<T, Fail>
+    requires { F.IsAlwaysCallable call }
+{
+    let (answer, refused) = refuse_each(rt, heap, call);
+    assert_eq!(rt; refused, growths);
+    Ok(answer.ok_or("with memory there is an answer")?)
+}
+
 // Whether the machine has so many events and edges, and the first transaction stands so.
 fn stands<A: Allocator>(machine: &Machine<A>, events: usize, edges: usize, status: Status) -> bool {
     machine.history().len() == events
@@ -70,6 +84,15 @@ fn copied_machine<A: Allocator + Copy>(
     model: &Model<A>,
 ) -> Result<Machine<A>, AllocError> {
     Machine::new(alloc, model.copy()?)
+}
+
+// A run on a copy of the model.
+fn run_on<A: Allocator + Copy>(
+    alloc: A,
+    model: &Model<A>,
+    events: &[Event<A>],
+) -> Result<Run<A>, AllocError> {
+    Machine::run(alloc, model.copy()?, events)
 }
 
 // Takes the events of the lines on a new machine, each growth refused in turn. A line has an event, its answer, and how many
@@ -186,40 +209,47 @@ begin 5 top
 spawn 5 6 sub
 abort 5";
 
-// The growths of each reader. The conflict set of one with ancestors needs a list of these too.
-fn grow_readers<A: Allocator + Copy, B: Allocator>(
+// The growths of each set. The conflict set of one with ancestors needs a list of these too.
+fn grow_sets<A: Allocator + Copy, B: Allocator>(
     rt: &impl Abort,
     heap: &Refusing<B>,
     machine: &Machine<A>,
 ) -> Result<(), Fail> {
-    let (ops, refused) = refuse_each(rt, heap, || machine.access_set(ONE));
-    assert_eq!(rt;
-        ops.ok_or("a set is answered")?.as_slice(),
-        [OpNo(1)].as_slice()
-    );
-    assert_eq!(rt; refused, 1);
-    let (ops, refused) = refuse_each(rt, heap, || machine.conflict_set(TxnId(3)));
-    assert_eq!(rt;
-        ops.ok_or("a set is answered")?.as_slice(),
-        [OpNo(2)].as_slice()
-    );
-    assert_eq!(rt; refused, 2);
-    let (ops, refused) = refuse_each(rt, heap, || machine.view_set());
-    assert_eq!(rt;
-        ops.ok_or("a set is answered")?.as_slice(),
-        [OpNo(1), OpNo(2)].as_slice()
-    );
-    assert_eq!(rt; refused, 1);
-    let (value, refused) = refuse_each(rt, heap, || machine.value(ObjId(3)));
-    assert!(rt; value.is_some_and(|value| value.is_some()));
-    assert_eq!(rt; refused, 1);
-    let (owed, refused) = refuse_each(rt, heap, || machine.owed());
-    assert_eq!(rt; owed.ok_or("debts are answered")?.len(), 1);
-    assert_eq!(rt; refused, 1);
+    let ops = grows(rt, heap, 1, || machine.access_set(ONE))?;
+    assert_eq!(rt; ops.as_slice(), [OpNo(1)].as_slice());
+    let ops = grows(rt, heap, 2, || machine.conflict_set(TxnId(3)))?;
+    assert_eq!(rt; ops.as_slice(), [OpNo(2)].as_slice());
+    let ops = grows(rt, heap, 1, || machine.view_set())?;
+    assert_eq!(rt; ops.as_slice(), [OpNo(1), OpNo(2)].as_slice());
     Ok(())
 }
 
-// The growths of a whole run, and of what can be asked of its machine. A copy shows the same.
+// The growths of a value and of the debts.
+fn grow_others<A: Allocator + Copy, B: Allocator>(
+    rt: &impl Abort,
+    heap: &Refusing<B>,
+    machine: &Machine<A>,
+) -> Result<(), Fail> {
+    let value = grows(rt, heap, 1, || machine.value(ObjId(3)))?;
+    assert!(rt; value.is_some());
+    let owed = grows(rt, heap, 1, || machine.owed())?;
+    assert_eq!(rt; owed.len(), 1);
+    Ok(())
+}
+
+// A copy shows the same.
+fn grow_copy<A: Allocator + Copy, B: Allocator>(
+    rt: &impl Abort,
+    heap: &Refusing<B>,
+    machine: &Machine<A>,
+) -> Result<(), Fail> {
+    let copy = grows(rt, heap, 14, || machine.copy())?;
+    assert!(rt; stands(&copy, 9, 6, Status::InProgress));
+    assert_eq!(rt; copy.owed()?.as_slice(), machine.owed()?.as_slice());
+    Ok(())
+}
+
+// The growths of a whole run, and of what can be asked of its machine.
 fn grow_run<A: Allocator + Copy, B: Allocator>(
     rt: &impl Abort,
     heap: &Refusing<B>,
@@ -227,17 +257,11 @@ fn grow_run<A: Allocator + Copy, B: Allocator>(
 ) -> Result<(), Fail> {
     let model = assemble(alloc, Standard::Nested.text().as_bytes())?;
     let events = events(alloc, &model, READ)?;
-    let (run, refused) = refuse_each(rt, heap, || Machine::run(alloc, model.copy()?, &events));
-    assert!(rt; refused > 9);
-    let run = run.ok_or("a run with memory ends")?;
+    let run = grows(rt, heap, 24, || run_on(alloc, &model, &events))?;
     assert_eq!(rt; run.answers.as_slice().len(), 9);
-    grow_readers(rt, heap, &run.machine)?;
-    let (copy, refused) = refuse_each(rt, heap, || run.machine.copy());
-    let copy = copy.ok_or("a copy with memory is made")?;
-    assert!(rt; refused > 9);
-    assert!(rt; stands(&copy, 9, 6, Status::InProgress));
-    assert_eq!(rt; copy.owed()?.as_slice(), run.machine.owed()?.as_slice());
-    Ok(())
+    grow_sets(rt, heap, &run.machine)?;
+    grow_others(rt, heap, &run.machine)?;
+    grow_copy(rt, heap, &run.machine)
 }
 
 #[test]
@@ -246,24 +270,22 @@ fn of_run(rt: HostRuntime) -> Result<(), Fail> {
     grow_run(&rt, &heap, &heap)
 }
 
-// The growths of a model's copy, of a new machine, and of the index of a history by its places.
+// The growths of a model's copy, and of a new machine.
 fn grow_new<A: Allocator + Copy, B: Allocator>(
     rt: &impl Abort,
     heap: &Refusing<B>,
     alloc: A,
 ) -> Result<(), Fail> {
     let model = assemble(alloc, Standard::Nested.text().as_bytes())?;
-    let (copied, refused) = refuse_each(rt, heap, || model.copy());
-    assert!(rt; copied.is_some());
-    assert!(rt; refused > 6);
-    let (made, refused) = refuse_each(rt, heap, || copied_machine(alloc, &model));
-    assert!(rt; made.is_some());
-    assert!(rt; refused > 8);
-    let machine = Machine::run(alloc, model.copy()?, &events(alloc, &model, READ)?)?.machine;
-    let (start, refused) = refuse_each(rt, heap, || first_start(alloc, &model, &machine));
-    assert_eq!(rt; start, Some(Some(1)));
-    assert!(rt; refused > 5);
+    grows(rt, heap, 9, || model.copy())?;
+    grows(rt, heap, 11, || copied_machine(alloc, &model))?;
     Ok(())
+}
+
+#[test]
+fn of_new(rt: HostRuntime) -> Result<(), Fail> {
+    let heap = Refusing::new(rt.alloc());
+    grow_new(&rt, &heap, &heap)
 }
 
 // Where the first transaction starts, by an index of its own.
@@ -275,10 +297,24 @@ fn first_start<A: Allocator + Copy>(
     Ok(Places::of(alloc, model, machine.history())?.start(ONE))
 }
 
+// The growths of the index of a history by its places.
+fn grow_places<A: Allocator + Copy, B: Allocator>(
+    rt: &impl Abort,
+    heap: &Refusing<B>,
+    alloc: A,
+) -> Result<(), Fail> {
+    let model = assemble(alloc, Standard::Nested.text().as_bytes())?;
+    let events = events(alloc, &model, READ)?;
+    let machine = run_on(alloc, &model, &events)?.machine;
+    let start = grows(rt, heap, 11, || first_start(alloc, &model, &machine))?;
+    assert_eq!(rt; start, Some(1));
+    Ok(())
+}
+
 #[test]
-fn of_new(rt: HostRuntime) -> Result<(), Fail> {
+fn of_places(rt: HostRuntime) -> Result<(), Fail> {
     let heap = Refusing::new(rt.alloc());
-    grow_new(&rt, &heap, &heap)
+    grow_places(&rt, &heap, &heap)
 }
 
 // A set with one element, and a copy of it.
@@ -296,14 +332,11 @@ fn replayed<A: Allocator + Copy>(alloc: A) -> Result<usize, AllocError> {
 
 // The growths of an operation and of a replay.
 #[test]
-fn of_objects(rt: HostRuntime) {
+fn of_objects(rt: HostRuntime) -> Result<(), Fail> {
     let heap = Refusing::new(rt.alloc());
-    let (set, refused) = refuse_each(&rt, &heap, || one_element(&heap));
-    assert!(rt; set.is_some());
-    assert_eq!(rt; refused, 2);
-    let (count, refused) = refuse_each(&rt, &heap, || replayed(&heap));
-    assert_eq!(rt; count, Some(2));
-    assert_eq!(rt; refused, 2);
+    grows(&rt, &heap, 2, || one_element(&heap))?;
+    assert_eq!(rt; grows(&rt, &heap, 2, || replayed(&heap))?, 2);
+    Ok(())
 }
 
 // How many operations a set of four numbers names, one of them twice, as a copy of a delegation has it.
@@ -337,15 +370,10 @@ fn listed<A: Allocator + Copy>(alloc: A) -> Result<usize, AllocError> {
 
 // The growths of a set of operations, of a set of start edges, of a list, and of their copies.
 #[test]
-fn of_lists(rt: HostRuntime) {
+fn of_lists(rt: HostRuntime) -> Result<(), Fail> {
     let heap = Refusing::new(rt.alloc());
-    let (count, refused) = refuse_each(&rt, &heap, || named(&heap));
-    assert_eq!(rt; count, Some(3));
-    assert_eq!(rt; refused, 3);
-    let (count, refused) = refuse_each(&rt, &heap, || wanted(&heap));
-    assert_eq!(rt; count, Some(2));
-    assert_eq!(rt; refused, 2);
-    let (count, refused) = refuse_each(&rt, &heap, || listed(&heap));
-    assert_eq!(rt; count, Some(1));
-    assert_eq!(rt; refused, 2);
+    assert_eq!(rt; grows(&rt, &heap, 3, || named(&heap))?, 3);
+    assert_eq!(rt; grows(&rt, &heap, 2, || wanted(&heap))?, 2);
+    assert_eq!(rt; grows(&rt, &heap, 2, || listed(&heap))?, 1);
+    Ok(())
 }

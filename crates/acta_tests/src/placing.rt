@@ -45,13 +45,15 @@ fn fate_word(fate: Fate) -> &'static str {
     }
 }
 
-// Writes who holds an operation after so many places, and what became of it.
-fn push_standing<A: Allocator, P: Allocator>(
+// Writes who holds an operation after so many places, and what became of it: `OP at N` asks for it.
+fn push_standing<A: Allocator>(
     line: &mut Vec<u8, A>,
-    places: &Places<'_, P>,
-    op: &str,
-    n: &str,
+    places: &Places<'_, A>,
+    asked: &str,
 ) -> Result<(), Fail> {
+    let (op, n) = asked
+        .split_once(" at ")
+        .ok_or("an operation is asked of at a place")?;
     let op = OpNo(read_u32(op.as_bytes()).ok_or("a word is no operation")?);
     let n = read_u32(n.as_bytes()).ok_or("a word is no place")?;
     match (places.holder(op, n), places.fate(op, n)) {
@@ -72,14 +74,14 @@ fn said<A: Allocator + Copy>(
     asked: &str,
 ) -> Result<Vec<u8, A>, Fail> {
     let mut line = Vec::new(alloc);
-    let mut words = asked.split_whitespace();
-    match (words.next(), words.next(), words.next(), words.next()) {
-        (Some("start"), Some(t), None, None) => push_place(&mut line, places.start(txn(t)?))?,
-        (Some("commit"), Some(t), None, None) => push_place(&mut line, places.commit(txn(t)?))?,
-        (Some("abort"), Some(t), None, None) => push_place(&mut line, places.abort(txn(t)?))?,
-        (Some("join"), Some(t), None, None) => push_place(&mut line, places.join(txn(t)?))?,
-        (Some("op"), Some(op), Some("at"), Some(n)) => push_standing(&mut line, places, op, n)?,
-        (Some("edges"), None, None, None) => push_edges(&mut line, places.edges())?,
+    let (word, rest) = asked.split_once(' ').unwrap_or((asked, ""));
+    match word {
+        "start" => push_place(&mut line, places.start(txn(rest)?))?,
+        "commit" => push_place(&mut line, places.commit(txn(rest)?))?,
+        "abort" => push_place(&mut line, places.abort(txn(rest)?))?,
+        "join" => push_place(&mut line, places.join(txn(rest)?))?,
+        "op" => push_standing(&mut line, places, rest)?,
+        "edges" => push_edges(&mut line, places.edges())?,
         _ => Err("a line asks nothing")?,
     }
     Ok(line)

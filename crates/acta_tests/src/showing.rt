@@ -37,20 +37,21 @@ fn push_debts<A: Allocator + Copy>(
     Ok(())
 }
 
-// A value of an object: its number, or what is in the set.
+// A value of an object, where there is one: its number, or what is in the set.
 fn push_value<A: Allocator>(
     line: &mut Vec<u8, A>,
-    value: &ObjectState<A>,
+    value: Option<&ObjectState<A>>,
 ) -> Result<(), AllocError> {
     match value {
-        ObjectState::Register(value) => push_integer(line, i64::from(*value)),
-        ObjectState::Counter(value) => push_integer(line, *value),
-        ObjectState::Elements(members) => {
+        Some(ObjectState::Register(value)) => push_integer(line, i64::from(*value)),
+        Some(ObjectState::Counter(value)) => push_integer(line, *value),
+        Some(ObjectState::Elements(members)) => {
             for member in members.items() {
                 push_integer(line, i64::from(*member))?;
             }
             Ok(())
         }
+        None => Ok(()),
     }
 }
 
@@ -78,21 +79,18 @@ pub fn shown<A: Allocator + Copy>(
     asked: &str,
 ) -> Result<Vec<u8, A>, Fail> {
     let mut line = Vec::new(alloc);
-    let mut words = asked.split_whitespace();
-    match (words.next(), words.next()) {
-        (Some("status"), Some(t)) => {
-            push_word(&mut line, status_word(machine.status(txn(t)?)).as_bytes())?;
-        }
-        (Some("access"), Some(t)) => push_ops(&mut line, &machine.access_set(txn(t)?)?)?,
-        (Some("conflict"), Some(t)) => push_ops(&mut line, &machine.conflict_set(txn(t)?)?)?,
-        (Some("view"), None) => push_ops(&mut line, &machine.view_set()?)?,
-        (Some("value"), Some(name)) => {
-            if let Some(value) = machine.value(models.object(name)?)? {
-                push_value(&mut line, &value)?;
-            }
-        }
-        (Some("edges"), None) => push_edges(&mut line, machine.edges())?,
-        (Some("owed"), None) => push_debts(alloc, &mut line, machine)?,
+    let (word, rest) = asked.split_once(' ').unwrap_or((asked, ""));
+    match word {
+        "status" => push_word(
+            &mut line,
+            status_word(machine.status(txn(rest)?)).as_bytes(),
+        )?,
+        "access" => push_ops(&mut line, &machine.access_set(txn(rest)?)?)?,
+        "conflict" => push_ops(&mut line, &machine.conflict_set(txn(rest)?)?)?,
+        "view" => push_ops(&mut line, &machine.view_set()?)?,
+        "value" => push_value(&mut line, machine.value(models.object(rest)?)?.as_ref())?,
+        "edges" => push_edges(&mut line, machine.edges())?,
+        "owed" => push_debts(alloc, &mut line, machine)?,
         _ => Err("a line asks nothing")?,
     }
     Ok(line)
