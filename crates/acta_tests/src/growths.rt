@@ -297,6 +297,17 @@ fn first_start<A: Allocator + Copy>(
     Ok(Places::of(alloc, model, machine.history())?.start(ONE))
 }
 
+// Finds the first start, each growth refused in turn.
+fn grow_start<A: Allocator + Copy, B: Allocator>(
+    rt: &impl Abort,
+    heap: &Refusing<B>,
+    alloc: A,
+    model: &Model<A>,
+    machine: &Machine<A>,
+) -> Result<Option<u32>, Fail> {
+    grows(rt, heap, 11, || first_start(alloc, model, machine))
+}
+
 // The growths of the index of a history by its places.
 fn grow_places<A: Allocator + Copy, B: Allocator>(
     rt: &impl Abort,
@@ -306,8 +317,7 @@ fn grow_places<A: Allocator + Copy, B: Allocator>(
     let model = assemble(alloc, Standard::Nested.text().as_bytes())?;
     let events = events(alloc, &model, READ)?;
     let machine = run_on(alloc, &model, &events)?.machine;
-    let start = grows(rt, heap, 11, || first_start(alloc, &model, &machine))?;
-    assert_eq!(rt; start, Some(1));
+    assert_eq!(rt; grow_start(rt, heap, alloc, &model, &machine)?, Some(1));
     Ok(())
 }
 
