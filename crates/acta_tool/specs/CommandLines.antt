@@ -4,6 +4,7 @@ use Rattle.std.specs.Option.{option_and_then, option_map_or}
 use Rattle.std.specs.Str.{bytes_eq}
 use Rattle.clap.specs.Words.{App, Row, Rule, Text, IsAmong, Kinds, fault_of, first_of, kind_of, new_app, new_rule, subcommand_of, with_rule, with_subcommand}
 use Rattle.clap.specs.declared.builder.ArgAction.TheVariants.{Set, SetTrue}
+use Rattle.clap.specs.declared.error.ErrorKind.TheVariants.{MissingSubcommand}
 use Rattle.acta_models.specs.declared.texts.Standard.{Standard as StandardModel}
 use Rattle.acta_models.specs.Standards.{name_of_standard}
 use Rattle.acta_tool.specs.declared.args.Args.{Args}
@@ -85,10 +86,13 @@ abbrev pub AsksFor : List Text → Args → Type 0
 AsksFor words args =
     (faults_of words ≡ []) × IsSomeAnd (named_by words) (λ line. IsCommand line args.command × IsModel line.model args.model)
 
--- why the words are refused: `clap` refuses them for what the error says, or they name no command with its model; or
--- no model has the name after the `@`; or there is no memory
+-- why the words are refused: `clap` refuses them for what the error says; or `clap` takes them, but they name no
+-- command with its model, and the error says that it is missing; or no model has the name after the `@`; or there is
+-- no memory
 abbrev pub IsFaultOf : List Text → UsageFault → Type 0
-IsFaultOf words (Usage e) = IsAmong (kind_of e) (faults_of words) ⊎ ¬ (IsSomeAnd (named_by words) (λ line. line.command ≡ codes "run"))
+IsFaultOf words (Usage e) =
+    IsAmong (kind_of e) (faults_of words)
+    ⊎ ((faults_of words ≡ []) × (kind_of e ≡ MissingSubcommand) × ¬ (IsSomeAnd (named_by words) (λ line. line.command ≡ codes "run")))
 IsFaultOf words UnknownModel = (faults_of words ≡ []) × IsSomeAnd (named_by words) (λ line. IsUnknown line.model)
 IsFaultOf words NotText = ⊥
 IsFaultOf words (Memory e) = ⊤

@@ -1,5 +1,7 @@
 -- A command line as the program holds it, and the faults that it makes of it.
-use Rattle.std.specs.Prelude.{⊤}
+use Rattle.std.specs.Prelude.{◌≡◌, ⊤}
+use Rattle.clap.specs.Words.{kind_of}
+use Rattle.clap.specs.declared.error.ErrorKind.TheVariants.{MissingSubcommand}
 use Rattle.acta_tool.specs.declared.args.Spelled.{Spelled}
 use Rattle.acta_tool.specs.declared.fault.UsageFault.{UsageFault}
 use Rattle.acta_tool.specs.declared.fault.UsageFault.TheVariants.{Usage, UnknownModel, NotText, Memory}
@@ -9,9 +11,9 @@ use Rattle.acta_tool.specs.CommandLines.{Named}
 abbrev pub named_of : Spelled → Named
 named_of s = record { command = s.command.now; is_kept = s.is_kept; model = s.model.now }
 
--- a fault of the usage, or want of memory
-abbrev pub IsUsage : UsageFault → Type 0
-IsUsage (Usage e) = ⊤
-IsUsage (Memory e) = ⊤
-IsUsage UnknownModel = ⊥
-IsUsage NotText = ⊥
+-- a fault that says that the command is missing, or want of memory
+abbrev pub IsMissing : UsageFault → Type 0
+IsMissing (Usage e) = kind_of e ≡ MissingSubcommand
+IsMissing (Memory e) = ⊤
+IsMissing UnknownModel = ⊥
+IsMissing NotText = ⊥
