@@ -1,6 +1,7 @@
 //! The standard models, read from their texts.
 
 ghost use Rattle.std.specs.Prelude.{◌≡◌, Ok, IfOk, map};
+ghost use Rattle.acta_lang.specs.Canonical.{canonical};
 ghost use Rattle.acta_lang.specs.Meaning.{meaning};
 ghost use Rattle.acta_models.specs.Standards.{all_standards, text_of_standard};
 
@@ -11,7 +12,8 @@ use std::alloc::{AllocError, Allocator};
 
 // The model that the text of a standard model means. `Err` where there is no memory.
 fn load<A: Allocator + Copy>(alloc: A, name: Standard) -> Result<Model<A>, AllocError>
-    ensures { IfOk result (λ model. meaning (text_of_standard name) ≡ Ok model) }
+    ensures meant { IfOk result (λ model. meaning (text_of_standard name) ≡ Ok model) }
+    ensures canonical { IfOk result (λ model. canonical model ≡ text_of_standard name) }
 {
     match assemble(alloc, name.text().as_bytes()) {
         Ok(model) => Ok(model),
@@ -20,9 +22,12 @@ fn load<A: Allocator + Copy>(alloc: A, name: Standard) -> Result<Model<A>, Alloc
     }
 }
 
-/// The five standard models, in order: what their texts mean. `Err` where there is no memory.
+/// The five standard models, in the order of `Standard::ALL`: what their texts mean, which are the canonical texts of
+/// these models. `Err` where there is no memory.
 pub fn load_all<A: Allocator + Copy>(alloc: A) -> Result<Vec<Model<A>, A>, AllocError>
-    ensures { IfOk result (λ models. map Ok models.items ≡ map (λ name. meaning (text_of_standard name)) all_standards) }
+    ensures meant { IfOk result (λ models. map Ok models.items ≡ map (λ name. meaning (text_of_standard name)) all_standards) }
+    ensures canonical { IfOk result (λ models. map canonical models.items ≡ map text_of_standard all_standards) }
+    ensures order { Standard.ALL ≡ all_standards }
 {
     let mut models = Vec::new(alloc);
     models.push(load(alloc, Standard::Atomic)?)?;
