@@ -49,10 +49,10 @@ impl<A: Allocator> Deps<A> {
             status: Status::InProgress,
         };
         self.broken(Rule::BeginDep, Bar::AwaitsBegin, t)
-            .or(self.broken(Rule::SerialDep, Bar::AwaitsEnd, t))
-            .or(self.broken(Rule::BeginOnCommit, Bar::AwaitsCommit, t))
-            .or(self.broken(Rule::BeginOnAbort, Bar::AwaitsAbort, t))
-            .or(self.clash(change))
+            .or_else(|| self.broken(Rule::SerialDep, Bar::AwaitsEnd, t))
+            .or_else(|| self.broken(Rule::BeginOnCommit, Bar::AwaitsCommit, t))
+            .or_else(|| self.broken(Rule::BeginOnAbort, Bar::AwaitsAbort, t))
+            .or_else(|| self.clash(change))
     }
 
     /// The lowest rule that the commit of `t` would break, with the smallest number of an edge that
@@ -67,11 +67,11 @@ impl<A: Allocator> Deps<A> {
             status: Status::Committed,
         };
         self.broken(Rule::TerminationDep, Bar::EndsAfter, t)
-            .or(self.broken(Rule::OwesAbort, Bar::OwesAbort, t))
-            .or(self.broken(Rule::CommitOrder, Bar::CommittedFirst, t))
-            .or(self.broken(Rule::WeakBegin, Bar::BeganFirst, t))
-            .or(self.broken(Rule::Unpayable, Bar::CannotPayCommit, t))
-            .or(self.clash(change))
+            .or_else(|| self.broken(Rule::OwesAbort, Bar::OwesAbort, t))
+            .or_else(|| self.broken(Rule::CommitOrder, Bar::CommittedFirst, t))
+            .or_else(|| self.broken(Rule::WeakBegin, Bar::BeganFirst, t))
+            .or_else(|| self.broken(Rule::Unpayable, Bar::CannotPayCommit, t))
+            .or_else(|| self.clash(change))
     }
 
     /// The lowest rule that the abort of `t` would break, with the smallest number of an edge that
@@ -86,9 +86,9 @@ impl<A: Allocator> Deps<A> {
             status: Status::Aborted,
         };
         self.broken(Rule::TerminationDep, Bar::EndsAfter, t)
-            .or(self.broken(Rule::OwesCommit, Bar::OwesCommit, t))
-            .or(self.broken(Rule::Unpayable, Bar::CannotPayAbort, t))
-            .or(self.clash(change))
+            .or_else(|| self.broken(Rule::OwesCommit, Bar::OwesCommit, t))
+            .or_else(|| self.broken(Rule::Unpayable, Bar::CannotPayAbort, t))
+            .or_else(|| self.clash(change))
     }
 
     /// The lowest rule that `t` would break by joining another, with the smallest number of an edge
@@ -98,8 +98,7 @@ impl<A: Allocator> Deps<A> {
     pub fn may_join(&self, t: TxnId) -> Option<Refusal>
         ensures { result ≡ join_refusal (status_in self.now) self.now.edges t.0 }
     {
-        let owing_abort = self.broken(Rule::OwesAbort, Bar::OwesAbort, t);
-        let owing_commit = self.broken(Rule::OwesCommit, Bar::OwesCommit, t);
-        owing_abort.or(owing_commit)
+        self.broken(Rule::OwesAbort, Bar::OwesAbort, t)
+            .or_else(|| self.broken(Rule::OwesCommit, Bar::OwesCommit, t))
     }
 }

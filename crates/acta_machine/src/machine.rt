@@ -12,7 +12,9 @@ use crate::board::{Board, Origin, TABLE_SIZE};
 use acta_deps::Deps;
 use acta_objects::ObjectState;
 use acta_sets::OpTable;
-use acta_table::{Answer, Edge, Event, Items, Kept, Model, ObjId, OpNo, Owed, Status, TxnId};
+use acta_table::{
+    Answer, Edge, Event, Items, Kept, Model, ObjId, OpNo, Owed, Refusal, Status, TxnId,
+};
 use std::alloc::{AllocError, Allocator};
 
 /// A machine: it admits events of transactions by its model, or refuses them. Contracts see the model and
@@ -78,12 +80,12 @@ impl<A: Allocator + Copy> Machine<A> {
         // events that may come next the rules on dependencies refuse exactly those that would be illegal.
         ensures follows { FollowsPlaces self.new }
     {
+        if let Some(Refusal { rule, by }) = self.board.broken_before_edges(event) {
+            return Ok(Answer::Refused { rule, by });
+        }
         let due = self.board.edges_due(event)?;
-        if let Some(refusal) = self.board.refusal(event, &due) {
-            return Ok(Answer::Refused {
-                rule: refusal.rule,
-                by: refusal.by,
-            });
+        if let Some(Refusal { rule, by }) = self.board.broken_from_edges(event, &due) {
+            return Ok(Answer::Refused { rule, by });
         }
         let place = self.board.next_place(event);
         let ret = self.board.return_of(event)?;

@@ -12,7 +12,7 @@ ghost use Rattle.acta_table.specs.Sets.{is_named};
 ghost use Rattle.acta_deps.specs.Statuses.{has_ended, is_in_progress};
 ghost use Rattle.acta_sets.specs.Operations.{operation_at};
 ghost use Rattle.acta_machine.specs.Changes.{edges_due};
-ghost use Rattle.acta_machine.specs.Rules.{full, not_in_progress, already_begun, class_may, txn_may, forms_none, not_in_model, partner_not_in_progress, is_of_another, not_held, not_responsible, wants_whole, left_out, partial_delegation, unknown_in, bad_set, refuses_conflicts, conflict, too_late, form_too_late, edges_full, earlier_broken, dependency, fails, no_heir, lowest_broken};
+ghost use Rattle.acta_machine.specs.Rules.{full, not_in_progress, already_begun, class_may, txn_may, forms_none, not_in_model, partner_not_in_progress, is_of_another, not_held, not_responsible, wants_whole, left_out, partial_delegation, unknown_in, bad_set, refuses_conflicts, conflict, too_late, form_too_late, edges_full, broken_before_edges, dependency, fails, no_heir, lowest_broken};
 ghost use Rattle.acta_machine.specs.Families.{heir_of};
 ghost use Rattle.acta_machine.specs.Shown.{shown};
 
@@ -500,27 +500,25 @@ impl<A: Allocator + Copy> Board<A> {
         }
     }
 
-    // The lowest of the rules before those on dependencies that the event breaks.
-    fn earlier(&self, event: &Event<A>, due: &[Edge]) -> Option<Refusal>
-        requires { due.now ≡ edges_due self.now.model (shown self.now) event.now }
-        ensures { result ≡ earlier_broken self.now.model (shown self.now) event.now }
+    /// The lowest of the rules before that on too many edges that the event breaks.
+    pub(crate) fn broken_before_edges(&self, event: &Event<A>) -> Option<Refusal>
+        ensures { result ≡ broken_before_edges self.now.model (shown self.now) event.now }
     {
         self.full()
-            .or(bad_number(event))
-            .or(self.bad_class(event))
-            .or(self.bad_object(event))
-            .or(self.bad_operation(event))
-            .or(same_transaction(event))
-            .or(self.not_in_progress(event))
-            .or(self.already_begun(event))
-            .or(self.not_in_model(event))
-            .or(self.partner_not_in_progress(event))
-            .or(self.not_responsible(event))
-            .or(self.partial_delegation(event))
-            .or(self.bad_set(event))
-            .or(self.conflict(event))
-            .or(self.form_too_late(event))
-            .or(self.edges_full(event, due))
+            .or_else(|| bad_number(event))
+            .or_else(|| self.bad_class(event))
+            .or_else(|| self.bad_object(event))
+            .or_else(|| self.bad_operation(event))
+            .or_else(|| same_transaction(event))
+            .or_else(|| self.not_in_progress(event))
+            .or_else(|| self.already_begun(event))
+            .or_else(|| self.not_in_model(event))
+            .or_else(|| self.partner_not_in_progress(event))
+            .or_else(|| self.not_responsible(event))
+            .or_else(|| self.partial_delegation(event))
+            .or_else(|| self.bad_set(event))
+            .or_else(|| self.conflict(event))
+            .or_else(|| self.form_too_late(event))
     }
 
     // The lowest rule on dependencies that the event breaks.
@@ -560,14 +558,15 @@ impl<A: Allocator + Copy> Board<A> {
         broken_by(Rule::NoHeir, self.lost_heir(*t))
     }
 
-    /// The lowest rule that the event breaks, where it forms these edges.
-    pub(crate) fn refusal(&self, event: &Event<A>, due: &[Edge]) -> Option<Refusal>
-        requires { due.now ≡ edges_due self.now.model (shown self.now) event.now }
+    /// The lowest rule that the event breaks, where it breaks none before that on too many edges, and forms these edges.
+    pub(crate) fn broken_from_edges(&self, event: &Event<A>, due: &[Edge]) -> Option<Refusal>
+        requires due { due.now ≡ edges_due self.now.model (shown self.now) event.now }
+        requires none_before { broken_before_edges self.now.model (shown self.now) event.now ≡ None }
         ensures { result ≡ lowest_broken self.now.model (shown self.now) event.now }
     {
-        self.earlier(event, due)
-            .or(self.dependency(event))
-            .or(self.no_heir(event))
+        self.edges_full(event, due)
+            .or_else(|| self.dependency(event))
+            .or_else(|| self.no_heir(event))
     }
 
     /// The place that the next event gets, where none is refused for want of room.
