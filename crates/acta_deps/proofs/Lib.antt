@@ -1,2 +1,3 @@
+pub mod Aborting
 mod FormedEdges
 mod StatusTables

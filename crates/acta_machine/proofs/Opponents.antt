@@ -1,21 +1,25 @@
--- Holders put into a set one by one, and the edges of a class that refuses.
-use Rattle.std.proofs.Common.{◌≡◌, ℕ, Bool, true, false, List, [], ◌∷◌, map, filter, fold, refl}
-use Rattle.std.specs.Prelude.{if◌then◌else◌}
-use Rattle.std.specs.BTreeSet.{insert_key}
+-- Who is spared, by number, and the edges of a class that refuses.
+use Rattle.std.proofs.Common.{◌≡◌, ℕ, true, ◌||◌, ◌==◌, List, [], ◌∷◌, map, refl, ap, ◌∙◌}
+use Rattle.std.specs.List.{list_any}
 use Rattle.std.specs.Ordering.{nat_cmp}
+use Rattle.std.specs.BTreeMap.{is_at}
+use Rattle.acta_table.specs.declared.model.Parts.{Parts}
+use Rattle.acta_table.proofs.AscendingSets.{in-ascending}
+use Rattle.acta_sets.specs.Operations.{is_among}
+use Rattle.acta_machine.specs.Summary.{Summary}
+use Rattle.acta_machine.specs.Families.{spared, spared_numbers}
 use Rattle.acta_table.specs.declared.event.TxnId.{TxnId}
 use Rattle.acta_table.specs.declared.policy.Policy.{Policy}
 use Rattle.acta_table.specs.declared.policy.Policy.TheVariants.{Refuse, Depend}
 use Rattle.acta_table.specs.Policies.{refuses, edges_upon}
 
--- with one more put in where it passes, what is left has one less
-pub one-put : {X : Type 0} (test : X → Bool) (show : X → ℕ) (keys : List ℕ) (x : X) (xs : List X) →
-    fold (insert_key nat_cmp) (if test x then insert_key nat_cmp keys (show x) else keys) (map show (filter test xs)) ≡ fold (insert_key nat_cmp) keys (map show (filter test (x ∷ xs)))
-one-put test show keys x xs = of (test x)
-  where
-    of : (b : Bool) → fold (insert_key nat_cmp) (if b then insert_key nat_cmp keys (show x) else keys) (map show (filter test xs)) ≡ fold (insert_key nat_cmp) keys (map show (if b then x ∷ filter test xs else filter test xs))
-    of true = refl
-    of false = refl
+by-number : (ts : List TxnId) (u : TxnId) → list_any (λ n. n == u.0) (map (λ t. t.0) ts) ≡ is_among ts u
+by-number [] u = refl
+by-number (t ∷ ts) u = ap (λ b. (t.0 == u.0) || b) (by-number ts u)
+
+-- one is in the set where it is spared
+pub in_spared : {A : Type 0} (m : Parts A) (s : Summary) (t : ℕ) (u : TxnId) → list_any (is_at (nat_cmp u.0)) (spared_numbers m s t) ≡ is_among (spared m s t) u
+in_spared m s t u = in-ascending u.0 (map (λ x. x.0) (spared m s t)) ∙ by-number (spared m s t) u
 
 -- where a class refuses no edge is formed
 pub upon-refuses : (policy : Policy) (t : TxnId) (us : List ℕ) → refuses policy ≡ true → edges_upon policy t us ≡ []

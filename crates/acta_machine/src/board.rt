@@ -1,4 +1,4 @@
-ghost use Rattle.std.specs.Prelude.{◌≡◌, take, ◌+◌, ◌-◌, ◌<◌, ◌≤◌, ◌++◌, ◌∷◌, [], true, false, length, OnOk, OnErr, IfOk, IfSome, vec_capacity, None, Some, option_map};
+ghost use Rattle.std.specs.Prelude.{◌≡◌, take, ◌+◌, ◌-◌, ◌<◌, ◌≤◌, ◌++◌, ◌∷◌, [], true, false, map, length, OnOk, OnErr, IfOk, IfSome, vec_capacity, None, Some, option_map};
 ghost use Rattle.acta_table.specs.declared.answer.Status.{Status};
 ghost use Rattle.acta_table.specs.WellFormed.{bad_number};
 ghost use Rattle.acta_objects.specs.Limits.{IsSmall};
@@ -7,12 +7,12 @@ ghost use Rattle.acta_deps.specs.Debts.{owed_in};
 ghost use Rattle.acta_table.specs.Fates.{is_open};
 ghost use Rattle.acta_sets.specs.Operations.{are_open};
 ghost use Rattle.acta_table.specs.Faults.{lowest_fault};
+ghost use Rattle.acta_table.specs.Numbered.{ascending};
 ghost use Rattle.acta_table.specs.Edges.{formed};
 ghost use Rattle.acta_table.specs.Starts.{edges_between};
 ghost use Rattle.acta_deps.specs.Dependencies.{start_refusal, join_refusal};
 ghost use Rattle.acta_table.specs.Classes.{spares, has_heir};
-ghost use Rattle.acta_sets.specs.Operations.{is_among};
-ghost use Rattle.acta_machine.specs.Families.{class_of, has_class, ancestors_of, spared, conflict_set_of, heir_of};
+ghost use Rattle.acta_machine.specs.Families.{class_of, has_class, spared, spared_numbers, conflict_set_of, heir_of};
 ghost use Rattle.acta_machine.specs.Summary.{stood, entered, linked, given, inherited, operated, fated, counted};
 ghost use Rattle.acta_machine.specs.Changes.{edges_due, begun, settled, changed};
 ghost use Rattle.acta_machine.specs.Rules.{not_in_progress, already_begun, dependency};
@@ -28,6 +28,7 @@ use acta_table::{
     Scope, StartEdge, Status, TxnId,
 };
 use std::alloc::{AllocError, Allocator};
+use std::collections::BTreeSet;
 
 /// How many entries the table of origins has: one for each number, and one for 0.
 pub(crate) const TABLE_SIZE: usize = 4096;
@@ -66,6 +67,17 @@ fn copy_all<A: Allocator + Copy>(alloc: A, items: &[Kept<A>]) -> Result<Vec<Kept
         copied.push(item.copy()?)?;
     }
     Ok(copied)
+}
+
+// The numbers of the transactions, as a set. `Err` where there is no memory.
+fn numbers_of<A: Allocator + Copy>(alloc: A, txns: &[TxnId]) -> Result<BTreeSet<u16, A>, AllocError>
+    ensures { IfOk result (λ numbers. numbers.keys ≡ ascending (map (λ t. t.0) txns.now)) }
+{
+    let mut numbers = BTreeSet::new(alloc);
+    for txn in txns {
+        numbers.insert(txn.0)?;
+    }
+    Ok(numbers)
 }
 
 // The edges that these start edges mean between the one that starts and the one that is started.
@@ -226,6 +238,14 @@ impl<A: Allocator + Copy> Board<A> {
         }
         Ok(spared)
     }
+
+    /// The same by number, as a set. `Err` where there is no memory.
+    pub(crate) fn spared_numbers(&self, t: TxnId) -> Result<BTreeSet<u16, A>, AllocError>
+        ensures { IfOk result (λ numbers. numbers.keys ≡ spared_numbers self.now.model (shown self.now) t.0) }
+    {
+        let spared = self.spared(t)?;
+        numbers_of(*self.kept.allocator(), &spared)
+    }
 }
 
 impl<A: Allocator> Board<A> {
@@ -277,30 +297,6 @@ impl<A: Allocator> Board<A> {
             Some(class) => matches!(class.scope, Scope::NonAncestors),
             None => false,
         }
-    }
-
-    // Whether u is an ancestor of t.
-    fn is_ancestor(&self, u: TxnId, t: TxnId) -> bool
-        ensures { result ≡ is_among (ancestors_of (shown self.now) t.0) u }
-    {
-        let mut next = self.parent(t);
-        for _ in 0..self.kept.len() {
-            let Some(parent) = next else {
-                return false;
-            };
-            if parent.0 == u.0 {
-                return true;
-            }
-            next = self.parent(parent);
-        }
-        false
-    }
-
-    /// Whether u is an ancestor of t, and t's class leaves its ancestors out of its conflict set.
-    pub(crate) fn is_spared(&self, u: TxnId, t: TxnId) -> bool
-        ensures { result ≡ is_among (spared self.now.model (shown self.now) t.0) u }
-    {
-        self.spares_ancestors(t) && self.is_ancestor(u, t)
     }
 
     /// To whom what the transaction holds goes when it commits: its parent, where its class says so.

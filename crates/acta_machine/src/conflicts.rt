@@ -3,6 +3,8 @@ ghost use Rattle.std.specs.BTreeSet.{insert_key};
 ghost use Rattle.std.specs.Ordering.{nat_cmp};
 ghost use Rattle.acta_table.specs.Numbered.{first_number, ascending};
 ghost use Rattle.acta_machine.specs.Conflicts.{stands_against, conflict_edges};
+ghost use Rattle.acta_machine.specs.Families.{spared, spared_numbers};
+ghost use Rattle.acta_sets.specs.Operations.{is_among};
 ghost use Rattle.acta_machine.specs.Shown.{shown};
 
 use crate::board::Board;
@@ -13,11 +15,30 @@ use std::alloc::{AllocError, Allocator};
 use std::collections::BTreeSet;
 
 impl<A: Allocator + Copy> Board<A> {
-    // Whether the operation is in the transaction's conflict set, on the same object, and conflicts.
-    fn stands_against(&self, t: TxnId, ob: ObjId, op: &Op, item: &Item) -> bool
+    // Whether u is among those whom t spares.
+    fn is_spared(&self, t: TxnId, spares: &BTreeSet<u16, A>, u: TxnId) -> bool
+        requires { spares.now.keys ≡ spared_numbers self.now.model (shown self.now) t.0 }
+        ensures { result ≡ is_among (spared self.now.model (shown self.now) t.0) u }
+    {
+        spares.contains(&u.0)
+    }
+
+    // Whether the operation is in the transaction's conflict set, on the same object, and conflicts, where t spares these.
+    fn stands_against(
+        &self,
+        t: TxnId,
+        ob: ObjId,
+        op: &Op,
+        spares: &BTreeSet<u16, A>,
+        item: &Item,
+    ) -> bool
+        requires { spares.now.keys ≡ spared_numbers self.now.model (shown self.now) t.0 }
         ensures { result ≡ stands_against self.now.model (shown self.now) t.0 ob op.now item.now }
     {
-        if item.ob.0 != ob.0 || !item.is_of_others(t, &[]) || self.is_spared(item.holder, t) {
+        if item.ob.0 != ob.0
+            || !item.is_of_others(t, &[])
+            || self.is_spared(t, spares, item.holder)
+        {
             return false;
         }
         match self.model.objects().get(ob.0 as usize) {
@@ -26,18 +47,24 @@ impl<A: Allocator + Copy> Board<A> {
         }
     }
 
-    /// The number of the first operation that stands against this one.
-    pub(crate) fn first_against(&self, t: TxnId, ob: ObjId, op: &Op) -> Option<u32>
-        ensures { result ≡ first_number (stands_against self.now.model (shown self.now) t.0 ob op.now) self.now.operations }
+    /// The number of the first operation that stands against this one. `Err` where there is no memory.
+    pub(crate) fn first_against(
+        &self,
+        t: TxnId,
+        ob: ObjId,
+        op: &Op,
+    ) -> Result<Option<u32>, AllocError>
+        ensures { IfOk result (λ number. number ≡ first_number (stands_against self.now.model (shown self.now) t.0 ob op.now) self.now.operations) }
     {
+        let spares = self.spared_numbers(t)?;
         let mut number = 1u32;
         for item in self.operations.operations() {
-            if self.stands_against(t, ob, op, item) {
-                return Some(number);
+            if self.stands_against(t, ob, op, &spares, item) {
+                return Ok(Some(number));
             }
             number += 1;
         }
-        None
+        Ok(None)
     }
 
     // Puts the holder of the operation among the others, where the operation stands against this one.
@@ -46,12 +73,14 @@ impl<A: Allocator + Copy> Board<A> {
         t: TxnId,
         ob: ObjId,
         op: &Op,
+        spares: &BTreeSet<u16, A>,
         item: &Item,
         holders: &mut BTreeSet<u16, A>,
     ) -> Result<(), AllocError>
+        requires { spares.now.keys ≡ spared_numbers self.now.model (shown self.now) t.0 }
         ensures { IfOk result (λ _. holders.new.keys ≡ (if stands_against self.now.model (shown self.now) t.0 ob op.now item.now then insert_key nat_cmp holders.old.keys item.now.holder.0 else holders.old.keys)) }
     {
-        if self.stands_against(t, ob, op, item) {
+        if self.stands_against(t, ob, op, spares, item) {
             holders.insert(item.holder.0)?;
         }
         Ok(())
@@ -67,9 +96,10 @@ impl<A: Allocator + Copy> Board<A> {
     ) -> Result<BTreeSet<u16, A>, AllocError>
         ensures { IfOk result (λ holders. holders.keys ≡ ascending (map (λ i. i.holder.0) (filter (stands_against self.now.model (shown self.now) t.0 ob op.now) items.now))) }
     {
+        let spares = self.spared_numbers(t)?;
         let mut holders = BTreeSet::new(*self.kept.allocator());
         for item in items {
-            self.put_opponent(t, ob, op, item, &mut holders)?;
+            self.put_opponent(t, ob, op, &spares, item, &mut holders)?;
         }
         Ok(holders)
     }

@@ -80,11 +80,13 @@ impl<A: Allocator + Copy> Machine<A> {
         // events that may come next the rules on dependencies refuse exactly those that would be illegal.
         ensures follows { FollowsPlaces self.new }
     {
-        if let Some(Refusal { rule, by }) = self.board.broken_before_edges(event) {
+        let early = self.board.broken_before_edges(event)?;
+        if let Some(Refusal { rule, by }) = early {
             return Ok(Answer::Refused { rule, by });
         }
         let due = self.board.edges_due(event)?;
-        if let Some(Refusal { rule, by }) = self.board.broken_from_edges(event, &due) {
+        let late = self.board.broken_from_edges(event, &due)?;
+        if let Some(Refusal { rule, by }) = late {
             return Ok(Answer::Refused { rule, by });
         }
         let place = self.board.next_place(event);

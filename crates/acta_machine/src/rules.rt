@@ -1,4 +1,4 @@
-ghost use Rattle.std.specs.Prelude.{◌≡◌, ◌+◌, ◌<◌, ◌≤◌, ◌++◌, ◌∷◌, [], filter, min, length, Some, None, option_map, option_and_then, if◌then◌else◌};
+ghost use Rattle.std.specs.Prelude.{◌≡◌, ◌+◌, ◌<◌, ◌≤◌, ◌++◌, ◌∷◌, [], filter, min, length, Some, None, option_map, option_and_then, if◌then◌else◌, IfOk};
 ghost use Rattle.std.specs.List.{list_any};
 ghost use Rattle.std.specs.Option.{option_map_or};
 ghost use Rattle.acta_table.specs.declared.event.EventKind.{EventKind};
@@ -22,7 +22,7 @@ use acta_sets::Item;
 use acta_table::{
     ClassId, Dep, Edge, Event, EventKind, Extent, OpNo, Refusal, Rule, Status, TxnId,
 };
-use std::alloc::Allocator;
+use std::alloc::{AllocError, Allocator};
 
 /// How many events a history may have (our limit).
 const MOST_EVENTS: usize = 65_536;
@@ -451,16 +451,17 @@ impl<A: Allocator + Copy> Board<A> {
     }
 
     #[tactic(auto, unfolding(crate::specs::Rules::conflict))]
-    fn conflict(&self, event: &Event<A>) -> Option<Refusal>
-        ensures { result ≡ conflict self.now.model (shown self.now) event.now }
+    fn conflict(&self, event: &Event<A>) -> Result<Option<Refusal>, AllocError>
+        ensures { IfOk result (λ refusal. refusal ≡ conflict self.now.model (shown self.now) event.now) }
     {
         let Event::Operate(t, ob, op) = event else {
-            return None;
+            return Ok(None);
         };
         if !self.refuses_conflicts(*t) {
-            return None;
+            return Ok(None);
         }
-        broken_by(Rule::Conflict, self.first_against(*t, *ob, op))
+        let number = self.first_against(*t, *ob, op)?;
+        Ok(broken_by(Rule::Conflict, number))
     }
 
     // The smaller of j and i that is too far on for an edge of this kind.
@@ -500,11 +501,15 @@ impl<A: Allocator + Copy> Board<A> {
         }
     }
 
-    /// The lowest of the rules before that on too many edges that the event breaks.
-    pub(crate) fn broken_before_edges(&self, event: &Event<A>) -> Option<Refusal>
-        ensures { result ≡ broken_before_edges self.now.model (shown self.now) event.now }
+    /// The lowest of the rules before that on too many edges that the event breaks. `Err` where there is no memory.
+    pub(crate) fn broken_before_edges(
+        &self,
+        event: &Event<A>,
+    ) -> Result<Option<Refusal>, AllocError>
+        ensures { IfOk result (λ refusal. refusal ≡ broken_before_edges self.now.model (shown self.now) event.now) }
     {
-        self.full()
+        let early = self
+            .full()
             .or_else(|| bad_number(event))
             .or_else(|| self.bad_class(event))
             .or_else(|| self.bad_object(event))
@@ -516,23 +521,28 @@ impl<A: Allocator + Copy> Board<A> {
             .or_else(|| self.partner_not_in_progress(event))
             .or_else(|| self.not_responsible(event))
             .or_else(|| self.partial_delegation(event))
-            .or_else(|| self.bad_set(event))
-            .or_else(|| self.conflict(event))
-            .or_else(|| self.form_too_late(event))
+            .or_else(|| self.bad_set(event));
+        if early.is_some() {
+            return Ok(early);
+        }
+        if let Some(refusal) = self.conflict(event)? {
+            return Ok(Some(refusal));
+        }
+        Ok(self.form_too_late(event))
     }
 
-    // The lowest rule on dependencies that the event breaks.
-    fn dependency(&self, event: &Event<A>) -> Option<Refusal>
-        ensures { result ≡ dependency (shown self.now) event.now }
+    // The lowest rule on dependencies that the event breaks. `Err` where there is no memory.
+    fn dependency(&self, event: &Event<A>) -> Result<Option<Refusal>, AllocError>
+        ensures { IfOk result (λ refusal. refusal ≡ dependency (shown self.now) event.now) }
     {
         match event {
-            Event::Begin(t, _) | Event::Spawn(_, t, _) | Event::Split(_, t, _, _) => {
-                self.deps.may_start(*t)
-            }
-            Event::Join(t, _) => self.deps.may_join(*t),
+            Event::Begin(t, _) => self.deps.may_start(*t),
+            Event::Spawn(_, c, _) => self.deps.may_start(*c),
+            Event::Split(_, u, _, _) => self.deps.may_start(*u),
+            Event::Join(t, _) => Ok(self.deps.may_join(*t)),
             Event::Commit(t) => self.deps.may_commit(*t),
             Event::Abort(t) => self.deps.may_abort(*t),
-            Event::Delegate(_, _, _) | Event::Form(_, _, _) | Event::Operate(_, _, _) => None,
+            Event::Delegate(_, _, _) | Event::Form(_, _, _) | Event::Operate(_, _, _) => Ok(None),
         }
     }
 
@@ -559,14 +569,23 @@ impl<A: Allocator + Copy> Board<A> {
     }
 
     /// The lowest rule that the event breaks, where it breaks none before that on too many edges, and forms these edges.
-    pub(crate) fn broken_from_edges(&self, event: &Event<A>, due: &[Edge]) -> Option<Refusal>
+    /// `Err` where there is no memory.
+    pub(crate) fn broken_from_edges(
+        &self,
+        event: &Event<A>,
+        due: &[Edge],
+    ) -> Result<Option<Refusal>, AllocError>
         requires due { due.now ≡ edges_due self.now.model (shown self.now) event.now }
         requires none_before { broken_before_edges self.now.model (shown self.now) event.now ≡ None }
-        ensures { result ≡ lowest_broken self.now.model (shown self.now) event.now }
+        ensures { IfOk result (λ refusal. refusal ≡ lowest_broken self.now.model (shown self.now) event.now) }
     {
-        self.edges_full(event, due)
-            .or_else(|| self.dependency(event))
-            .or_else(|| self.no_heir(event))
+        if let Some(refusal) = self.edges_full(event, due) {
+            return Ok(Some(refusal));
+        }
+        if let Some(refusal) = self.dependency(event)? {
+            return Ok(Some(refusal));
+        }
+        Ok(self.no_heir(event))
     }
 
     /// The place that the next event gets, where none is refused for want of room.

@@ -1,3 +1,4 @@
+pub mod AscendingSets
 pub mod KindSets
 pub mod OpSets
 pub mod Smallest

@@ -1,6 +1,6 @@
 -- What a class does where an operation conflicts: it refuses, or lets edges be formed on those who hold the
 -- operations against it.
-use Rattle.std.specs.Prelude.{ℕ, Bool, true, false, ◌&&◌, ◌||◌, not, List, [], map, filter, flat_map}
+use Rattle.std.specs.Prelude.{ℕ, Bool, true, false, ◌&&◌, ◌||◌, not, List, map, filter, flat_map}
 use Rattle.std.specs.List.{list_any}
 use Rattle.acta_table.specs.declared.event.TxnId.{TxnId}
 use Rattle.acta_table.specs.declared.dep.Dep.{Dep}

@@ -1,4 +1,4 @@
-use Rattle.std.proofs.Common.{◌+◌, ◌∙◌, [], ap, sym, fold, drop, arith, List, ℕ}
+use Rattle.std.proofs.Common.{◌+◌, ◌∙◌, ap, sym, fold, drop, arith, List, ℕ}
 use Rattle.std.specs.BTreeSet.{insert_key}
 use Rattle.std.specs.Ordering.{nat_cmp}
 use Rattle.std.proofs.lemmas.List.{at_drop_more}

@@ -1,4 +1,4 @@
-use Rattle.std.proofs.Common.{◌≡◌, ◌∙◌, ◌+◌, ◌++◌, sym, ap, drop, filter, flat_map, arith, List}
+use Rattle.std.proofs.Common.{◌∙◌, ◌+◌, ◌++◌, sym, ap, drop, filter, flat_map, arith, List}
 use Rattle.std.proofs.lemmas.List.{at_drop_more, append_assoc}
 use Rattle.std.proofs.lemmas.List.Elements.{filter-append}
 use Rattle.acta_table.specs.declared.dep.Dep.{Dep}

@@ -5,7 +5,7 @@ use Rattle.std.proofs.lemmas.List.{at_drop_more}
 use Rattle.acta_sets.specs.declared.item.Item.{Item}
 use Rattle.acta_machine.specs.Conflicts.{stands_against}
 use Rattle.acta_machine.specs.Shown.{shown}
-use Rattle.acta_machine.proofs.Opponents.{one-put}
+use Rattle.acta_table.proofs.AscendingSets.{one-put}
 use Rattle.acta_machine.proofs.board.Board.opponents_among.Goals as goal
 
 pub loop-item-preserved : goal.loop-item-preserved

@@ -31,7 +31,7 @@ admit-requires-clause-named g c =
     let model = c.self.inside.board.model in
     let s = shown c.self.inside.board in
     ap (λ items. are_open (operations_named event) items) (ap (λ b. b.operations) c.make_room.ensures.others)
-    ∙ event-open model s event (unbroken model s event (none-earlier model s event (sym c.in_default-broken_from_edges.ensures)))
+    ∙ event-open model s event (unbroken model s event (none-earlier model s event (sym c.in_ok-late.ensures ∙ c.in_default-late.is)))
 
 -- there is room for the edges
 pub admit-requires-clause-fits : goal.admit-requires-clause-fits
@@ -39,7 +39,7 @@ admit-requires-clause-fits g c =
     let event = c.args.event.now in
     let model = c.self.inside.board.model in
     let s = shown c.self.inside.board in
-    let room = linked-room model s event (unbroken model s event (none-earlier model s event (sym c.in_default-broken_from_edges.ensures))).edges in
+    let room = linked-room model s event (unbroken model s event (none-earlier model s event (sym c.in_ok-late.ensures ∙ c.in_default-late.is))).edges in
     let roomy = ap (λ b. b.deps.edges) c.make_room.ensures.others in
     let due = c.deref-2.ensures.value ∙ c.in_ok-due.ensures.due in
     let same : length (formed c.make_room.new.self.deps.edges c.deref-2.result.now) ≡ length (formed s.edges (edges_due model s event)) = λ i. length (formed (roomy i) (due i)) in
@@ -47,15 +47,15 @@ admit-requires-clause-fits g c =
 
 pub admit-requires-clause-progress : goal.admit-requires-clause-progress
 admit-requires-clause-progress g c =
-    (still-admissible _ _ _ _ _ c.edges_due.ensures.faultless (sym c.in_default-broken_from_edges.ensures) (c.deref-2.ensures.value ∙ c.in_ok-due.ensures.due) (ap (λ (s : Summary). linked s c.deref-2.result.now) c.make_room.ensures.shows)).progress
+    (still-admissible _ _ _ _ _ c.edges_due.ensures.faultless (sym c.in_ok-late.ensures ∙ c.in_default-late.is) (c.deref-2.ensures.value ∙ c.in_ok-due.ensures.due) (ap (λ (s : Summary). linked s c.deref-2.result.now) c.make_room.ensures.shows)).progress
 
 pub admit-requires-clause-new : goal.admit-requires-clause-new
 admit-requires-clause-new g c =
-    (still-admissible _ _ _ _ _ c.edges_due.ensures.faultless (sym c.in_default-broken_from_edges.ensures) (c.deref-2.ensures.value ∙ c.in_ok-due.ensures.due) (ap (λ (s : Summary). linked s c.deref-2.result.now) c.make_room.ensures.shows)).begun
+    (still-admissible _ _ _ _ _ c.edges_due.ensures.faultless (sym c.in_ok-late.ensures ∙ c.in_default-late.is) (c.deref-2.ensures.value ∙ c.in_ok-due.ensures.due) (ap (λ (s : Summary). linked s c.deref-2.result.now) c.make_room.ensures.shows)).begun
 
 pub admit-requires-clause-allowed : goal.admit-requires-clause-allowed
 admit-requires-clause-allowed g c =
-    (still-admissible _ _ _ _ _ c.edges_due.ensures.faultless (sym c.in_default-broken_from_edges.ensures) (c.deref-2.ensures.value ∙ c.in_ok-due.ensures.due) (ap (λ (s : Summary). linked s c.deref-2.result.now) c.make_room.ensures.shows)).allowed
+    (still-admissible _ _ _ _ _ c.edges_due.ensures.faultless (sym c.in_ok-late.ensures ∙ c.in_default-late.is) (c.deref-2.ensures.value ∙ c.in_ok-due.ensures.due) (ap (λ (s : Summary). linked s c.deref-2.result.now) c.make_room.ensures.shows)).allowed
 
 pub invariant_of-self-2 : goal.invariant_of-self-2
 invariant_of-self-2 g c =
@@ -72,7 +72,7 @@ invariant_of-self-2 g c =
     c.in_ok-admit.ensures.kept ∙ (λ i. c.make_room.ensures.kept i ++ copied i ∷ []) in
     let count = ap (length {A = Kept g.row.A.Denot}) longer ∙ length-append before (kept ∷ []) in
     let room = c.next_place-place.ensures.room in
-    let none : lowest_broken model (summary_of model before) event ≡ None = ap (λ (s : Summary). lowest_broken model s event) (sym agrees) ∙ sym c.in_default-broken_from_edges.ensures in
+    let none : lowest_broken model (summary_of model before) event ≡ None = ap (λ (s : Summary). lowest_broken model s event) (sym agrees) ∙ sym c.in_ok-late.ensures ∙ c.in_default-late.is in
     let edges : c.deref-2.result.now ≡ edges_due model (summary_of model before) event = c.deref-2.ensures.value ∙ c.in_ok-due.ensures.due ∙ ap (λ (s : Summary). edges_due model s event) agrees in
     let roomy_model = ap (λ b. b.model) c.make_room.ensures.others in
     let same_model = c.admit.ensures.model ∙ roomy_model in

@@ -1,7 +1,6 @@
-use Rattle.std.proofs.Common.{◌≡◌, ◌∙◌, ap, sym, subst, List, ℕ}
+use Rattle.std.proofs.Common.{◌∙◌, ap, sym, subst, List, ℕ}
 use Rattle.std.specs.List.Sorted.{IsStrictlySortedBy}
 use Rattle.std.specs.Ordering.{nat_cmp}
-use Rattle.acta_table.specs.declared.event.OpNo.{OpNo}
 use Rattle.acta_table.specs.Sets.{numbers_of}
 use Rattle.acta_table.proofs.OpSets.{numbers-numbered}
 use Rattle.acta_table.proofs.op_set.OpSet.of.Goals as goal

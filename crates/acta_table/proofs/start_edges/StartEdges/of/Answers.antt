@@ -1,4 +1,4 @@
-use Rattle.std.proofs.Common.{◌≡◌, ◌∙◌, sym, subst, flat_map, List}
+use Rattle.std.proofs.Common.{◌∙◌, sym, subst, flat_map, List}
 use Rattle.std.specs.List.Sorted.{IsStrictlySortedBy}
 use Rattle.std.proofs.lemmas.List.Kept.{IsStrictlySortedBy-filter}
 use Rattle.acta_table.specs.declared.start_edges.StartEdge.{StartEdge}
