@@ -117,7 +117,7 @@ impl<A: Allocator> Deps<A> {
     pub fn may_join(&self, t: TxnId) -> Option<Refusal>
         ensures { result ≡ join_refusal (status_in self.now) self.now.edges t.0 }
     {
-        self.broken(Rule::OwesAbort, Bar::OwesAbort, t)
-            .or_else(|| self.broken(Rule::OwesCommit, Bar::OwesCommit, t))
+        let owing_abort = self.broken(Rule::OwesAbort, Bar::OwesAbort, t);
+        owing_abort.or_else(|| self.broken(Rule::OwesCommit, Bar::OwesCommit, t))
     }
 }
