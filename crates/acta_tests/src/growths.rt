@@ -118,11 +118,12 @@ fn grow_each<A: Allocator + Copy, B: Allocator>(
     Ok(())
 }
 
-// Of the history, and of the edges.
+// Of the history, of the edges, and of the set of those who would owe an abort.
 const OF_FORMS: &str = "\
 begin 1 try : ok 1 : 1
-form SCD 2 1 : ok 2 : 2
-begin 2 try : ok 3 : 0";
+form AD 2 1 : ok 2 : 2
+begin 2 try : ok 3 : 0
+abort 1 : ok 4 : 1";
 
 #[test]
 fn of_forms(rt: HostRuntime) -> Result<(), Fail> {
@@ -148,11 +149,12 @@ fn of_parts(rt: HostRuntime) -> Result<(), Fail> {
     grow_each(&rt, &heap, &heap, PARTING, OF_PARTS)
 }
 
-// Of the edges that are due, and of the edges in force. A commit to a parent has none.
+// Of the edges that are due, and of the edges in force; of the list of ancestors who are spared, and of the set of them. A
+// commit to a parent has none.
 const OF_SPAWNS: &str = "\
 begin 1 top : ok 1 : 1
 spawn 1 2 sub : ok 2 : 2
-do 2 x write 5 : ok 3 done : 1
+do 2 x write 5 : ok 3 done : 3
 commit 2 : ok 4 : 0";
 
 #[test]
@@ -257,7 +259,7 @@ fn grow_run<A: Allocator + Copy, B: Allocator>(
 ) -> Result<(), Fail> {
     let model = assemble(alloc, Standard::Nested.text().as_bytes())?;
     let events = events(alloc, &model, READ)?;
-    let run = grows(rt, heap, 24, || run_on(alloc, &model, &events))?;
+    let run = grows(rt, heap, 25, || run_on(alloc, &model, &events))?;
     assert_eq!(rt; run.answers.as_slice().len(), 9);
     grow_sets(rt, heap, &run.machine)?;
     grow_others(rt, heap, &run.machine)?;
