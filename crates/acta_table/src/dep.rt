@@ -226,7 +226,8 @@ impl DepKinds {
 
     /// The number whose bits name the kinds, below 4,096.
     pub fn bits(self) -> u16
-        ensures { result ≡ self }
+        ensures bits { result ≡ self }
+        ensures known { result < 2 ^ 12 }
     {
         self.bits.bits()
     }

@@ -1,4 +1,4 @@
-ghost use Rattle.std.specs.Prelude.{◌≡◌, option_map, IfOk};
+ghost use Rattle.std.specs.Prelude.{◌≡◌, Decides, option_map, IfOk};
 ghost use Rattle.acta_table.specs.Events.{kind_of, started, class_named};
 
 use crate::dep::Dep;
@@ -136,6 +136,34 @@ impl<A: Allocator> Event<A> {
                 Some(*class)
             }
             _ => None,
+        }
+    }
+}
+
+impl<A: Allocator> Event<A> {
+    /// Whether the two are the same event (ours).
+    pub fn is_same(&self, other: &Event<A>) -> bool
+        ensures { Decides result (self.now ≡ other.now) }
+    {
+        match (self, other) {
+            (Event::Begin(t, class), Event::Begin(u, named)) => t == u && class == named,
+            (Event::Spawn(t, c, class), Event::Spawn(u, d, named)) => {
+                t == u && c == d && class == named
+            }
+            (Event::Split(t, v, class, ops), Event::Split(u, w, named, others)) => {
+                t == u && v == w && class == named && ops.is_same(others)
+            }
+            (Event::Join(t, v), Event::Join(u, w)) => t == u && v == w,
+            (Event::Delegate(t, v, ops), Event::Delegate(u, w, others)) => {
+                t == u && v == w && ops.is_same(others)
+            }
+            (Event::Form(kind, j, i), Event::Form(other, l, k)) => kind == other && j == l && i == k,
+            (Event::Operate(t, ob, op), Event::Operate(u, on, other)) => {
+                t == u && ob == on && op == other
+            }
+            (Event::Commit(t), Event::Commit(u)) => t == u,
+            (Event::Abort(t), Event::Abort(u)) => t == u,
+            _ => false,
         }
     }
 }

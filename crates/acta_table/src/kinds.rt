@@ -130,7 +130,8 @@ impl Kinds {
 
     /// The number whose bits name the kinds, below 256.
     pub fn bits(self) -> u16
-        ensures { result ≡ self }
+        ensures bits { result ≡ self }
+        ensures known { result < 2 ^ 8 }
     {
         self.bits.bits()
     }

@@ -1,4 +1,4 @@
-ghost use Rattle.std.specs.Prelude.{◌≡◌, [], fold, IfOk};
+ghost use Rattle.std.specs.Prelude.{◌≡◌, Decides, [], fold, IfOk};
 ghost use Rattle.std.specs.BTreeSet.{insert_key};
 ghost use Rattle.std.specs.List.Sorted.{IsStrictlySortedBy};
 ghost use Rattle.std.specs.Ordering.{nat_cmp};
@@ -53,6 +53,13 @@ fn listed<A: Allocator + Copy>(alloc: A, set: &BTreeSet<u32, A>) -> Result<Vec<O
 }
 
 impl<A: Allocator> OpSet<A> {
+    /// Whether the two sets have the same numbers.
+    pub fn is_same(&self, other: &OpSet<A>) -> bool
+        ensures { Decides result (self.now ≡ other.now) }
+    {
+        self.as_slice() == other.as_slice()
+    }
+
     /// The numbers, ascending, each once.
     pub fn as_slice(&self) -> &[OpNo]
         ensures items { result.now ≡ self.now }
