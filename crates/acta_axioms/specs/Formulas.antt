@@ -16,26 +16,33 @@ is_before (Some m) (Some n) = nat_lt m n
 abbrev pub is_decided_before : Course → Option ℕ → Bool
 is_decided_before c n = is_before c.commit n || is_before c.abort n
 
--- whether the formula of this kind is false. Commit: both committed, and i not first. Strong-commit: i
--- committed, and j has not. Abort: i aborted, and j has not. Weak-abort: the same, and j did not
--- commit before. Termination: j has committed or aborted, and i had not before. Exclusion: i
--- committed, j began, and j has not aborted. Force-commit-on-abort: i aborted, and j has not committed.
--- Begin, serial, begin-on-commit, begin-on-abort: j began, and i had not begun, ended, committed,
--- aborted before. Weak-begin-on-commit: i committed and j began, and the commit was not first.
+-- whether the formula of this kind is false; one that joins another neither commits nor aborts
 unfoldable pub is_false : Dep → Course → Course → Bool
+-- commit: both committed, and i not first
 is_false Cd j i = is_some i.commit && is_some j.commit && not (is_before i.commit j.commit)
+-- strong-commit: i committed, and j has not
 is_false Scd j i = is_some i.commit && is_none j.commit
+-- abort: i aborted, and j has not
 is_false Ad j i = is_some i.abort && is_none j.abort
+-- weak-abort: i aborted, and j has neither aborted nor committed before
 is_false Wd j i = is_some i.abort && is_none j.abort && not (is_before j.commit i.abort)
+-- termination: j committed or aborted, and i had done neither before
 is_false Td j i =
     let decided = least j.commit j.abort in
     is_some decided && not (is_decided_before i decided)
+-- exclusion: i committed, j began, and j has not aborted
 is_false Ed j i = is_some i.commit && is_some j.start && is_none j.abort
+-- force-commit-on-abort: i aborted, and j has not committed
 is_false Cmd j i = is_some i.abort && is_none j.commit
+-- begin: j began, and i had not begun before
 is_false Bd j i = is_some j.start && not (is_before i.start j.start)
+-- serial: j began, and i had neither committed nor aborted before
 is_false Sd j i = is_some j.start && not (is_decided_before i j.start)
+-- begin-on-commit: j began, and i had not committed before
 is_false Bcd j i = is_some j.start && not (is_before i.commit j.start)
+-- begin-on-abort: j began, and i had not aborted before
 is_false Bad j i = is_some j.start && not (is_before i.abort j.start)
+-- weak-begin-on-commit: i committed and j began, and the commit was not first
 is_false Wcd j i = is_some i.commit && is_some j.start && not (is_before i.commit j.start)
 
 -- the one event of j that would make a false formula of this kind true, if there is one

@@ -10,7 +10,7 @@ pub enum Axiom {
     EndedOnce,
     /// Only a transaction in progress does operations.
     OperatesInProgress,
-    /// Numbers, classes, objects and operations are those of the model, and an edge joins two transactions.
+    /// Numbers, classes, objects and operations are those of the model, and no event names one transaction twice.
     FormOfEvent,
     /// Classes start, act and form edges only as the model lets them.
     Allowed,

@@ -17,7 +17,7 @@ pub enum Dep {
     Ad,
     /// Weak-abort: if t_i aborts and t_j has not committed, t_j aborts.
     Wd,
-    /// Termination: t_j does not end before t_i has.
+    /// Termination: t_j does not commit or abort before t_i has committed or aborted.
     Td,
     /// Exclusion: if t_i commits and t_j has begun, t_j aborts.
     Ed,
@@ -25,7 +25,7 @@ pub enum Dep {
     Cmd,
     /// Begin: t_j does not begin before t_i has.
     Bd,
-    /// Serial: t_j does not begin before t_i has ended.
+    /// Serial: t_j does not begin before t_i has committed or aborted.
     Sd,
     /// Begin-on-commit: t_j does not begin before t_i has committed.
     Bcd,
