@@ -1,5 +1,6 @@
-ghost use Rattle.std.specs.Prelude.{◌≡◌, ◌<◌, ◌≤◌, ◌+◌, ◌-◌, [], None, IfOk, OnOk, OnErr, length, take, replicate};
+ghost use Rattle.std.specs.Prelude.{◌≡◌, true, ◌<◌, ◌≤◌, ◌+◌, ◌-◌, [], None, IfOk, OnOk, OnErr, length, take, replicate};
 ghost use Rattle.acta_table.specs.Edges.{formed};
+ghost use Rattle.acta_table.specs.WellFormed.{is_bad_number};
 ghost use Rattle.acta_deps.specs.Deps.{status_in};
 ghost use Rattle.acta_deps.specs.Statuses.{with_status};
 ghost use Rattle.acta_deps.specs.Dependencies.{start_refusal, commit_refusal, abort_refusal, join_refusal};
@@ -17,14 +18,19 @@ pub struct Deps<A: Allocator> {
 }
 
 impl<A: Allocator> std::marker::Model for Deps<A> {
-    ghost use Rattle.std.specs.Prelude.{◌≡◌, ◌≤◌, length};
+    ghost use Rattle.std.specs.Prelude.{◌≡◌, ◌≤◌, length, slice_get, Some};
+    ghost use Rattle.acta_table.specs.declared.answer.Status.{Status};
     ghost use Rattle.acta_deps.specs.Deps.{DepState};
 
     ghost Value = { DepState };
 
     ghost view = { λ d. record { statuses = d.statuses.items; edges = d.edges.items } };
 
-    ghost invariant = { λ d. record { table : length d.statuses.items ≡ 4096; few : length d.edges.items ≤ 16384 } };
+    ghost invariant = { λ d. record {
+      table : length d.statuses.items ≡ 4096;
+      nobody : slice_get d.statuses.items 0 ≡ Some Status.NotBegun;
+      few : length d.edges.items ≤ 16384;
+    } };
 }
 
 // A table of transactions that have not begun.
@@ -47,10 +53,11 @@ fn copied<T: Copy, A: Allocator>(alloc: A, items: &[T]) -> Result<Vec<T, A>, All
 }
 
 impl<A: Allocator> Deps<A> {
-    /// How a transaction stands (ACTA's significant events, read as a state). One past the largest
-    /// number has not begun.
+    /// How a transaction stands (ACTA's significant events, read as a state). A number that no
+    /// transaction can have has not begun.
     pub fn status(&self, t: TxnId) -> Status
-        ensures { result ≡ status_in self.now t.0 }
+        ensures status { result ≡ status_in self.now t.0 }
+        ensures nobody { is_bad_number t.0 ≡ true → result ≡ Status.NotBegun }
     {
         self.statuses
             .get(t.0 as usize)
@@ -68,7 +75,8 @@ impl<A: Allocator> Deps<A> {
 
     // From now on `t` stands so.
     fn set(&mut self, t: TxnId, status: Status)
-        requires { t.0 ≤ 4095 }
+        requires low { 0 < t.0 }
+        requires high { t.0 ≤ 4095 }
         ensures status { status_in self.new ≡ with_status (status_in self.old) t.0 status }
         ensures edges { self.new.edges ≡ self.old.edges }
     {

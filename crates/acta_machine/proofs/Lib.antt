@@ -5,6 +5,7 @@ pub mod DependencyTies
 pub mod EdgeSteps
 pub mod Exactness
 pub mod FamilyTies
+pub mod Idle
 pub mod Handing
 pub mod Histories
 pub mod HolderGrowth

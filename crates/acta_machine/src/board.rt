@@ -1,11 +1,13 @@
 ghost use Rattle.std.specs.Prelude.{◌≡◌, take, ◌+◌, ◌-◌, ◌<◌, ◌≤◌, ◌++◌, ◌∷◌, [], true, false, map, length, OnOk, OnErr, IfOk, IfSome, vec_capacity, None, Some, option_map};
 ghost use Rattle.acta_table.specs.declared.answer.Status.{Status};
-ghost use Rattle.acta_table.specs.WellFormed.{bad_number};
+ghost use Rattle.acta_table.specs.WellFormed.{is_bad_number, bad_number};
 ghost use Rattle.acta_objects.specs.Limits.{IsSmall};
 ghost use Rattle.acta_table.specs.Events.{operations_named};
 ghost use Rattle.acta_deps.specs.Debts.{owed_in};
+ghost use Rattle.acta_deps.specs.Statuses.{is_in_progress};
 ghost use Rattle.acta_table.specs.Fates.{is_open};
-ghost use Rattle.acta_sets.specs.Operations.{are_open};
+ghost use Rattle.acta_sets.specs.Operations.{access_set, are_open};
+ghost use Rattle.acta_machine.specs.Places.{AreHeldWell};
 ghost use Rattle.acta_table.specs.Faults.{lowest_fault};
 ghost use Rattle.acta_table.specs.Numbered.{ascending};
 ghost use Rattle.acta_table.specs.Edges.{formed};
@@ -97,13 +99,18 @@ fn edges_between<A: Allocator>(
 }
 
 impl<A: Allocator + Copy> Board<A> {
+    /// The allocator of the lists.
+    pub(crate) fn allocator(&self) -> A {
+        *self.kept.allocator()
+    }
+
     /// The value of an object; nothing for one that is not in the model.
     pub(crate) fn value(&self, ob: ObjId) -> Result<Option<ObjectState<A>>, AllocError>
         ensures value { IfOk result (λ value. value ≡ value_of self.now.model (shown self.now) ob.0) }
         ensures small { IfOk result (λ value. IfSome value (IsSmall (length self.now.operations + 1))) }
         ensures few { length self.now.operations ≤ 65536 }
     {
-        let alloc = *self.kept.allocator();
+        let alloc = self.allocator();
         let operations = self.operations.operations();
         match self.model.objects().get(ob.0 as usize) {
             Some(object) => Ok(Some(value_after(alloc, &object.kind, operations, ob)?)),
@@ -139,7 +146,7 @@ impl<A: Allocator + Copy> Board<A> {
         ensures origins { IfOk result (λ board. board.origins.items ≡ self.now.origins.items) }
         ensures operations { IfOk result (λ board. board.operations ≡ self.now.operations) }
     {
-        let alloc = *self.kept.allocator();
+        let alloc = self.allocator();
         Ok(Board {
             model: self.model.copy()?,
             deps: self.deps.copy()?,
@@ -173,7 +180,7 @@ impl<A: Allocator + Copy> Board<A> {
         ensures due { IfOk result (λ edges. edges.items ≡ edges_due self.now.model (shown self.now) event.now) }
         ensures faultless { lowest_fault self.now.model ≡ None }
     {
-        let alloc = *self.kept.allocator();
+        let alloc = self.allocator();
         let classes = self.model.classes();
         match event {
             Event::Spawn(t, c, class) => match classes.get(class.0 as usize) {
@@ -211,6 +218,20 @@ impl<A: Allocator + Copy> Board<A> {
         Ok(count)
     }
 
+    /// The operations in progress that the transaction holds: none where it isn't in progress itself. `Err` where there
+    /// is no memory.
+    pub(crate) fn access_set(&self, t: TxnId) -> Result<Vec<OpNo, A>, AllocError>
+        requires { AreHeldWell (shown self.now) }
+        ensures set { IfOk result (λ ops. ops.items ≡ access_set t.0 self.now.operations) }
+        ensures nobody { IfOk result (λ ops. is_bad_number t.0 ≡ true → ops.items ≡ []) }
+    {
+        if !self.is_in_progress(t) {
+            return Ok(Vec::new(self.allocator()));
+        }
+        let ops = self.operations.access_set(t)?;
+        Ok(ops)
+    }
+
     /// The operations in progress that others hold. `Err` where there is no memory.
     pub(crate) fn conflict_set(&self, t: TxnId) -> Result<Vec<OpNo, A>, AllocError>
         ensures { IfOk result (λ ops. ops.items ≡ conflict_set_of self.now.model (shown self.now) t.0) }
@@ -224,7 +245,7 @@ impl<A: Allocator + Copy> Board<A> {
     fn spared(&self, t: TxnId) -> Result<Vec<TxnId, A>, AllocError>
         ensures { IfOk result (λ txns. txns.items ≡ spared self.now.model (shown self.now) t.0) }
     {
-        let mut spared = Vec::new(*self.kept.allocator());
+        let mut spared = Vec::new(self.allocator());
         if !self.spares_ancestors(t) {
             return Ok(spared);
         }
@@ -244,7 +265,7 @@ impl<A: Allocator + Copy> Board<A> {
         ensures { IfOk result (λ numbers. numbers.keys ≡ spared_numbers self.now.model (shown self.now) t.0) }
     {
         let spared = self.spared(t)?;
-        numbers_of(*self.kept.allocator(), &spared)
+        numbers_of(self.allocator(), &spared)
     }
 }
 
@@ -260,9 +281,18 @@ impl<A: Allocator> Board<A> {
 
     /// How the transaction stands.
     pub(crate) fn status(&self, t: TxnId) -> Status
-        ensures { result ≡ (shown self.now).status t.0 }
+        ensures status { result ≡ (shown self.now).status t.0 }
+        ensures nobody { is_bad_number t.0 ≡ true → result ≡ Status.NotBegun }
     {
         self.deps.status(t)
+    }
+
+    // Whether the transaction is in progress.
+    fn is_in_progress(&self, t: TxnId) -> bool
+        ensures status { result ≡ is_in_progress ((shown self.now).status t.0) }
+        ensures nobody { is_bad_number t.0 ≡ true → result ≡ false }
+    {
+        matches!(self.status(t), Status::InProgress)
     }
 
     fn origin(&self, t: TxnId) -> Origin

@@ -97,7 +97,7 @@ impl<A: Allocator + Copy> Board<A> {
         ensures { IfOk result (λ holders. holders.keys ≡ ascending (map (λ i. i.holder.0) (filter (stands_against self.now.model (shown self.now) t.0 ob op.now) items.now))) }
     {
         let spares = self.spared_numbers(t)?;
-        let mut holders = BTreeSet::new(*self.kept.allocator());
+        let mut holders = BTreeSet::new(self.allocator());
         for item in items {
             self.put_opponent(t, ob, op, &spares, item, &mut holders)?;
         }
@@ -114,7 +114,7 @@ impl<A: Allocator + Copy> Board<A> {
     ) -> Result<Vec<Edge, A>, AllocError>
         ensures { IfOk result (λ edges. edges.items ≡ conflict_edges self.now.model (shown self.now) t ob op.now) }
     {
-        let alloc = *self.kept.allocator();
+        let alloc = self.allocator();
         let Some(class) = self.class_of(t) else {
             return Ok(Vec::new(alloc));
         };

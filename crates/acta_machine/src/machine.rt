@@ -1,4 +1,5 @@
-ghost use Rattle.std.specs.Prelude.{◌≡◌, ◌≤◌, length, None, OnOk, OnErr, IfOk, replicate};
+ghost use Rattle.std.specs.Prelude.{◌≡◌, ◌≤◌, true, [], length, None, OnOk, OnErr, IfOk, replicate};
+ghost use Rattle.acta_table.specs.WellFormed.{is_bad_number};
 ghost use Rattle.acta_machine.specs.Changes.{summary_of};
 ghost use Rattle.acta_machine.specs.Shown.{unbegun};
 ghost use Rattle.acta_axioms.specs.Claims.{status_at};
@@ -127,12 +128,14 @@ impl<A: Allocator + Copy> Machine<A> {
     }
 
     /// The operations in progress that the transaction holds, ascending (ACTA's access set; that it has
-    /// only operations in progress is ours). `Err` where there is no memory.
+    /// only operations in progress is ours); none for a number that no transaction can have. `Err` where there is
+    /// no memory.
     pub fn access_set(&self, t: TxnId) -> Result<Vec<OpNo, A>, AllocError>
         ensures set { IfOk result (λ numbers. numbers.items ≡ access_set_in self.now t.0) }
         ensures places { IfOk result (λ numbers. numbers.items ≡ numbers_of (by_places.access_set self.now.model self.now.kept t.0)) }
+        ensures nobody { IfOk result (λ numbers. is_bad_number t.0 ≡ true → numbers.items ≡ []) }
     {
-        self.board.operations.access_set(t)
+        self.board.access_set(t)
     }
 
     /// The operations in progress that others hold, ascending (ACTA's conflict set); a class can leave out what
@@ -183,6 +186,7 @@ impl<A: Allocator> Machine<A> {
     pub fn status(&self, t: TxnId) -> Status
         ensures status { result ≡ status_in self.now t.0 }
         ensures places { result ≡ status_at self.now.kept t.0 }
+        ensures nobody { is_bad_number t.0 ≡ true → result ≡ Status.NotBegun }
     {
         self.board.status(t)
     }

@@ -14,4 +14,4 @@ returns-clause-places g c =
     let state : State g.row.A.Denot = record { model = board.model; kept = board.kept.items } in
     let same = ap (λ (s : Summary). access_set c.args.t.0 s.operations) c.self.invariant.agrees ∙ access-places state c.args.t.0 c.self.invariant.follows
     ∙ ap (λ (x : State g.row.A.Denot). numbers_of (by_places.access_set x.model x.kept c.args.t.0)) c.self.view_is in
-    subst (λ (numbers : List OpNo). IfOk c.access_set.result (λ v. v.items ≡ numbers)) same c.access_set.ensures
+    subst (λ (numbers : List OpNo). IfOk c.access_set.result (λ v. v.items ≡ numbers)) same c.access_set.ensures.set
