@@ -3,6 +3,7 @@
 
 use acta_lang::assemble;
 use acta_models::Standard;
+use acta_script::read_event;
 use acta_table::{
     Class, ClassId, Dep, DepKinds, Dependent, Event, EventKind, Items, Kind, Kinds, Model,
     ModelFault, Object, OpNo, OpSet, Parts, Policy, Rule, StartEdge, StartEdges, TxnId,
@@ -280,6 +281,37 @@ fn sets(rt: HostRuntime) -> Result<(), Fail> {
     assert_eq!(rt; set.as_slice(), [OpNo(0), OpNo(2), OpNo(9)].as_slice());
     assert_eq!(rt; set.copy()?.as_slice(), set.as_slice());
     assert!(rt; OpSet::of(rt.alloc(), &[])?.as_slice().is_empty());
+    Ok(())
+}
+
+// Of the events that the lines say, each is the same as itself alone.
+#[test]
+fn events_that_are_the_same(rt: HostRuntime) -> Result<(), Fail> {
+    let text = "begin 1 part
+        begin 2 part
+        spawn 1 2 part
+        split 1 2 part 1
+        split 1 2 part 1,2
+        join 1 2
+        join 2 1
+        delegate 1 2 -
+        delegate 1 2 3
+        delegate 1 2 4
+        form CD 1 2
+        form WD 1 2
+        do 1 x read
+        do 1 x write 5
+        do 1 n read
+        commit 1
+        abort 1";
+    let model = assemble(rt.alloc(), Standard::SplitJoin.text().as_bytes())?;
+    for (i, line) in text.lines().enumerate() {
+        let event = read_event(rt.alloc(), &model, line.as_bytes())?;
+        for (j, line) in text.lines().enumerate() {
+            let other = read_event(rt.alloc(), &model, line.as_bytes())?;
+            assert_eq!(rt; event.is_same(&other), i == j, "at {line}");
+        }
+    }
     Ok(())
 }
 
