@@ -7,11 +7,9 @@ use Rattle.acta_table.specs.declared.event.Op.{Op}
 use Rattle.acta_table.specs.declared.event.Kept.{Kept}
 use Rattle.acta_table.specs.declared.model.Kind.{Kind}
 use Rattle.acta_table.specs.declared.model.Parts.{Parts}
-use Rattle.acta_table.specs.Numbered.{numbers_where}
 use Rattle.acta_objects.specs.Objects.{first_state, state_after}
 use Rattle.acta_axioms.specs.Operations.{Operation, operations, standing, is_of_others, is_in_view}
 use Rattle.acta_axioms.specs.Values.{value, asked_of, do_conflict, conflicting}
-use Rattle.acta_axioms.proofs.Numbers.{numbers-shown}
 use Rattle.acta_axioms.proofs.ValueGrowth.{filter-both}
 
 held-shown : {X : Type 0} (holder : Operation → ℕ) (show : Operation → X) (test : X → Bool) (held : X → ℕ) → ((o : Operation) → held (show o) ≡ holder o) →
@@ -23,16 +21,6 @@ held-shown {X} holder show test held holds (o ∷ os) = of_test (test (show o)) 
         map holder (cond b (o ∷ filter (λ q. test (show q)) os) (filter (λ q. test (show q)) os)) ≡ map held (cond b (show o ∷ filter test (map show os)) (filter test (map show os)))
     of_test true later = λ i. sym (holds o) i ∷ later i
     of_test false later = later
-
--- the numbers of the operations that one of t conflicts with, by a test of what is shown
-pub conflicting-shown : {A X : Type 0} (m : Parts A) (h : List (Kept A)) (t object : ℕ) (op : Op) (show : Operation → X) (test : X → Bool) →
-    ((o : Operation) → test (show o) ≡ (is_of_others m h t (standing m h o) && ((o.object == object) && do_conflict m object o.op op))) →
-    map (λ o. o.number) (conflicting m h t object op) ≡ numbers_where test (map show (operations h))
-conflicting-shown m h t object op show test tells =
-    ap (map (λ (o : Operation). o.number))
-    (sym (filter-both (λ o. is_of_others m h t (standing m h o)) (λ o. (o.object == object) && do_conflict m object o.op op) (operations h))
-    ∙ filter_agree (λ o. is_of_others m h t (standing m h o) && ((o.object == object) && do_conflict m object o.op op)) (λ o. test (show o)) (λ o. sym (tells o)) (operations h))
-    ∙ numbers-shown show test h
 
 -- those who hold them, by what is shown
 pub holders-shown : {A X : Type 0} (m : Parts A) (h : List (Kept A)) (t object : ℕ) (op : Op) (show : Operation → X) (test : X → Bool) (held : X → ℕ) →

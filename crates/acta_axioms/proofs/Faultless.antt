@@ -1,14 +1,12 @@
 -- A history that grows by items without fault meets the axioms, and what makes an item faultless.
-use Rattle.std.proofs.Common.{if◌then◌else◌, ◌==◌, filter, ◌≡◌, ℕ, Bool, true, false, ◌&&◌, ◌||◌, not, cond, List, [], ◌∷◌, ◌++◌, Some, None, is_some, refl, ap, ◌∙◌}
+use Rattle.std.proofs.Common.{if◌then◌else◌, ◌==◌, filter, ◌≡◌, ℕ, Bool, true, false, ◌||◌, not, cond, List, [], ◌∷◌, ◌++◌, None, is_some, refl, ap, ◌∙◌}
 use Rattle.std.proofs.lemmas.Bool.Decides.{Decides-int_eq}
 use Rattle.acta_table.specs.declared.answer.Status.TheVariants.{NotBegun, InProgress}
 use Rattle.acta_table.specs.declared.dep.Dep.{Dep}
 use Rattle.acta_table.specs.declared.event.ClassId.{ClassId}
 use Rattle.acta_table.specs.declared.event.Event.{Event}
-use Rattle.acta_table.specs.declared.event.Event.TheVariants.{Begin, Spawn, Split, Join, Delegate, Form, Operate, Commit, Abort}
+use Rattle.acta_table.specs.declared.event.Event.TheVariants.{Begin, Spawn, Split, Join, Delegate, Form, Commit, Abort}
 use Rattle.acta_table.specs.declared.event.Kept.{Kept}
-use Rattle.acta_table.specs.declared.event.ObjId.{ObjId}
-use Rattle.acta_table.specs.declared.event.Op.{Op}
 use Rattle.acta_table.specs.declared.event.OpNo.{OpNo}
 use Rattle.acta_table.specs.declared.event.Ret.{Ret}
 use Rattle.acta_table.specs.declared.event.Ret.TheVariants.{Done, Value, Flag}
@@ -18,9 +16,7 @@ use Rattle.acta_table.specs.WellFormed.{bad_number, bad_class, bad_object, same_
 use Rattle.acta_objects.specs.WellFormed.{bad_operation}
 use Rattle.acta_axioms.specs.declared.fault.Axiom.TheVariants.{BegunOnce, EndedAfterBegun, EndedOnce, OperatesInProgress, FormOfEvent, Allowed, PartiesInProgress, Responsible, HandsWhole, Conflict, Return, Heir, FormedInTime}
 use Rattle.acta_axioms.specs.History.{number, has_begun, has_ended, is_in_progress}
-use Rattle.acta_axioms.specs.Operations.{number_after}
-use Rattle.acta_axioms.specs.Values.{is_well_formed, return_due}
-use Rattle.acta_axioms.specs.Faults.{when, first_named, is_same_ret, is_due, begun_again, ended_unbegun, ended_again, operated_idle, ill_formed, not_allowed, idle_party, handed_unheld, left_out, in_conflict, wrong_return, without_heir, formed_late, breaches, faults_of, faults_at}
+use Rattle.acta_axioms.specs.Faults.{when, first_named, is_same_ret, begun_again, ended_unbegun, ended_again, operated_idle, ill_formed, not_allowed, idle_party, handed_unheld, left_out, in_conflict, wrong_return, without_heir, formed_late, breaches, faults_of, faults_at}
 use Rattle.acta_axioms.specs.Legal.{is_legal}
 use Rattle.acta_axioms.specs.Claims.{MeetsAxioms, status_at}
 use Rattle.acta_axioms.proofs.Growth.{at_end, faults_in_places-push}
@@ -262,31 +258,3 @@ same_ret Done = refl
 same_ret (Value v) = (Decides-int_eq v v).1 refl
 same_ret (Flag true) = refl
 same_ret (Flag false) = refl
-
--- an operation of one in progress that returns what is due, and conflicts with none where its class refuses
-pub faultless-operate : {A : Type 0} (m : Parts A) (h : List (Kept A)) (t : TxnId) (object : ObjId) (op : Op) (r : Ret) → status_at h t.0 ≡ InProgress →
-    ill_formed m (Operate t object op) ≡ [] → not_allowed m h (Operate t object op) ≡ [] → in_conflict m h (Operate t object op) ≡ [] →
-    return_due m h object.0 op ≡ Some r → IsFaultless m h (record { event = Operate t object op; ret = Some r })
-faultless-operate m h t object op r status form allowed conflict due =
-    record {
-      begun_once = refl;
-      ended_after_begun = refl;
-      ended_once = refl;
-      operates_in_progress = ap (λ b. cond (not b) (t.0 ∷ []) []) (under_way h t.0 status);
-      form_of_event = form;
-      allowed = allowed;
-      parties_in_progress = refl;
-      responsible = refl;
-      hands_whole = refl;
-      conflict = conflict;
-      return =
-          ap (λ d. when (is_well_formed m object.0 op && not (is_due d (Some r))) (number_after h)) due
-          ∙ ap (λ b. when (is_well_formed m object.0 op && not b) (number_after h)) (same_ret r)
-          ∙ when_never (is_well_formed m object.0 op);
-      heir = refl;
-      formed_in_time = refl;
-    }
-  where
-    when_never : (b : Bool) → when (b && false) (number_after h) ≡ []
-    when_never true = refl
-    when_never false = refl

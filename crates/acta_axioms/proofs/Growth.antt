@@ -1,12 +1,12 @@
 -- What each notion becomes when one kept item is put at the end of a history.
-use Rattle.std.proofs.Common.{subst, ◌==◌, if◌then◌else◌, zero, suc, ◌≡◌, ℕ, ◌+◌, ◌<◌, ◌≤◌, Bool, true, false, ◌&&◌, ◌||◌, not, cond, List, [], ◌∷◌, ◌++◌, length, map, drop, filter, fold, Option, Some, None, option_map, refl, sym, ap, ◌∙◌, arith, is_some}
+use Rattle.std.proofs.Common.{subst, ◌==◌, if◌then◌else◌, suc, ◌≡◌, ℕ, ◌+◌, ◌<◌, ◌≤◌, Bool, true, false, ◌||◌, cond, List, [], ◌∷◌, ◌++◌, length, map, drop, fold, Option, Some, None, option_map, refl, sym, ap, ◌∙◌, arith, is_some}
 use Rattle.std.specs.List.{find, filter_map, flat_map, cons_option, count_by, AllByRecursion}
 use Rattle.std.specs.Option.{option_or, option_and_then, option_map_or}
 use Rattle.std.proofs.lemmas.List.{append-nil, append_assoc, length_push, drop-append-le, drop_all, map-append}
 use Rattle.std.proofs.lemmas.List.Folds.{find-append}
-use Rattle.std.proofs.lemmas.List.Elements.{filter_map-append, filter-append}
+use Rattle.std.proofs.lemmas.List.Elements.{filter_map-append}
 use Rattle.std.proofs.lemmas.Grind.{flat_map-append, fold-append}
-use Rattle.std.proofs.lemmas.Bool.{eqb-true, false≢true}
+use Rattle.std.proofs.lemmas.Bool.{false≢true}
 use Rattle.std.proofs.lemmas.Option.{none-some, same_Some, cond_some}
 use Rattle.acta_table.specs.declared.event.Event.{Event}
 use Rattle.acta_table.specs.declared.event.Event.TheVariants.{Spawn, Operate}
@@ -14,11 +14,10 @@ use Rattle.acta_table.specs.declared.event.Kept.{Kept}
 use Rattle.acta_table.specs.declared.event.TxnId.{TxnId}
 use Rattle.acta_table.specs.declared.model.Class.{Class}
 use Rattle.acta_table.specs.declared.model.Parts.{Parts}
-use Rattle.acta_table.specs.Ancestors.{ancestors_from}
 use Rattle.acta_table.specs.Events.{class_named}
-use Rattle.acta_table.specs.Classes.{class_at, has_heir}
-use Rattle.acta_axioms.specs.History.{Place, number, places_behind, places, first, starts, commits, aborts, joins, Course, course, least, end, has_begun, has_ended, is_in_progress, class_number, class_of, spawner, parent_of, ancestors}
-use Rattle.acta_axioms.specs.Operations.{Operation, is_operate, number_after, operation_in, operation_at, operations, Standing, held_by, carried, standing, standing_of, is_held_by, access_set, heir, is_of_others, conflict_set, is_in_view, view_set}
+use Rattle.acta_table.specs.Classes.{class_at}
+use Rattle.acta_axioms.specs.History.{Place, number, places_behind, places, first, starts, commits, aborts, joins, course, has_begun, class_number, class_of, spawner, parent_of}
+use Rattle.acta_axioms.specs.Operations.{Operation, is_operate, number_after, operation_in, operation_at, operations, Standing, held_by, carried, standing}
 use Rattle.acta_axioms.specs.Faults.{faults_at, faults_in_places}
 
 -- what is found passes the test, and has what all have
@@ -93,33 +92,8 @@ course-push h k t = λ i. record {
 abbrev pub ends : {A : Type 0} → ℕ → Event A → Bool
 ends t e = commits t e || (aborts t e || joins t e)
 
-is_some-least : (m n : Option ℕ) → is_some (least m n) ≡ (is_some m || is_some n)
-is_some-least None n = refl
-is_some-least (Some m) n = refl
-
-is_some-end : (c : Course) → is_some (end c) ≡ (is_some c.commit || (is_some c.abort || is_some c.join))
-is_some-end c = is_some-least c.commit (least c.abort c.join) ∙ ap (λ b. is_some c.commit || b) (is_some-least c.abort c.join)
-
-or_exchange : (a b x y : Bool) → ((a || x) || (b || y)) ≡ ((a || b) || (x || y))
-or_exchange true b x y = refl
-or_exchange false true true y = refl
-or_exchange false true false y = refl
-or_exchange false false x y = refl
-
 pub has_begun-push : {A : Type 0} (h : List (Kept A)) (k : Kept A) (t : ℕ) → has_begun (h ++ k ∷ []) t ≡ (has_begun h t || starts t k.event)
 has_begun-push h k t = ap is_some (first_place-push (starts t) h k) ∙ is_some-or (course h t).start (starts t k.event) (length h + 1)
-
-pub has_ended-push : {A : Type 0} (h : List (Kept A)) (k : Kept A) (t : ℕ) → has_ended (h ++ k ∷ []) t ≡ (has_ended h t || ends t k.event)
-has_ended-push {A} h k t =
-    let there = λ (test : Event A → Bool). ap is_some (first_place-push test h k) ∙ is_some-or (option_map number (first test h)) (test k.event) (length h + 1) in
-    is_some-end (course (h ++ k ∷ []) t)
-    ∙ (λ i. there (commits t) i || (there (aborts t) i || there (joins t) i))
-    ∙ ap (λ b. (is_some (course h t).commit || commits t k.event) || b) (or_exchange (is_some (course h t).abort) (is_some (course h t).join) (aborts t k.event) (joins t k.event))
-    ∙ or_exchange (is_some (course h t).commit) (is_some (course h t).abort || is_some (course h t).join) (commits t k.event) (aborts t k.event || joins t k.event)
-    ∙ ap (λ b. b || ends t k.event) (sym (is_some-end (course h t)))
-
-pub is_in_progress-push : {A : Type 0} (h : List (Kept A)) (k : Kept A) (t : ℕ) → is_in_progress (h ++ k ∷ []) t ≡ ((has_begun h t || starts t k.event) && not (has_ended h t || ends t k.event))
-is_in_progress-push h k t = λ i. has_begun-push h k t i && not (has_ended-push h k t i)
 
 and_then-or : {X Y : Type 0} (f : X → Option Y) (o p : Option X) → option_and_then f (option_or o p) ≡ (if is_some o then option_and_then f o else option_and_then f p)
 and_then-or f None p = refl
@@ -168,24 +142,6 @@ parent_of-push {A} h k t =
     at_cond : (b : Bool) → option_and_then (λ p. spawner p.before p.kept.event) (cond b (Some (at_end h k)) None) ≡ (if b then spawner h k.event else None)
     at_cond true = refl
     at_cond false = refl
-
--- the heir of one that an event starts: the one that spawns it, where its class says so
-abbrev pub heir_of_started : {A : Type 0} → Parts A → List (Kept A) → Event A → Option TxnId
-heir_of_started m before e = if option_map_or (λ c. has_heir c.at_commit) (class_in m e) false then spawner before e else None
-
--- and its heir
-pub heir-push : {A : Type 0} (m : Parts A) (h : List (Kept A)) (k : Kept A) (t : ℕ) → heir m (h ++ k ∷ []) t ≡ (if has_begun h t then heir m h t else if starts t k.event then heir_of_started m h k.event else None)
-heir-push m h k t =
-    (λ i. if option_map_or (λ c. has_heir c.at_commit) (class_of-push m h k t i) false then parent_of-push h k t i else None)
-    ∙ push_in (has_begun h t) (starts t k.event)
-  where
-    push_in : (a b : Bool) →
-        (if option_map_or (λ c. has_heir c.at_commit) (if a then class_of m h t else if b then class_in m k.event else None) false
-        then (if a then parent_of h t else if b then spawner h k.event else None) else None)
-        ≡ (if a then heir m h t else if b then heir_of_started m h k.event else None)
-    push_in true b = refl
-    push_in false true = refl
-    push_in false false = refl
 
 -- operations
 
@@ -246,10 +202,6 @@ pub map-agree : {X Y : Type 0} (P : X → Type 0) (f g : X → Y) → ((x : X) �
 map-agree P f g same [] none = refl
 map-agree P f g same (x ∷ xs) all = λ i. same x all.0 i ∷ map-agree P f g same xs all.1 i
 
-pub filter-agree : {X : Type 0} (P : X → Type 0) (f g : X → Bool) → ((x : X) → P x → f x ≡ g x) → (xs : List X) → AllByRecursion P xs → filter f xs ≡ filter g xs
-filter-agree P f g same [] none = refl
-filter-agree P f g same (x ∷ xs) all = λ i. cond (same x all.0 i) (x ∷ filter-agree P f g same xs all.1 i) (filter-agree P f g same xs all.1 i)
-
 pub added-new : {A : Type 0} (m : Parts A) (h : List (Kept A)) (k : Kept A) → AllByRecursion (λ o. standing m (h ++ k ∷ []) o ≡ held_by o.invoker) (added h k)
 added-new m h k = cons_option-all _ (operation_at (at_end h k)) [] (λ o e. standing-new m (h ++ k ∷ []) o (let at = operation_place (at_end h k) o e in let grown = length_push h k in omega arith)) tt
 
@@ -263,32 +215,10 @@ shown-push show m h k =
     ∙ map-append (λ o. show o (standing m (h ++ k ∷ []) o)) (operations h) (added h k)
     ∙ (λ i. map-agree _ _ _ (λ o within. ap (show o) (standing-push m h k o within)) (operations h) (operations_within h) i ++ map-agree _ _ _ (λ o e. ap (show o) e) (added h k) (added-new m h k) i)
 
-pub standings-push : {A : Type 0} (m : Parts A) (h : List (Kept A)) (k : Kept A) →
-    map (standing m (h ++ k ∷ [])) (operations (h ++ k ∷ [])) ≡ map (λ o. carried m o.number (standing m h o) (at_end h k)) (operations h) ++ map (λ o. held_by o.invoker) (added h k)
-standings-push m h k = shown-push (λ o s. s) m h k
-
 -- an operation that is there goes on, and a new one begins
 abbrev pub goes_on : {A : Type 0} → Parts A → List (Kept A) → Kept A → ℕ → Option Standing → Option Standing
 goes_on m h k o None = option_map (λ q. held_by q.invoker) (find (λ q. q.number == o) (added h k))
 goes_on m h k o (Some s) = Some (carried m o s (at_end h k))
-
-pub standing_of-push : {A : Type 0} (m : Parts A) (h : List (Kept A)) (k : Kept A) (o : ℕ) → standing_of m (h ++ k ∷ []) o ≡ goes_on m h k o (standing_of m h o)
-standing_of-push m h k o =
-    ap (λ os. option_map (standing m (h ++ k ∷ [])) (find (λ q. q.number == o) os)) (operations-push h k)
-    ∙ ap (option_map (standing m (h ++ k ∷ []))) (find-append (λ q. q.number == o) (operations h) (added h k))
-    ∙ option_map-or (standing m (h ++ k ∷ [])) (find (λ q. q.number == o) (operations h)) (find (λ q. q.number == o) (added h k))
-    ∙ of_found (find (λ q. q.number == o) (operations h)) refl
-  where
-    begun : (p : Option Operation) → find (λ q. q.number == o) (added h k) ≡ p → option_map (standing m (h ++ k ∷ [])) p ≡ option_map (λ q. held_by q.invoker) p
-    begun None e = refl
-    begun (Some q) e = ap Some (found-passes (λ q. q.number == o) _ (added h k) q (added-new m h k) e).1
-
-    of_found : (p : Option Operation) → find (λ q. q.number == o) (operations h) ≡ p →
-        option_or (option_map (standing m (h ++ k ∷ [])) p) (option_map (standing m (h ++ k ∷ [])) (find (λ q. q.number == o) (added h k))) ≡ goes_on m h k o (option_map (standing m h) p)
-    of_found None e = begun (find (λ q. q.number == o) (added h k)) refl
-    of_found (Some q) e =
-        let found = found-passes (λ q. q.number == o) (λ q. q.place ≤ length h) (operations h) q (operations_within h) e in
-        ap Some (standing-push m h k q found.1 ∙ ap (λ n. carried m n (standing m h q) (at_end h k)) (eqb-true q.number o found.0))
 
 -- ancestors: parents start earlier, so the line of one that has begun stays
 
@@ -338,60 +268,6 @@ parent_earlier {A} h t i u parent start = of_first (first (starts t) h) refl par
         let begun = front_start p.before front.0 u.0 (spawned p.before p.kept.event is) in
         let here : number p ≡ i = same_Some (number p) i at in
         (begun.0, ap (λ g. (course g u.0).start) front.1 ∙ begun.1, (let low : begun.0 ≤ length p.before = begun.2 in omega arith))
-
--- places are numbered from 1
-no_place_zero : {A : Type 0} (h : List (Kept A)) (t i : ℕ) → (course h t).start ≡ Some i → i ≡ 0 → ⊥
-no_place_zero {A} h t i at none = of_first (first (starts t) h) at
-  where
-    of_first : (o : Option (Place A)) → option_map number o ≡ Some i → ⊥
-    of_first None is = none-some i is
-    of_first (Some p) is = let here : number p ≡ i = same_Some (number p) i is in omega arith
-
--- one that has begun keeps its parent
-parent_of-kept : {A : Type 0} (h : List (Kept A)) (k : Kept A) (t : ℕ) → has_begun h t ≡ true → parent_of (h ++ k ∷ []) t ≡ parent_of h t
-parent_of-kept h k t begun = parent_of-push h k t ∙ ap (λ b. if b then parent_of h t else if starts t k.event then spawner h k.event else None) begun
-
--- each line of ancestors that is long enough stays
-line-push : {A : Type 0} (h : List (Kept A)) (k : Kept A) (n : ℕ) (o : Option TxnId) → ((u : TxnId) → o ≡ Some u → HasStartedBy h u.0 n) → ancestors_from (suc n) (parent_of (h ++ k ∷ [])) o ≡ ancestors_from n (parent_of h) o
-line-push h k zero None started = refl
-line-push h k (suc n) None started = refl
-line-push h k zero (Some u) started = let at = started u refl in absurd (no_place_zero h u.0 at.0 at.1 (let low : at.0 ≤ 0 = at.2 in omega arith))
-line-push h k (suc n) (Some u) started =
-    let at = started u refl in
-    ap (λ us. u ∷ us) (ap (ancestors_from (suc n) (parent_of (h ++ k ∷ []))) (parent_of-kept h k u.0 (ap is_some at.1))
-    ∙ line-push h k n (parent_of h u.0) (λ v is. let earlier = parent_earlier h u.0 at.0 v is at.1 in (earlier.0, earlier.1, (let low : earlier.0 < at.0 = earlier.2 in let high : at.0 ≤ suc n = at.2 in omega arith))))
-
--- the ancestors of one that has begun stay
-pub ancestors-push : {A : Type 0} (h : List (Kept A)) (k : Kept A) (t : ℕ) → has_begun h t ≡ true → ancestors (h ++ k ∷ []) t ≡ ancestors h t
-ancestors-push h k t begun =
-    let at = started_within h t begun in
-    let longer : length (h ++ k ∷ []) ≡ suc (length h) = omega (arith, length_push h k) in
-    (λ i. ancestors_from (longer i) (parent_of (h ++ k ∷ [])) (parent_of-kept h k t begun i))
-    ∙ line-push h k (length h) (parent_of h t) (λ v is. let earlier = parent_earlier h t at.0 v is at.1 in (earlier.0, earlier.1, (let low : earlier.0 < at.0 = earlier.2 in let high : at.0 ≤ length h = at.2 in omega arith)))
-
--- what a test of standings keeps
-pub operations_by-push : {A : Type 0} (test : Standing → Bool) (m : Parts A) (h : List (Kept A)) (k : Kept A) →
-    filter (λ o. test (standing m (h ++ k ∷ []) o)) (operations (h ++ k ∷ [])) ≡ filter (λ o. test (carried m o.number (standing m h o) (at_end h k))) (operations h) ++ filter (λ o. test (held_by o.invoker)) (added h k)
-operations_by-push test m h k =
-    ap (filter (λ o. test (standing m (h ++ k ∷ []) o))) (operations-push h k)
-    ∙ filter-append (λ o. test (standing m (h ++ k ∷ []) o)) (operations h) (added h k)
-    ∙ (λ i. filter-agree _ _ _ (λ o within. ap test (standing-push m h k o within)) (operations h) (operations_within h) i ++ filter-agree _ _ _ (λ o e. ap test e) (added h k) (added-new m h k) i)
-
-pub access_set-push : {A : Type 0} (m : Parts A) (h : List (Kept A)) (k : Kept A) (t : ℕ) →
-    access_set m (h ++ k ∷ []) t ≡ filter (λ o. is_held_by t (carried m o.number (standing m h o) (at_end h k))) (operations h) ++ filter (λ o. is_held_by t (held_by o.invoker)) (added h k)
-access_set-push m h k t = operations_by-push (is_held_by t) m h k
-
-pub conflict_set-push : {A : Type 0} (m : Parts A) (h : List (Kept A)) (k : Kept A) (t : ℕ) →
-    conflict_set m (h ++ k ∷ []) t ≡ filter (λ o. is_of_others m (h ++ k ∷ []) t (carried m o.number (standing m h o) (at_end h k))) (operations h) ++ filter (λ o. is_of_others m (h ++ k ∷ []) t (held_by o.invoker)) (added h k)
-conflict_set-push m h k t = operations_by-push (is_of_others m (h ++ k ∷ []) t) m h k
-
-pub view_set-push : {A : Type 0} (m : Parts A) (h : List (Kept A)) (k : Kept A) →
-    view_set m (h ++ k ∷ []) ≡ filter (λ o. is_in_view (carried m o.number (standing m h o) (at_end h k))) (operations h) ++ added h k
-view_set-push m h k = operations_by-push is_in_view m h k ∙ ap (λ os. filter (λ o. is_in_view (carried m o.number (standing m h o) (at_end h k))) (operations h) ++ os) (all_pass (added h k))
-  where
-    all_pass : (os : List Operation) → filter (λ (o : Operation). true) os ≡ os
-    all_pass [] = refl
-    all_pass (o ∷ os) = λ i. o ∷ all_pass os i
 
 -- faults
 

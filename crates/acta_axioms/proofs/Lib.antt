@@ -10,7 +10,6 @@ pub mod ValueGrowth
 pub mod ByOperations
 pub mod Prefixes
 pub mod Faultless
-pub mod Delegations
 mod Lineages
 mod Named
 mod Tables

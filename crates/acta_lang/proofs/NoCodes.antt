@@ -59,11 +59,6 @@ no_test d is_last line words said none =
       policy = no_code _ BadPolicyKind policy.1;
     }
 
--- the name of a new object or class is new
-pub name_is_new : {A : Type 0} (d : Draft A) (is_last : Bool) (line : List ℕ) (words : List (List ℕ)) (said : Form) → lowest_of d (extended d words said) is_last line words said ≡ None → duplicate_name d words said ≡ false
-unfolding duplicate_name
-name_is_new d is_last line words said none = (no_test d is_last line words said none).new
-
 -- a line at which no test passes has no code
 pub clear : {A : Type 0} (d behind : Draft A) (is_last : Bool) (line : List ℕ) (words : List (List ℕ)) (said : Form) → not_ascii line ≡ false → bad_word said ≡ false → bad_name words said ≡ false
     → duplicate_name d words said ≡ false → wrong_place d said ≡ false → bad_number words said ≡ false → too_many d said ≡ false → missing_end is_last behind ≡ false

@@ -5,10 +5,6 @@ use Rattle.acta_words.specs.Text.{line_of}
 use Rattle.acta_lang.specs.Canonical.{word_if}
 use Rattle.acta_lang.specs.Written.{spaced, written}
 
-pub spaced-append : (a b : List (List ℕ)) → spaced (a ++ b) ≡ spaced a ++ spaced b
-spaced-append [] b = refl
-spaced-append (w ∷ ws) b = ap (λ t. 32 ∷ w ++ t) (spaced-append ws b) ∙ sym (append_assoc (32 ∷ w) (spaced ws) (spaced b))
-
 -- the line of some words is the first, and each other behind a space
 pub line_spaced : (word : List ℕ) (words : List (List ℕ)) → line_of (word ∷ words) ≡ word ++ spaced words
 line_spaced word [] = sym (append-nil word)
@@ -34,11 +30,6 @@ line_pieces old first words a b c begun said ended =
 -- a word more before others
 pub word_more : (old text new word : List ℕ) (words : List (List ℕ)) → text ≡ old ++ 32 ∷ word → new ≡ text ++ spaced words → new ≡ old ++ spaced (word ∷ words)
 word_more old text new word words begun more = more ∙ ap (λ t. t ++ spaced words) begun ∙ append_assoc old (32 ∷ word) (spaced words)
-
--- words behind words
-pub words_more : (old text new : List ℕ) (a b : List (List ℕ)) → text ≡ old ++ spaced a → new ≡ text ++ spaced b → new ≡ old ++ spaced (a ++ b)
-words_more old text new a b begun more =
-    more ∙ ap (λ t. t ++ spaced b) begun ∙ append_assoc old (spaced a) (spaced b) ∙ ap (λ t. old ++ t) (sym (spaced-append a b))
 
 -- lines behind lines
 pub lines_more : (old text new : List ℕ) (a b : List (List (List ℕ))) → text ≡ old ++ written a → new ≡ text ++ written b → new ≡ old ++ written (a ++ b)

@@ -17,6 +17,5 @@ pub mod Origins
 pub mod Starting
 pub mod StatusGrowth
 pub mod Steps
-pub mod Tables
 pub mod Unbroken
 pub mod ValueTies

@@ -15,10 +15,6 @@ use Rattle.acta_objects.specs.Objects.{is_set_op, set_step, set_return}
 use Rattle.acta_objects.specs.Conflicts.{Commutes, Conflict, IsSet, set_conflicts}
 use Rattle.acta_objects.specs.Sets.{has, same_eq, empty_set, set_of_one, has_inserted_other, has_removed_other, insert_insert, insert_remove, remove_remove}
 
--- two operations commute from this set
-abbrev Commute : List ℤ → Op → Op → Type 0
-Commute v p q = Commutes set_step set_return v p q
-
 -- two operations conflict
 abbrev Differ : Op → Op → Type 0
 Differ p q = Conflict IsSet set_step set_return p q

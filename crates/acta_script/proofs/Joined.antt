@@ -1,7 +1,7 @@
 -- Numbers that are read or written one after another.
-use Rattle.std.proofs.Common.{◌≡◌, ℕ, List, [], ◌∷◌, ◌++◌, map, decimal, length, get_or, take, drop, ◌≤◌, ◌-◌, arith, Option, Some, None, option_map, refl, sym, ap, ◌∙◌}
+use Rattle.std.proofs.Common.{◌≡◌, ℕ, List, [], ◌∷◌, ◌++◌, map, decimal, length, get_or, take, drop, ◌≤◌, ◌-◌, arith, Option, option_map, sym, ap, ◌∙◌}
 use Rattle.std.specs.List.{join_with_byte, flat_map}
-use Rattle.std.proofs.lemmas.List.{append_assoc, append-nil, take_all}
+use Rattle.std.proofs.lemmas.List.{append-nil, take_all}
 use Rattle.acta_table.specs.declared.event.OpNo.{OpNo}
 use Rattle.acta_table.specs.Sets.{numbers_of, numbered}
 use Rattle.acta_script.specs.Writing.{operations_word}
@@ -9,11 +9,6 @@ use Rattle.acta_script.specs.Writing.{operations_word}
 -- the operations so far, with what the words that are left give
 abbrev pub with_left : List OpNo → Option (List ℕ) → Option (List OpNo)
 with_left ops left = option_map (λ ns. ops ++ numbered ns) left
-
--- one word more
-pub with_left-more : (ops : List OpNo) (n : ℕ) (left : Option (List ℕ)) → with_left (ops ++ record { 0 = n } ∷ []) left ≡ with_left ops (option_map (λ ns. n ∷ ns) left)
-with_left-more ops n None = refl
-with_left-more ops n (Some ns) = ap Some (append_assoc ops (record { 0 = n } ∷ []) (numbered ns))
 
 -- some numbers, each behind a comma
 abbrev pub behind_commas : List OpNo → List ℕ

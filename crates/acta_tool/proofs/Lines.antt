@@ -27,10 +27,6 @@ pub turn : {X : Type 0} (read : List ℕ → Result X LineFault) (n : ℕ) (xs :
 turn read n xs line left rest says all parts is h =
     (λ i. put_before xs (with_line n (sym is i) (said_from read (n + 1) rest))) ∙ sym (ap (λ l. put_before xs (said_from read n l)) parts) ∙ h
 
--- it says an event
-pub says_one : {X : Type 0} (n : ℕ) (xs : List X) (x : X) (rest all : Said X) → put_before xs (with_line n (Some (Ok x)) rest) ≡ all → put_before (xs ++ x ∷ []) rest ≡ all
-says_one n xs x rest all h = (λ i. record rest { said = append_assoc xs (x ∷ []) rest.said i }) ∙ h
-
 -- it is faulty
 pub stops : {X : Type 0} (n : ℕ) (xs : List X) (fault : LineFault) (rest all : Said X) → put_before xs (with_line n (Some (Err fault)) rest) ≡ all → all ≡ record { said = xs; stop = Some (record { line = n; fault = fault }) }
 stops n xs fault rest all h = sym h ∙ (λ i. record { said = append-nil xs i; stop = Some (record { line = n; fault = fault }) })
