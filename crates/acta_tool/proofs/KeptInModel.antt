@@ -1,5 +1,5 @@
 -- What a history without faults names is in the model.
-use Rattle.std.proofs.Common.{◌≡◌, ℕ, zero, suc, ◌<◌, Bool, true, false, cond, ◌||◌, List, [], ◌∷◌, ◌++◌, map, length, refl, sym, ap, subst, arith}
+use Rattle.std.proofs.Common.{◌≡◌, ℕ, zero, suc, ◌<◌, Bool, true, false, cond, ◌||◌, List, [], ◌∷◌, ◌++◌, map, length, refl, ap, subst, arith}
 use Rattle.std.specs.Prelude.{nat_le, Option, Some, None, is_some, IfSome, unwrap_or, flat_map, slice_get}
 use Rattle.std.specs.Option.{option_map_or}
 use Rattle.std.proofs.lemmas.Bool.{true≢false}
@@ -8,8 +8,7 @@ use Rattle.acta_table.specs.declared.event.Event.{Event}
 use Rattle.acta_table.specs.declared.event.Kept.{Kept}
 use Rattle.acta_table.specs.declared.model.Parts.{Parts}
 use Rattle.acta_table.specs.Events.{class_named, object_named}
-use Rattle.acta_table.specs.WellFormed.{bad_number, bad_class, bad_object, same_transaction}
-use Rattle.acta_objects.specs.WellFormed.{bad_operation}
+use Rattle.acta_table.specs.WellFormed.{bad_number, bad_class, bad_object}
 use Rattle.acta_axioms.specs.declared.fault.Axiom.TheVariants.{BegunOnce, EndedAfterBegun, EndedOnce, OperatesInProgress, FormOfEvent}
 use Rattle.acta_axioms.specs.History.{number, places_behind}
 use Rattle.acta_axioms.specs.Faults.{begun_again, ended_unbegun, ended_again, operated_idle, ill_formed, breaches, faults_of, faults_at}

@@ -1,10 +1,9 @@
 -- One line after another: what they say so far, before what the lines that are left say.
-use Rattle.std.proofs.Common.{◌≡◌, ℕ, ◌+◌, ◌==◌, Bool, true, false, cond, List, [], ◌∷◌, ◌++◌, length, refl, sym, ap, ◌∙◌}
-use Rattle.std.specs.Prelude.{Option, Some, None, option_map, Result, Ok, Err}
-use Rattle.std.proofs.lemmas.List.{append_assoc, append-nil}
+use Rattle.std.proofs.Common.{◌≡◌, ℕ, ◌+◌, List, [], ◌∷◌, ◌++◌, sym, ap, ◌∙◌}
+use Rattle.std.specs.Prelude.{Option, Some, None, Result, Err}
+use Rattle.std.proofs.lemmas.List.{append-nil}
 use Rattle.acta_script.specs.declared.fault.LineFault.{LineFault}
-use Rattle.acta_words.specs.Text.{lines_of, words_of}
-use Rattle.acta_tool.specs.declared.script.BadLine.{BadLine}
+use Rattle.acta_words.specs.Text.{lines_of}
 use Rattle.acta_tool.specs.Output.{Said, said_by, said_from, said_in, with_line}
 
 -- these, before what else is said

@@ -1,5 +1,5 @@
 -- What the words of a command line ask for, in the words of `clap`.
-use Rattle.std.specs.Prelude.{◌≡◌, ◌≢◌, ◌==◌, ⊤, ℕ, Bool, true, false, ◌⊎◌, List, [], ◌∷◌, Option, Some, None, option_map, IsSomeAnd, slice_index, codes}
+use Rattle.std.specs.Prelude.{◌≡◌, ◌≢◌, ◌==◌, ⊤, Bool, true, false, ◌⊎◌, List, [], ◌∷◌, Option, Some, option_map, IsSomeAnd, slice_index, codes}
 use Rattle.std.specs.Option.{option_and_then, option_map_or}
 use Rattle.std.specs.Str.{bytes_eq}
 use Rattle.clap.specs.Words.{App, Row, Rule, Text, IsAmong, Kinds, fault_of, first_of, kind_of, new_app, new_rule, subcommand_of, with_rule, with_subcommand}

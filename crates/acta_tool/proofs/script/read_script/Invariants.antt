@@ -1,4 +1,4 @@
-use Rattle.std.proofs.Common.{◌≡◌, ◌≤◌, ◌+◌, ◌++◌, length}
+use Rattle.std.proofs.Common.{◌≡◌, ◌≤◌, ◌+◌, length}
 use Rattle.acta_script.specs.Reading.{event_of}
 use Rattle.acta_words.specs.LinesToCome.{lines_to_come}
 use Rattle.acta_tool.specs.Output.{said_in, said_from}
