@@ -157,7 +157,9 @@ impl<A: Allocator> Event<A> {
             (Event::Delegate(t, v, ops), Event::Delegate(u, w, others)) => {
                 t == u && v == w && ops.is_same(others)
             }
-            (Event::Form(kind, j, i), Event::Form(other, l, k)) => kind == other && j == l && i == k,
+            (Event::Form(kind, j, i), Event::Form(other, l, k)) => kind == other
+                && j == l
+                && i == k,
             (Event::Operate(t, ob, op), Event::Operate(u, on, other)) => {
                 t == u && ob == on && op == other
             }
