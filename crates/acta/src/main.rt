@@ -9,8 +9,8 @@ ghost use Rattle.std.specs.Prelude.{◌≤◌, IfOk, vec_len};
 
 use acta_models::Standard;
 use acta_tool::{
-    Args, Metered, ModelName, ReadFault, Status, UsageFault, Watched, exit_status, parse, read_all,
-    run_tool,
+    Args, Metered, ModelName, Outcome, ReadFault, UsageFault, Watched, exit_status, parse,
+    read_all, run_tool,
 };
 use std::alloc::AllocError;
 use std::process::ExitCode;
@@ -38,21 +38,21 @@ fn read_model(rt: &HostRuntime, path: &str) -> Result<Vec<u8>, ReadFault>
 }
 
 // Runs the tool on the bytes of a model, over the standard input and output.
-fn run_on(rt: &HostRuntime, args: &Args<'_>, model: &[u8]) -> Status {
+fn run_on(rt: &HostRuntime, args: &Args<'_>, model: &[u8]) -> Outcome {
     let mut input = Metered::new(rt.reader());
     let mut output = Watched::new(io::writer(rt));
     run_tool(rt.alloc(), args, model, &mut input, &mut output)
 }
 
 // Does what the words ask for.
-fn serve(rt: &HostRuntime) -> Result<Status, UsageFault> {
+fn serve(rt: &HostRuntime) -> Result<Outcome, UsageFault> {
     let words = words(rt)?;
     let args = parse(rt.alloc(), words.as_slice())?;
     Ok(match args.model {
         ModelName::Standard(name) => run_on(rt, &args, name.text().as_bytes()),
         ModelName::Path(path) => match read_model(rt, path) {
             Ok(model) => run_on(rt, &args, model.as_slice()),
-            Err(reason) => Status::Unread(reason),
+            Err(reason) => Outcome::Unread(reason),
         },
     })
 }

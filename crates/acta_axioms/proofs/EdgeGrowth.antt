@@ -34,8 +34,8 @@ use Rattle.acta_table.specs.Starts.{directed, edge_between, edges_between}
 use Rattle.acta_table.specs.WellFormed.{same_transaction}
 use Rattle.acta_axioms.specs.History.{Place, number, places, first, starts, commits, aborts, joins, course, class_of}
 use Rattle.acta_axioms.specs.Edges.{holders_against, formed_by, formed_at, edges}
-use Rattle.acta_axioms.specs.Claims.{is_orderly, is_apart, IsOrderly, status_in, status_at}
-use Rattle.acta_axioms.specs.Within.{within, IsWithin}
+use Rattle.acta_axioms.specs.Claims.{is_orderly, is_apart, IsOrderly, course_status, status_at}
+use Rattle.acta_axioms.specs.inside.Within.{within, IsWithin}
 use Rattle.acta_axioms.proofs.Growth.{found-passes, at_end, places-push, places_within, or_here, course-push}
 use Rattle.acta_axioms.proofs.Holders.{all-upon, holders-others}
 use Rattle.acta_axioms.proofs.ValueGrowth.{eqb-turned}
@@ -244,7 +244,7 @@ orderly_begun h None None (Some l) j b is = absurd (false≢true is)
 orderly_begun h None (Some l) a j b is = absurd (false≢true is)
 
 -- and where one in progress ends in one way
-orderly_ended : {A : Type 0} (h : List (Kept A)) (s c a j : Option ℕ) (b d f : Bool) → ((b && d) || ((b && f) || (d && f))) ≡ false → status_in (record { start = s; commit = c; abort = a; join = j }) ≡ InProgress →
+orderly_ended : {A : Type 0} (h : List (Kept A)) (s c a j : Option ℕ) (b d f : Bool) → ((b && d) || ((b && f) || (d && f))) ≡ false → course_status (record { start = s; commit = c; abort = a; join = j }) ≡ InProgress →
     is_orderly (record { start = or_here h s false; commit = or_here h c b; abort = or_here h a d; join = or_here h j f }) ≡ true
 orderly_ended h (Some i) None None None true true f one is = absurd (true≢false one)
 orderly_ended h (Some i) None None None true false true one is = absurd (true≢false one)

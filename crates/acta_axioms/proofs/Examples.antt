@@ -112,11 +112,11 @@ unallowed_faults = refl
 abbrev unruly : List (Kept (Unit {0}))
 unruly =
     begin 1 0 ∷ begin 1 1 ∷ operate 2 0 (Write (pos 5)) Done ∷ operate 1 0 (Write (pos 6)) Done
-    ∷ operate 1 9 Read Done ∷ operate 1 0 (Insert (pos 1)) (Flag true) ∷ commit 1 ∷ abort 1 ∷ begin 5000 9 ∷ []
+    ∷ operate 1 9 Read Done ∷ operate 1 0 (Insert (pos 1)) (Flag true) ∷ commit 1 ∷ abort 1 ∷ begin 65535 9 ∷ []
 
 unruly_faults : faults_in_places model unruly ≡
     fault BegunOnce 2 1 ∷ fault OperatesInProgress 3 2 ∷ fault Conflict 4 1 ∷ fault FormOfEvent 5 1
-    ∷ fault FormOfEvent 6 1 ∷ fault EndedOnce 8 1 ∷ fault FormOfEvent 9 5000 ∷ []
+    ∷ fault FormOfEvent 6 1 ∷ fault EndedOnce 8 1 ∷ fault FormOfEvent 9 65535 ∷ []
 unfolding breaches bad_number bad_class bad_object bad_operation same_transaction
 unruly_faults = refl
 
@@ -314,7 +314,7 @@ late_faults = refl
 
 -- an edge of one transaction on itself, and one whose number is bad
 abbrev alone : List (Kept (Unit {0}))
-alone = form Cd 1 1 ∷ form Cd 2 5000 ∷ []
+alone = form Cd 1 1 ∷ form Cd 2 65535 ∷ []
 
 alone_faults : faults_in_places model alone ≡ fault FormOfEvent 1 1 ∷ fault FormOfEvent 2 2 ∷ []
 unfolding breaches bad_number bad_class bad_object bad_operation same_transaction

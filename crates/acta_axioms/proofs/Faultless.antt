@@ -1,6 +1,5 @@
 -- A history that grows by items without fault meets the axioms, and what makes an item faultless.
 use Rattle.std.proofs.Common.{if◌then◌else◌, ◌==◌, filter, ◌≡◌, ℕ, Bool, true, false, ◌||◌, not, cond, List, [], ◌∷◌, ◌++◌, None, is_some, refl, ap, ◌∙◌}
-use Rattle.std.proofs.lemmas.Bool.Decides.{Decides-int_eq}
 use Rattle.acta_table.specs.declared.answer.Status.TheVariants.{NotBegun, InProgress}
 use Rattle.acta_table.specs.declared.dep.Dep.{Dep}
 use Rattle.acta_table.specs.declared.event.ClassId.{ClassId}
@@ -8,15 +7,13 @@ use Rattle.acta_table.specs.declared.event.Event.{Event}
 use Rattle.acta_table.specs.declared.event.Event.TheVariants.{Begin, Spawn, Split, Join, Delegate, Form, Commit, Abort}
 use Rattle.acta_table.specs.declared.event.Kept.{Kept}
 use Rattle.acta_table.specs.declared.event.OpNo.{OpNo}
-use Rattle.acta_table.specs.declared.event.Ret.{Ret}
-use Rattle.acta_table.specs.declared.event.Ret.TheVariants.{Done, Value, Flag}
 use Rattle.acta_table.specs.declared.event.TxnId.{TxnId}
 use Rattle.acta_table.specs.declared.model.Parts.{Parts}
 use Rattle.acta_table.specs.WellFormed.{bad_number, bad_class, bad_object, same_transaction}
 use Rattle.acta_objects.specs.WellFormed.{bad_operation}
 use Rattle.acta_axioms.specs.declared.fault.Axiom.TheVariants.{BegunOnce, EndedAfterBegun, EndedOnce, OperatesInProgress, FormOfEvent, Allowed, PartiesInProgress, Responsible, HandsWhole, Conflict, Return, Heir, FormedInTime}
 use Rattle.acta_axioms.specs.History.{number, has_begun, has_ended, is_in_progress}
-use Rattle.acta_axioms.specs.Faults.{when, first_named, is_same_ret, begun_again, ended_unbegun, ended_again, operated_idle, ill_formed, not_allowed, idle_party, handed_unheld, left_out, in_conflict, wrong_return, without_heir, formed_late, breaches, faults_of, faults_at}
+use Rattle.acta_axioms.specs.Faults.{when, first_named, begun_again, ended_unbegun, ended_again, operated_idle, ill_formed, not_allowed, idle_party, handed_unheld, kept_back, in_conflict, wrong_return, without_heir, not_in_time, breaches, faults_of, faults_at}
 use Rattle.acta_axioms.specs.Legal.{is_legal}
 use Rattle.acta_axioms.specs.Claims.{MeetsAxioms, status_at}
 use Rattle.acta_axioms.proofs.Growth.{at_end, faults_in_places-push}
@@ -32,11 +29,11 @@ pub record IsFaultless {A : Type 0} (m : Parts A) (before : List (Kept A)) (k : 
   pub allowed : not_allowed m before k.event ≡ []
   pub parties_in_progress : idle_party before k.event ≡ []
   pub responsible : handed_unheld m before k.event ≡ []
-  pub hands_whole : left_out m before k.event ≡ []
+  pub hands_whole : kept_back m before k.event ≡ []
   pub conflict : in_conflict m before k.event ≡ []
   pub return : wrong_return m before k.ret k.event ≡ []
   pub heir : without_heir m before k.event ≡ []
-  pub formed_in_time : formed_late before k.event ≡ []
+  pub formed_in_time : not_in_time before k.event ≡ []
 
 pub faults_at-none : {A : Type 0} (m : Parts A) (h : List (Kept A)) (k : Kept A) → IsFaultless m h k → faults_at m (at_end h k) ≡ []
 unfolding breaches
@@ -110,7 +107,7 @@ faultless-begin m h t class status form allowed =
 
 -- an edge that is formed in time
 pub faultless-form : {A : Type 0} (m : Parts A) (h : List (Kept A)) (kind : Dep) (j i : TxnId) →
-    ill_formed m (Form kind j i) ≡ [] → not_allowed m h (Form kind j i) ≡ [] → formed_late h (Form kind j i) ≡ [] → IsFaultless m h (record { event = Form kind j i; ret = None })
+    ill_formed m (Form kind j i) ≡ [] → not_allowed m h (Form kind j i) ≡ [] → not_in_time h (Form kind j i) ≡ [] → IsFaultless m h (record { event = Form kind j i; ret = None })
 faultless-form m h kind j i form allowed in_time =
     record {
       begun_once = refl;
@@ -150,7 +147,7 @@ faultless-spawn m h t c class status status_of_child form allowed =
 
 -- a split by one in progress of one that has not begun, of operations that it holds, and of all where it has to
 pub faultless-split : {A : Type 0} (m : Parts A) (h : List (Kept A)) (t u : TxnId) (class : ClassId) (ops : List OpNo) → status_at h t.0 ≡ InProgress → status_at h u.0 ≡ NotBegun →
-    ill_formed m (Split t u class ops) ≡ [] → not_allowed m h (Split t u class ops) ≡ [] → handed_unheld m h (Split t u class ops) ≡ [] → left_out m h (Split t u class ops) ≡ [] →
+    ill_formed m (Split t u class ops) ≡ [] → not_allowed m h (Split t u class ops) ≡ [] → handed_unheld m h (Split t u class ops) ≡ [] → kept_back m h (Split t u class ops) ≡ [] →
     IsFaultless m h (record { event = Split t u class ops; ret = None })
 faultless-split m h t u class ops status status_of_other form allowed held whole =
     record {
@@ -191,7 +188,7 @@ faultless-join m h t u status status_of_other form allowed =
 
 -- a delegation by one in progress to one in progress, of operations that it holds, and of all where it has to
 pub faultless-delegate : {A : Type 0} (m : Parts A) (h : List (Kept A)) (t u : TxnId) (ops : List OpNo) → status_at h t.0 ≡ InProgress → status_at h u.0 ≡ InProgress →
-    ill_formed m (Delegate t u ops) ≡ [] → not_allowed m h (Delegate t u ops) ≡ [] → handed_unheld m h (Delegate t u ops) ≡ [] → left_out m h (Delegate t u ops) ≡ [] →
+    ill_formed m (Delegate t u ops) ≡ [] → not_allowed m h (Delegate t u ops) ≡ [] → handed_unheld m h (Delegate t u ops) ≡ [] → kept_back m h (Delegate t u ops) ≡ [] →
     IsFaultless m h (record { event = Delegate t u ops; ret = None })
 faultless-delegate m h t u ops status status_of_other form allowed held whole =
     record {
@@ -252,9 +249,3 @@ faultless-abort m h t status form allowed =
       heir = refl;
       formed_in_time = refl;
     }
-
-same_ret : (r : Ret) → is_same_ret r r ≡ true
-same_ret Done = refl
-same_ret (Value v) = (Decides-int_eq v v).1 refl
-same_ret (Flag true) = refl
-same_ret (Flag false) = refl

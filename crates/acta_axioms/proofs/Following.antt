@@ -28,10 +28,10 @@ use Rattle.acta_table.specs.Sets.{is_named}
 use Rattle.acta_table.specs.Fates.{is_open}
 use Rattle.acta_axioms.specs.declared.behind.HeldOp.{HeldOp}
 use Rattle.acta_axioms.specs.declared.heirs.Lineage.{Lineage}
-use Rattle.acta_axioms.specs.Behind.{held_op, held_ops, in_hand, moves, brought, op_done, IsBehind, is_above, is_against, formed_alone, may_depend}
+use Rattle.acta_axioms.specs.inside.Behind.{held_op, held_ops, in_hand, moves, brought, op_done, IsBehind, is_above, is_against, formed_alone, may_depend}
 use Rattle.acta_axioms.specs.Edges.{holders_against, formed_by, edges}
 use Rattle.acta_axioms.specs.History.{places_behind, class_number, class_of}
-use Rattle.acta_axioms.specs.Index.{unbegun, lineage, begun_in, with_start, class_by, heir_by, heir_in}
+use Rattle.acta_axioms.specs.inside.Index.{unbegun, lineage, begun_in, with_start, class_by, heir_by, heir_in}
 use Rattle.acta_axioms.specs.Operations.{Operation, is_operate, number_after, operation_in, operation_at, operations, Standing, held_by, ended_by, heir, followed, carried, standing, is_spared, is_of_others}
 use Rattle.acta_axioms.specs.Values.{do_conflict}
 use Rattle.acta_axioms.proofs.ByOperations.{holders-shown}

@@ -18,7 +18,7 @@ use Rattle.acta_table.specs.Classes.{class_at, has_heir}
 use Rattle.acta_table.specs.Events.{named, started, class_named}
 use Rattle.acta_axioms.specs.declared.heirs.Lineage.{Lineage}
 use Rattle.acta_axioms.specs.History.{Place, number, places_behind, places, first, starts, has_begun, class_number, class_of, spawner, parent_of}
-use Rattle.acta_axioms.specs.Index.{unbegun, class_id, lineage, begun_in, spawner_by, with_start, class_by, heir_of_line, heir_by, heir_in, heir_at, heirs_of}
+use Rattle.acta_axioms.specs.inside.Index.{unbegun, class_id, lineage, begun_in, spawner_by, with_start, class_by, heir_of_line, heir_by, heir_in, heir_at, heirs_of}
 use Rattle.acta_axioms.proofs.Growth.{at_end, places-push, has_begun-push, class_number-push, parent_of-push}
 use Rattle.acta_axioms.proofs.Named.{named-started}
 use Rattle.acta_axioms.proofs.Tables.{get_or-blank}

@@ -7,7 +7,7 @@ use Rattle.acta_table.specs.declared.event.Event.{Event}
 use Rattle.acta_table.specs.declared.event.Event.TheVariants.{Begin, Spawn, Split, Join, Commit, Abort}
 use Rattle.acta_table.specs.declared.event.Kept.{Kept}
 use Rattle.acta_axioms.specs.History.{starts, commits, aborts, joins, course, least, has_begun, has_ended, is_in_progress}
-use Rattle.acta_axioms.specs.Claims.{status_in, status_at}
+use Rattle.acta_axioms.specs.Claims.{course_status, status_at}
 use Rattle.acta_axioms.proofs.Growth.{or_here, course-push}
 
 -- a status after a begin, spawn or split of the transaction, after an abort, and after a join; after a commit it is
@@ -36,7 +36,7 @@ status_after t (Abort u) s = if u.0 == t then when_aborted s else s
 status_after t _ s = s
 
 begun_in : {A : Type 0} (h : List (Kept A)) (s c a j : Option ℕ) (b : Bool) →
-    status_in (record { start = or_here h s b; commit = or_here h c false; abort = or_here h a false; join = or_here h j false }) ≡ (if b then when_begun (status_in (record { start = s; commit = c; abort = a; join = j })) else status_in (record { start = s; commit = c; abort = a; join = j }))
+    course_status (record { start = or_here h s b; commit = or_here h c false; abort = or_here h a false; join = or_here h j false }) ≡ (if b then when_begun (course_status (record { start = s; commit = c; abort = a; join = j })) else course_status (record { start = s; commit = c; abort = a; join = j }))
 begun_in h s (Some i) a j true = refl
 begun_in h s (Some i) a j false = refl
 begun_in h s None (Some i) j true = refl
@@ -49,7 +49,7 @@ begun_in h (Some i) None None None true = refl
 begun_in h (Some i) None None None false = refl
 
 joined_in : {A : Type 0} (h : List (Kept A)) (s c a j : Option ℕ) (b : Bool) →
-    status_in (record { start = or_here h s false; commit = or_here h c false; abort = or_here h a false; join = or_here h j b }) ≡ (if b then when_joined (status_in (record { start = s; commit = c; abort = a; join = j })) else status_in (record { start = s; commit = c; abort = a; join = j }))
+    course_status (record { start = or_here h s false; commit = or_here h c false; abort = or_here h a false; join = or_here h j b }) ≡ (if b then when_joined (course_status (record { start = s; commit = c; abort = a; join = j })) else course_status (record { start = s; commit = c; abort = a; join = j }))
 joined_in h s (Some i) a j true = refl
 joined_in h s (Some i) a j false = refl
 joined_in h s None (Some i) j true = refl
@@ -62,7 +62,7 @@ joined_in h (Some i) None None None true = refl
 joined_in h (Some i) None None None false = refl
 
 committed_in : {A : Type 0} (h : List (Kept A)) (s c a j : Option ℕ) (b : Bool) →
-    status_in (record { start = or_here h s false; commit = or_here h c b; abort = or_here h a false; join = or_here h j false }) ≡ (if b then Committed else status_in (record { start = s; commit = c; abort = a; join = j }))
+    course_status (record { start = or_here h s false; commit = or_here h c b; abort = or_here h a false; join = or_here h j false }) ≡ (if b then Committed else course_status (record { start = s; commit = c; abort = a; join = j }))
 committed_in h s (Some i) a j true = refl
 committed_in h s (Some i) a j false = refl
 committed_in h s None (Some i) j true = refl
@@ -75,7 +75,7 @@ committed_in h (Some i) None None None true = refl
 committed_in h (Some i) None None None false = refl
 
 aborted_in : {A : Type 0} (h : List (Kept A)) (s c a j : Option ℕ) (b : Bool) →
-    status_in (record { start = or_here h s false; commit = or_here h c false; abort = or_here h a b; join = or_here h j false }) ≡ (if b then when_aborted (status_in (record { start = s; commit = c; abort = a; join = j })) else status_in (record { start = s; commit = c; abort = a; join = j }))
+    course_status (record { start = or_here h s false; commit = or_here h c false; abort = or_here h a b; join = or_here h j false }) ≡ (if b then when_aborted (course_status (record { start = s; commit = c; abort = a; join = j })) else course_status (record { start = s; commit = c; abort = a; join = j }))
 aborted_in h s (Some i) a j true = refl
 aborted_in h s (Some i) a j false = refl
 aborted_in h s None (Some i) j true = refl
@@ -88,9 +88,9 @@ aborted_in h (Some i) None None None true = refl
 aborted_in h (Some i) None None None false = refl
 
 pub status_at-push : {A : Type 0} (h : List (Kept A)) (k : Kept A) (t : ℕ) → status_at (h ++ k ∷ []) t ≡ status_after t k.event (status_at h t)
-status_at-push {A} h k t = ap status_in (course-push h k t) ∙ of_event k.event
+status_at-push {A} h k t = ap course_status (course-push h k t) ∙ of_event k.event
   where
-    of_event : (e : Event A) → status_in (record { start = or_here h (course h t).start (starts t e); commit = or_here h (course h t).commit (commits t e); abort = or_here h (course h t).abort (aborts t e); join = or_here h (course h t).join (joins t e) }) ≡ status_after t e (status_at h t)
+    of_event : (e : Event A) → course_status (record { start = or_here h (course h t).start (starts t e); commit = or_here h (course h t).commit (commits t e); abort = or_here h (course h t).abort (aborts t e); join = or_here h (course h t).join (joins t e) }) ≡ status_after t e (status_at h t)
     of_event (Begin u class) = begun_in h (course h t).start (course h t).commit (course h t).abort (course h t).join (u.0 == t)
     of_event (Spawn v u class) = begun_in h (course h t).start (course h t).commit (course h t).abort (course h t).join (u.0 == t)
     of_event (Split v u class ops) = begun_in h (course h t).start (course h t).commit (course h t).abort (course h t).join (u.0 == t)
@@ -108,7 +108,7 @@ is_under_way _ = false
 pub in_progress-status : {A : Type 0} (h : List (Kept A)) (t : ℕ) → is_in_progress h t ≡ is_under_way (status_at h t)
 in_progress-status h t = of_course (course h t).start (course h t).commit (course h t).abort (course h t).join
   where
-    of_course : (s c a j : Option ℕ) → (is_some s && not (is_some (least c (least a j)))) ≡ is_under_way (status_in (record { start = s; commit = c; abort = a; join = j }))
+    of_course : (s c a j : Option ℕ) → (is_some s && not (is_some (least c (least a j)))) ≡ is_under_way (course_status (record { start = s; commit = c; abort = a; join = j }))
     of_course None None None None = refl
     of_course None None None (Some l) = refl
     of_course None None (Some l) j = refl
@@ -128,7 +128,7 @@ is_ended_status _ = false
 pub has_ended-status : {A : Type 0} (h : List (Kept A)) (t : ℕ) → has_ended h t ≡ is_ended_status (status_at h t)
 has_ended-status h t = of_course (course h t).start (course h t).commit (course h t).abort (course h t).join
   where
-    of_course : (s c a j : Option ℕ) → is_some (least c (least a j)) ≡ is_ended_status (status_in (record { start = s; commit = c; abort = a; join = j }))
+    of_course : (s c a j : Option ℕ) → is_some (least c (least a j)) ≡ is_ended_status (course_status (record { start = s; commit = c; abort = a; join = j }))
     of_course None None None None = refl
     of_course (Some i) None None None = refl
     of_course s None None (Some l) = refl
@@ -138,7 +138,7 @@ has_ended-status h t = of_course (course h t).start (course h t).commit (course 
 pub has_begun-status : {A : Type 0} (h : List (Kept A)) (t : ℕ) → is_ended_status (status_at h t) ≡ false → has_begun h t ≡ is_under_way (status_at h t)
 has_begun-status h t open_still = of_course (course h t).start (course h t).commit (course h t).abort (course h t).join open_still
   where
-    of_course : (s c a j : Option ℕ) → is_ended_status (status_in (record { start = s; commit = c; abort = a; join = j })) ≡ false → is_some s ≡ is_under_way (status_in (record { start = s; commit = c; abort = a; join = j }))
+    of_course : (s c a j : Option ℕ) → is_ended_status (course_status (record { start = s; commit = c; abort = a; join = j })) ≡ false → is_some s ≡ is_under_way (course_status (record { start = s; commit = c; abort = a; join = j }))
     of_course None None None None e = refl
     of_course (Some i) None None None e = refl
     of_course s None None (Some l) e = absurd (true≢false e)

@@ -21,7 +21,7 @@ use Rattle.acta_axioms.specs.declared.index.Traced.{Traced}
 use Rattle.acta_axioms.specs.History.{Place, number, places_behind, places, starts, commits, aborts, joins, Course, course}
 use Rattle.acta_axioms.specs.Operations.{is_operate, number_after, operation_in, operation_at, Standing, held_by, carried, standing, standing_of}
 use Rattle.acta_axioms.specs.Edges.{edges}
-use Rattle.acta_axioms.specs.Index.{nowhere, course_in, course_from, with_event, turn_in, turn_from, with_turn, traced_in, traced_from, heirs_of, onward_in, onward_from, held_from, numbered, IsIndex}
+use Rattle.acta_axioms.specs.inside.Index.{nowhere, course_in, course_from, with_event, turn_in, turn_from, with_turn, traced_in, traced_from, heirs_of, onward_in, onward_from, held_from, numbered, IsIndex}
 use Rattle.acta_axioms.proofs.Growth.{number_after-push}
 use Rattle.acta_axioms.proofs.Tables.{get_or-blank}
 

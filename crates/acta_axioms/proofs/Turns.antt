@@ -20,7 +20,7 @@ use Rattle.acta_axioms.specs.declared.follow.Turn.TheVariants.{On, Ended}
 use Rattle.acta_axioms.specs.declared.index.Onward.{Onward}
 use Rattle.acta_axioms.specs.History.{Place, places_behind, places}
 use Rattle.acta_axioms.specs.Operations.{Standing, held_by, ended_by, heir, followed, carried}
-use Rattle.acta_axioms.specs.Index.{turns, turn_from, heir_by, heirs_of, onward_in, onward_from, left_to, turned_by, held_from}
+use Rattle.acta_axioms.specs.inside.Index.{turns, turn_from, heir_by, heirs_of, onward_in, onward_from, left_to, turned_by, held_from}
 use Rattle.acta_axioms.proofs.Growth.{length-places}
 use Rattle.acta_axioms.proofs.Lineages.{heir-there}
 use Rattle.acta_axioms.proofs.Prefixes.{places-take}

@@ -15,9 +15,9 @@ filter-both p q (x ∷ xs) = of_test (p x) (filter-both p q xs)
     of_test false later = later
 
 -- whether the event is an abort
-abbrev pub is_abort : {A : Type 0} → Event A → Bool
-is_abort (Abort t) = true
-is_abort _ = false
+abbrev pub aborts : {A : Type 0} → Event A → Bool
+aborts (Abort t) = true
+aborts _ = false
 
 pub eqb-turned : (a b : ℕ) → (a == b) ≡ (b == a)
 eqb-turned a b = elim (cases_eq a b) [ inl e ↦ eq-eqb a b e ∙ sym (eq-eqb b a (sym e)) | inr n ↦ ne_eqb a b n ∙ sym (ne_eqb b a (λ e. n (sym e))) ]

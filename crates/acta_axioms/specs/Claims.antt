@@ -32,8 +32,8 @@ pub record IsOrderly {A : Type 0} (m : Parts A) (h : List (Kept A)) : Type 0 whe
   pub edges : list_all is_apart (edges m h) ≡ true
 
 -- how a transaction of this course stands
-abbrev pub status_in : Course → Status
-status_in c =
+abbrev pub course_status : Course → Status
+course_status c =
     if is_some c.commit then Committed
     else if is_some c.abort then Aborted
     else if is_some c.join then Joined
@@ -42,4 +42,4 @@ status_in c =
 
 -- how a transaction stands, by the places of the history
 abbrev pub status_at : {A : Type 0} → List (Kept A) → ℕ → Status
-status_at h t = status_in (course h t)
+status_at h t = course_status (course h t)

@@ -121,8 +121,8 @@ hands_whole m before e =
     hands_over e && option_map_or (has_class (λ k. is_whole k.extent) m before) (acting e) false
 
 -- hands over the whole: one that must hand over all that it holds leaves something out
-abbrev pub left_out : {A : Type 0} → Parts A → List (Kept A) → Event A → List ℕ
-left_out m before e =
+abbrev pub kept_back : {A : Type 0} → Parts A → List (Kept A) → Event A → List ℕ
+kept_back m before e =
     if hands_whole m before e
     then filter (λ o. not (is_named (operations_named e) o)) (held_numbers m before e)
     else []
@@ -168,12 +168,12 @@ without_heir m before _ = []
 
 -- formed in time: an edge that an event of its own forms is of a begin kind where j has begun, or of another
 -- where j or i has ended
-abbrev pub formed_late : {A : Type 0} → List (Kept A) → Event A → List ℕ
-formed_late before (Form kind j i) =
+abbrev pub not_in_time : {A : Type 0} → List (Kept A) → Event A → List ℕ
+not_in_time before (Form kind j i) =
     if is_begin_kind kind
     then when (has_begun before j.0) j.0
     else option_to_list (smallest (filter (has_ended before) (j.0 ∷ i.0 ∷ [])))
-formed_late before _ = []
+not_in_time before _ = []
 
 -- the numbers by which an event breaks each axiom, in the order of the axioms
 unfoldable pub breaches : {A : Type 0} →
@@ -187,11 +187,11 @@ breaches m before ret e =
     ∷ (Allowed, not_allowed m before e)
     ∷ (PartiesInProgress, idle_party before e)
     ∷ (Responsible, handed_unheld m before e)
-    ∷ (HandsWhole, left_out m before e)
+    ∷ (HandsWhole, kept_back m before e)
     ∷ (Conflict, in_conflict m before e)
     ∷ (Return, wrong_return m before ret e)
     ∷ (Heir, without_heir m before e)
-    ∷ (FormedInTime, formed_late before e)
+    ∷ (FormedInTime, not_in_time before e)
     ∷ []
 
 -- the faults of an axiom at a place

@@ -1,12 +1,12 @@
 -- What is owed by the edges of a history, and whether it is legal.
-use Rattle.std.specs.Prelude.{ℕ, Bool, true, false, ◌&&◌, not, ◌==◌, List, filter_map, Option, Some, option_map}
+use Rattle.std.specs.Prelude.{ℕ, Bool, ◌&&◌, not, ◌==◌, List, filter_map, Option, option_map}
 use Rattle.std.specs.List.{list_any, enumerate_from}
 use Rattle.acta_table.specs.declared.dep.Edge.{Edge}
 use Rattle.acta_table.specs.declared.dep.Missing.{Missing}
-use Rattle.acta_table.specs.declared.dep.Missing.TheVariants.{Commit, Abort}
 use Rattle.acta_table.specs.declared.dep.Owed.{Owed}
 use Rattle.acta_table.specs.declared.event.Kept.{Kept}
 use Rattle.acta_table.specs.declared.model.Parts.{Parts}
+use Rattle.acta_table.specs.Dependencies.{is_commit, is_abort}
 use Rattle.acta_axioms.specs.History.{course}
 use Rattle.acta_axioms.specs.Edges.{edges}
 use Rattle.acta_axioms.specs.Formulas.{debt, is_broken}
@@ -27,15 +27,7 @@ owed_on e missing = record { edge = record { 0 = e.0 }; txn = e.1.j; missing = m
 unfoldable pub owed : {A : Type 0} → Parts A → List (Kept A) → List Owed
 owed m h = filter_map (λ e. option_map (owed_on e) (debt_in h e.1)) (enumerate_from 1 (edges m h))
 
--- whether a commit is owed by the edge, and whether t owes an abort by it
-abbrev pub is_commit : Option Missing → Bool
-is_commit (Some Commit) = true
-is_commit _ = false
-
-abbrev pub is_abort : Option Missing → Bool
-is_abort (Some Abort) = true
-is_abort _ = false
-
+-- whether t owes an abort by the edge
 abbrev pub owes_abort_in : {A : Type 0} → List (Kept A) → ℕ → Edge → Bool
 owes_abort_in h t e = (e.j.0 == t) && is_abort (debt_in h e)
 

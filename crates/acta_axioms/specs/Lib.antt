@@ -6,7 +6,4 @@ pub mod Formulas
 pub mod Legal
 pub mod Faults
 pub mod Claims
-pub mod Within
-pub mod Index
-pub mod Behind
-pub mod Shown
+pub mod inside

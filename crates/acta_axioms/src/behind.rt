@@ -3,10 +3,10 @@ ghost use Rattle.acta_table.specs.Numbered.{ascending};
 ghost use Rattle.acta_table.specs.Sets.{is_named};
 ghost use Rattle.acta_objects.specs.Conflicts.{conflict_on};
 ghost use Rattle.acta_table.specs.Classes.{spares};
-ghost use Rattle.acta_axioms.specs.Behind.{in_hand, moves, held_behind, brought, op_done, is_above, is_against};
+ghost use Rattle.acta_axioms.specs.inside.Behind.{in_hand, moves, held_behind, brought, op_done, is_above, is_against};
 
 use crate::follow::Held;
-use crate::heirs::{Lineage, line};
+use crate::heirs::{Lineage, lineage_of};
 use acta_objects::ObjectState;
 use acta_table::{Event, Fate, Model, ObjId, Op, OpSet, Scope, TxnId};
 use std::alloc::{AllocError, Allocator};
@@ -43,13 +43,6 @@ fn moves<A: Allocator>(event: &Event<A>) -> bool
         Event::Abort(_) => true,
         _ => false,
     }
-}
-
-// Whether the set names the operation of this number.
-fn names<A: Allocator>(ops: &OpSet<A>, number: usize) -> bool
-    ensures { result ≡ is_named ops.now number }
-{
-    ops.as_slice().iter().any(|o| o.0 as usize == number)
 }
 
 // In progress, and held by u where it goes to u.
@@ -91,9 +84,9 @@ fn held_behind<A: Allocator>(
 {
     let holder = held.holder.0;
     match event {
-        Event::Split(s, u, _, ops) => handed(held, s.0 == holder && names(ops, number), *u),
+        Event::Split(s, u, _, ops) => handed(held, s.0 == holder && ops.has_number(number), *u),
         Event::Join(s, u) => handed(held, s.0 == holder, *u),
-        Event::Delegate(s, u, ops) => handed(held, s.0 == holder && names(ops, number), *u),
+        Event::Delegate(s, u, ops) => handed(held, s.0 == holder && ops.has_number(number), *u),
         Event::Commit(s) => match heir {
             Some(u) => handed(held, s.0 == holder, u),
             None => ended(held, s.0 == holder, Fate::Committed),
@@ -175,7 +168,7 @@ pub fn note_event<A: Allocator>(
 fn is_above(lines: &[Lineage], n: usize, t: TxnId, u: TxnId) -> bool
     ensures { result ≡ is_above lines.now n t.0 u.0 }
 {
-    let mut next = line(lines, t).parent;
+    let mut next = lineage_of(lines, t).parent;
     let mut left = n;
     while left > 0 {
         left -= 1;
@@ -185,7 +178,7 @@ fn is_above(lines: &[Lineage], n: usize, t: TxnId, u: TxnId) -> bool
                 if parent.0 == u.0 {
                     return true;
                 }
-                next = line(lines, parent).parent;
+                next = lineage_of(lines, parent).parent;
             }
         }
     }
@@ -196,7 +189,7 @@ fn is_above(lines: &[Lineage], n: usize, t: TxnId, u: TxnId) -> bool
 fn do_conflict<A: Allocator + Copy>(model: &Model<A>, object: ObjId, p: &Op, q: &Op) -> bool
     ensures { result ≡ conflict_on model.now object.0 p.now q.now }
 {
-    match model.objects().get(object.0 as usize) {
+    match model.object(object) {
         Some(object) => ObjectState::<A>::conflicts(&object.kind, p, q),
         None => false,
     }

@@ -4,12 +4,12 @@ ghost use Rattle.acta_table.specs.declared.event.Kept.{Kept};
 ghost use Rattle.acta_table.specs.declared.event.Event.TheVariants.{Operate};
 ghost use Rattle.acta_table.specs.Edges.{with_edge, formed};
 ghost use Rattle.acta_table.specs.Starts.{edges_between};
-ghost use Rattle.acta_axioms.specs.Behind.{IsBehind, formed_alone, may_depend};
+ghost use Rattle.acta_axioms.specs.inside.Behind.{IsBehind, formed_alone, may_depend};
 ghost use Rattle.acta_axioms.specs.Edges.{formed_by, edges};
-ghost use Rattle.acta_axioms.specs.Index.{unbegun, class_by};
+ghost use Rattle.acta_axioms.specs.inside.Index.{unbegun, class_by};
 
 use crate::behind::{Behind, note_event};
-use crate::heirs::{UNBEGUN, heir_of, line, note_start};
+use crate::heirs::{UNBEGUN, heir_of, lineage_of, note_start};
 use crate::index::largest_named;
 use acta_table::{Class, Edge, Event, Kept, Model, ObjId, Op, StartEdge, TxnId};
 use std::alloc::{AllocError, Allocator};
@@ -58,11 +58,11 @@ fn put_alone<A: Allocator>(
     ensures { IfOk result (λ _. made.new.items ≡ formed made.old.items (formed_alone model.now event.now)) }
 {
     match event {
-        Event::Spawn(t, c, class) => match model.classes().get(class.0 as usize) {
+        Event::Spawn(t, c, class) => match model.class(*class) {
             Some(class) => put_between(*t, *c, class.spawn_edges.as_slice(), made),
             None => Ok(()),
         },
-        Event::Split(t, u, class, _) => match model.classes().get(class.0 as usize) {
+        Event::Split(t, u, class, _) => match model.class(*class) {
             Some(class) => put_between(*t, *u, class.split_edges.as_slice(), made),
             None => Ok(()),
         },
@@ -86,8 +86,8 @@ fn class_of<'m, A: Allocator>(
 ) -> Option<&'m Class<A>>
     ensures { option_copied result ≡ class_by model.now (get_or behind.now.lines.now t.0 unbegun) }
 {
-    let class = line(behind.lines, t).class?;
-    model.classes().get(class.0 as usize)
+    let class = lineage_of(behind.lines, t).class?;
+    model.class(class)
 }
 
 // Puts the edges that an operation of t forms behind the others, each once, given what is known behind the items

@@ -3,7 +3,7 @@ ghost use Rattle.acta_table.specs.declared.model.Parts.{Parts};
 ghost use Rattle.acta_table.specs.Sets.{is_named};
 ghost use Rattle.acta_axioms.specs.declared.follow.Turn.TheVariants.{On};
 ghost use Rattle.acta_axioms.specs.Operations.{standing_of};
-ghost use Rattle.acta_axioms.specs.Index.{turn_from, traced_from, heirs_of, onward_from, left_to, turned_by, held_from, standing_in};
+ghost use Rattle.acta_axioms.specs.inside.Index.{turn_from, traced_from, heirs_of, onward_from, left_to, turned_by, held_from, standing_in};
 
 use crate::heirs::heir_there;
 use crate::index::{Onward, Traced};
@@ -26,18 +26,11 @@ pub enum Turn {
     Ended(Fate),
 }
 
-// Whether the set names the operation.
-fn names<A: Allocator>(ops: &OpSet<A>, op: OpNo) -> bool
-    ensures { result ≡ is_named ops.now op.0 }
-{
-    ops.as_slice().iter().any(|o| o.0 == op.0)
-}
-
 // What becomes of an operation where its holder hands this set to u, and the next turns behind are known.
 fn handed<A: Allocator>(behind: Onward, op: OpNo, holder: TxnId, u: TxnId, ops: &OpSet<A>) -> Turn
     ensures { result ≡ (if is_named ops.now op.0 then On u behind.partner else On holder behind.own) }
 {
-    if names(ops, op) {
+    if ops.has_number(op.0 as usize) {
         Turn::On(u, behind.partner)
     } else {
         Turn::On(holder, behind.own)

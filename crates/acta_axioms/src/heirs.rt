@@ -3,7 +3,7 @@ ghost use Rattle.std.specs.List.{All};
 ghost use Rattle.std.specs.Option.{option_map_or};
 ghost use Rattle.acta_table.specs.Classes.{class_at, has_heir};
 ghost use Rattle.acta_table.specs.Events.{named};
-ghost use Rattle.acta_axioms.specs.Index.{unbegun, begun_in, spawner_by, with_start, heir_of_line, heir_in, heirs_of};
+ghost use Rattle.acta_axioms.specs.inside.Index.{unbegun, begun_in, spawner_by, with_start, heir_of_line, heir_in, heirs_of};
 
 use crate::index::largest_named;
 use acta_table::{AtCommit, ClassId, Event, Kept, Model, TxnId};
@@ -25,7 +25,7 @@ pub const UNBEGUN: Lineage = Lineage {
 };
 
 /// The lineage of the transaction by the table, which has none for those behind its end.
-pub fn line(lines: &[Lineage], t: TxnId) -> Lineage
+pub fn lineage_of(lines: &[Lineage], t: TxnId) -> Lineage
     ensures { result ≡ get_or lines.now t.0 unbegun }
 {
     match lines.get(t.0 as usize) {
@@ -38,7 +38,7 @@ pub fn line(lines: &[Lineage], t: TxnId) -> Lineage
 fn commits_to_parent<A: Allocator>(model: &Model<A>, class: ClassId) -> bool
     ensures { result ≡ option_map_or (λ k. has_heir k.at_commit) (class_at model.now class.0) false }
 {
-    match model.classes().get(class.0 as usize) {
+    match model.class(class) {
         Some(class) => matches!(class.at_commit, AtCommit::ToParent),
         None => false,
     }
@@ -50,7 +50,7 @@ fn parent_of_started<A: Allocator>(lines: &[Lineage], event: &Event<A>) -> Optio
 {
     match event {
         Event::Spawn(t, _, _) => {
-            if line(lines, *t).is_begun {
+            if lineage_of(lines, *t).is_begun {
                 Some(*t)
             } else {
                 None
@@ -66,7 +66,7 @@ pub fn note_start<A: Allocator>(lines: &mut [Lineage], event: &Event<A>)
     ensures { (t : ℕ) → get_or lines.new t unbegun ≡ with_start (begun_in lines.old) event.now t (get_or lines.old t unbegun) }
 {
     if let Some(t) = event.started() {
-        if !line(lines, t).is_begun {
+        if !lineage_of(lines, t).is_begun {
             let class = event.class();
             let parent = parent_of_started(lines, event);
             lines[t.0 as usize] = Lineage {
@@ -95,7 +95,7 @@ pub fn heir_of<A: Allocator>(model: &Model<A>, lines: &[Lineage], event: &Event<
     ensures { result ≡ heir_in model.now lines.now event.now }
 {
     match event {
-        Event::Commit(t) => heir_of_line(model, line(lines, *t)),
+        Event::Commit(t) => heir_of_line(model, lineage_of(lines, *t)),
         _ => None,
     }
 }

@@ -1,10 +1,10 @@
 ghost use Rattle.std.specs.Prelude.{◌≡◌, ◌≤◌, ◌<◌, ◌∷◌, ℕ, length, get_or, IfOk, [], reverse};
 ghost use Rattle.std.specs.List.{All};
 ghost use Rattle.acta_table.specs.Events.{named};
-ghost use Rattle.acta_axioms.specs.Index.{nowhere, course_in, course_from, with_event, turn_in, turn_from, with_turn, traced_in, traced_from, heirs_of, onward_in, onward_from};
+ghost use Rattle.acta_axioms.specs.inside.Index.{nowhere, course_in, course_from, with_event, turn_in, turn_from, with_turn, traced_in, traced_from, heirs_of, onward_in, onward_from};
 
 use crate::heirs::{heir_there, heirs_of};
-use acta_table::{Event, Kept, Model, TxnId};
+use acta_table::{Event, Kept, MOST_EVENTS, Model, TxnId};
 use std::alloc::{AllocError, Allocator};
 
 /// The first places of a transaction's start, commit, abort and join, and of its first turn, from 1. A turn
@@ -171,7 +171,7 @@ pub fn index_of<A: Allocator + Copy>(
     model: &Model<A>,
     kept: &[Kept<A>],
 ) -> Result<Index<A>, AllocError>
-    requires { length kept.now ≤ 65536 }
+    requires { length kept.now ≤ MOST_EVENTS }
     ensures courses { IfOk result (λ index. (t : ℕ) → course_in index.firsts.items t ≡ course_from 1 kept.now t) }
     ensures traced { IfOk result (λ index. index.traced.items ≡ traced_from 1 kept.now) }
     ensures heirs { IfOk result (λ index. index.heirs.items ≡ heirs_of model.now kept.now) }

@@ -2,12 +2,12 @@ ghost use Rattle.std.specs.Prelude.{◌≡◌, ◌≤◌, length, take, option_m
 ghost use Rattle.acta_axioms.specs.History.{course};
 ghost use Rattle.acta_axioms.specs.Operations.{holder_at, fate_at, standing_of};
 ghost use Rattle.acta_axioms.specs.Edges.{edges};
-ghost use Rattle.acta_axioms.specs.Index.{standing_in};
+ghost use Rattle.acta_axioms.specs.inside.Index.{standing_in};
 
 use crate::edges::edges_of;
 use crate::follow::{Held, standing};
 use crate::index::{Firsts, Index, Onward, Traced, index_of, row};
-use acta_table::{Edge, Fate, Kept, Model, OpNo, TxnId};
+use acta_table::{Edge, Fate, Kept, MOST_EVENTS, Model, OpNo, TxnId};
 use std::alloc::{AllocError, Allocator};
 
 /// A model and a list of kept items, legal or not, to be asked by places, as ACTA speaks of histories.
@@ -26,8 +26,8 @@ pub struct Places<'a, A: Allocator> {
 }
 
 impl<'a, A: Allocator> std::marker::Model for Places<'a, A> {
-    ghost use Rattle.acta_axioms.specs.Shown.{ModelAndHistory};
-    ghost use Rattle.acta_axioms.specs.Index.{IsIndex};
+    ghost use Rattle.acta_axioms.specs.inside.Shown.{ModelAndHistory};
+    ghost use Rattle.acta_axioms.specs.inside.Index.{IsIndex};
 
     ghost Value = { ModelAndHistory A };
 
@@ -43,7 +43,7 @@ impl<'a, A: Allocator + Copy> Places<'a, A> {
         model: &'a Model<A>,
         kept: &'a [Kept<A>],
     ) -> Result<Places<'a, A>, AllocError>
-        requires { length kept.now ≤ 65536 }
+        requires { length kept.now ≤ MOST_EVENTS }
         ensures { IfOk result (λ places. places ≡ record { model = model.now; history = kept.now }) }
     {
         let Index {

@@ -7,8 +7,9 @@ use Rattle.std.specs.BTreeMap.{is_at}
 use Rattle.acta_table.specs.declared.dep.Edge.{Edge}
 use Rattle.acta_table.specs.declared.answer.Status.{Status}
 use Rattle.acta_table.proofs.AscendingSets.{in-ascending}
-use Rattle.acta_deps.specs.Debts.{debt_of, is_abort, owes_abort}
-use Rattle.acta_deps.specs.Bars.{aborting}
+use Rattle.acta_table.specs.Dependencies.{is_abort}
+use Rattle.acta_deps.specs.Debts.{debt_of, owes_abort}
+use Rattle.acta_deps.specs.inside.Bars.{aborting}
 
 one-more : (status : ℕ → Status) (u : ℕ) (e : Edge) (edges : List Edge) (owes : Bool) →
     list_any (λ n. n == u) (map (λ e. e.j.0) (if owes then e ∷ filter (λ e. is_abort (debt_of status e)) edges else filter (λ e. is_abort (debt_of status e)) edges))

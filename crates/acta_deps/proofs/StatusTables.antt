@@ -5,15 +5,15 @@ use Rattle.std.proofs.lemmas.Option.{unwrap_or-slice_get}
 use Rattle.std.proofs.lemmas.List.{get_or-set_same, get_or-set_other}
 use Rattle.acta_table.specs.declared.answer.Status.{Status}
 use Rattle.acta_table.specs.declared.answer.Status.TheVariants.{NotBegun}
-use Rattle.acta_deps.specs.Deps.{status_at}
+use Rattle.acta_deps.specs.Deps.{status_listed}
 use Rattle.acta_deps.specs.Statuses.{with_status}
 
-at_set : (xs : List Status) (t : ℕ) (s : Status) → t < length xs → (u : ℕ) → status_at (slice_set xs t s) u ≡ with_status (status_at xs) t s u
+at_set : (xs : List Status) (t : ℕ) (s : Status) → t < length xs → (u : ℕ) → status_listed (slice_set xs t s) u ≡ with_status (status_listed xs) t s u
 at_set xs t s h u =
     unwrap_or-slice_get (slice_set xs t s) u NotBegun ∙ elim (cases_eq u t) [
       | inl e ↦ rw (eq-eqb u t e, e) (get_or-set_same xs t s NotBegun h)
       | inr ne ↦ rw (ne_eqb u t ne) (get_or-set_other xs t u s NotBegun ne ∙ sym (unwrap_or-slice_get xs u NotBegun))
     ]
 
-pub status_set : (xs : List Status) (t : ℕ) (s : Status) → t < length xs → status_at (slice_set xs t s) ≡ with_status (status_at xs) t s
+pub status_set : (xs : List Status) (t : ℕ) (s : Status) → t < length xs → status_listed (slice_set xs t s) ≡ with_status (status_listed xs) t s
 status_set xs t s h = λ i u. at_set xs t s h u i

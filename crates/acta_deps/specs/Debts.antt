@@ -8,8 +8,9 @@ use Rattle.acta_table.specs.declared.dep.Missing.{Missing}
 use Rattle.acta_table.specs.declared.dep.Missing.TheVariants.{Commit, Abort}
 use Rattle.acta_table.specs.declared.dep.Owed.{Owed}
 use Rattle.acta_table.specs.declared.answer.Status.{Status}
+use Rattle.acta_table.specs.Dependencies.{is_commit, is_abort}
 use Rattle.acta_table.specs.Numbered.{smallest}
-use Rattle.acta_deps.specs.Statuses.{has_committed, has_aborted, is_open, is_in_progress}
+use Rattle.acta_deps.specs.Statuses.{has_committed, has_aborted, may_end, is_in_progress}
 
 -- the missing event, where the test is true
 abbrev pub missing_if : Bool → Missing → Option Missing
@@ -18,25 +19,16 @@ missing_if false missing = None
 
 -- what j owes by an edge of this kind, from the statuses of i and j
 abbrev pub debt_by : Dep → Status → Status → Option Missing
-debt_by Scd i j = missing_if (has_committed i && is_open j) Commit
-debt_by Ad i j = missing_if (has_aborted i && is_open j) Abort
-debt_by Wd i j = missing_if (has_aborted i && is_open j) Abort
-debt_by Cmd i j = missing_if (has_aborted i && is_open j) Commit
+debt_by Scd i j = missing_if (has_committed i && may_end j) Commit
+debt_by Ad i j = missing_if (has_aborted i && may_end j) Abort
+debt_by Wd i j = missing_if (has_aborted i && may_end j) Abort
+debt_by Cmd i j = missing_if (has_aborted i && may_end j) Commit
 debt_by Ed i j = missing_if (has_committed i && is_in_progress j) Abort
 debt_by _ i j = None
 
 -- what j owes by this edge
 abbrev pub debt_of : (ℕ → Status) → Edge → Option Missing
 debt_of status e = debt_by e.kind (status e.i.0) (status e.j.0)
-
--- whether the missing event is a commit, or an abort
-abbrev pub is_commit : Option Missing → Bool
-is_commit (Some Commit) = true
-is_commit _ = false
-
-abbrev pub is_abort : Option Missing → Bool
-is_abort (Some Abort) = true
-is_abort _ = false
 
 -- whether t owes a commit, or an abort, by this edge
 abbrev pub owes_commit : (ℕ → Status) → ℕ → Edge → Bool

@@ -10,9 +10,9 @@ pub record DepState : Type 0 where
   pub edges : List Edge
 
 -- the status of a transaction in such a list; one past its end has not begun
-abbrev pub status_at : List Status → ℕ → Status
-status_at statuses t = unwrap_or (slice_get statuses t) NotBegun
+abbrev pub status_listed : List Status → ℕ → Status
+status_listed statuses t = unwrap_or (slice_get statuses t) NotBegun
 
 -- the status of a transaction
-abbrev pub status_in : DepState → ℕ → Status
-status_in d t = status_at d.statuses t
+abbrev pub status_of : DepState → ℕ → Status
+status_of d t = status_listed d.statuses t

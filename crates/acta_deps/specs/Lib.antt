@@ -2,4 +2,4 @@ pub mod Statuses
 pub mod Debts
 pub mod Dependencies
 pub mod Deps
-pub mod Bars
+pub mod inside

@@ -42,10 +42,10 @@ abbrev pub is_decided : Status → Bool
 is_decided s = has_committed s || has_aborted s
 
 -- not begun or in progress: it may still commit or abort
-abbrev pub is_open : Status → Bool
-is_open NotBegun = true
-is_open InProgress = true
-is_open _ = false
+abbrev pub may_end : Status → Bool
+may_end NotBegun = true
+may_end InProgress = true
+may_end _ = false
 
 -- the statuses, with t's changed
 abbrev pub with_status : (ℕ → Status) → ℕ → Status → ℕ → Status

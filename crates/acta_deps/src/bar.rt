@@ -1,8 +1,8 @@
 ghost use Rattle.std.specs.Prelude.{◌≡◌};
-ghost use Rattle.acta_deps.specs.Deps.{status_in};
+ghost use Rattle.acta_deps.specs.Deps.{status_of};
 ghost use Rattle.acta_deps.specs.Statuses.{has_begun, is_decided};
 ghost use Rattle.acta_deps.specs.Dependencies.{awaits_begin, awaits_end, awaits_commit, awaits_abort, ends_after, committed_first, began_first, cannot_pay_commit, cannot_pay_abort};
-ghost use Rattle.acta_deps.specs.Bars.{bars};
+ghost use Rattle.acta_deps.specs.inside.Bars.{bars};
 
 use crate::debt::{debt_by, is_abort, is_commit};
 use crate::deps::Deps;
@@ -124,7 +124,7 @@ fn cannot_pay_abort(kind: Dep, j: Status) -> bool
 impl<A: Allocator> Deps<A> {
     /// Whether the edge bars an event of `t` in this way.
     pub(crate) fn is_barred(&self, bar: Bar, t: TxnId, e: &Edge) -> bool
-        ensures { result ≡ bars bar (status_in self.now) t.0 e.now }
+        ensures { result ≡ bars bar (status_of self.now) t.0 e.now }
     {
         let is_j = e.j.0 == t.0;
         let is_i = e.i.0 == t.0;

@@ -1,14 +1,15 @@
 ghost use Rattle.std.specs.Prelude.{◌≡◌, IfOk};
-ghost use Rattle.acta_deps.specs.Deps.{status_in};
-ghost use Rattle.acta_deps.specs.Statuses.{is_open};
-ghost use Rattle.acta_deps.specs.Debts.{missing_if, debt_by, debt_of, is_commit, is_abort, owed_in};
+ghost use Rattle.acta_table.specs.Dependencies.{is_commit, is_abort};
+ghost use Rattle.acta_deps.specs.Deps.{status_of};
+ghost use Rattle.acta_deps.specs.Statuses.{may_end};
+ghost use Rattle.acta_deps.specs.Debts.{missing_if, debt_by, debt_of, owed_in};
 
 use crate::deps::Deps;
 use acta_table::{Dep, Edge, EdgeNo, Missing, Owed, Status};
 use std::alloc::{AllocError, Allocator};
 
-fn is_open(s: Status) -> bool
-    ensures { result ≡ is_open s }
+fn may_end(s: Status) -> bool
+    ensures { result ≡ may_end s }
 {
     matches!(s, Status::NotBegun | Status::InProgress)
 }
@@ -27,10 +28,10 @@ pub(crate) fn debt_by(kind: Dep, i: Status, j: Status) -> Option<Missing>
     let i_aborted = matches!(i, Status::Aborted);
     let j_is_running = matches!(j, Status::InProgress);
     match kind {
-        Dep::Scd => missing_if(i_committed && is_open(j), Missing::Commit),
-        Dep::Ad => missing_if(i_aborted && is_open(j), Missing::Abort),
-        Dep::Wd => missing_if(i_aborted && is_open(j), Missing::Abort),
-        Dep::Cmd => missing_if(i_aborted && is_open(j), Missing::Commit),
+        Dep::Scd => missing_if(i_committed && may_end(j), Missing::Commit),
+        Dep::Ad => missing_if(i_aborted && may_end(j), Missing::Abort),
+        Dep::Wd => missing_if(i_aborted && may_end(j), Missing::Abort),
+        Dep::Cmd => missing_if(i_aborted && may_end(j), Missing::Commit),
         Dep::Ed => missing_if(i_committed && j_is_running, Missing::Abort),
         _ => None,
     }
@@ -51,7 +52,7 @@ pub(crate) fn is_abort(missing: Option<Missing>) -> bool
 impl<A: Allocator> Deps<A> {
     // What is owed by the edge.
     fn debt(&self, e: &Edge) -> Option<Missing>
-        ensures { result ≡ debt_of (status_in self.now) e.now }
+        ensures { result ≡ debt_of (status_of self.now) e.now }
     {
         debt_by(e.kind, self.status(e.i), self.status(e.j))
     }
@@ -60,7 +61,7 @@ impl<A: Allocator> Deps<A> {
 impl<A: Allocator + Copy> Deps<A> {
     /// All debts, by edge number (ours). `Err` where there is no memory.
     pub fn owed(&self) -> Result<Vec<Owed, A>, AllocError>
-        ensures { IfOk result (λ owed. owed.items ≡ owed_in (status_in self.now) self.now.edges) }
+        ensures { IfOk result (λ owed. owed.items ≡ owed_in (status_of self.now) self.now.edges) }
     {
         let mut owed = Vec::new(self.allocator());
         let edges = self.edges();

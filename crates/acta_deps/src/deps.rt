@@ -1,12 +1,12 @@
 ghost use Rattle.std.specs.Prelude.{◌≡◌, true, ◌<◌, ◌≤◌, ◌+◌, ◌-◌, [], None, IfOk, OnOk, OnErr, length, take, replicate};
 ghost use Rattle.acta_table.specs.Edges.{formed};
 ghost use Rattle.acta_table.specs.WellFormed.{is_bad_number};
-ghost use Rattle.acta_deps.specs.Deps.{status_in};
+ghost use Rattle.acta_deps.specs.Deps.{status_of};
 ghost use Rattle.acta_deps.specs.Statuses.{with_status};
 ghost use Rattle.acta_deps.specs.Dependencies.{start_refusal, commit_refusal, abort_refusal, join_refusal};
 
 use crate::forming::{add_edges, count_new};
-use acta_table::{Edge, Status, TxnId};
+use acta_table::{Edge, LAST_TXN, MOST_EDGES, Status, TABLE_SIZE, TxnId};
 use std::alloc::{AllocError, Allocator};
 
 /// How the transactions stand, and the edges in force among them (ACTA's dependencies, kept as a
@@ -20,6 +20,7 @@ pub struct Deps<A: Allocator> {
 impl<A: Allocator> std::marker::Model for Deps<A> {
     ghost use Rattle.std.specs.Prelude.{◌≡◌, ◌≤◌, length, slice_get, Some};
     ghost use Rattle.acta_table.specs.declared.answer.Status.{Status};
+    ghost use Rattle.acta_table.specs.declared.limits.TheConstants.{MOST_EDGES, TABLE_SIZE};
     ghost use Rattle.acta_deps.specs.Deps.{DepState};
 
     ghost Value = { DepState };
@@ -27,18 +28,18 @@ impl<A: Allocator> std::marker::Model for Deps<A> {
     ghost view = { λ d. record { statuses = d.statuses.items; edges = d.edges.items } };
 
     ghost invariant = { λ d. record {
-      table : length d.statuses.items ≡ 4096;
+      table : length d.statuses.items ≡ TABLE_SIZE;
       nobody : slice_get d.statuses.items 0 ≡ Some Status.NotBegun;
-      few : length d.edges.items ≤ 16384;
+      few : length d.edges.items ≤ MOST_EDGES;
     } };
 }
 
-// A table of transactions that have not begun.
-fn fresh<A: Allocator>(alloc: A) -> Result<Vec<Status, A>, AllocError>
-    ensures { IfOk result (λ statuses. statuses.items ≡ replicate 4096 Status.NotBegun) }
+// A table of so many numbers of transactions that have not begun.
+fn fresh<A: Allocator>(alloc: A, count: usize) -> Result<Vec<Status, A>, AllocError>
+    ensures { IfOk result (λ statuses. statuses.items ≡ replicate count Status.NotBegun) }
 {
     let status = Status::NotBegun;
-    vec![in alloc; status; 4096]
+    vec![in alloc; status; count]
 }
 
 // The same items, in memory of their own.
@@ -56,7 +57,7 @@ impl<A: Allocator> Deps<A> {
     /// How a transaction stands (ACTA's significant events, read as a state). A number that no
     /// transaction can have has not begun.
     pub fn status(&self, t: TxnId) -> Status
-        ensures status { result ≡ status_in self.now t.0 }
+        ensures status { result ≡ status_of self.now t.0 }
         ensures nobody { is_bad_number t.0 ≡ true → result ≡ Status.NotBegun }
     {
         self.statuses
@@ -68,7 +69,7 @@ impl<A: Allocator> Deps<A> {
     /// The edges in force, in order of forming: at most 16,384. The first has the number 1.
     pub fn edges(&self) -> &[Edge]
         ensures edges { result.now ≡ self.now.edges }
-        ensures few { length self.now.edges ≤ 16384 }
+        ensures few { length self.now.edges ≤ MOST_EDGES }
     {
         self.edges.as_slice()
     }
@@ -76,8 +77,8 @@ impl<A: Allocator> Deps<A> {
     // From now on `t` stands so.
     fn set(&mut self, t: TxnId, status: Status)
         requires low { 0 < t.0 }
-        requires high { t.0 ≤ 4095 }
-        ensures status { status_in self.new ≡ with_status (status_in self.old) t.0 status }
+        requires high { t.0 ≤ LAST_TXN }
+        ensures status { status_of self.new ≡ with_status (status_of self.old) t.0 status }
         ensures edges { self.new.edges ≡ self.old.edges }
     {
         self.statuses[t.0 as usize] = status;
@@ -86,10 +87,10 @@ impl<A: Allocator> Deps<A> {
     /// `t`, a number from 1 to 4,095 that has not begun, begins. Ask `may_start` first.
     pub fn started(&mut self, t: TxnId)
         requires low { 0 < t.0 }
-        requires high { t.0 ≤ 4095 }
-        requires stands { status_in self.old t.0 ≡ Status.NotBegun }
-        requires allowed { start_refusal (status_in self.old) self.old.edges t.0 ≡ None }
-        ensures status { status_in self.new ≡ with_status (status_in self.old) t.0 Status.InProgress }
+        requires high { t.0 ≤ LAST_TXN }
+        requires stands { status_of self.old t.0 ≡ Status.NotBegun }
+        requires allowed { start_refusal (status_of self.old) self.old.edges t.0 ≡ None }
+        ensures status { status_of self.new ≡ with_status (status_of self.old) t.0 Status.InProgress }
         ensures edges { self.new.edges ≡ self.old.edges }
     {
         self.set(t, Status::InProgress);
@@ -98,10 +99,10 @@ impl<A: Allocator> Deps<A> {
     /// `t`, a number from 1 to 4,095 that is in progress, commits. Ask `may_commit` first.
     pub fn committed(&mut self, t: TxnId)
         requires low { 0 < t.0 }
-        requires high { t.0 ≤ 4095 }
-        requires stands { status_in self.old t.0 ≡ Status.InProgress }
-        requires allowed { commit_refusal (status_in self.old) self.old.edges t.0 ≡ None }
-        ensures status { status_in self.new ≡ with_status (status_in self.old) t.0 Status.Committed }
+        requires high { t.0 ≤ LAST_TXN }
+        requires stands { status_of self.old t.0 ≡ Status.InProgress }
+        requires allowed { commit_refusal (status_of self.old) self.old.edges t.0 ≡ None }
+        ensures status { status_of self.new ≡ with_status (status_of self.old) t.0 Status.Committed }
         ensures edges { self.new.edges ≡ self.old.edges }
     {
         self.set(t, Status::Committed);
@@ -110,10 +111,10 @@ impl<A: Allocator> Deps<A> {
     /// `t`, a number from 1 to 4,095 that is in progress, aborts. Ask `may_abort` first.
     pub fn aborted(&mut self, t: TxnId)
         requires low { 0 < t.0 }
-        requires high { t.0 ≤ 4095 }
-        requires stands { status_in self.old t.0 ≡ Status.InProgress }
-        requires allowed { abort_refusal (status_in self.old) self.old.edges t.0 ≡ None }
-        ensures status { status_in self.new ≡ with_status (status_in self.old) t.0 Status.Aborted }
+        requires high { t.0 ≤ LAST_TXN }
+        requires stands { status_of self.old t.0 ≡ Status.InProgress }
+        requires allowed { abort_refusal (status_of self.old) self.old.edges t.0 ≡ None }
+        ensures status { status_of self.new ≡ with_status (status_of self.old) t.0 Status.Aborted }
         ensures edges { self.new.edges ≡ self.old.edges }
     {
         self.set(t, Status::Aborted);
@@ -123,10 +124,10 @@ impl<A: Allocator> Deps<A> {
     /// aborts (ACTA's join of split transactions). Ask `may_join` first.
     pub fn joined(&mut self, t: TxnId)
         requires low { 0 < t.0 }
-        requires high { t.0 ≤ 4095 }
-        requires stands { status_in self.old t.0 ≡ Status.InProgress }
-        requires allowed { join_refusal (status_in self.old) self.old.edges t.0 ≡ None }
-        ensures status { status_in self.new ≡ with_status (status_in self.old) t.0 Status.Joined }
+        requires high { t.0 ≤ LAST_TXN }
+        requires stands { status_of self.old t.0 ≡ Status.InProgress }
+        requires allowed { join_refusal (status_of self.old) self.old.edges t.0 ≡ None }
+        ensures status { status_of self.new ≡ with_status (status_of self.old) t.0 Status.Joined }
         ensures edges { self.new.edges ≡ self.old.edges }
     {
         self.set(t, Status::Joined);
@@ -153,10 +154,10 @@ impl<A: Allocator> Deps<A> {
 impl<A: Allocator + Copy> Deps<A> {
     /// All transactions have not begun, and no edge is in force. `Err` where there is no memory.
     pub fn new(alloc: A) -> Result<Deps<A>, AllocError>
-        ensures { IfOk result (λ deps. deps ≡ record { statuses = replicate 4096 Status.NotBegun; edges = [] }) }
+        ensures { IfOk result (λ deps. deps ≡ record { statuses = replicate TABLE_SIZE Status.NotBegun; edges = [] }) }
     {
         Ok(Deps {
-            statuses: fresh(alloc)?,
+            statuses: fresh(alloc, TABLE_SIZE)?,
             edges: Vec::new(alloc),
         })
     }
@@ -172,7 +173,7 @@ impl<A: Allocator + Copy> Deps<A> {
     /// force once is ours).
     #[tactic(auto, using(crate::proofs::FormedEdges::take_formed))]
     pub fn form(&mut self, more: &[Edge]) -> Result<usize, AllocError>
-        requires { length (formed self.old.edges more.now) ≤ 16384 }
+        requires { length (formed self.old.edges more.now) ≤ MOST_EDGES }
         ensures formed { OnOk result (self.new.edges ≡ formed self.old.edges more.now) }
         ensures count { IfOk result (λ count. length self.new.edges ≡ length self.old.edges + count) }
         ensures kept { OnOk result (take (length self.old.edges) self.new.edges ≡ self.old.edges) }

@@ -1,8 +1,8 @@
 ghost use Rattle.std.specs.Prelude.{◌≡◌, IfOk};
 ghost use Rattle.acta_table.specs.Numbered.{first_number};
 ghost use Rattle.acta_table.specs.Refusals.{broken_by};
-ghost use Rattle.acta_deps.specs.Deps.{status_in};
-ghost use Rattle.acta_deps.specs.Bars.{bars};
+ghost use Rattle.acta_deps.specs.Deps.{status_of};
+ghost use Rattle.acta_deps.specs.inside.Bars.{bars};
 ghost use Rattle.acta_deps.specs.Dependencies.{start_refusal, commit_refusal, abort_refusal, join_refusal};
 
 use crate::bar::Bar;
@@ -14,7 +14,7 @@ use std::alloc::{AllocError, Allocator};
 impl<A: Allocator> Deps<A> {
     // The number of the first edge that bars `t` in this way.
     fn first_barring(&self, bar: Bar, t: TxnId) -> Option<u32>
-        ensures { result ≡ first_number (bars bar (status_in self.now) t.0) self.now.edges }
+        ensures { result ≡ first_number (bars bar (status_of self.now) t.0) self.now.edges }
     {
         let edges = self.edges();
         let mut number = 0;
@@ -29,7 +29,7 @@ impl<A: Allocator> Deps<A> {
 
     // The rule, where an edge bars `t` in this way, with the first such edge.
     fn broken(&self, rule: Rule, bar: Bar, t: TxnId) -> Option<Refusal>
-        ensures { result ≡ broken_by rule (first_number (bars bar (status_in self.now) t.0) self.now.edges) }
+        ensures { result ≡ broken_by rule (first_number (bars bar (status_of self.now) t.0) self.now.edges) }
     {
         match self.first_barring(bar, t) {
             Some(number) => Some(Refusal::by(rule, number)),
@@ -45,7 +45,7 @@ impl<A: Allocator + Copy> Deps<A> {
     /// there is no memory.
     #[tactic(auto, unfolding(crate::specs::Dependencies::start_refusal, crate::specs::Dependencies::begin_dep, crate::specs::Dependencies::serial_dep, crate::specs::Dependencies::begin_on_commit, crate::specs::Dependencies::begin_on_abort))]
     pub fn may_start(&self, t: TxnId) -> Result<Option<Refusal>, AllocError>
-        ensures { IfOk result (λ refusal. refusal ≡ start_refusal (status_in self.now) self.now.edges t.0) }
+        ensures { IfOk result (λ refusal. refusal ≡ start_refusal (status_of self.now) self.now.edges t.0) }
     {
         let change = Change {
             txn: t,
@@ -68,7 +68,7 @@ impl<A: Allocator + Copy> Deps<A> {
     /// memory.
     #[tactic(auto, unfolding(crate::specs::Dependencies::commit_refusal, crate::specs::Dependencies::termination_dep, crate::specs::Dependencies::owing_abort, crate::specs::Dependencies::commit_order, crate::specs::Dependencies::weak_begin, crate::specs::Dependencies::unpayable_commit))]
     pub fn may_commit(&self, t: TxnId) -> Result<Option<Refusal>, AllocError>
-        ensures { IfOk result (λ refusal. refusal ≡ commit_refusal (status_in self.now) self.now.edges t.0) }
+        ensures { IfOk result (λ refusal. refusal ≡ commit_refusal (status_of self.now) self.now.edges t.0) }
     {
         let change = Change {
             txn: t,
@@ -92,7 +92,7 @@ impl<A: Allocator + Copy> Deps<A> {
     /// memory.
     #[tactic(auto, unfolding(crate::specs::Dependencies::abort_refusal, crate::specs::Dependencies::termination_dep, crate::specs::Dependencies::owing_commit, crate::specs::Dependencies::unpayable_abort))]
     pub fn may_abort(&self, t: TxnId) -> Result<Option<Refusal>, AllocError>
-        ensures { IfOk result (λ refusal. refusal ≡ abort_refusal (status_in self.now) self.now.edges t.0) }
+        ensures { IfOk result (λ refusal. refusal ≡ abort_refusal (status_of self.now) self.now.edges t.0) }
     {
         let change = Change {
             txn: t,
@@ -115,7 +115,7 @@ impl<A: Allocator> Deps<A> {
     /// another neither commits nor aborts, and so breaks no other rule on dependencies, is ours).
     #[tactic(auto, unfolding(crate::specs::Dependencies::join_refusal, crate::specs::Dependencies::owing_abort, crate::specs::Dependencies::owing_commit))]
     pub fn may_join(&self, t: TxnId) -> Option<Refusal>
-        ensures { result ≡ join_refusal (status_in self.now) self.now.edges t.0 }
+        ensures { result ≡ join_refusal (status_of self.now) self.now.edges t.0 }
     {
         let owing_abort = self.broken(Rule::OwesAbort, Bar::OwesAbort, t);
         owing_abort.or_else(|| self.broken(Rule::OwesCommit, Bar::OwesCommit, t))

@@ -15,6 +15,7 @@ use Rattle.acta_table.specs.declared.policy.Policy.TheVariants.{Refuse, Depend}
 use Rattle.acta_table.specs.declared.start_edges.Dependent.{Dependent}
 use Rattle.acta_table.specs.declared.start_edges.Dependent.TheVariants.{Starter, Started}
 use Rattle.acta_table.specs.declared.start_edges.StartEdge.{StartEdge}
+use Rattle.acta_table.specs.declared.limits.TheConstants.{MOST_CLASSES, MOST_OBJECTS}
 use Rattle.acta_words.specs.Text.{text_of}
 use Rattle.acta_lang.specs.declared.fault.AsmFault.{AsmFault}
 use Rattle.acta_lang.specs.declared.fault.Code.{Code}
@@ -286,8 +287,8 @@ nested_again = refl
 -- as many objects, and as many classes, as there may be
 abbrev many : Draft (Unit {0})
 many = record {
-  objects = replicate 256 (record { name = codes "o"; kind = Elements });
-  classes = replicate 16 (plain (codes "c"));
+  objects = replicate MOST_OBJECTS (record { name = codes "o"; kind = Elements });
+  classes = replicate MOST_CLASSES (plain (codes "c"));
   current = None;
 }
 

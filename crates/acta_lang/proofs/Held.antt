@@ -15,7 +15,7 @@ use Rattle.acta_lang.specs.declared.said.Said.{Said}
 use Rattle.acta_words.specs.Text.{is_word_among}
 use Rattle.acta_lang.specs.Drafts.{Draft, OpenClass, closed, extended, has_said, has_said_all, with_closed}
 use Rattle.acta_lang.specs.Faults.{is_object, is_class, is_end, missing_part, wrong_place}
-use Rattle.acta_lang.specs.Shown.{object_shown, closed_shown}
+use Rattle.acta_lang.specs.inside.Shown.{object_shown, closed_shown}
 
 -- the names of the objects, and of the classes that are closed
 pub object_names-shown : (A : Type 0) (es : List (Bor (List ℕ) × Kind)) → map (λ o. o.name) (map (object_shown {A = A}) es) ≡ map (λ k. k.now) (keys_of es)

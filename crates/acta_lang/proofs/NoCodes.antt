@@ -2,6 +2,7 @@
 use Rattle.std.proofs.Common.{◌≡◌, ℕ, Bool, true, false, not, ◌&&◌, ◌||◌, nat_le, List, [], ◌∷◌, fold, length, Option, Some, None, refl}
 use Rattle.std.specs.Option.{option_or, option_map_or}
 use Rattle.acta_table.specs.Faults.{is_name, lacks_parents}
+use Rattle.acta_table.specs.declared.limits.TheConstants.{MOST_CLASSES, MOST_OBJECTS}
 use Rattle.acta_words.specs.Text.{is_word_among}
 use Rattle.acta_lang.specs.declared.fault.Code.{Code}
 use Rattle.acta_lang.specs.declared.fault.Code.TheVariants.{NotAscii, BadWord, BadName, DuplicateName, WrongPlace, BadNumber, TooMany, MissingEnd, MissingPart, BeginKindAtStart, HeirWithoutSpawn, BadPolicyKind}
@@ -23,7 +24,7 @@ pub record HasNoCode {A : Type 0} (d : Draft A) (is_last : Bool) (line : List �
   pub named : ((is_object said || is_class said) && not (is_name (name_in words))) ≡ false
   pub new : (is_object said && is_word_among (object_names d) (name_in words) || is_class said && is_word_among (class_names d) (name_in words)) ≡ false
   pub place : wrong_place d said ≡ false
-  pub room : (is_object said && nat_le 256 (length d.objects) || is_class said && nat_le 16 (length d.classes)) ≡ false
+  pub room : (is_object said && nat_le MOST_OBJECTS (length d.objects) || is_class said && nat_le MOST_CLASSES (length d.classes)) ≡ false
   pub ended : missing_end is_last (extended d words said) ≡ false
   pub whole : missing_part is_last d (extended d words said) said ≡ false
   pub edge : begin_kind_at_start said ≡ false

@@ -32,6 +32,7 @@ use Rattle.acta_table.specs.Faults.{fault_if, has_begin_edge, has_begin_kind, ha
 use Rattle.acta_table.specs.Kinds.{has_kind}
 use Rattle.acta_table.specs.Policies.{is_bad_policy}
 use Rattle.acta_table.specs.SetsOfClasses.{HasSets}
+use Rattle.acta_table.specs.declared.limits.TheConstants.{MOST_CLASSES, MOST_OBJECTS}
 use Rattle.acta_words.specs.Text.{is_word_among, line_of, lines_of, text_of}
 use Rattle.acta_words.proofs.TextAgain.{IsOneLine, lines_again, words_again}
 use Rattle.acta_lang.specs.declared.fault.AsmFault.{AsmFault}
@@ -83,7 +84,7 @@ object_tidy A name (kind.Register first) fits named = and_from (is_tidy_word nam
 object_tidy A name (kind.Counter first) fits named = and_from (is_tidy_word name) _ (tidy_name name named) (and_from (is_tidy_word (signed_decimal first)) true (tidy_number first fits) refl)
 object_tidy A name kind.Elements fits named = and_from (is_tidy_word name) true (tidy_name name named) refl
 
-object_line : {A : Type 0} (n : ℕ) (os : List (Object A)) (name : List ℕ) (k : Kind) (lines : List (List ℕ)) → (length lines == 0) ≡ false → HasFirst k → is_name name ≡ true → is_word_among (map (λ o. o.name) os) name ≡ false → length os < 256
+object_line : {A : Type 0} (n : ℕ) (os : List (Object A)) (name : List ℕ) (k : Kind) (lines : List (List ℕ)) → (length lines == 0) ≡ false → HasFirst k → is_name name ≡ true → is_word_among (map (λ o. o.name) os) name ≡ false → length os < MOST_OBJECTS
     → meaning_from n (at os [] None) (line_of (object_words {A = A} (record { name = name; kind = k })) ∷ lines) ≡ meaning_from (n + 1) (at (os ++ (record { name = name; kind = k }) ∷ []) [] None) lines
 unfolding extended bad_word bad_name duplicate_name wrong_place bad_number too_many missing_end missing_part begin_kind_at_start heir_without_spawn bad_policy_kind
 object_line {A = A} n os name (kind.Register first) lines more fits named new room =
@@ -91,25 +92,25 @@ object_line {A = A} n os name (kind.Register first) lines more fits named new ro
     let tidy = object_tidy A name (kind.Register first) fits named in
     let d : Draft A = at os [] None in
     step n d words form.Register lines false more tidy refl
-    (clear d (extended d words form.Register) false (line_of words) words form.Register (line_ascii words tidy) refl (ap not named) (or_from _ _ new refl) refl (ap is_none (integer_again first fits)) (or_from _ _ (lt-leb 256 (length os) room) refl) refl refl refl refl refl)
+    (clear d (extended d words form.Register) false (line_of words) words form.Register (line_ascii words tidy) refl (ap not named) (or_from _ _ new refl) refl (ap is_none (integer_again first fits)) (or_from _ _ (lt-leb MOST_OBJECTS (length os) room) refl) refl refl refl refl refl)
     ∙ ap (λ z. meaning_from (n + 1) (at (os ++ (record { name = name; kind = kind.Register z }) ∷ []) [] None) lines) (first_again first fits)
 object_line {A = A} n os name (kind.Counter first) lines more fits named new room =
     let words = object_words {A = A} (record { name = name; kind = kind.Counter first }) in
     let tidy = object_tidy A name (kind.Counter first) fits named in
     let d : Draft A = at os [] None in
     step n d words form.Counter lines false more tidy refl
-    (clear d (extended d words form.Counter) false (line_of words) words form.Counter (line_ascii words tidy) refl (ap not named) (or_from _ _ new refl) refl (ap is_none (integer_again first fits)) (or_from _ _ (lt-leb 256 (length os) room) refl) refl refl refl refl refl)
+    (clear d (extended d words form.Counter) false (line_of words) words form.Counter (line_ascii words tidy) refl (ap not named) (or_from _ _ new refl) refl (ap is_none (integer_again first fits)) (or_from _ _ (lt-leb MOST_OBJECTS (length os) room) refl) refl refl refl refl refl)
     ∙ ap (λ z. meaning_from (n + 1) (at (os ++ (record { name = name; kind = kind.Counter z }) ∷ []) [] None) lines) (first_again first fits)
 object_line {A = A} n os name kind.Elements lines more fits named new room =
     let words = object_words {A = A} (record { name = name; kind = kind.Elements }) in
     let tidy = object_tidy A name kind.Elements fits named in
     let d : Draft A = at os [] None in
     step n d words form.Elements lines false more tidy refl
-    (clear d (extended d words form.Elements) false (line_of words) words form.Elements (line_ascii words tidy) refl (ap not named) (or_from _ _ new refl) refl refl (or_from _ _ (lt-leb 256 (length os) room) refl) refl refl refl refl refl)
+    (clear d (extended d words form.Elements) false (line_of words) words form.Elements (line_ascii words tidy) refl (ap not named) (or_from _ _ new refl) refl refl (or_from _ _ (lt-leb MOST_OBJECTS (length os) room) refl) refl refl refl refl refl)
 
 -- the lines of all objects, with a line behind them
 objects_again : {A : Type 0} (n : ℕ) (os todo : List (Object A)) (next : List ℕ) (rest : List (List ℕ)) (r : Result (Parts A) AsmFault) → AllByRecursion (λ o. HasFirst o.kind) todo → list_all is_name (map (λ o. o.name) todo) ≡ true
-    → has_twice (map (λ o. o.name) (os ++ todo)) ≡ false → length (os ++ todo) ≤ 256 → ((k : ℕ) → meaning_from k (at (os ++ todo) [] None) (next ∷ rest) ≡ r)
+    → has_twice (map (λ o. o.name) (os ++ todo)) ≡ false → length (os ++ todo) ≤ MOST_OBJECTS → ((k : ℕ) → meaning_from k (at (os ++ todo) [] None) (next ∷ rest) ≡ r)
     → meaning_from n (at os [] None) (map line_of (map object_words todo) ++ next ∷ rest) ≡ r
 objects_again {A = A} n os [] next rest r fits named apart few then = ap (λ (l : List (Object A)). meaning_from n (at l [] None) (next ∷ rest)) (sym (append-nil os)) ∙ then n
 objects_again {A = A} n os (o ∷ todo) next rest r fits named apart few then =
@@ -240,7 +241,7 @@ end_again {A = A} n os cs c lines whole =
     ∙ (λ i. meaning_from (n + 1) (at os (cs ++ (record c { spawn_edges = spawns i; split_edges = splits i }) ∷ []) None) lines)
 
 -- the lines of a class
-class_again : {A : Type 0} (n : ℕ) (os : List (Object A)) (cs : List (Class A)) (c : Class A) (lines : List (List ℕ)) (r : Result (Parts A) AsmFault) → IsWhole c → is_word_among (map (λ c. c.name) cs) c.name ≡ false → length cs < 16
+class_again : {A : Type 0} (n : ℕ) (os : List (Object A)) (cs : List (Class A)) (c : Class A) (lines : List (List ℕ)) (r : Result (Parts A) AsmFault) → IsWhole c → is_word_among (map (λ c. c.name) cs) c.name ≡ false → length cs < MOST_CLASSES
     → ((k : ℕ) → meaning_from k (at os (cs ++ c ∷ []) None) lines ≡ r)
     → meaning_from n (at os cs None) (map line_of (class_words c) ++ lines) ≡ r
 unfolding extended bad_word bad_name duplicate_name wrong_place bad_number too_many missing_end missing_part begin_kind_at_start heir_without_spawn bad_policy_kind
@@ -275,7 +276,7 @@ class_again {A = A} n os cs c lines r whole new room then =
     let named : list_all is_tidy_word name ≡ true = and_from (is_tidy_word c.name) true (tidy_name c.name whole.named) refl in
     ap (λ l. meaning_from n (at os cs None) (line_of name ∷ line_of starts ∷ line_of may ∷ line_of scope ∷ line_of policy ∷ line_of commit ∷ line_of extent ∷ l)) parted
     ∙ step n (at os cs None) name form.Class l2 false (some_behind [] (line_of starts) l3) named refl
-    (clear (at os cs None) (at os cs (Some c1)) false (line_of name) name form.Class (line_ascii name named) refl (ap not whole.named) (among_none cs c.name new) refl refl (lt-leb 16 (length cs) room) refl refl refl refl refl)
+    (clear (at os cs None) (at os cs (Some c1)) false (line_of name) name form.Class (line_ascii name named) refl (ap not whole.named) (among_none cs c.name new) refl refl (lt-leb MOST_CLASSES (length cs) room) refl refl refl refl refl)
     ∙ step (n + 1) (at os cs (Some c1)) starts (form.Starts c.starts) l3 false (some_behind [] (line_of may) l4) (starts_tidy c.starts.begin c.starts.spawned c.starts.split) (starts_again c.starts.begin c.starts.spawned c.starts.split)
     (clear (at os cs (Some c1)) (at os cs (Some c2)) false (line_of starts) starts (form.Starts c.starts) (line_ascii starts (starts_tidy c.starts.begin c.starts.spawned c.starts.split)) refl refl refl refl refl refl refl refl refl refl refl)
     ∙ step (n + 1 + 1) (at os cs (Some c2)) may (form.May c.may) l4 false (some_behind [] (line_of scope) l5) (may_tidy c.may) (may_again c.may whole.sets.may)
@@ -293,7 +294,7 @@ class_again {A = A} n os cs c lines r whole new room then =
     (λ k. end_again k os cs c lines whole ∙ then (k + 1)))
 
 -- the lines of all classes
-classes_again : {A : Type 0} (n : ℕ) (os : List (Object A)) (cs todo : List (Class A)) → AllByRecursion IsWhole todo → has_twice (map (λ c. c.name) (cs ++ todo)) ≡ false → length (cs ++ todo) ≤ 16
+classes_again : {A : Type 0} (n : ℕ) (os : List (Object A)) (cs todo : List (Class A)) → AllByRecursion IsWhole todo → has_twice (map (λ c. c.name) (cs ++ todo)) ≡ false → length (cs ++ todo) ≤ MOST_CLASSES
     → meaning_from n (at os cs None) (map line_of (flat_map class_words todo)) ≡ Ok (record { objects = os; classes = cs ++ todo })
 unfolding meaning_from
 classes_again {A = A} n os cs [] whole apart few = ap (λ (l : List (Class A)). Ok (record { objects = os; classes = l })) (sym (append-nil cs))
@@ -356,7 +357,7 @@ lines_all (line ∷ lines) some ones = lines_again line lines ones
 
 -- what is true of a checked model's objects and classes
 model_again : {A : Type 0} (os : List (Object A)) (cs : List (Class A)) → (length cs == 0) ≡ false → AllByRecursion (λ o. HasFirst o.kind) os → list_all is_name (map (λ o. o.name) os) ≡ true → has_twice (map (λ o. o.name) os) ≡ false
-    → length os ≤ 256 → AllByRecursion IsWhole cs → has_twice (map (λ c. c.name) cs) ≡ false → length cs ≤ 16
+    → length os ≤ MOST_OBJECTS → AllByRecursion IsWhole cs → has_twice (map (λ c. c.name) cs) ≡ false → length cs ≤ MOST_CLASSES
     → meaning (canonical (record { objects = os; classes = cs })) ≡ Ok (record { objects = os; classes = cs })
 unfolding canonical
 model_again os [] some fits named apart few whole once small = absurd (true≢false some)
@@ -409,11 +410,11 @@ read_again {A = A} m faultless firsts sets =
     let begins = or_none _ (fault_if (list_any has_begin_kind m.classes) fault.BeginKindAtStart) heirs.0 in
     let names = or_none _ (fault_if (not (list_all is_name (map (λ (o : Object A). o.name) m.objects) && list_all is_name (map (λ (c : Class A). c.name) m.classes))) fault.BadName) begins.0 in
     let twice = or_none _ (fault_if (has_twice (map (λ (o : Object A). o.name) m.objects) || has_twice (map (λ (c : Class A). c.name) m.classes)) fault.DuplicateName) names.0 in
-    let objects = or_none _ (fault_if (nat_lt 256 (length m.objects)) fault.TooManyObjects) twice.0 in
-    let classes = or_none _ (fault_if (nat_lt 16 (length m.classes)) fault.TooManyClasses) objects.0 in
+    let objects = or_none _ (fault_if (nat_lt MOST_OBJECTS (length m.objects)) fault.TooManyObjects) twice.0 in
+    let classes = or_none _ (fault_if (nat_lt MOST_CLASSES (length m.classes)) fault.TooManyClasses) objects.0 in
     let some = or_none None (fault_if (length m.classes == 0) fault.NoClass) classes.0 in
     let once = or_parts (has_twice (map (λ (o : Object A). o.name) m.objects)) (has_twice (map (λ (c : Class A). c.name) m.classes)) (no_fault _ fault.DuplicateName twice.1) in
     let named = and_parts (list_all is_name (map (λ (o : Object A). o.name) m.objects)) (list_all is_name (map (λ (c : Class A). c.name) m.classes)) (not-false _ (no_fault _ fault.BadName names.1)) in
-    model_again m.objects m.classes (no_fault _ fault.NoClass some.1) (each_first m.objects firsts) named.0 once.0 (ltb-false 256 (length m.objects) (no_fault _ fault.TooManyObjects objects.1))
+    model_again m.objects m.classes (no_fault _ fault.NoClass some.1) (each_first m.objects firsts) named.0 once.0 (ltb-false MOST_OBJECTS (length m.objects) (no_fault _ fault.TooManyObjects objects.1))
     (each_whole m.classes named.1 sets (no_fault _ fault.BeginKindAtStart begins.1) (no_fault _ fault.HeirWithoutSpawn heirs.1) (no_fault _ fault.BadPolicyKind policies.1))
-    once.1 (ltb-false 16 (length m.classes) (no_fault _ fault.TooManyClasses classes.1))
+    once.1 (ltb-false MOST_CLASSES (length m.classes) (no_fault _ fault.TooManyClasses classes.1))

@@ -22,6 +22,7 @@ use Rattle.acta_table.specs.declared.model.ModelFault.TheVariants.{NoClass, TooM
 use Rattle.acta_table.specs.Faults.{is_name, has_twice, has_begin_edge, has_begin_kind, lacks_parents, fault_if, lowest_fault}
 use Rattle.acta_table.specs.Policies.{is_bad_policy}
 use Rattle.acta_table.specs.Starts.{both_of, each_start_edge_once, is_listed, same_start_edge}
+use Rattle.acta_table.specs.declared.limits.TheConstants.{MOST_CLASSES, MOST_OBJECTS}
 use Rattle.acta_words.specs.Text.{is_word_among, lines_of, words_of}
 use Rattle.acta_words.proofs.FirstLines.{first_line}
 use Rattle.acta_lang.specs.declared.fault.AsmFault.{AsmFault}
@@ -44,7 +45,7 @@ pub record IsFaultlessClass (c : OpenClass) : Type 0 where
 -- the class that is open, if one is, and there is room for it
 abbrev pub IsFaultlessCurrent : ℕ → Option OpenClass → Type 0
 IsFaultlessCurrent n None = Unit {0}
-IsFaultlessCurrent n (Some c) = (n < 16) × IsFaultlessClass c
+IsFaultlessCurrent n (Some c) = (n < MOST_CLASSES) × IsFaultlessClass c
 
 -- what some lines declare, free of the faults of models but for the want of a class
 pub record IsFaultless {A : Type 0} (d : Draft A) : Type 0 where
@@ -52,8 +53,8 @@ pub record IsFaultless {A : Type 0} (d : Draft A) : Type 0 where
   pub classes_apart : has_twice (class_names d) ≡ false
   pub objects_named : list_all is_name (object_names d) ≡ true
   pub classes_named : list_all is_name (class_names d) ≡ true
-  pub few_objects : length d.objects ≤ 256
-  pub few_classes : length d.classes ≤ 16
+  pub few_objects : length d.objects ≤ MOST_OBJECTS
+  pub few_classes : length d.classes ≤ MOST_CLASSES
   pub begins : list_any has_begin_kind d.classes ≡ false
   pub heirs : list_any lacks_parents d.classes ≡ false
   pub policies : list_any (λ c. is_bad_policy c.policy) d.classes ≡ false
@@ -136,12 +137,12 @@ policy_closed None h = refl
 policy_closed (Some p) h = h
 
 -- an object more
-object_keeps : {A : Type 0} (d : Draft A) (name : List ℕ) (k : Kind) → is_name name ≡ true → is_word_among (object_names d) name ≡ false → nat_le 256 (length d.objects) ≡ false
+object_keeps : {A : Type 0} (d : Draft A) (name : List ℕ) (k : Kind) → is_name name ≡ true → is_word_among (object_names d) name ≡ false → nat_le MOST_OBJECTS (length d.objects) ≡ false
     → IsFaultless d → IsFaultless (with_object d name k)
 object_keeps {A = A} d name k named new room h =
     let object : Object A = record { name = name; kind = k } in
     let names : object_names (with_object d name k) ≡ object_names d ++ name ∷ [] = map-append (λ o. o.name) d.objects (object ∷ []) in
-    let few : length d.objects < 256 = leb-false 256 (length d.objects) room in
+    let few : length d.objects < MOST_OBJECTS = leb-false MOST_OBJECTS (length d.objects) room in
     record {
       objects_apart = ap has_twice names ∙ apart_with (object_names d) name h.objects_apart new;
       classes_apart = h.classes_apart;
@@ -157,7 +158,7 @@ object_keeps {A = A} d name k named new room h =
 
 -- a class that opens
 class_keeps : {A : Type 0} (os : List (Object A)) (cs : List (Class A)) (o : Option OpenClass) (name : List ℕ) → is_some o ≡ false → is_name name ≡ true
-    → is_word_among (class_names (record { objects = os; classes = cs; current = o })) name ≡ false → nat_le 16 (length cs) ≡ false
+    → is_word_among (class_names (record { objects = os; classes = cs; current = o })) name ≡ false → nat_le MOST_CLASSES (length cs) ≡ false
     → IsFaultless (record { objects = os; classes = cs; current = o }) → IsFaultless (record { objects = os; classes = cs; current = Some (opened name) })
 class_keeps os cs (Some c) name outside named new room h = absurd (true≢false outside)
 class_keeps {A = A} os cs None name outside named new room h =
@@ -173,7 +174,7 @@ class_keeps {A = A} os cs None name outside named new room h =
       begins = h.begins;
       heirs = h.heirs;
       policies = h.policies;
-      current = (leb-false 16 (length cs) room, record { spawns = refl; splits = refl; policy = refl });
+      current = (leb-false MOST_CLASSES (length cs) room, record { spawns = refl; splits = refl; policy = refl });
     }
 
 -- a class that closes
@@ -184,7 +185,7 @@ end_keeps {A = A} os cs (Some c) heirs h =
     let class : Class A = closed c in
     let names : map (λ (c : Class A). c.name) (cs ++ class ∷ []) ++ [] ≡ map (λ (c : Class A). c.name) cs ++ c.name ∷ [] =
     append-nil (map (λ (c : Class A). c.name) (cs ++ class ∷ [])) ∙ map-append (λ (c : Class A). c.name) cs (class ∷ []) in
-    let few : length cs < 16 = h.current.0 in
+    let few : length cs < MOST_CLASSES = h.current.0 in
     record {
       objects_apart = h.objects_apart;
       classes_apart = ap has_twice names ∙ h.classes_apart;
@@ -277,8 +278,8 @@ sound_end d h closed some =
     let named = ap not (and_from (list_all is_name (map (λ o. o.name) d.objects)) (list_all is_name (map (λ c. c.name) d.classes)) h.objects_named (ap (list_all is_name) (sym names) ∙ h.classes_named)) in
     λ i. fold option_or None (
     fault_if (some i) NoClass
-    ∷ fault_if (le-ltb 16 (length d.classes) h.few_classes i) TooManyClasses
-    ∷ fault_if (le-ltb 256 (length d.objects) h.few_objects i) TooManyObjects
+    ∷ fault_if (le-ltb MOST_CLASSES (length d.classes) h.few_classes i) TooManyClasses
+    ∷ fault_if (le-ltb MOST_OBJECTS (length d.objects) h.few_objects i) TooManyObjects
     ∷ fault_if (once i) DuplicateName
     ∷ fault_if (named i) BadName
     ∷ fault_if (h.begins i) BeginKindAtStart

@@ -3,7 +3,7 @@ use Rattle.std.proofs.Common.{◌≡◌, ℕ, ◌+◌, ◌<◌, Bool, true, fals
 use Rattle.std.proofs.lemmas.List.{append-nil, at_drop_more}
 use Rattle.acta_words.specs.Text.{line_of}
 use Rattle.acta_lang.specs.Canonical.{word_if}
-use Rattle.acta_lang.specs.Written.{spaced, written}
+use Rattle.acta_lang.specs.inside.Written.{spaced, written}
 
 -- the line of some words is the first, and each other behind a space
 pub line_spaced : (word : List ℕ) (words : List (List ℕ)) → line_of (word ∷ words) ≡ word ++ spaced words

@@ -3,6 +3,7 @@
 use Rattle.std.specs.Prelude.{ℕ, Bool, true, false, not, ◌&&◌, ◌||◌, ◌==◌, nat_le, List, [], ◌∷◌, ◌++◌, map, length, fold, if◌then◌else◌, Option, Some, None, is_some, is_none}
 use Rattle.std.specs.List.{list_all}
 use Rattle.std.specs.Option.{option_or, option_map_or}
+use Rattle.acta_table.specs.declared.limits.TheConstants.{MOST_CLASSES, MOST_OBJECTS}
 use Rattle.acta_table.specs.Dependencies.{is_begin_kind}
 use Rattle.acta_table.specs.Faults.{is_name, lacks_parents}
 use Rattle.acta_words.specs.Numerals.{read_integer}
@@ -76,7 +77,7 @@ bad_number words _ = false
 -- the 257th object, the 17th class
 unfoldable pub too_many : {A : Type 0} → Draft A → Form → Bool
 too_many d said =
-    is_object said && nat_le 256 (length d.objects) || is_class said && nat_le 16 (length d.classes)
+    is_object said && nat_le MOST_OBJECTS (length d.objects) || is_class said && nat_le MOST_CLASSES (length d.classes)
 
 -- the last line, and a class is still open behind it
 unfoldable pub missing_end : {A : Type 0} → Bool → Draft A → Bool

@@ -4,7 +4,5 @@ pub mod Faults
 pub mod FirstValues
 pub mod Forms
 pub mod Meaning
-pub mod Named
-pub mod Shown
 pub mod Words
-pub mod Written
+pub mod inside

@@ -3,7 +3,7 @@
 ghost use Rattle.std.specs.Prelude.{◌≡◌, ◌++◌, ◌∷◌, [], map, codes, OnOk};
 ghost use Rattle.acta_table.specs.Dependencies.{word_of};
 ghost use Rattle.acta_lang.specs.Canonical.{class_words, dep_words, edge_words, may_words, policy_words, starts_words, word_if};
-ghost use Rattle.acta_lang.specs.Written.{rest_lines, spaced, start_lines, written};
+ghost use Rattle.acta_lang.specs.inside.Written.{rest_lines, spaced, start_lines, written};
 
 use crate::words::{MAY, commit_word, extent_word, may_word, scope_word};
 use acta_table::{Class, Dep, DepKinds, Dependent, Kinds, Policy, StartEdge, Starts};

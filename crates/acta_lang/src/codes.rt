@@ -4,7 +4,7 @@ ghost use Rattle.std.specs.Prelude.{◌≡◌, map};
 ghost use Rattle.std.specs.List.{list_all};
 ghost use Rattle.acta_lang.specs.Drafts.{extended};
 ghost use Rattle.acta_lang.specs.Faults.{bad_name, bad_number, bad_policy_kind, bad_word, begin_kind_at_start, code_if, is_printable, lowest_of, not_ascii};
-ghost use Rattle.acta_lang.specs.Shown.{shown};
+ghost use Rattle.acta_lang.specs.inside.Shown.{shown};
 
 use crate::draft::{Draft, name_in, value_in};
 use crate::fault::Code;

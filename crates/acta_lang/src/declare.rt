@@ -4,7 +4,7 @@ ghost use Rattle.std.specs.Prelude.{◌≡◌, false, None, Ok, IfOk, IfErr};
 ghost use Rattle.acta_lang.specs.Drafts.{extended_by, parts_of};
 ghost use Rattle.acta_lang.specs.Faults.{code_at};
 ghost use Rattle.acta_lang.specs.Meaning.{meaning, IsWhy};
-ghost use Rattle.acta_lang.specs.Shown.{is_current_taken, shown};
+ghost use Rattle.acta_lang.specs.inside.Shown.{is_current_taken, shown};
 
 use crate::codes::lowest_code;
 use crate::draft::Draft;

@@ -8,21 +8,15 @@ ghost use Rattle.acta_words.specs.Text.{is_word_among};
 ghost use Rattle.acta_lang.specs.Drafts.{extended, nothing_yet, parts_of, first_value, with_object, with_closed, with_said};
 ghost use Rattle.acta_lang.specs.Faults.{class_names, duplicate_name, heir_without_spawn, missing_end, missing_part, object_names, too_many, wrong_place};
 ghost use Rattle.acta_lang.specs.Forms.{name_in, value_in};
-ghost use Rattle.acta_lang.specs.Shown.{is_current_taken, shown};
+ghost use Rattle.acta_lang.specs.inside.Shown.{is_current_taken, shown};
 
 use crate::form::Form;
-use crate::names::{Named, add_name, is_named};
+use crate::names::{Named, add_name, is_declared};
 use crate::said::Said;
-use acta_table::{Class, Items, Kind, Object, Parts};
+use acta_table::{Class, Items, Kind, MOST_CLASSES, MOST_OBJECTS, Object, Parts};
 use acta_words::read_i32;
 use std::alloc::{AllocError, Allocator};
 use std::hash::BuildHasherDefault;
-
-// The most objects that a text can declare.
-const MOST_OBJECTS: usize = 256;
-
-// The most classes that it can declare.
-const MOST_CLASSES: usize = 16;
 
 /// A class that is open.
 #[derive(Drop)]
@@ -82,14 +76,14 @@ impl<'a, A: Allocator + Copy> Draft<'a, A> {
     fn has_object(&self, name: &'a [u8]) -> bool
         ensures { result ≡ is_word_among (object_names (shown self.now)) name.now }
     {
-        is_named(&self.objects, name)
+        is_declared(&self.objects, name)
     }
 
     // Whether a class has this name, the open one too.
     fn has_class(&self, name: &'a [u8]) -> bool
         ensures { result ≡ is_word_among (class_names (shown self.now)) name.now }
     {
-        is_named(&self.classes, name) || self.is_current(name)
+        is_declared(&self.classes, name) || self.is_current(name)
     }
 
     // Whether the class that is open has this name.

@@ -2,7 +2,7 @@
 
 ghost use Rattle.std.specs.Prelude.{◌≡◌, ◌++◌, ◌∷◌, [], false, OnOk};
 ghost use Rattle.acta_words.specs.Text.{is_word_among};
-ghost use Rattle.acta_lang.specs.Named.{names_in};
+ghost use Rattle.acta_lang.specs.inside.Named.{names_in};
 
 use indexmap::IndexMap;
 use std::alloc::{AllocError, Allocator};
@@ -12,7 +12,10 @@ use std::hash::{BuildHasherDefault, FoldHasher};
 pub(crate) type Named<'a, V, A> = IndexMap<&'a [u8], V, BuildHasherDefault<FoldHasher>, A>;
 
 /// Whether something has this name. Takes no memory.
-pub(crate) fn is_named<'a, V, A: Allocator + Copy>(named: &Named<'a, V, A>, name: &'a [u8]) -> bool
+pub(crate) fn is_declared<'a, V, A: Allocator + Copy>(
+    named: &Named<'a, V, A>,
+    name: &'a [u8],
+) -> bool
     ensures { result ≡ is_word_among (names_in named.now) name.now }
 {
     named.contains_key(&name)

@@ -2,7 +2,7 @@
 
 ghost use Rattle.std.specs.Prelude.{◌≡◌, ◌++◌, ◌∷◌, [], OnOk};
 ghost use Rattle.acta_lang.specs.Canonical.{kind_words, object_words};
-ghost use Rattle.acta_lang.specs.Written.{spaced, written};
+ghost use Rattle.acta_lang.specs.inside.Written.{spaced, written};
 
 use acta_table::{Kind, Object};
 use acta_words::{push_integer, push_word};

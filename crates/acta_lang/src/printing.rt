@@ -6,7 +6,7 @@ ghost use Rattle.acta_table.specs.SetsOfClasses.{HasSets};
 ghost use Rattle.acta_lang.specs.Canonical.{canonical, class_words, object_words};
 ghost use Rattle.acta_lang.specs.FirstValues.{Fits32, HasFirst};
 ghost use Rattle.acta_lang.specs.Meaning.{meaning};
-ghost use Rattle.acta_lang.specs.Written.{written};
+ghost use Rattle.acta_lang.specs.inside.Written.{written};
 
 use crate::class_lines::push_class;
 use crate::object_lines::push_object;

@@ -3,7 +3,7 @@
 ghost use Rattle.std.specs.Prelude.{◌≡◌, ℕ, List, IfOk, OnOk};
 ghost use Rattle.acta_table.specs.Faults.{lacks_parents};
 ghost use Rattle.acta_lang.specs.Drafts.{closed, has_said, has_said_all, opened, with_said};
-ghost use Rattle.acta_lang.specs.Shown.{class_shown};
+ghost use Rattle.acta_lang.specs.inside.Shown.{class_shown};
 
 use crate::form::Form;
 use acta_table::{

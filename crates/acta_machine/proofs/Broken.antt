@@ -10,6 +10,7 @@ use Rattle.acta_table.specs.declared.answer.Rule.TheVariants.{BadNumber}
 use Rattle.acta_table.specs.Numbered.{smallest}
 use Rattle.acta_table.specs.WellFormed.{is_bad_number}
 use Rattle.acta_table.specs.Refusals.{broken_if, broken_by}
+use Rattle.acta_table.specs.declared.limits.TheConstants.{LAST_TXN}
 use Rattle.acta_machine.specs.Summary.{Summary}
 use Rattle.acta_deps.specs.Statuses.{is_new, is_in_progress}
 use Rattle.acta_machine.specs.Rules.{fails}
@@ -68,9 +69,9 @@ neither true b e = cc
 neither false b e = (refl, e)
 
 -- a number that is not bad is from 1 to 4,095
-pub good_number : (t : ℕ) → broken_by BadNumber (smallest (filter is_bad_number (t ∷ []))) ≡ None → (0 < t) × (t ≤ 4095)
+pub good_number : (t : ℕ) → broken_by BadNumber (smallest (filter is_bad_number (t ∷ []))) ≡ None → (0 < t) × (t ≤ LAST_TXN)
 good_number t e =
-    let parts = neither (t == 0) (nat_lt 4095 t) (none_bad t (is_bad_number t) (by_none BadNumber _ e)) in
+    let parts = neither (t == 0) (nat_lt LAST_TXN t) (none_bad t (is_bad_number t) (by_none BadNumber _ e)) in
     let low : t ≡ 0 → ⊥ = λ z. true≢false (sym (eq-eqb t 0 z) ∙ parts.0) in
-    let high : 4095 < t → ⊥ = λ l. true≢false (sym (lt-ltb 4095 t l) ∙ parts.1) in
+    let high : LAST_TXN < t → ⊥ = λ l. true≢false (sym (lt-ltb LAST_TXN t l) ∙ parts.1) in
     (omega (arith, low), omega (arith, high))

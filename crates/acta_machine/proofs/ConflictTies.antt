@@ -31,13 +31,13 @@ use Rattle.acta_axioms.proofs.ByOperations.{holders-shown}
 use Rattle.acta_axioms.proofs.Conflicts.{do_conflict-on}
 use Rattle.acta_axioms.proofs.Holders.{all-ascending, all-upon}
 use Rattle.acta_deps.specs.Statuses.{is_in_progress}
-use Rattle.acta_sets.specs.declared.item.Item.{Item}
+use Rattle.acta_sets.specs.declared.held_op.HeldOp.{HeldOp}
 use Rattle.acta_sets.specs.Operations.{is_of_others}
 use Rattle.acta_machine.specs.Summary.{Summary}
 use Rattle.acta_machine.specs.Changes.{summary_of}
 use Rattle.acta_machine.specs.Conflicts.{stands_against, opponents, conflict_edges}
 use Rattle.acta_machine.specs.Families.{class_of, spared}
-use Rattle.acta_machine.specs.Places.{ShowsPlaces, item_of, is_held_well, AreHeldWell}
+use Rattle.acta_machine.specs.Places.{ShowsPlaces, held_op_of, is_held_well, AreHeldWell}
 use Rattle.acta_machine.proofs.Broken.{or_none}
 use Rattle.acta_machine.proofs.EdgeSteps.{formed-other}
 use Rattle.acta_machine.proofs.FamilyTies.{class_of-places}
@@ -50,7 +50,7 @@ and_assoc false b c = refl
 
 -- what stands against an operation by the table conflicts with it by places
 pub against-places : {A : Type 0} (m : Parts A) (h : List (Kept A)) → ShowsPlaces m h (summary_of m h) → (t : ℕ) (ob : ObjId) (op : Op) (o : Operation) →
-    stands_against m (summary_of m h) t ob op (item_of o (standing m h o)) ≡ (Rattle.acta_axioms.specs.Operations.is_of_others m h t (standing m h o) && ((o.object == ob.0) && do_conflict m ob.0 o.op op))
+    stands_against m (summary_of m h) t ob op (held_op_of o (standing m h o)) ≡ (Rattle.acta_axioms.specs.Operations.is_of_others m h t (standing m h o) && ((o.object == ob.0) && do_conflict m ob.0 o.op op))
 against-places m h shows t ob op o =
     (λ i. others-places m h shows t o i && (o.object == ob.0) && sym (do_conflict-on m ob.0 o.op op) i)
     ∙ and_assoc (Rattle.acta_axioms.specs.Operations.is_of_others m h t (standing m h o)) (o.object == ob.0) (do_conflict m ob.0 o.op op)
@@ -58,8 +58,8 @@ against-places m h shows t ob op o =
 -- those who hold it are the same
 pub opponents-places : {A : Type 0} (m : Parts A) (h : List (Kept A)) → ShowsPlaces m h (summary_of m h) → (t : ℕ) (ob : ObjId) (op : Op) → opponents m (summary_of m h) t ob op ≡ holders_against m h t ob.0 op
 opponents-places m h shows t ob op =
-    ap (λ items. ascending (map (λ (i : Item). i.holder.0) (filter (stands_against m (summary_of m h) t ob op) items))) shows.operations
-    ∙ sym (ap ascending (holders-shown m h t ob.0 op (λ o. item_of o (standing m h o)) (stands_against m (summary_of m h) t ob op) (λ i. i.holder.0) (against-places m h shows t ob op) (λ o. refl)))
+    ap (λ items. ascending (map (λ (i : HeldOp). i.holder.0) (filter (stands_against m (summary_of m h) t ob op) items))) shows.operations
+    ∙ sym (ap ascending (holders-shown m h t ob.0 op (λ o. held_op_of o (standing m h o)) (stands_against m (summary_of m h) t ob op) (λ i. i.holder.0) (against-places m h shows t ob op) (λ o. refl)))
 
 -- and so are the edges
 pub conflict_edges-places : {A : Type 0} (m : Parts A) (h : List (Kept A)) → ShowsPlaces m h (summary_of m h) → (t : TxnId) (ob : ObjId) (op : Op) → conflict_edges m (summary_of m h) t ob op ≡ formed_by m h (Operate t ob op)
@@ -111,7 +111,7 @@ through-class test f each None = refl
 through-class test f each (Some x) = each x
 
 -- those who hold the operations that stand against another are in progress
-all-opponents : (status : ℕ → Status) (test : Item → Bool) → ((i : Item) → test i ≡ true → is_open i.fate ≡ true) → (items : List Item) → list_all (is_held_well status) items ≡ true → list_all (λ u. is_in_progress (status u)) (map (λ (i : Item). i.holder.0) (filter test items)) ≡ true
+all-opponents : (status : ℕ → Status) (test : HeldOp → Bool) → ((i : HeldOp) → test i ≡ true → is_open i.fate ≡ true) → (items : List HeldOp) → list_all (is_held_well status) items ≡ true → list_all (λ u. is_in_progress (status u)) (map (λ (i : HeldOp). i.holder.0) (filter test items)) ≡ true
 all-opponents status test opens [] all = refl
 all-opponents status test opens (i ∷ items) all =
     let parts = both (is_held_well status i) (list_all (is_held_well status) items) all in
@@ -125,8 +125,8 @@ all-opponents status test opens (i ∷ items) all =
     so true on is e = e
     so false on is e = cc
 
-    of : (b : Bool) → test i ≡ b → is_held_well status i ≡ true → list_all (λ u. is_in_progress (status u)) (map (λ (x : Item). x.holder.0) (filter test items)) ≡ true
-        → list_all (λ u. is_in_progress (status u)) (map (λ (x : Item). x.holder.0) (if b then i ∷ filter test items else filter test items)) ≡ true
+    of : (b : Bool) → test i ≡ b → is_held_well status i ≡ true → list_all (λ u. is_in_progress (status u)) (map (λ (x : HeldOp). x.holder.0) (filter test items)) ≡ true
+        → list_all (λ u. is_in_progress (status u)) (map (λ (x : HeldOp). x.holder.0) (if b then i ∷ filter test items else filter test items)) ≡ true
     of true is well later = λ x. so (is_open i.fate) (is_in_progress (status i.holder.0)) (opens i is) well x && later x
     of false is well later = later
 
@@ -136,7 +136,7 @@ first_true false b e = cc
 
 pub opponents-on : {A : Type 0} (m : Parts A) (s : Summary) → AreHeldWell s → (t : ℕ) (ob : ObjId) (op : Op) → list_all (λ u. is_in_progress (s.status u)) (opponents m s t ob op) ≡ true
 opponents-on m s well t ob op =
-    all-ascending (λ u. is_in_progress (s.status u)) (map (λ (i : Item). i.holder.0) (filter (stands_against m s t ob op) s.operations))
+    all-ascending (λ u. is_in_progress (s.status u)) (map (λ (i : HeldOp). i.holder.0) (filter (stands_against m s t ob op) s.operations))
     (all-opponents s.status (stands_against m s t ob op) (λ i against. first_true (is_open i.fate) _ (first_true (is_open i.fate && not (i.holder.0 == t)) _ (first_true (is_of_others t (spared m s t) i) _ (first_true (is_of_others t (spared m s t) i && (i.ob.0 == ob.0)) _ against)))) s.operations well)
 
 -- the formulas of the edges hold where their transactions have not ended

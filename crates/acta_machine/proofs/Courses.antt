@@ -3,9 +3,9 @@ use Rattle.std.specs.Prelude.{ℕ, Bool, ◌&&◌, not, ◌==◌, List, Option}
 use Rattle.std.specs.List.{list_any}
 use Rattle.acta_table.specs.declared.dep.Edge.{Edge}
 use Rattle.acta_table.specs.declared.dep.Missing.{Missing}
+use Rattle.acta_table.specs.Dependencies.{is_commit, is_abort}
 use Rattle.acta_axioms.specs.History.{Course}
 use Rattle.acta_axioms.specs.Formulas.{debt, is_broken}
-use Rattle.acta_axioms.specs.Legal.{is_commit, is_abort}
 
 -- what is owed by an edge, and whether its formula is false and not owed, where the courses are these
 abbrev pub debt_by : (ℕ → Course) → Edge → Option Missing

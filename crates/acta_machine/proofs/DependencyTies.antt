@@ -15,19 +15,19 @@ use Rattle.acta_table.specs.declared.dep.Dep.TheVariants.{Cd, Scd, Ad, Wd, Ed, C
 use Rattle.acta_table.specs.declared.dep.Edge.{Edge}
 use Rattle.acta_table.specs.declared.dep.Missing.{Missing}
 use Rattle.acta_table.specs.declared.dep.Missing.TheVariants.{Commit, Abort}
-use Rattle.acta_table.specs.Dependencies.{is_begin_kind}
+use Rattle.acta_table.specs.Dependencies.{is_begin_kind, is_commit, is_abort}
 use Rattle.acta_table.specs.Edges.{is_among, with_edge, formed}
 use Rattle.acta_table.specs.Numbered.{first_number, smallest}
 use Rattle.acta_table.specs.Refusals.{broken_by}
 use Rattle.acta_deps.specs.Statuses.{with_status, has_committed, has_aborted}
-use Rattle.acta_deps.specs.Debts.{missing_if, debt_by as debt_in, debt_of, owes_commit, owes_abort, owed_at, owed_from, owed_in, clashes_by as clashes_in}
-use Rattle.acta_deps.specs.Dependencies.{awaits_begin, awaits_end, awaits_commit, awaits_abort, ends_after, committed_first, began_first, cannot_pay_commit, cannot_pay_abort, depends, is_awaited, begin_dep, serial_dep, begin_on_commit, begin_on_abort, termination_dep, owing_abort, owing_commit, commit_order, weak_begin, unpayable_commit, unpayable_abort, clash, start_refusal, commit_refusal, abort_refusal, join_refusal}
+use Rattle.acta_deps.specs.Debts.{missing_if, debt_by as debt_in, debt_of, owes_abort, owed_at, owed_from, owed_in, clashes_by as clashes_in}
+use Rattle.acta_deps.specs.Dependencies.{awaits_begin, awaits_end, awaits_commit, awaits_abort, ends_after, committed_first, began_first, cannot_pay_commit, cannot_pay_abort, begin_dep, serial_dep, begin_on_commit, begin_on_abort, termination_dep, owing_abort, owing_commit, commit_order, weak_begin, unpayable_commit, unpayable_abort, clash, start_refusal, commit_refusal, abort_refusal, join_refusal}
 use Rattle.acta_axioms.specs.History.{Course, end}
 use Rattle.acta_axioms.specs.Formulas.{is_false, is_broken, payment}
-use Rattle.acta_axioms.specs.Claims.{status_in, is_orderly, is_apart}
-use Rattle.acta_axioms.specs.Legal.{owed_on, is_commit, is_abort}
-use Rattle.acta_axioms.specs.Within.{IsWithin}
-use Rattle.acta_machine.specs.Places.{is_dependency_rule}
+use Rattle.acta_axioms.specs.Claims.{course_status, is_orderly, is_apart}
+use Rattle.acta_axioms.specs.Legal.{owed_on}
+use Rattle.acta_axioms.specs.inside.Within.{IsWithin}
+use Rattle.acta_machine.specs.Exactness.{is_dependency_rule, refuses_start, refuses_commit, refuses_abort, refuses_join, meet_then}
 use Rattle.acta_machine.proofs.Courses.{debt_by, is_broken_by, owes_abort_by, clashes_by, is_legal_by}
 use Rattle.acta_machine.proofs.EdgeSteps.{begun, committed, aborted, joined, begin-j, begin-i, commit-j, commit-i, abort-j, abort-i, join-j, join-i, debts-tie}
 
@@ -73,29 +73,12 @@ or_more (Some r) p a b e d = rw (sym e) refl
 or_tests : (o p : Option Refusal) (f g : Edge → Bool) (es : List Edge) → is_some o ≡ list_any f es → is_some p ≡ list_any g es → is_some (option_or o p) ≡ list_any (λ e. f e || g e) es
 or_tests o p f g es e d = or_more o p (list_any f es) (list_any g es) e d ∙ any-or f g es
 
--- whether an edge bars the start, the commit, the abort or the join of t
-abbrev bars_start : (ℕ → Status) → ℕ → Edge → Bool
-bars_start status t e = depends awaits_begin status t e || depends awaits_end status t e || depends awaits_commit status t e || depends awaits_abort status t e
-
-abbrev bars_commit : (ℕ → Status) → ℕ → Edge → Bool
-bars_commit status t e = depends ends_after status t e || owes_abort status t e || is_awaited committed_first status t e || is_awaited began_first status t e || is_awaited cannot_pay_commit status t e
-
-abbrev bars_abort : (ℕ → Status) → ℕ → Edge → Bool
-bars_abort status t e = depends ends_after status t e || owes_commit status t e || is_awaited cannot_pay_abort status t e
-
-abbrev bars_join : (ℕ → Status) → ℕ → Edge → Bool
-bars_join status t e = owes_abort status t e || owes_commit status t e
-
--- whether two debts of one transaction clash once t stands so
-abbrev clash_then : (ℕ → Status) → List Edge → ℕ → Status → Bool
-clash_then status es t s = list_any (clashes_in (with_status status t s) es) es
-
-some_clash : (status : ℕ → Status) (es : List Edge) (t : ℕ) (s : Status) → is_some (clash status es t s) ≡ clash_then status es t s
+some_clash : (status : ℕ → Status) (es : List Edge) (t : ℕ) (s : Status) → is_some (clash status es t s) ≡ meet_then status es t s
 unfolding clash
 some_clash status es t s = some_smallest Clash (clashes_in (with_status status t s) es) es
 
 -- an event is refused where an edge bars it or debts would clash
-start_tests : (status : ℕ → Status) (es : List Edge) (t : ℕ) → is_some (start_refusal status es t) ≡ (list_any (bars_start status t) es || clash_then status es t InProgress)
+start_tests : (status : ℕ → Status) (es : List Edge) (t : ℕ) → is_some (start_refusal status es t) ≡ (list_any (refuses_start status t) es || meet_then status es t InProgress)
 unfolding start_refusal begin_dep serial_dep begin_on_commit begin_on_abort
 start_tests status es t =
     or_more _ _ _ _
@@ -106,7 +89,7 @@ start_tests status es t =
     (some_rule _ _ es))
     (some_clash status es t InProgress)
 
-commit_tests : (status : ℕ → Status) (es : List Edge) (t : ℕ) → is_some (commit_refusal status es t) ≡ (list_any (bars_commit status t) es || clash_then status es t Committed)
+commit_tests : (status : ℕ → Status) (es : List Edge) (t : ℕ) → is_some (commit_refusal status es t) ≡ (list_any (refuses_commit status t) es || meet_then status es t Committed)
 unfolding commit_refusal termination_dep owing_abort commit_order weak_begin unpayable_commit
 commit_tests status es t =
     or_more _ _ _ _
@@ -119,7 +102,7 @@ commit_tests status es t =
     (some_rule _ _ es))
     (some_clash status es t Committed)
 
-abort_tests : (status : ℕ → Status) (es : List Edge) (t : ℕ) → is_some (abort_refusal status es t) ≡ (list_any (bars_abort status t) es || clash_then status es t Aborted)
+abort_tests : (status : ℕ → Status) (es : List Edge) (t : ℕ) → is_some (abort_refusal status es t) ≡ (list_any (refuses_abort status t) es || meet_then status es t Aborted)
 unfolding abort_refusal termination_dep owing_commit unpayable_abort
 abort_tests status es t =
     or_more _ _ _ _
@@ -128,25 +111,33 @@ abort_tests status es t =
     (some_rule _ _ es))
     (some_clash status es t Aborted)
 
-join_tests : (status : ℕ → Status) (es : List Edge) (t : ℕ) → is_some (join_refusal status es t) ≡ list_any (bars_join status t) es
+join_tests : (status : ℕ → Status) (es : List Edge) (t : ℕ) → is_some (join_refusal status es t) ≡ list_any (refuses_join status t) es
 unfolding join_refusal owing_abort owing_commit
 join_tests status es t = or_tests _ _ _ _ es (some_rule _ _ es) (some_rule _ _ es)
 
 -- two tests that agree at each edge that is apart and unbroken agree on a list of such edges
-any_alike : (f g broken : Edge → Bool) → ((e : Edge) → is_apart e ≡ true → broken e ≡ false → f e ≡ g e) → (es : List Edge) → list_all is_apart es ≡ true → list_any broken es ≡ false → list_any f es ≡ list_any g es
-any_alike f g broken same [] apart whole = refl
-any_alike f g broken same (e ∷ es) apart whole =
+alike : (f g broken : Edge → Bool) → ((e : Edge) → is_apart e ≡ true → broken e ≡ false → f e ≡ g e) → (es : List Edge) → list_all is_apart es ≡ true → list_any broken es ≡ false → map f es ≡ map g es
+alike f g broken same [] apart whole = refl
+alike f g broken same (e ∷ es) apart whole =
     let a = and_parts (is_apart e) (list_all is_apart es) apart in
     let w = or_parts (broken e) (list_any broken es) whole in
-    λ i. same e a.0 w.0 i || any_alike f g broken same es a.1 w.1 i
+    λ i. same e a.0 w.0 i ∷ alike f g broken same es a.1 w.1 i
+
+-- and so pass some edge alike
+any-map : (f : Edge → Bool) (es : List Edge) → list_any f es ≡ list_any (λ b. b) (map f es)
+any-map f [] = refl
+any-map f (e ∷ es) = ap (λ b. f e || b) (any-map f es)
+
+any_alike : (f g : Edge → Bool) (es : List Edge) → map f es ≡ map g es → list_any f es ≡ list_any g es
+any_alike f g es same = any-map f es ∙ ap (list_any (λ b. b)) same ∙ sym (any-map g es)
 
 -- what is owed by an edge is the same by the statuses and by the courses
-owes_alike : (status : ℕ → Status) (courses : ℕ → Course) → ((u : ℕ) → status u ≡ status_in (courses u)) → ((u : ℕ) → is_orderly (courses u) ≡ true) → (e : Edge) → debt_of status e ≡ debt_by courses e
+owes_alike : (status : ℕ → Status) (courses : ℕ → Course) → ((u : ℕ) → status u ≡ course_status (courses u)) → ((u : ℕ) → is_orderly (courses u) ≡ true) → (e : Edge) → debt_of status e ≡ debt_by courses e
 owes_alike status courses shows orderly e =
     (λ x. debt_in e.kind (shows e.i.0 x) (shows e.j.0 x))
     ∙ debts-tie e.kind (courses e.j.0) (courses e.i.0) (orderly e.j.0) (orderly e.i.0)
 
-clashes_alike : (status : ℕ → Status) (courses : ℕ → Course) → ((u : ℕ) → status u ≡ status_in (courses u)) → ((u : ℕ) → is_orderly (courses u) ≡ true) → (es : List Edge)
+clashes_alike : (status : ℕ → Status) (courses : ℕ → Course) → ((u : ℕ) → status u ≡ course_status (courses u)) → ((u : ℕ) → is_orderly (courses u) ≡ true) → (es : List Edge)
     → list_any (clashes_in status es) es ≡ list_any (clashes_by courses es) es
 clashes_alike status courses shows orderly es =
     let same = owes_alike status courses shows orderly in
@@ -162,42 +153,42 @@ or-false false = refl
 
 -- one edge that is unbroken: it is barred exactly where the event, of its j or its i or of neither, breaks its formula
 module _ (kind : Dep) (n : ℕ) (cj ci : Course) (orderly_j : is_orderly cj ≡ true) (orderly_i : is_orderly ci ≡ true) (within_j : IsWithin n cj) (within_i : IsWithin n ci) (whole : is_broken kind cj ci ≡ false) where
-  start_edge : (of_j of_i : Bool) → (of_j && of_i) ≡ false → (of_j ≡ true → status_in cj ≡ NotBegun) → (of_i ≡ true → status_in ci ≡ NotBegun)
-      → ((of_j && awaits_begin kind (status_in ci)) || (of_j && awaits_end kind (status_in ci)) || (of_j && awaits_commit kind (status_in ci)) || (of_j && awaits_abort kind (status_in ci)))
+  start_edge : (of_j of_i : Bool) → (of_j && of_i) ≡ false → (of_j ≡ true → course_status cj ≡ NotBegun) → (of_i ≡ true → course_status ci ≡ NotBegun)
+      → ((of_j && awaits_begin kind (course_status ci)) || (of_j && awaits_end kind (course_status ci)) || (of_j && awaits_commit kind (course_status ci)) || (of_j && awaits_abort kind (course_status ci)))
       ≡ is_broken kind (if of_j then begun (n + 1) cj else cj) (if of_i then begun (n + 1) ci else ci)
   start_edge true true one new_j new_i = cc
   start_edge true false one new_j new_i = sym (begin-j kind n cj ci orderly_j orderly_i within_i (new_j refl))
   start_edge false true one new_j new_i = sym (begin-i kind n cj ci orderly_j orderly_i (new_i refl) whole)
   start_edge false false one new_j new_i = sym whole
 
-  commit_edge : (of_j of_i : Bool) → (of_j && of_i) ≡ false → (of_j ≡ true → status_in cj ≡ InProgress) → (of_i ≡ true → status_in ci ≡ InProgress)
-      → ((of_j && ends_after kind (status_in ci)) || (of_j && is_abort (debt_in kind (status_in ci) (status_in cj))) || (of_i && committed_first kind (status_in cj)) || (of_i && began_first kind (status_in cj)) || (of_i && cannot_pay_commit kind (status_in cj)))
+  commit_edge : (of_j of_i : Bool) → (of_j && of_i) ≡ false → (of_j ≡ true → course_status cj ≡ InProgress) → (of_i ≡ true → course_status ci ≡ InProgress)
+      → ((of_j && ends_after kind (course_status ci)) || (of_j && is_abort (debt_in kind (course_status ci) (course_status cj))) || (of_i && committed_first kind (course_status cj)) || (of_i && began_first kind (course_status cj)) || (of_i && cannot_pay_commit kind (course_status cj)))
       ≡ is_broken kind (if of_j then committed (n + 1) cj else cj) (if of_i then committed (n + 1) ci else ci)
   commit_edge true true one on_j on_i = cc
   commit_edge true false one on_j on_i =
       or-false _ ∙ or-false _ ∙ or-false _
-      ∙ (λ x. ends_after kind (status_in ci) || is_abort (debt_in kind (status_in ci) (on_j refl x)))
+      ∙ (λ x. ends_after kind (course_status ci) || is_abort (debt_in kind (course_status ci) (on_j refl x)))
       ∙ sym (commit-j kind n cj ci orderly_j orderly_i within_i (on_j refl) whole)
   commit_edge false true one on_j on_i = sym (commit-i kind n cj ci orderly_j orderly_i within_j (on_i refl) whole)
   commit_edge false false one on_j on_i = sym whole
 
-  abort_edge : (of_j of_i : Bool) → (of_j && of_i) ≡ false → (of_j ≡ true → status_in cj ≡ InProgress) → (of_i ≡ true → status_in ci ≡ InProgress)
-      → ((of_j && ends_after kind (status_in ci)) || (of_j && is_commit (debt_in kind (status_in ci) (status_in cj))) || (of_i && cannot_pay_abort kind (status_in cj)))
+  abort_edge : (of_j of_i : Bool) → (of_j && of_i) ≡ false → (of_j ≡ true → course_status cj ≡ InProgress) → (of_i ≡ true → course_status ci ≡ InProgress)
+      → ((of_j && ends_after kind (course_status ci)) || (of_j && is_commit (debt_in kind (course_status ci) (course_status cj))) || (of_i && cannot_pay_abort kind (course_status cj)))
       ≡ is_broken kind (if of_j then aborted (n + 1) cj else cj) (if of_i then aborted (n + 1) ci else ci)
   abort_edge true true one on_j on_i = cc
   abort_edge true false one on_j on_i =
       or-false _
-      ∙ (λ x. ends_after kind (status_in ci) || is_commit (debt_in kind (status_in ci) (on_j refl x)))
+      ∙ (λ x. ends_after kind (course_status ci) || is_commit (debt_in kind (course_status ci) (on_j refl x)))
       ∙ sym (abort-j kind n cj ci orderly_j orderly_i within_i (on_j refl) whole)
   abort_edge false true one on_j on_i = sym (abort-i kind n cj ci orderly_j orderly_i within_j (on_i refl) whole)
   abort_edge false false one on_j on_i = sym whole
 
-  join_edge : (of_j of_i : Bool) → (of_j && of_i) ≡ false → (of_j ≡ true → status_in cj ≡ InProgress)
-      → ((of_j && is_abort (debt_in kind (status_in ci) (status_in cj))) || (of_j && is_commit (debt_in kind (status_in ci) (status_in cj))))
+  join_edge : (of_j of_i : Bool) → (of_j && of_i) ≡ false → (of_j ≡ true → course_status cj ≡ InProgress)
+      → ((of_j && is_abort (debt_in kind (course_status ci) (course_status cj))) || (of_j && is_commit (debt_in kind (course_status ci) (course_status cj))))
       ≡ is_broken kind (if of_j then joined (n + 1) cj else cj) (if of_i then joined (n + 1) ci else ci)
   join_edge true true one on_j = cc
   join_edge true false one on_j =
-      (λ x. is_abort (debt_in kind (status_in ci) (on_j refl x)) || is_commit (debt_in kind (status_in ci) (on_j refl x)))
+      (λ x. is_abort (debt_in kind (course_status ci) (on_j refl x)) || is_commit (debt_in kind (course_status ci) (on_j refl x)))
       ∙ sym (join-j kind n cj ci orderly_j orderly_i (on_j refl) whole)
   join_edge false true one on_j = sym (join-i kind n cj ci ∙ whole)
   join_edge false false one on_j = sym whole
@@ -245,7 +236,7 @@ any-more f g more es some = of (list_any g es) refl
     of false is = absurd (true≢false (sym some ∙ any-fewer f g more es is))
 
 -- so where nobody owes both, nobody does after a join
-calm_joined : (status : ℕ → Status) (es : List Edge) (t : ℕ) → status t ≡ InProgress → list_any (clashes_in status es) es ≡ false → clash_then status es t Joined ≡ false
+calm_joined : (status : ℕ → Status) (es : List Edge) (t : ℕ) → status t ≡ InProgress → list_any (clashes_in status es) es ≡ false → meet_then status es t Joined ≡ false
 calm_joined status es t at = any-fewer (clashes_in (with_status status t Joined) es) (clashes_in status es) fewer es
   where
     owed_before : (e : Edge) (test : Option Missing → Bool) → test None ≡ false → test (debt_of (with_status status t Joined) e) ≡ true → test (debt_of status e) ≡ true
@@ -269,9 +260,15 @@ neither true b = refl
 neither false true = refl
 neither false false = refl
 
+-- an event is refused exactly where it is not legal, by each edge that it breaks, and by debts that meet
+pub record IsExactBy (later : ℕ → Course) (es : List Edge) (refused clash : Bool) (test : Edge → Bool) : Type 0 where
+  pub refuses : refused ≡ not (is_legal_by later es)
+  pub alike : map test es ≡ map (is_broken_by later) es
+  pub clashes : clash ≡ list_any (clashes_by later es) es
+
 -- an event of t, which lengthens t's course alone, is refused exactly where it would leave a formula broken or debts that clash
 module _ (status : ℕ → Status) (courses later : ℕ → Course) (es : List Edge) (n t : ℕ)
-    (shows : (u : ℕ) → status u ≡ status_in (courses u)) (orderly : (u : ℕ) → is_orderly (courses u) ≡ true) (within : (u : ℕ) → IsWithin n (courses u))
+    (shows : (u : ℕ) → status u ≡ course_status (courses u)) (orderly : (u : ℕ) → is_orderly (courses u) ≡ true) (within : (u : ℕ) → IsWithin n (courses u))
     (apart : list_all is_apart es ≡ true) (unbroken : list_any (is_broken_by courses) es ≡ false)
     (others : (u : ℕ) → (u ≡ t → ⊥) → later u ≡ courses u) (orderly_later : (u : ℕ) → is_orderly (later u) ≡ true) where
   -- each course after the event
@@ -283,24 +280,31 @@ module _ (status : ℕ → Status) (courses later : ℕ → Course) (es : List E
       ]
 
   -- how t stood before
-  stands : (s : Status) → status t ≡ s → (u : ℕ) → (u == t) ≡ true → status_in (courses u) ≡ s
+  stands : (s : Status) → status t ≡ s → (u : ℕ) → (u == t) ≡ true → course_status (courses u) ≡ s
   stands s at u same = sym (shows u) ∙ ap status (eqb-true u t same) ∙ at
 
   -- the tests of edges, and then of debts, are those of legality
-  exact : (bars : ℕ → Edge → Bool) (s : Status) (refusal : Option Refusal) → is_some refusal ≡ (list_any (bars t) es || clash_then status es t s)
+  exact : (bars : ℕ → Edge → Bool) (s : Status) (refused clash : Bool) → refused ≡ (list_any (bars t) es || clash) → clash ≡ meet_then status es t s
       → ((e : Edge) → is_apart e ≡ true → is_broken_by courses e ≡ false → bars t e ≡ is_broken_by later e)
-      → ((u : ℕ) → with_status status t s u ≡ status_in (later u))
-      → is_some refusal ≡ not (is_legal_by later es)
-  exact bars s refusal tests each shows_later =
-      tests
-      ∙ (λ x. any_alike (bars t) (is_broken_by later) (is_broken_by courses) each es apart unbroken x || clashes_alike (with_status status t s) later shows_later orderly_later es x)
-      ∙ neither (list_any (is_broken_by later) es) (list_any (clashes_by later es) es)
+      → ((u : ℕ) → with_status status t s u ≡ course_status (later u))
+      → IsExactBy later es refused clash (bars t)
+  exact bars s refused clash tests meets each shows_later =
+      let edges_alike = alike (bars t) (is_broken_by later) (is_broken_by courses) each es apart unbroken in
+      let debts_alike = meets ∙ clashes_alike (with_status status t s) later shows_later orderly_later es in
+      record {
+        refuses =
+            tests
+            ∙ (λ x. any_alike (bars t) (is_broken_by later) es edges_alike x || debts_alike x)
+            ∙ neither (list_any (is_broken_by later) es) (list_any (clashes_by later es) es);
+        alike = edges_alike;
+        clashes = debts_alike;
+      }
 
-  pub starts-exact : status t ≡ NotBegun → later t ≡ begun (n + 1) (courses t) → ((u : ℕ) → with_status status t InProgress u ≡ status_in (later u))
-      → is_some (start_refusal status es t) ≡ not (is_legal_by later es)
-  starts-exact at here shows_later = exact (bars_start status) InProgress (start_refusal status es t) (start_tests status es t) each shows_later
+  pub starts-exact : status t ≡ NotBegun → later t ≡ begun (n + 1) (courses t) → ((u : ℕ) → with_status status t InProgress u ≡ course_status (later u))
+      → IsExactBy later es (is_some (start_refusal status es t)) (meet_then status es t InProgress) (refuses_start status t)
+  starts-exact at here shows_later = exact (refuses_start status) InProgress (is_some (start_refusal status es t)) (meet_then status es t InProgress) (start_tests status es t) refl each shows_later
     where
-      each : (e : Edge) → is_apart e ≡ true → is_broken_by courses e ≡ false → bars_start status t e ≡ is_broken_by later e
+      each : (e : Edge) → is_apart e ≡ true → is_broken_by courses e ≡ false → refuses_start status t e ≡ is_broken_by later e
       each e two whole =
           let at_i = shows e.i.0 in
           let new = moved (begun (n + 1)) here in
@@ -308,11 +312,11 @@ module _ (status : ℕ → Status) (courses later : ℕ → Course) (es : List E
           ∙ start_edge e.kind n (courses e.j.0) (courses e.i.0) (orderly e.j.0) (orderly e.i.0) (within e.j.0) (within e.i.0) whole (e.j.0 == t) (e.i.0 == t) (not_both e.j.0 e.i.0 t two) (stands NotBegun at e.j.0) (stands NotBegun at e.i.0)
           ∙ (λ x. is_broken e.kind (new e.j.0 x) (new e.i.0 x))
 
-  pub commits-exact : status t ≡ InProgress → later t ≡ committed (n + 1) (courses t) → ((u : ℕ) → with_status status t Committed u ≡ status_in (later u))
-      → is_some (commit_refusal status es t) ≡ not (is_legal_by later es)
-  commits-exact at here shows_later = exact (bars_commit status) Committed (commit_refusal status es t) (commit_tests status es t) each shows_later
+  pub commits-exact : status t ≡ InProgress → later t ≡ committed (n + 1) (courses t) → ((u : ℕ) → with_status status t Committed u ≡ course_status (later u))
+      → IsExactBy later es (is_some (commit_refusal status es t)) (meet_then status es t Committed) (refuses_commit status t)
+  commits-exact at here shows_later = exact (refuses_commit status) Committed (is_some (commit_refusal status es t)) (meet_then status es t Committed) (commit_tests status es t) refl each shows_later
     where
-      each : (e : Edge) → is_apart e ≡ true → is_broken_by courses e ≡ false → bars_commit status t e ≡ is_broken_by later e
+      each : (e : Edge) → is_apart e ≡ true → is_broken_by courses e ≡ false → refuses_commit status t e ≡ is_broken_by later e
       each e two whole =
           let at_i = shows e.i.0 in
           let at_j = shows e.j.0 in
@@ -321,11 +325,11 @@ module _ (status : ℕ → Status) (courses later : ℕ → Course) (es : List E
           ∙ commit_edge e.kind n (courses e.j.0) (courses e.i.0) (orderly e.j.0) (orderly e.i.0) (within e.j.0) (within e.i.0) whole (e.j.0 == t) (e.i.0 == t) (not_both e.j.0 e.i.0 t two) (stands InProgress at e.j.0) (stands InProgress at e.i.0)
           ∙ (λ x. is_broken e.kind (new e.j.0 x) (new e.i.0 x))
 
-  pub aborts-exact : status t ≡ InProgress → later t ≡ aborted (n + 1) (courses t) → ((u : ℕ) → with_status status t Aborted u ≡ status_in (later u))
-      → is_some (abort_refusal status es t) ≡ not (is_legal_by later es)
-  aborts-exact at here shows_later = exact (bars_abort status) Aborted (abort_refusal status es t) (abort_tests status es t) each shows_later
+  pub aborts-exact : status t ≡ InProgress → later t ≡ aborted (n + 1) (courses t) → ((u : ℕ) → with_status status t Aborted u ≡ course_status (later u))
+      → IsExactBy later es (is_some (abort_refusal status es t)) (meet_then status es t Aborted) (refuses_abort status t)
+  aborts-exact at here shows_later = exact (refuses_abort status) Aborted (is_some (abort_refusal status es t)) (meet_then status es t Aborted) (abort_tests status es t) refl each shows_later
     where
-      each : (e : Edge) → is_apart e ≡ true → is_broken_by courses e ≡ false → bars_abort status t e ≡ is_broken_by later e
+      each : (e : Edge) → is_apart e ≡ true → is_broken_by courses e ≡ false → refuses_abort status t e ≡ is_broken_by later e
       each e two whole =
           let at_i = shows e.i.0 in
           let at_j = shows e.j.0 in
@@ -335,17 +339,17 @@ module _ (status : ℕ → Status) (courses later : ℕ → Course) (es : List E
           ∙ (λ x. is_broken e.kind (new e.j.0 x) (new e.i.0 x))
 
   -- a join leaves nobody who owes both, where nobody did
-  pub joins-exact : status t ≡ InProgress → later t ≡ joined (n + 1) (courses t) → ((u : ℕ) → with_status status t Joined u ≡ status_in (later u)) → list_any (clashes_by courses es) es ≡ false
-      → is_some (join_refusal status es t) ≡ not (is_legal_by later es)
-  joins-exact at here shows_later calm = exact (bars_join status) Joined (join_refusal status es t) tests each shows_later
+  pub joins-exact : status t ≡ InProgress → later t ≡ joined (n + 1) (courses t) → ((u : ℕ) → with_status status t Joined u ≡ course_status (later u)) → list_any (clashes_by courses es) es ≡ false
+      → IsExactBy later es (is_some (join_refusal status es t)) false (refuses_join status t)
+  joins-exact at here shows_later calm = exact (refuses_join status) Joined (is_some (join_refusal status es t)) false tests (sym calm_then) each shows_later
     where
-      calm_then : clash_then status es t Joined ≡ false
+      calm_then : meet_then status es t Joined ≡ false
       calm_then = calm_joined status es t at (clashes_alike status courses shows orderly es ∙ calm)
 
-      tests : is_some (join_refusal status es t) ≡ (list_any (bars_join status t) es || clash_then status es t Joined)
-      tests = join_tests status es t ∙ sym ((λ x. list_any (bars_join status t) es || calm_then x) ∙ or-false (list_any (bars_join status t) es))
+      tests : is_some (join_refusal status es t) ≡ (list_any (refuses_join status t) es || false)
+      tests = join_tests status es t ∙ sym (or-false (list_any (refuses_join status t) es))
 
-      each : (e : Edge) → is_apart e ≡ true → is_broken_by courses e ≡ false → bars_join status t e ≡ is_broken_by later e
+      each : (e : Edge) → is_apart e ≡ true → is_broken_by courses e ≡ false → refuses_join status t e ≡ is_broken_by later e
       each e two whole =
           let at_i = shows e.i.0 in
           let at_j = shows e.j.0 in
@@ -354,7 +358,7 @@ module _ (status : ℕ → Status) (courses later : ℕ → Course) (es : List E
           ∙ join_edge e.kind n (courses e.j.0) (courses e.i.0) (orderly e.j.0) (orderly e.i.0) (within e.j.0) (within e.i.0) whole (e.j.0 == t) (e.i.0 == t) (not_both e.j.0 e.i.0 t two) (stands InProgress at e.j.0)
           ∙ (λ x. is_broken e.kind (new e.j.0 x) (new e.i.0 x))
 
-owed_from-tie : (status : ℕ → Status) (courses : ℕ → Course) → ((u : ℕ) → status u ≡ status_in (courses u)) → ((u : ℕ) → is_orderly (courses u) ≡ true) → (n : ℕ) (es : List Edge)
+owed_from-tie : (status : ℕ → Status) (courses : ℕ → Course) → ((u : ℕ) → status u ≡ course_status (courses u)) → ((u : ℕ) → is_orderly (courses u) ≡ true) → (n : ℕ) (es : List Edge)
     → owed_from status n es ≡ filter_map (λ e. option_map (owed_on e) (debt_by courses e.1)) (enumerate_from n es)
 owed_from-tie status courses shows orderly n [] = refl
 owed_from-tie status courses shows orderly n (e ∷ es) =
@@ -365,7 +369,7 @@ owed_from-tie status courses shows orderly n (e ∷ es) =
     mapped (Some missing) = refl
 
 -- the debts by the statuses are those by the courses
-pub owed-tie : (status : ℕ → Status) (courses : ℕ → Course) (es : List Edge) → ((u : ℕ) → status u ≡ status_in (courses u)) → ((u : ℕ) → is_orderly (courses u) ≡ true)
+pub owed-tie : (status : ℕ → Status) (courses : ℕ → Course) (es : List Edge) → ((u : ℕ) → status u ≡ course_status (courses u)) → ((u : ℕ) → is_orderly (courses u) ≡ true)
     → owed_in status es ≡ filter_map (λ e. option_map (owed_on e) (debt_by courses e.1)) (enumerate_from 1 es)
 owed-tie status courses es shows orderly = owed_from-tie status courses shows orderly 1 es
 
@@ -449,14 +453,18 @@ clash-formed status es more calm =
 
 -- whether an edge makes no difference to the start of t
 abbrev pub is_neutral : (ℕ → Status) → ℕ → Edge → Bool
-is_neutral status t f = not (bars_start status t f) && (not (is_commit (debt_of (with_status status t InProgress) f)) && not (is_abort (debt_of (with_status status t InProgress) f)))
+is_neutral status t f = not (refuses_start status t f) && (not (is_commit (debt_of (with_status status t InProgress) f)) && not (is_abort (debt_of (with_status status t InProgress) f)))
 
 pub start-formed : (status : ℕ → Status) (es more : List Edge) (t : ℕ) → list_all (is_neutral status t) more ≡ true → is_some (start_refusal status (formed es more) t) ≡ is_some (start_refusal status es t)
 start-formed status es more t neutral =
     start_tests status (formed es more) t
-    ∙ (λ x. any-formed (bars_start status t) es more (all-weaker _ _ (λ f e. (and_parts (not (bars_start status t f)) _ e).0) more neutral) x
-    || clash-formed (with_status status t InProgress) es more (all-weaker _ _ (λ f e. (and_parts (not (bars_start status t f)) _ e).1) more neutral) x)
+    ∙ (λ x. any-formed (refuses_start status t) es more (all-weaker _ _ (λ f e. (and_parts (not (refuses_start status t f)) _ e).0) more neutral) x
+    || clash-formed (with_status status t InProgress) es more (all-weaker _ _ (λ f e. (and_parts (not (refuses_start status t f)) _ e).1) more neutral) x)
     ∙ sym (start_tests status es t)
+
+pub meet-formed : (status : ℕ → Status) (es more : List Edge) (t : ℕ) → list_all (is_neutral status t) more ≡ true → meet_then status (formed es more) t InProgress ≡ meet_then status es t InProgress
+meet-formed status es more t neutral =
+    clash-formed (with_status status t InProgress) es more (all-weaker _ _ (λ f e. (and_parts (not (refuses_start status t f)) _ e).1) more neutral)
 
 -- an edge of no begin kind between two in progress is such an edge
 pub neutral-edge : (status : ℕ → Status) (t : ℕ) (f : Edge) → is_begin_kind f.kind ≡ false → with_status status t InProgress f.i.0 ≡ InProgress → with_status status t InProgress f.j.0 ≡ InProgress → is_neutral status t f ≡ true

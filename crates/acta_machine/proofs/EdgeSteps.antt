@@ -7,13 +7,13 @@ use Rattle.acta_table.specs.declared.dep.Dep.{Dep}
 use Rattle.acta_table.specs.declared.dep.Dep.TheVariants.{Cd, Wd, Td, Bd, Sd, Bcd, Bad, Wcd}
 use Rattle.acta_table.specs.declared.dep.Missing.{Missing}
 use Rattle.acta_table.specs.declared.dep.Missing.TheVariants.{Abort}
-use Rattle.acta_table.specs.Dependencies.{is_begin_kind}
-use Rattle.acta_deps.specs.Debts.{debt_by, is_commit, is_abort}
+use Rattle.acta_table.specs.Dependencies.{is_begin_kind, is_commit, is_abort}
+use Rattle.acta_deps.specs.Debts.{debt_by}
 use Rattle.acta_deps.specs.Dependencies.{awaits_begin, awaits_end, awaits_commit, awaits_abort, ends_after, committed_first, began_first, cannot_pay_commit, cannot_pay_abort}
 use Rattle.acta_axioms.specs.History.{Course, end}
 use Rattle.acta_axioms.specs.Formulas.{is_before, is_false, is_broken, debt}
-use Rattle.acta_axioms.specs.Claims.{status_in, is_orderly}
-use Rattle.acta_axioms.specs.Within.{IsWithin}
+use Rattle.acta_axioms.specs.Claims.{course_status, is_orderly}
+use Rattle.acta_axioms.specs.inside.Within.{IsWithin}
 
 -- a course with one event more, at this place
 abbrev pub begun : ℕ → Course → Course
@@ -63,29 +63,29 @@ shape c = of c.start c.commit c.abort c.join
 of_shapes : (P : Course → Course → Type 0) {cj ci : Course} (j i : Shape) → course_of j ≡ cj → course_of i ≡ ci → P (course_of j) (course_of i) → P cj ci
 of_shapes P {cj} j i is_j is_i h = subst (P cj) is_i (subst (λ c. P c (course_of i)) is_j h)
 
-fresh_shape : (s : Shape) → status_in (course_of s) ≡ NotBegun → s ≡ Fresh
+fresh_shape : (s : Shape) → course_status (course_of s) ≡ NotBegun → s ≡ Fresh
 fresh_shape Fresh e = refl
 fresh_shape (Begun a) e = cc
 fresh_shape (Done a b) e = cc
 fresh_shape (Undone a b) e = cc
 fresh_shape (Merged a b) e = cc
 
-fresh_course : (c : Course) → is_orderly c ≡ true → status_in c ≡ NotBegun → course_of Fresh ≡ c
+fresh_course : (c : Course) → is_orderly c ≡ true → course_status c ≡ NotBegun → course_of Fresh ≡ c
 fresh_course c orderly fresh =
     let s = shape c orderly in
-    sym (ap course_of (fresh_shape s.0 (ap status_in s.1 ∙ fresh))) ∙ s.1
+    sym (ap course_of (fresh_shape s.0 (ap course_status s.1 ∙ fresh))) ∙ s.1
 
-begun_shape : (s : Shape) → status_in (course_of s) ≡ InProgress → (a : ℕ) × (s ≡ Begun a)
+begun_shape : (s : Shape) → course_status (course_of s) ≡ InProgress → (a : ℕ) × (s ≡ Begun a)
 begun_shape Fresh e = cc
 begun_shape (Begun a) e = (a, refl)
 begun_shape (Done a b) e = cc
 begun_shape (Undone a b) e = cc
 begun_shape (Merged a b) e = cc
 
-begun_course : (c : Course) → is_orderly c ≡ true → status_in c ≡ InProgress → (a : ℕ) × (course_of (Begun a) ≡ c)
+begun_course : (c : Course) → is_orderly c ≡ true → course_status c ≡ InProgress → (a : ℕ) × (course_of (Begun a) ≡ c)
 begun_course c orderly on =
     let s = shape c orderly in
-    let b = begun_shape s.0 (ap status_in s.1 ∙ on) in
+    let b = begun_shape s.0 (ap course_status s.1 ∙ on) in
     (b.0, sym (ap course_of b.1) ∙ s.1)
 
 -- whether the formula of an edge is broken by a start, a commit or an abort of j, where i stands so
@@ -106,7 +106,7 @@ bars_join kind i = is_abort (debt_by kind i InProgress) || is_commit (debt_by ki
 abbrev is_late_commit : Dep → Status → Bool
 is_late_commit kind j = committed_first kind j || began_first kind j || cannot_pay_commit kind j
 
-begin_j-at : (kind : Dep) (n : ℕ) (i : Shape) → IsWithin n (course_of i) → is_broken kind (begun (n + 1) (course_of Fresh)) (course_of i) ≡ bars_begin kind (status_in (course_of i))
+begin_j-at : (kind : Dep) (n : ℕ) (i : Shape) → IsWithin n (course_of i) → is_broken kind (begun (n + 1) (course_of Fresh)) (course_of i) ≡ bars_begin kind (course_status (course_of i))
 unfolding is_false
 begin_j-at Bd n (Begun a) w = rw (lt-ltb a (n + 1) (omega (arith, w.start))) refl
 begin_j-at Bd n (Done a b) w = rw (lt-ltb a (n + 1) (omega (arith, w.start))) refl
@@ -121,11 +121,11 @@ begin_j-at kind n Fresh w = refl
 begin_j-at kind n i w = refl
 
 -- j starts
-pub begin-j : (kind : Dep) (n : ℕ) (cj ci : Course) → is_orderly cj ≡ true → is_orderly ci ≡ true → IsWithin n ci → status_in cj ≡ NotBegun
-    → is_broken kind (begun (n + 1) cj) ci ≡ (awaits_begin kind (status_in ci) || awaits_end kind (status_in ci) || awaits_commit kind (status_in ci) || awaits_abort kind (status_in ci))
+pub begin-j : (kind : Dep) (n : ℕ) (cj ci : Course) → is_orderly cj ≡ true → is_orderly ci ≡ true → IsWithin n ci → course_status cj ≡ NotBegun
+    → is_broken kind (begun (n + 1) cj) ci ≡ (awaits_begin kind (course_status ci) || awaits_end kind (course_status ci) || awaits_commit kind (course_status ci) || awaits_abort kind (course_status ci))
 begin-j kind n cj ci orderly_j orderly_i within fresh =
     let i = shape ci orderly_i in
-    of_shapes (λ j i. IsWithin n i → is_broken kind (begun (n + 1) j) i ≡ bars_begin kind (status_in i))
+    of_shapes (λ j i. IsWithin n i → is_broken kind (begun (n + 1) j) i ≡ bars_begin kind (course_status i))
     Fresh i.0 (fresh_course cj orderly_j fresh) i.1 (begin_j-at kind n i.0) within
 
 begin_i-at : (kind : Dep) (n : ℕ) (j : Shape) → is_broken kind (course_of j) (course_of Fresh) ≡ false → is_broken kind (course_of j) (begun (n + 1) (course_of Fresh)) ≡ false
@@ -135,7 +135,7 @@ begin_i-at Bd n j e = cc
 begin_i-at kind n j e = e
 
 -- i starts
-pub begin-i : (kind : Dep) (n : ℕ) (cj ci : Course) → is_orderly cj ≡ true → is_orderly ci ≡ true → status_in ci ≡ NotBegun
+pub begin-i : (kind : Dep) (n : ℕ) (cj ci : Course) → is_orderly cj ≡ true → is_orderly ci ≡ true → course_status ci ≡ NotBegun
     → is_broken kind cj ci ≡ false → is_broken kind cj (begun (n + 1) ci) ≡ false
 begin-i kind n cj ci orderly_j orderly_i fresh =
     let j = shape cj orderly_j in
@@ -149,7 +149,7 @@ whether_ended true false d e = cc
 whether_ended false c d e = refl
 
 commit_j-at : (kind : Dep) (n a : ℕ) (i : Shape) → IsWithin n (course_of i) → is_broken kind (course_of (Begun a)) (course_of i) ≡ false
-    → is_broken kind (committed (n + 1) (course_of (Begun a))) (course_of i) ≡ bars_commit kind (status_in (course_of i))
+    → is_broken kind (committed (n + 1) (course_of (Begun a))) (course_of i) ≡ bars_commit kind (course_status (course_of i))
 unfolding is_false
 commit_j-at Cd n a (Done x y) w e = rw (lt-ltb y (n + 1) (omega (arith, w.commit))) refl
 commit_j-at Wd n a (Undone x y) w e = rw (le-ltb (n + 1) y (omega (arith, w.abort))) refl
@@ -164,16 +164,16 @@ commit_j-at kind n a Fresh w e = refl
 commit_j-at kind n a i w e = refl
 
 -- j commits
-pub commit-j : (kind : Dep) (n : ℕ) (cj ci : Course) → is_orderly cj ≡ true → is_orderly ci ≡ true → IsWithin n ci → status_in cj ≡ InProgress
-    → is_broken kind cj ci ≡ false → is_broken kind (committed (n + 1) cj) ci ≡ (ends_after kind (status_in ci) || is_abort (debt_by kind (status_in ci) InProgress))
+pub commit-j : (kind : Dep) (n : ℕ) (cj ci : Course) → is_orderly cj ≡ true → is_orderly ci ≡ true → IsWithin n ci → course_status cj ≡ InProgress
+    → is_broken kind cj ci ≡ false → is_broken kind (committed (n + 1) cj) ci ≡ (ends_after kind (course_status ci) || is_abort (debt_by kind (course_status ci) InProgress))
 commit-j kind n cj ci orderly_j orderly_i within on =
     let j = begun_course cj orderly_j on in
     let i = shape ci orderly_i in
-    of_shapes (λ j i. IsWithin n i → is_broken kind j i ≡ false → is_broken kind (committed (n + 1) j) i ≡ bars_commit kind (status_in i))
+    of_shapes (λ j i. IsWithin n i → is_broken kind j i ≡ false → is_broken kind (committed (n + 1) j) i ≡ bars_commit kind (course_status i))
     (Begun j.0) i.0 j.1 i.1 (commit_j-at kind n j.0 i.0) within
 
 abort_j-at : (kind : Dep) (n a : ℕ) (i : Shape) → IsWithin n (course_of i) → is_broken kind (course_of (Begun a)) (course_of i) ≡ false
-    → is_broken kind (aborted (n + 1) (course_of (Begun a))) (course_of i) ≡ bars_abort kind (status_in (course_of i))
+    → is_broken kind (aborted (n + 1) (course_of (Begun a))) (course_of i) ≡ bars_abort kind (course_status (course_of i))
 unfolding is_false
 abort_j-at Td n a (Done x y) w e = rw (lt-ltb y (n + 1) (omega (arith, w.commit))) refl
 abort_j-at Td n a (Undone x y) w e = rw (lt-ltb y (n + 1) (omega (arith, w.abort))) refl
@@ -186,16 +186,16 @@ abort_j-at kind n a Fresh w e = refl
 abort_j-at kind n a i w e = refl
 
 -- j aborts
-pub abort-j : (kind : Dep) (n : ℕ) (cj ci : Course) → is_orderly cj ≡ true → is_orderly ci ≡ true → IsWithin n ci → status_in cj ≡ InProgress
-    → is_broken kind cj ci ≡ false → is_broken kind (aborted (n + 1) cj) ci ≡ (ends_after kind (status_in ci) || is_commit (debt_by kind (status_in ci) InProgress))
+pub abort-j : (kind : Dep) (n : ℕ) (cj ci : Course) → is_orderly cj ≡ true → is_orderly ci ≡ true → IsWithin n ci → course_status cj ≡ InProgress
+    → is_broken kind cj ci ≡ false → is_broken kind (aborted (n + 1) cj) ci ≡ (ends_after kind (course_status ci) || is_commit (debt_by kind (course_status ci) InProgress))
 abort-j kind n cj ci orderly_j orderly_i within on =
     let j = begun_course cj orderly_j on in
     let i = shape ci orderly_i in
-    of_shapes (λ j i. IsWithin n i → is_broken kind j i ≡ false → is_broken kind (aborted (n + 1) j) i ≡ bars_abort kind (status_in i))
+    of_shapes (λ j i. IsWithin n i → is_broken kind j i ≡ false → is_broken kind (aborted (n + 1) j) i ≡ bars_abort kind (course_status i))
     (Begun j.0) i.0 j.1 i.1 (abort_j-at kind n j.0 i.0) within
 
 commit_i-at : (kind : Dep) (n x : ℕ) (j : Shape) → IsWithin n (course_of j) → is_broken kind (course_of j) (course_of (Begun x)) ≡ false
-    → is_broken kind (course_of j) (committed (n + 1) (course_of (Begun x))) ≡ is_late_commit kind (status_in (course_of j))
+    → is_broken kind (course_of j) (committed (n + 1) (course_of (Begun x))) ≡ is_late_commit kind (course_status (course_of j))
 unfolding is_false
 commit_i-at Cd n x (Done a b) w e = rw (le-ltb (n + 1) b (omega (arith, w.commit))) refl
 commit_i-at Td n x (Done a b) w e = cc
@@ -214,16 +214,16 @@ commit_i-at kind n x Fresh w e = refl
 commit_i-at kind n x j w e = refl
 
 -- i commits
-pub commit-i : (kind : Dep) (n : ℕ) (cj ci : Course) → is_orderly cj ≡ true → is_orderly ci ≡ true → IsWithin n cj → status_in ci ≡ InProgress
-    → is_broken kind cj ci ≡ false → is_broken kind cj (committed (n + 1) ci) ≡ (committed_first kind (status_in cj) || began_first kind (status_in cj) || cannot_pay_commit kind (status_in cj))
+pub commit-i : (kind : Dep) (n : ℕ) (cj ci : Course) → is_orderly cj ≡ true → is_orderly ci ≡ true → IsWithin n cj → course_status ci ≡ InProgress
+    → is_broken kind cj ci ≡ false → is_broken kind cj (committed (n + 1) ci) ≡ (committed_first kind (course_status cj) || began_first kind (course_status cj) || cannot_pay_commit kind (course_status cj))
 commit-i kind n cj ci orderly_j orderly_i within on =
     let j = shape cj orderly_j in
     let i = begun_course ci orderly_i on in
-    of_shapes (λ j i. IsWithin n j → is_broken kind j i ≡ false → is_broken kind j (committed (n + 1) i) ≡ is_late_commit kind (status_in j))
+    of_shapes (λ j i. IsWithin n j → is_broken kind j i ≡ false → is_broken kind j (committed (n + 1) i) ≡ is_late_commit kind (course_status j))
     j.0 (Begun i.0) j.1 i.1 (commit_i-at kind n i.0 j.0) within
 
 abort_i-at : (kind : Dep) (n x : ℕ) (j : Shape) → IsWithin n (course_of j) → is_broken kind (course_of j) (course_of (Begun x)) ≡ false
-    → is_broken kind (course_of j) (aborted (n + 1) (course_of (Begun x))) ≡ cannot_pay_abort kind (status_in (course_of j))
+    → is_broken kind (course_of j) (aborted (n + 1) (course_of (Begun x))) ≡ cannot_pay_abort kind (course_status (course_of j))
 unfolding is_false
 abort_i-at Wd n x (Done a b) w e = rw (lt-ltb b (n + 1) (omega (arith, w.commit))) refl
 abort_i-at Td n x (Done a b) w e = cc
@@ -238,16 +238,16 @@ abort_i-at kind n x Fresh w e = refl
 abort_i-at kind n x j w e = refl
 
 -- i aborts
-pub abort-i : (kind : Dep) (n : ℕ) (cj ci : Course) → is_orderly cj ≡ true → is_orderly ci ≡ true → IsWithin n cj → status_in ci ≡ InProgress
-    → is_broken kind cj ci ≡ false → is_broken kind cj (aborted (n + 1) ci) ≡ cannot_pay_abort kind (status_in cj)
+pub abort-i : (kind : Dep) (n : ℕ) (cj ci : Course) → is_orderly cj ≡ true → is_orderly ci ≡ true → IsWithin n cj → course_status ci ≡ InProgress
+    → is_broken kind cj ci ≡ false → is_broken kind cj (aborted (n + 1) ci) ≡ cannot_pay_abort kind (course_status cj)
 abort-i kind n cj ci orderly_j orderly_i within on =
     let j = shape cj orderly_j in
     let i = begun_course ci orderly_i on in
-    of_shapes (λ j i. IsWithin n j → is_broken kind j i ≡ false → is_broken kind j (aborted (n + 1) i) ≡ cannot_pay_abort kind (status_in j))
+    of_shapes (λ j i. IsWithin n j → is_broken kind j i ≡ false → is_broken kind j (aborted (n + 1) i) ≡ cannot_pay_abort kind (course_status j))
     j.0 (Begun i.0) j.1 i.1 (abort_i-at kind n i.0 j.0) within
 
 join_j-at : (kind : Dep) (n a : ℕ) (i : Shape) → is_broken kind (course_of (Begun a)) (course_of i) ≡ false
-    → is_broken kind (joined (n + 1) (course_of (Begun a))) (course_of i) ≡ bars_join kind (status_in (course_of i))
+    → is_broken kind (joined (n + 1) (course_of (Begun a))) (course_of i) ≡ bars_join kind (course_status (course_of i))
 unfolding is_false
 join_j-at Bd n a i e = whether_ended (is_false Bd (course_of (Begun a)) (course_of i)) true false e
 join_j-at Sd n a i e = whether_ended (is_false Sd (course_of (Begun a)) (course_of i)) true false e
@@ -258,12 +258,12 @@ join_j-at kind n a Fresh e = refl
 join_j-at kind n a i e = refl
 
 -- j joins another
-pub join-j : (kind : Dep) (n : ℕ) (cj ci : Course) → is_orderly cj ≡ true → is_orderly ci ≡ true → status_in cj ≡ InProgress
-    → is_broken kind cj ci ≡ false → is_broken kind (joined (n + 1) cj) ci ≡ (is_abort (debt_by kind (status_in ci) InProgress) || is_commit (debt_by kind (status_in ci) InProgress))
+pub join-j : (kind : Dep) (n : ℕ) (cj ci : Course) → is_orderly cj ≡ true → is_orderly ci ≡ true → course_status cj ≡ InProgress
+    → is_broken kind cj ci ≡ false → is_broken kind (joined (n + 1) cj) ci ≡ (is_abort (debt_by kind (course_status ci) InProgress) || is_commit (debt_by kind (course_status ci) InProgress))
 join-j kind n cj ci orderly_j orderly_i on =
     let j = begun_course cj orderly_j on in
     let i = shape ci orderly_i in
-    of_shapes (λ j i. is_broken kind j i ≡ false → is_broken kind (joined (n + 1) j) i ≡ bars_join kind (status_in i))
+    of_shapes (λ j i. is_broken kind j i ≡ false → is_broken kind (joined (n + 1) j) i ≡ bars_join kind (course_status i))
     (Begun j.0) i.0 j.1 i.1 (join_j-at kind n j.0 i.0)
 
 -- i joins another: no formula speaks of it
@@ -282,7 +282,7 @@ ended_owes : (b : Bool) (missing : Option Missing) → None ≡ (if b && false t
 ended_owes true missing = refl
 ended_owes false missing = refl
 
-debts-at : (kind : Dep) (j i : Shape) → debt_by kind (status_in (course_of i)) (status_in (course_of j)) ≡ debt kind (course_of j) (course_of i)
+debts-at : (kind : Dep) (j i : Shape) → debt_by kind (course_status (course_of i)) (course_status (course_of j)) ≡ debt kind (course_of j) (course_of i)
 unfolding is_false
 debts-at Cd j i = nothing (is_false Cd (course_of j) (course_of i) && is_none (end (course_of j)))
 debts-at Wd (Done a b) (Undone x y) = ended_owes (is_false Wd (course_of (Done a b)) (course_of (Undone x y))) (Some Abort)
@@ -297,11 +297,11 @@ debts-at kind j Fresh = refl
 debts-at kind j i = refl
 
 -- the debt by the statuses is the debt by the courses
-pub debts-tie : (kind : Dep) (cj ci : Course) → is_orderly cj ≡ true → is_orderly ci ≡ true → debt_by kind (status_in ci) (status_in cj) ≡ debt kind cj ci
+pub debts-tie : (kind : Dep) (cj ci : Course) → is_orderly cj ≡ true → is_orderly ci ≡ true → debt_by kind (course_status ci) (course_status cj) ≡ debt kind cj ci
 debts-tie kind cj ci orderly_j orderly_i =
     let j = shape cj orderly_j in
     let i = shape ci orderly_i in
-    of_shapes (λ j i. debt_by kind (status_in i) (status_in j) ≡ debt kind j i) j.0 i.0 j.1 i.1 (debts-at kind j.0 i.0)
+    of_shapes (λ j i. debt_by kind (course_status i) (course_status j) ≡ debt kind j i) j.0 i.0 j.1 i.1 (debts-at kind j.0 i.0)
 
 -- an edge that is formed while j has not begun, or while neither has ended, has a formula that holds
 pub formed-begin : (kind : Dep) (cj ci : Course) → is_begin_kind kind ≡ true → is_some cj.start ≡ false → is_false kind cj ci ≡ false

@@ -1,10 +1,10 @@
 -- The rules on dependencies refuse an event exactly where the history with it would not be legal, and the
 -- debts of the table are those by places.
-use Rattle.std.proofs.Common.{◌≡◌, ℕ, ◌+◌, Bool, true, false, ◌&&◌, not, List, [], ◌∷◌, ◌++◌, filter, length, Option, Some, None, refl, sym, ap, ◌∙◌}
+use Rattle.std.proofs.Common.{◌≡◌, ℕ, ◌+◌, Bool, true, false, ◌&&◌, not, List, [], ◌∷◌, ◌++◌, filter, length, map, Option, Some, None, refl, sym, ap, subst, ◌∙◌}
 use Rattle.std.specs.Prelude.{is_some, IfSome, if◌then◌else◌}
 use Rattle.std.specs.List.{list_any, list_all}
-use Rattle.std.proofs.lemmas.Bool.{true≢false}
-use Rattle.acta_table.specs.declared.answer.Status.TheVariants.{NotBegun, InProgress}
+use Rattle.std.proofs.lemmas.Bool.{true≢false, or_parts}
+use Rattle.acta_table.specs.declared.answer.Status.TheVariants.{NotBegun, InProgress, Committed, Aborted}
 use Rattle.acta_table.specs.declared.answer.Refusal.{Refusal}
 use Rattle.acta_table.specs.declared.answer.Rule.TheVariants.{NotInProgress, AlreadyBegun, FormTooLate}
 use Rattle.acta_table.specs.declared.dep.Dep.{Dep}
@@ -28,8 +28,8 @@ use Rattle.acta_table.specs.Refusals.{broken_by}
 use Rattle.acta_axioms.specs.History.{Course, course, end, has_ended}
 use Rattle.acta_axioms.specs.Edges.{edges}
 use Rattle.acta_axioms.specs.Formulas.{is_false}
-use Rattle.acta_axioms.specs.Legal.{is_legal, owed}
-use Rattle.acta_axioms.specs.Claims.{MeetsAxioms, IsOrderly, is_apart, status_in, status_at}
+use Rattle.acta_axioms.specs.Legal.{is_legal, is_broken_in, has_clash, owed}
+use Rattle.acta_axioms.specs.Claims.{MeetsAxioms, IsOrderly, is_apart, course_status, status_at}
 use Rattle.acta_axioms.proofs.EdgeGrowth.{edges-push, course-within, course-other, course-begin, course-spawn, course-split, course-join, course-commit, course-abort}
 use Rattle.acta_deps.specs.Debts.{owed_in}
 use Rattle.acta_deps.specs.Dependencies.{start_refusal, commit_refusal, abort_refusal, join_refusal}
@@ -39,11 +39,12 @@ use Rattle.acta_machine.specs.Summary.{Summary}
 use Rattle.acta_machine.specs.Changes.{summary_of}
 use Rattle.acta_machine.specs.Rules.{not_in_progress, already_begun, form_too_late, fails, too_late, dependency}
 use Rattle.acta_machine.specs.Conflicts.{conflict_edges}
-use Rattle.acta_machine.specs.Places.{ShowsPlaces, AreHeldWell, is_dependency_rule}
+use Rattle.acta_machine.specs.Exactness.{is_dependency_rule, edge_refuses, refuses_start, debts_meet, meet_then}
+use Rattle.acta_machine.specs.Places.{ShowsPlaces, AreHeldWell}
 use Rattle.acta_machine.proofs.Broken.{by_none, is_begun, in_progress, not_begun}
 use Rattle.acta_machine.proofs.ConflictTies.{conflict_edges-places, holding-conflicts}
 use Rattle.acta_machine.proofs.Courses.{is_broken_by, clashes_by, is_legal_by}
-use Rattle.acta_machine.proofs.DependencyTies.{is_neutral, starts-exact, commits-exact, aborts-exact, joins-exact, owed-tie, forms-legal, all-legal, start-formed, start-rule, commit-rule, abort-rule, join-rule}
+use Rattle.acta_machine.proofs.DependencyTies.{IsExactBy, is_neutral, starts-exact, commits-exact, aborts-exact, joins-exact, owed-tie, forms-legal, all-legal, start-formed, meet-formed, start-rule, commit-rule, abort-rule, join-rule}
 use Rattle.acta_machine.proofs.EdgeSteps.{formed-begin, formed-other}
 use Rattle.acta_machine.proofs.Starting.{spawn_due, split_due, holds_in, neutral-spawn, neutral-split, holding-spawn, holding-split}
 use Rattle.acta_machine.proofs.StatusGrowth.{flipped, statuses-begin, statuses-spawn, statuses-split, statuses-commit, statuses-abort, statuses-join, ended-places, begun-places}
@@ -88,10 +89,10 @@ unbroken-edges : {A : Type 0} (m : Parts A) (h : List (Kept A)) → is_legal m h
 unbroken-edges m h legal = legal-unbroken (course h) (edges m h) (sym (legal-by m h) ∙ legal)
 
 -- the course of one that has not begun, and of one in progress
-no_start : (c : Course) → status_in c ≡ NotBegun → c.start ≡ None
+no_start : (c : Course) → course_status c ≡ NotBegun → c.start ≡ None
 no_start c = of c.start c.commit c.abort c.join
   where
-    of : (s k a j : Option ℕ) → status_in (record { start = s; commit = k; abort = a; join = j }) ≡ NotBegun → s ≡ None
+    of : (s k a j : Option ℕ) → course_status (record { start = s; commit = k; abort = a; join = j }) ≡ NotBegun → s ≡ None
     of None k a j e = refl
     of (Some n) (Some x) a j e = cc
     of (Some n) None (Some x) j e = cc
@@ -104,10 +105,10 @@ record NoEnd (c : Course) : Type 0 where
   abort : c.abort ≡ None
   join : c.join ≡ None
 
-no_end : (c : Course) → status_in c ≡ InProgress → NoEnd c
+no_end : (c : Course) → course_status c ≡ InProgress → NoEnd c
 no_end c = of c.start c.commit c.abort c.join
   where
-    of : (s k a j : Option ℕ) → status_in (record { start = s; commit = k; abort = a; join = j }) ≡ InProgress → NoEnd (record { start = s; commit = k; abort = a; join = j })
+    of : (s k a j : Option ℕ) → course_status (record { start = s; commit = k; abort = a; join = j }) ≡ InProgress → NoEnd (record { start = s; commit = k; abort = a; join = j })
     of s (Some x) a j e = cc
     of s None (Some x) j e = cc
     of s None None (Some x) e = cc
@@ -124,6 +125,42 @@ none_of false false j i e = (refl, refl)
 abbrev pub IsChecked : {A : Type 0} → Parts A → Summary → Type 0
 IsChecked m s = (t : ℕ) → s.status t ≡ InProgress → lowest_fault m ≡ None
 
+-- an event is refused exactly where the longer history is not legal, by each edge whose formula it leaves broken,
+-- and by debts that meet
+pub record IsExactAs {A : Type 0} (m : Parts A) (later : List (Kept A)) (refused clash : Bool) (test : Edge → Bool) : Type 0 where
+  pub refuses : refused ≡ not (is_legal m later)
+  pub alike : map test (edges m later) ≡ map (is_broken_in later) (edges m later)
+  pub clashes : clash ≡ has_clash m later
+
+abbrev pub IsExact : {A : Type 0} → Parts A → List (Kept A) → Summary → Event A → Type 0
+IsExact m later s e = IsExactAs m later (is_some (dependency s e)) (debts_meet s e) (edge_refuses s e)
+
+-- where no test passes, tests that never pass are the same
+none-alike : (test : Edge → Bool) (es : List Edge) → list_any test es ≡ false → map (λ _. false) es ≡ map test es
+none-alike test [] none = refl
+none-alike test (e ∷ es) none =
+    let parts = or_parts (test e) (list_any test es) none in
+    λ x. sym parts.0 x ∷ none-alike test es parts.1 x
+
+-- an event by which nothing is refused leaves the history legal
+legal-exact : {A : Type 0} (m : Parts A) (later : List (Kept A)) → is_legal m later ≡ true → IsExactAs m later false false (λ _. false)
+legal-exact m later legal =
+    let by_courses = sym (legal-by m later) ∙ legal in
+    record {
+      refuses = ap not (sym legal);
+      alike = none-alike (is_broken_by (course later)) (edges m later) (legal-unbroken (course later) (edges m later) by_courses);
+      clashes = sym (legal-calm (course later) (edges m later) by_courses);
+    }
+
+-- what is exact by the courses and these edges is so in the longer history, whose edges they are
+exact-in : {A : Type 0} (m : Parts A) (later : List (Kept A)) (es : List Edge) (refused refused_by clash clash_by : Bool) (test : Edge → Bool) → edges m later ≡ es → refused ≡ refused_by → clash ≡ clash_by
+    → IsExactBy (course later) es refused_by clash_by test → IsExactAs m later refused clash test
+exact-in m later es refused refused_by clash clash_by test grown refuses clashes by = record {
+  refuses = refuses ∙ by.refuses ∙ ap (λ x. not (is_legal_by (course later) x)) (sym grown) ∙ ap not (sym (legal-by m later));
+  alike = subst (λ x. map test x ≡ map (is_broken_in later) x) (sym grown) by.alike;
+  clashes = clashes ∙ by.clashes ∙ ap (λ x. list_any (clashes_by (course later) x) x) (sym grown);
+}
+
 module _ {A : Type 0} (m : Parts A) (h : List (Kept A)) (shows : ShowsPlaces m h (summary_of m h)) (meets : MeetsAxioms m h) (orderly : IsOrderly m h) where
   abbrev s : Summary
   s = summary_of m h
@@ -131,60 +168,51 @@ module _ {A : Type 0} (m : Parts A) (h : List (Kept A)) (shows : ShowsPlaces m h
   abbrev with_event : Event A → Option Ret → List (Kept A)
   with_event e ret = h ++ (record { event = e; ret = ret }) ∷ []
 
-  -- where an event forms no edge, the longer history is legal where its courses are over the same edges
-  same-edges : (e : Event A) (ret : Option Ret) → edges m (with_event e ret) ≡ edges m h → not (is_legal_by (course (with_event e ret)) (edges m h)) ≡ not (is_legal m (with_event e ret))
-  same-edges e ret same =
-      ap (λ es. not (is_legal_by (course (with_event e ret)) es)) (sym same) ∙ ap not (sym (legal-by m (with_event e ret)))
-
   exact-begin : (t : TxnId) (class : ClassId) (ret : Option Ret) → Unbroken m s (Begin t class) → IsOrderly m (with_event (Begin t class) ret)
-      → is_some (dependency {A = A} s (Begin t class)) ≡ not (is_legal m (with_event (Begin t class) ret))
+      → IsExact m (with_event (Begin t class) ret) s (Begin t class)
   unfolding already_begun
   exact-begin t class ret u later =
       let e : Event A = Begin t class in
       let new = not_begun s AlreadyBegun t.0 u.begun in
-      ap (λ es. is_some (start_refusal s.status es t.0)) shows.edges
-      ∙ starts-exact s.status (course h) (course (with_event e ret)) (edges m h) (length h) t.0 shows.status orderly.courses (course-within h) orderly.edges (unbroken-edges m h meets.legal)
+      exact-in m (with_event e ret) (edges m h) _ _ _ _ _ (edges-push m h (record { event = e; ret = ret })) (ap (λ es. is_some (start_refusal s.status es t.0)) shows.edges) (ap (λ es. meet_then s.status es t.0 InProgress) shows.edges)
+      (starts-exact s.status (course h) (course (with_event e ret)) (edges m h) (length h) t.0 shows.status orderly.courses (course-within h) orderly.edges (unbroken-edges m h meets.legal)
       (λ v ne. course-other h (record { event = e; ret = ret }) v (flipped t.0 v ne) refl refl refl) later.courses
-      new (course-begin h t class ret (no_start (course h t.0) (sym (shows.status t.0) ∙ new))) (statuses-begin s.status h ret t class shows.status new)
-      ∙ same-edges e ret (edges-push m h (record { event = e; ret = ret }))
+      new (course-begin h t class ret (no_start (course h t.0) (sym (shows.status t.0) ∙ new))) (statuses-begin s.status h ret t class shows.status new))
 
   exact-commit : (t : TxnId) (ret : Option Ret) → Unbroken m s (Commit t) → IsOrderly m (with_event (Commit t) ret)
-      → is_some (dependency {A = A} s (Commit t)) ≡ not (is_legal m (with_event (Commit t) ret))
+      → IsExact m (with_event (Commit t) ret) s (Commit t)
   unfolding not_in_progress
   exact-commit t ret u later =
       let e : Event A = Commit t in
       let on = in_progress s NotInProgress t.0 u.progress in
-      ap (λ es. is_some (commit_refusal s.status es t.0)) shows.edges
-      ∙ commits-exact s.status (course h) (course (with_event e ret)) (edges m h) (length h) t.0 shows.status orderly.courses (course-within h) orderly.edges (unbroken-edges m h meets.legal)
+      exact-in m (with_event e ret) (edges m h) _ _ _ _ _ (edges-push m h (record { event = e; ret = ret })) (ap (λ es. is_some (commit_refusal s.status es t.0)) shows.edges) (ap (λ es. meet_then s.status es t.0 Committed) shows.edges)
+      (commits-exact s.status (course h) (course (with_event e ret)) (edges m h) (length h) t.0 shows.status orderly.courses (course-within h) orderly.edges (unbroken-edges m h meets.legal)
       (λ v ne. course-other h (record { event = e; ret = ret }) v refl (flipped t.0 v ne) refl refl) later.courses
-      on (course-commit h t ret (no_end (course h t.0) (sym (shows.status t.0) ∙ on)).commit) (statuses-commit s.status h ret t shows.status)
-      ∙ same-edges e ret (edges-push m h (record { event = e; ret = ret }))
+      on (course-commit h t ret (no_end (course h t.0) (sym (shows.status t.0) ∙ on)).commit) (statuses-commit s.status h ret t shows.status))
 
   exact-abort : (t : TxnId) (ret : Option Ret) → Unbroken m s (Abort t) → IsOrderly m (with_event (Abort t) ret)
-      → is_some (dependency {A = A} s (Abort t)) ≡ not (is_legal m (with_event (Abort t) ret))
+      → IsExact m (with_event (Abort t) ret) s (Abort t)
   unfolding not_in_progress
   exact-abort t ret u later =
       let e : Event A = Abort t in
       let on = in_progress s NotInProgress t.0 u.progress in
-      ap (λ es. is_some (abort_refusal s.status es t.0)) shows.edges
-      ∙ aborts-exact s.status (course h) (course (with_event e ret)) (edges m h) (length h) t.0 shows.status orderly.courses (course-within h) orderly.edges (unbroken-edges m h meets.legal)
+      exact-in m (with_event e ret) (edges m h) _ _ _ _ _ (edges-push m h (record { event = e; ret = ret })) (ap (λ es. is_some (abort_refusal s.status es t.0)) shows.edges) (ap (λ es. meet_then s.status es t.0 Aborted) shows.edges)
+      (aborts-exact s.status (course h) (course (with_event e ret)) (edges m h) (length h) t.0 shows.status orderly.courses (course-within h) orderly.edges (unbroken-edges m h meets.legal)
       (λ v ne. course-other h (record { event = e; ret = ret }) v refl refl (flipped t.0 v ne) refl) later.courses
-      on (course-abort h t ret (no_end (course h t.0) (sym (shows.status t.0) ∙ on)).abort) (statuses-abort s.status h ret t shows.status on)
-      ∙ same-edges e ret (edges-push m h (record { event = e; ret = ret }))
+      on (course-abort h t ret (no_end (course h t.0) (sym (shows.status t.0) ∙ on)).abort) (statuses-abort s.status h ret t shows.status on))
 
   -- one that joins another
   exact-join : (t v : TxnId) (ret : Option Ret) → Unbroken m s (Join t v) → IsOrderly m (with_event (Join t v) ret)
-      → is_some (dependency {A = A} s (Join t v)) ≡ not (is_legal m (with_event (Join t v) ret))
+      → IsExact m (with_event (Join t v) ret) s (Join t v)
   unfolding not_in_progress
   exact-join t v ret u later =
       let e : Event A = Join t v in
       let on = in_progress s NotInProgress t.0 u.progress in
-      ap (λ es. is_some (join_refusal s.status es t.0)) shows.edges
-      ∙ joins-exact s.status (course h) (course (with_event e ret)) (edges m h) (length h) t.0 shows.status orderly.courses (course-within h) orderly.edges (unbroken-edges m h meets.legal)
+      exact-in m (with_event e ret) (edges m h) _ _ _ _ _ (edges-push m h (record { event = e; ret = ret })) (ap (λ es. is_some (join_refusal s.status es t.0)) shows.edges) refl
+      (joins-exact s.status (course h) (course (with_event e ret)) (edges m h) (length h) t.0 shows.status orderly.courses (course-within h) orderly.edges (unbroken-edges m h meets.legal)
       (λ w ne. course-other h (record { event = e; ret = ret }) w refl refl refl (flipped t.0 w ne)) later.courses
       on (course-join h t v ret (no_end (course h t.0) (sym (shows.status t.0) ∙ on)).join) (statuses-join s.status h ret t v shows.status on)
-      (legal-calm (course h) (edges m h) (sym (legal-by m h) ∙ meets.legal))
-      ∙ same-edges e ret (edges-push m h (record { event = e; ret = ret }))
+      (legal-calm (course h) (edges m h) (sym (legal-by m h) ∙ meets.legal)))
 
   still_open : (w : ℕ) (x : Status) → s.status w ≡ x → by_status.has_ended x ≡ false → is_some (end (course h w)) ≡ false
   still_open w x is calm = sym (ended-places h w) ∙ ap by_status.has_ended (sym (shows.status w) ∙ is) ∙ calm
@@ -194,18 +222,18 @@ module _ {A : Type 0} (m : Parts A) (h : List (Kept A)) (shows : ShowsPlaces m h
       → list_all (is_neutral s.status v) due ≡ true → list_all (holds_in (course h)) due ≡ true
       → ((w : ℕ) → (w ≡ v → ⊥) → course (h ++ k ∷ []) w ≡ course h w) → course (h ++ k ∷ []) v ≡ record (course h v) { start = Some (length h + 1) }
       → ((w : ℕ) → with_status s.status v InProgress w ≡ status_at (h ++ k ∷ []) w) → IsOrderly m (h ++ k ∷ [])
-      → is_some (start_refusal s.status s.edges v) ≡ not (is_legal m (h ++ k ∷ []))
+      → IsExactAs m (h ++ k ∷ []) (is_some (start_refusal s.status s.edges v)) (meet_then s.status s.edges v InProgress) (refuses_start s.status v)
   exact-start k v due new grown neutral holding others started statuses later =
       let linked = all-legal (course h) (edges m h) due (sym (legal-by m h) ∙ meets.legal) holding in
-      ap (λ es. is_some (start_refusal s.status es v)) shows.edges
-      ∙ sym (start-formed s.status (edges m h) due v neutral)
-      ∙ starts-exact s.status (course h) (course (h ++ k ∷ [])) (formed (edges m h) due) (length h) v shows.status orderly.courses (course-within h)
+      exact-in m (h ++ k ∷ []) (formed (edges m h) due) _ _ _ _ _ grown
+      (ap (λ es. is_some (start_refusal s.status es v)) shows.edges ∙ sym (start-formed s.status (edges m h) due v neutral))
+      (ap (λ es. meet_then s.status es v InProgress) shows.edges ∙ sym (meet-formed s.status (edges m h) due v neutral))
+      (starts-exact s.status (course h) (course (h ++ k ∷ [])) (formed (edges m h) due) (length h) v shows.status orderly.courses (course-within h)
       (ap (list_all is_apart) (sym grown) ∙ later.edges) (legal-unbroken (course h) (formed (edges m h) due) linked)
-      others later.courses new started statuses
-      ∙ ap (λ es. not (is_legal_by (course (h ++ k ∷ [])) es)) (sym grown) ∙ ap not (sym (legal-by m (h ++ k ∷ [])))
+      others later.courses new started statuses)
 
   exact-spawn : IsChecked m s → (t v : TxnId) (class : ClassId) (ret : Option Ret) → Unbroken m s (Spawn t v class) → IsOrderly m (with_event (Spawn t v class) ret)
-      → is_some (dependency {A = A} s (Spawn t v class)) ≡ not (is_legal m (with_event (Spawn t v class) ret))
+      → IsExact m (with_event (Spawn t v class) ret) s (Spawn t v class)
   unfolding already_begun not_in_progress
   exact-spawn checked t v class ret u later =
       let k : Kept A = record { event = Spawn t v class; ret = ret } in
@@ -219,7 +247,7 @@ module _ {A : Type 0} (m : Parts A) (h : List (Kept A)) (shows : ShowsPlaces m h
       (statuses-spawn s.status h ret t v class shows.status new) later
 
   exact-split : IsChecked m s → (t v : TxnId) (class : ClassId) (ops : List OpNo) (ret : Option Ret) → Unbroken m s (Split t v class ops) → IsOrderly m (with_event (Split t v class ops) ret)
-      → is_some (dependency {A = A} s (Split t v class ops)) ≡ not (is_legal m (with_event (Split t v class ops) ret))
+      → IsExact m (with_event (Split t v class ops) ret) s (Split t v class ops)
   unfolding already_begun not_in_progress
   exact-split checked t v class ops ret u later =
       let k : Kept A = record { event = Split t v class ops; ret = ret } in
@@ -277,19 +305,19 @@ module _ {A : Type 0} (m : Parts A) (h : List (Kept A)) (shows : ShowsPlaces m h
       let k : Kept A = record { event = Delegate t v ops; ret = ret } in
       legal-by m (h ++ k ∷ []) ∙ (λ n. is_legal_by (λ w. course-other h k w refl refl refl refl n) (edges-push m h k n)) ∙ sym (legal-by m h) ∙ meets.legal
 
-  exact-of : IsChecked m s → AreHeldWell s → (e : Event A) (ret : Option Ret) → Unbroken m s e → IsOrderly m (with_event e ret) → is_some (dependency s e) ≡ not (is_legal m (with_event e ret))
+  exact-of : IsChecked m s → AreHeldWell s → (e : Event A) (ret : Option Ret) → Unbroken m s e → IsOrderly m (with_event e ret) → IsExact m (with_event e ret) s e
   exact-of checked well (Begin t class) ret u later = exact-begin t class ret u later
   exact-of checked well (Spawn t v class) ret u later = exact-spawn checked t v class ret u later
   exact-of checked well (Split t v class ops) ret u later = exact-split checked t v class ops ret u later
   exact-of checked well (Join t v) ret u later = exact-join t v ret u later
-  exact-of checked well (Delegate t v ops) ret u later = ap not (sym (legal-delegate t v ops ret))
-  exact-of checked well (Form kind j i) ret u later = ap not (sym (legal-form kind j i ret u))
-  exact-of checked well (Operate t ob op) ret u later = ap not (sym (legal-operate checked well t ob op ret u))
+  exact-of checked well (Delegate t v ops) ret u later = legal-exact m _ (legal-delegate t v ops ret)
+  exact-of checked well (Form kind j i) ret u later = legal-exact m _ (legal-form kind j i ret u)
+  exact-of checked well (Operate t ob op) ret u later = legal-exact m _ (legal-operate checked well t ob op ret u)
   exact-of checked well (Commit t) ret u later = exact-commit t ret u later
   exact-of checked well (Abort t) ret u later = exact-abort t ret u later
 
 pub exact-on : {A : Type 0} (m : Parts A) (h : List (Kept A)) (k : Kept A) → IsChecked m (summary_of m h) → AreHeldWell (summary_of m h) → ShowsPlaces m h (summary_of m h) → MeetsAxioms m h → IsOrderly m h → Unbroken m (summary_of m h) k.event → IsOrderly m (h ++ k ∷ [])
-    → is_some (dependency (summary_of m h) k.event) ≡ not (is_legal m (h ++ k ∷ []))
+    → IsExact m (h ++ k ∷ []) (summary_of m h) k.event
 exact-on m h k checked well shows meets orderly u later = exact-of m h shows meets orderly checked well k.event k.ret u later
 
 -- what is owed by the table is what is owed by places

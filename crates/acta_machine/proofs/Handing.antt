@@ -14,7 +14,7 @@ use Rattle.acta_table.specs.Numbered.{numbers_from, numbers_where, smallest}
 use Rattle.acta_table.specs.Sets.{numbers_of, is_named}
 use Rattle.acta_table.specs.Fates.{is_open}
 use Rattle.acta_axioms.specs.Faults.{has_number}
-use Rattle.acta_sets.specs.declared.item.Item.{Item}
+use Rattle.acta_sets.specs.declared.held_op.HeldOp.{HeldOp}
 use Rattle.acta_sets.specs.Operations.{is_held, operation_at, are_open}
 use Rattle.acta_machine.specs.Summary.{Summary}
 use Rattle.acta_machine.specs.Rules.{is_of_another, not_held, unknown_in, left_out, not_responsible, bad_set}
@@ -22,7 +22,7 @@ use Rattle.acta_machine.proofs.Broken.{by_none}
 use Rattle.acta_machine.proofs.Unbroken.{Unbroken}
 
 -- whether t holds operation n in progress
-abbrev pub holds : List Item → ℕ → ℕ → Bool
+abbrev pub holds : List HeldOp → ℕ → ℕ → Bool
 holds items t n = option_map_or (is_held t) (operation_at items n) false
 
 -- where there is no smallest there is none
@@ -42,7 +42,7 @@ not_false true e = refl
 not_false false e = cc
 
 -- an operation that is there, and is not of another, is held
-held-there : (t : ℕ) (i : Option Item) → option_map_or (λ x. not (is_held t x)) i false ≡ false → is_none i ≡ false → option_map_or (is_held t) i false ≡ true
+held-there : (t : ℕ) (i : Option HeldOp) → option_map_or (λ x. not (is_held t x)) i false ≡ false → is_none i ≡ false → option_map_or (is_held t) i false ≡ true
 held-there t None e there = absurd (true≢false there)
 held-there t (Some i) e there = not_false (is_held t i) e
 
@@ -58,7 +58,7 @@ pub named-held : (s : Summary) (ops : List OpNo) (t : ℕ) → not_held s ops t 
 named-held s ops t others none =
     all-held s t (numbers_of ops) (none-smallest _ others) (none-smallest _ none)
 
-open-held : (t : ℕ) (i : Option Item) → option_map_or (is_held t) i false ≡ true → option_map_or (λ x. is_open x.fate) i false ≡ true
+open-held : (t : ℕ) (i : Option HeldOp) → option_map_or (is_held t) i false ≡ true → option_map_or (λ x. is_open x.fate) i false ≡ true
 open-held t None e = absurd (true≢false (sym e))
 open-held t (Some i) e = of (i.holder.0 == t) e
   where
@@ -67,12 +67,12 @@ open-held t (Some i) e = of (i.holder.0 == t) e
     of false is = absurd (true≢false (sym is))
 
 -- so all that is named is in progress
-pub named-open : (items : List Item) (t : ℕ) (ops : List OpNo) → AllByRecursion (λ n. holds items t n ≡ true) (numbers_of ops) → are_open ops items ≡ true
+pub named-open : (items : List HeldOp) (t : ℕ) (ops : List OpNo) → AllByRecursion (λ n. holds items t n ≡ true) (numbers_of ops) → are_open ops items ≡ true
 named-open items t [] all = refl
 named-open items t (o ∷ ops) all = λ i. open-held t (operation_at items o.0) all.0 i && named-open items t ops all.1 i
 
 -- an operation that is named is one of those
-pub held-named : (items : List Item) (t : ℕ) (ops : List OpNo) → AllByRecursion (λ n. holds items t n ≡ true) (numbers_of ops) → (n : ℕ) → is_named ops n ≡ true → holds items t n ≡ true
+pub held-named : (items : List HeldOp) (t : ℕ) (ops : List OpNo) → AllByRecursion (λ n. holds items t n ≡ true) (numbers_of ops) → (n : ℕ) → is_named ops n ≡ true → holds items t n ≡ true
 held-named items t [] all n named = absurd (true≢false (sym named))
 held-named items t (o ∷ ops) all n named = of (o.0 == n) refl named (held-named items t ops all.1 n)
   where
@@ -82,7 +82,7 @@ held-named items t (o ∷ ops) all n named = of (o.0 == n) refl named (held-name
 
 -- the numbers of the operations that pass have a number where the operation of that number passes
 
-below : (test : Item → Bool) (k n : ℕ) (items : List Item) → n < k → has_number (numbers_from test k items) n ≡ false
+below : (test : HeldOp → Bool) (k n : ℕ) (items : List HeldOp) → n < k → has_number (numbers_from test k items) n ≡ false
 below test k n [] low = refl
 below test k n (i ∷ items) low = of (test i) (below test (k + 1) n items (omega (arith, low)))
   where
@@ -90,7 +90,7 @@ below test k n (i ∷ items) low = of (test i) (below test (k + 1) n items (omeg
     of true later = (λ i. ne_eqb k n (λ e. omega (arith, low, e)) i || later i)
     of false later = later
 
-from : (test : Item → Bool) (k i : ℕ) (items : List Item) → has_number (numbers_from test k items) (k + i) ≡ option_map_or test (slice_get items i) false
+from : (test : HeldOp → Bool) (k i : ℕ) (items : List HeldOp) → has_number (numbers_from test k items) (k + i) ≡ option_map_or test (slice_get items i) false
 from test k i [] = refl
 from test k zero (x ∷ items) = of (test x) (below test (k + 1) (k + 0) items (omega arith))
   where
@@ -105,14 +105,14 @@ from test k (suc i) (x ∷ items) =
     of true later = ap (λ c. c || has_number (numbers_from test (k + 1) items) (k + suc i)) (ne_eqb k (k + suc i) (λ e. omega (arith, e))) ∙ later
     of false later = later
 
-has-held : (items : List Item) (t n : ℕ) → has_number (numbers_where (is_held t) items) n ≡ holds items t n
+has-held : (items : List HeldOp) (t n : ℕ) → has_number (numbers_where (is_held t) items) n ≡ holds items t n
 has-held items t zero = below (is_held t) 1 0 items (omega arith)
 has-held items t (suc n) =
     let same : suc n ≡ 1 + n = omega arith in
     ap (has_number (numbers_where (is_held t) items)) same ∙ from (is_held t) 1 n items
 
 -- where t holds all that is named, nothing that is named is not among what it holds
-pub none-unheld : (items : List Item) (t : ℕ) (ns : List ℕ) → AllByRecursion (λ n. holds items t n ≡ true) ns → filter (λ n. not (has_number (numbers_where (is_held t) items) n)) ns ≡ []
+pub none-unheld : (items : List HeldOp) (t : ℕ) (ns : List ℕ) → AllByRecursion (λ n. holds items t n ≡ true) ns → filter (λ n. not (has_number (numbers_where (is_held t) items) n)) ns ≡ []
 none-unheld items t [] all = refl
 none-unheld items t (n ∷ ns) all =
     λ i. if not ((has-held items t n ∙ all.0) i) then n ∷ filter (λ k. not (has_number (numbers_where (is_held t) items) k)) ns else none-unheld items t ns all.1 i

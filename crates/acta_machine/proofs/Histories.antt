@@ -10,12 +10,13 @@ use Rattle.acta_table.specs.declared.model.Parts.{Parts}
 use Rattle.acta_table.specs.declared.event.Event.TheVariants.{Begin, Spawn, Split, Join, Delegate, Form, Operate, Commit, Abort}
 use Rattle.acta_table.specs.declared.event.Kept.{Kept}
 use Rattle.acta_table.specs.declared.answer.Status.TheVariants.{NotBegun, Committed}
+use Rattle.acta_table.specs.declared.limits.TheConstants.{TABLE_SIZE}
 use Rattle.acta_deps.specs.Deps.{DepState}
-use Rattle.acta_sets.specs.declared.item.Item.{Item}
+use Rattle.acta_sets.specs.declared.held_op.HeldOp.{HeldOp}
 use Rattle.acta_machine.specs.Summary.{Summary, nothing_yet, stood, entered, linked, given, inherited, operated, fated, counted}
 use Rattle.acta_machine.specs.Changes.{edges_due, settled, effect, summary_from, summary_of}
 use Rattle.acta_machine.specs.Families.{heir_of}
-use Rattle.acta_machine.specs.Shown.{unbegun, origin_in, summary_in}
+use Rattle.acta_machine.specs.inside.Shown.{unbegun, origin_in, summary_in}
 
 summary_from_more : {A : Type 0} (m : Parts A) (s : Summary) (history : List (Kept A)) (k : Kept A) → summary_from m s (history ++ k ∷ []) ≡ effect m (summary_from m s history) k.event
 summary_from_more m s [] k = refl
@@ -29,13 +30,13 @@ summary_more m history k = summary_from_more m nothing_yet history k
 fresh_entry : {X : Type 0} (x : X) (n u : ℕ) → get_or (replicate n x) u x ≡ x
 fresh_entry x n u = grind (arith, get_or-replicate, get_or_past, length-replicate)
 
-fresh_table : {X : Type 0} (x : X) (table : List X) → table ≡ replicate 4096 x → (u : ℕ) → unwrap_or (slice_get table u) x ≡ x
+fresh_table : {X : Type 0} (x : X) (table : List X) → table ≡ replicate TABLE_SIZE x → (u : ℕ) → unwrap_or (slice_get table u) x ≡ x
 fresh_table {X} x table is_fresh u =
     ap (λ (xs : List X). unwrap_or (slice_get xs u) x) is_fresh
-    ∙ unwrap_or-slice_get (replicate 4096 x) u x ∙ fresh_entry x 4096 u
+    ∙ unwrap_or-slice_get (replicate TABLE_SIZE x) u x ∙ fresh_entry x TABLE_SIZE u
 
 -- fresh tables with nothing kept show the summary before any event
-pub fresh_summary : {A : Type 0} (m : Parts A) (deps : DepState) (origins : List Origin) (operations : List Item) (kept : List (Kept A)) → deps ≡ record { statuses = replicate 4096 NotBegun; edges = [] } → origins ≡ replicate 4096 unbegun → operations ≡ [] → kept ≡ [] → summary_in deps origins operations kept ≡ summary_of m kept
+pub fresh_summary : {A : Type 0} (m : Parts A) (deps : DepState) (origins : List Origin) (operations : List HeldOp) (kept : List (Kept A)) → deps ≡ record { statuses = replicate TABLE_SIZE NotBegun; edges = [] } → origins ≡ replicate TABLE_SIZE unbegun → operations ≡ [] → kept ≡ [] → summary_in deps origins operations kept ≡ summary_of m kept
 unfolding summary_of
 fresh_summary m deps origins operations kept new none no_operation empty =
     let statuses = ap (λ (d : DepState). d.statuses) new in
@@ -52,10 +53,10 @@ fresh_summary m deps origins operations kept new none no_operation empty =
     } in
     shows ∙ sym (ap (summary_from m nothing_yet) empty)
 
-pub fresh_room : {X : Type 0} (x : X) (table : List X) → table ≡ replicate 4096 x → length table ≡ 4096
-fresh_room {X} x table is_fresh = ap (length {A = X}) is_fresh ∙ length-replicate 4096 x
+pub fresh_room : {X : Type 0} (x : X) (table : List X) → table ≡ replicate TABLE_SIZE x → length table ≡ TABLE_SIZE
+fresh_room {X} x table is_fresh = ap (length {A = X}) is_fresh ∙ length-replicate TABLE_SIZE x
 
-length-moved : (n : ℕ) (ops : List OpNo) (u : TxnId) (items : List Item) → length (moved_from n ops u items) ≡ length items
+length-moved : (n : ℕ) (ops : List OpNo) (u : TxnId) (items : List HeldOp) → length (moved_from n ops u items) ≡ length items
 length-moved n ops u [] = refl
 length-moved n ops u (i ∷ items) = ap suc (length-moved (n + 1) ops u items)
 
@@ -88,10 +89,3 @@ few_from m s (k ∷ ks) = omega (arith, changed_few m s k, few_from m (effect m 
 pub operations_few : {A : Type 0} (m : Parts A) (history : List (Kept A)) → length (summary_of m history).operations ≤ length history
 unfolding summary_of
 operations_few m history = let h = few_from m nothing_yet history in omega (arith, h)
-
--- the lists that show the summary of a history have room for a number of each operation
-pub operations_within : {A : Type 0} (m : Parts A) (s : Summary) (history : List (Kept A)) → s ≡ summary_of m history → length history ≤ 65536 → length s.operations ≤ 65536
-operations_within m s history same within =
-    let few = operations_few m history in
-    let count = ap (λ (x : Summary). length x.operations) same in
-    omega (arith, few, count, within)

@@ -14,8 +14,8 @@ use Rattle.acta_table.specs.declared.event.TxnId.{TxnId}
 use Rattle.acta_table.specs.Sets.{is_named}
 use Rattle.acta_table.specs.Fates.{is_open}
 use Rattle.acta_deps.specs.Statuses.{is_in_progress, with_status}
-use Rattle.acta_sets.specs.declared.item.Item.{Item}
-use Rattle.acta_sets.specs.Operations.{handed_item, handed, ended_item, ended, moved_from, moved, added}
+use Rattle.acta_sets.specs.declared.held_op.HeldOp.{HeldOp}
+use Rattle.acta_sets.specs.Operations.{handed_op, handed, ended_op, ended, moved_from, moved, added}
 use Rattle.acta_machine.specs.Places.{is_held_well}
 
 both : (a b : Bool) → (a && b) ≡ true → (a ≡ true) × (b ≡ true)
@@ -23,13 +23,13 @@ both true b e = (refl, e)
 both false b e = cc
 
 -- what holds of each item holds of each that is made of it
-all-map : (p q : Item → Bool) (f : Item → Item) → ((i : Item) → p i ≡ true → q (f i) ≡ true) → (items : List Item) → list_all p items ≡ true → list_all q (map f items) ≡ true
+all-map : (p q : HeldOp → Bool) (f : HeldOp → HeldOp) → ((i : HeldOp) → p i ≡ true → q (f i) ≡ true) → (items : List HeldOp) → list_all p items ≡ true → list_all q (map f items) ≡ true
 all-map p q f each [] all = refl
 all-map p q f each (i ∷ items) all =
     let parts = both (p i) (list_all p items) all in
     λ x. each i parts.0 x && all-map p q f each items parts.1 x
 
-pub all-kept : (p q : Item → Bool) → ((i : Item) → p i ≡ true → q i ≡ true) → (items : List Item) → list_all p items ≡ true → list_all q items ≡ true
+pub all-kept : (p q : HeldOp → Bool) → ((i : HeldOp) → p i ≡ true → q i ≡ true) → (items : List HeldOp) → list_all p items ≡ true → list_all q items ≡ true
 all-kept p q each [] all = refl
 all-kept p q each (i ∷ items) all =
     let parts = both (p i) (list_all p items) all in
@@ -49,13 +49,13 @@ still status t u on = of (u == t)
     of true = refl
     of false = on
 
-pub well-started : (status : ℕ → Status) (t : ℕ) (items : List Item) → list_all (is_held_well status) items ≡ true → list_all (is_held_well (with_status status t on_its_way)) items ≡ true
+pub well-started : (status : ℕ → Status) (t : ℕ) (items : List HeldOp) → list_all (is_held_well status) items ≡ true → list_all (is_held_well (with_status status t on_its_way)) items ≡ true
 well-started status t items all =
     all-kept (is_held_well status) (is_held_well (with_status status t on_its_way))
     (λ i. stays i.fate (is_in_progress (status i.holder.0)) (is_in_progress (with_status status t on_its_way i.holder.0)) (still status t i.holder.0)) items all
 
 -- where u, in progress, is given operations
-well-moved : (status : ℕ → Status) (n : ℕ) (ops : List OpNo) (u : TxnId) → is_in_progress (status u.0) ≡ true → (items : List Item) → list_all (is_held_well status) items ≡ true → list_all (is_held_well status) (moved_from n ops u items) ≡ true
+well-moved : (status : ℕ → Status) (n : ℕ) (ops : List OpNo) (u : TxnId) → is_in_progress (status u.0) ≡ true → (items : List HeldOp) → list_all (is_held_well status) items ≡ true → list_all (is_held_well status) (moved_from n ops u items) ≡ true
 well-moved status n ops u on [] all = refl
 well-moved status n ops u on (i ∷ items) all =
     let parts = both (is_held_well status i) (list_all (is_held_well status) items) all in
@@ -69,37 +69,37 @@ well-moved status n ops u on (i ∷ items) all =
     one true e = either (not (is_open i.fate)) (is_in_progress (status u.0)) on
     one false e = e
 
-pub well-given : (status : ℕ → Status) (ops : List OpNo) (u : TxnId) → is_in_progress (status u.0) ≡ true → (items : List Item) → list_all (is_held_well status) items ≡ true → list_all (is_held_well status) (moved ops u items) ≡ true
+pub well-given : (status : ℕ → Status) (ops : List OpNo) (u : TxnId) → is_in_progress (status u.0) ≡ true → (items : List HeldOp) → list_all (is_held_well status) items ≡ true → list_all (is_held_well status) (moved ops u items) ≡ true
 well-given status ops u on items all = well-moved status 1 ops u on items all
 
 -- where t ends, and u, in progress, holds all that it held
 one-handed : (status : ℕ → Status) (t : ℕ) (x : Status) (u : TxnId) → is_in_progress (with_status status t x u.0) ≡ true → (ob : ObjId) (op : Op) (v : TxnId) (fate : Fate) →
-    is_held_well status (record { ob = ob; op = op; holder = v; fate = fate }) ≡ true → is_held_well (with_status status t x) (handed_item t u (record { ob = ob; op = op; holder = v; fate = fate })) ≡ true
+    is_held_well status (record { ob = ob; op = op; holder = v; fate = fate }) ≡ true → is_held_well (with_status status t x) (handed_op t u (record { ob = ob; op = op; holder = v; fate = fate })) ≡ true
 one-handed status t x u on ob op v InProgress e = elim (cases_eq v.0 t) [ inl same ↦ rw (eq-eqb v.0 t same) on | inr ne ↦ rw (ne_eqb v.0 t ne, ne_eqb v.0 t ne) e ]
 one-handed status t x u on ob op v Committed e = elim (cases_eq v.0 t) [ inl same ↦ rw (eq-eqb v.0 t same) refl | inr ne ↦ rw (ne_eqb v.0 t ne) refl ]
 one-handed status t x u on ob op v Aborted e = elim (cases_eq v.0 t) [ inl same ↦ rw (eq-eqb v.0 t same) refl | inr ne ↦ rw (ne_eqb v.0 t ne) refl ]
 
-pub well-handed : (status : ℕ → Status) (t : ℕ) (x : Status) (u : TxnId) → is_in_progress (with_status status t x u.0) ≡ true → (items : List Item) → list_all (is_held_well status) items ≡ true → list_all (is_held_well (with_status status t x)) (handed t u items) ≡ true
+pub well-handed : (status : ℕ → Status) (t : ℕ) (x : Status) (u : TxnId) → is_in_progress (with_status status t x u.0) ≡ true → (items : List HeldOp) → list_all (is_held_well status) items ≡ true → list_all (is_held_well (with_status status t x)) (handed t u items) ≡ true
 well-handed status t x u on items all =
-    all-map (is_held_well status) (is_held_well (with_status status t x)) (handed_item t u) (λ i. one-handed status t x u on i.ob i.op i.holder i.fate) items all
+    all-map (is_held_well status) (is_held_well (with_status status t x)) (handed_op t u) (λ i. one-handed status t x u on i.ob i.op i.holder i.fate) items all
 
 -- where t ends, and all that it held ends with it
 one-ended : (status : ℕ → Status) (t : ℕ) (x : Status) (end : Fate) → is_open end ≡ false → (ob : ObjId) (op : Op) (v : TxnId) (fate : Fate) →
-    is_held_well status (record { ob = ob; op = op; holder = v; fate = fate }) ≡ true → is_held_well (with_status status t x) (ended_item t end (record { ob = ob; op = op; holder = v; fate = fate })) ≡ true
+    is_held_well status (record { ob = ob; op = op; holder = v; fate = fate }) ≡ true → is_held_well (with_status status t x) (ended_op t end (record { ob = ob; op = op; holder = v; fate = fate })) ≡ true
 one-ended status t x end closed ob op v InProgress e = elim (cases_eq v.0 t) [ inl same ↦ rw (eq-eqb v.0 t same) (ap (λ b. not b || is_in_progress (with_status status t x v.0)) closed) | inr ne ↦ rw (ne_eqb v.0 t ne, ne_eqb v.0 t ne) e ]
 one-ended status t x end closed ob op v Committed e = elim (cases_eq v.0 t) [ inl same ↦ rw (eq-eqb v.0 t same) refl | inr ne ↦ rw (ne_eqb v.0 t ne) refl ]
 one-ended status t x end closed ob op v Aborted e = elim (cases_eq v.0 t) [ inl same ↦ rw (eq-eqb v.0 t same) refl | inr ne ↦ rw (ne_eqb v.0 t ne) refl ]
 
-pub well-ended : (status : ℕ → Status) (t : ℕ) (x : Status) (end : Fate) → is_open end ≡ false → (items : List Item) → list_all (is_held_well status) items ≡ true → list_all (is_held_well (with_status status t x)) (ended t end items) ≡ true
+pub well-ended : (status : ℕ → Status) (t : ℕ) (x : Status) (end : Fate) → is_open end ≡ false → (items : List HeldOp) → list_all (is_held_well status) items ≡ true → list_all (is_held_well (with_status status t x)) (ended t end items) ≡ true
 well-ended status t x end closed items all =
-    all-map (is_held_well status) (is_held_well (with_status status t x)) (ended_item t end) (λ i. one-ended status t x end closed i.ob i.op i.holder i.fate) items all
+    all-map (is_held_well status) (is_held_well (with_status status t x)) (ended_op t end) (λ i. one-ended status t x end closed i.ob i.op i.holder i.fate) items all
 
 -- where t, in progress, does an operation
-all-more : (p : Item → Bool) (items : List Item) (i : Item) → list_all p items ≡ true → p i ≡ true → list_all p (items ++ i ∷ []) ≡ true
+all-more : (p : HeldOp → Bool) (items : List HeldOp) (i : HeldOp) → list_all p items ≡ true → p i ≡ true → list_all p (items ++ i ∷ []) ≡ true
 all-more p [] i all here = ap (λ b. b && true) here
 all-more p (k ∷ items) i all here =
     let parts = both (p k) (list_all p items) all in
     λ x. parts.0 x && all-more p items i parts.1 here x
 
-pub well-added : (status : ℕ → Status) (t : TxnId) (ob : ObjId) (op : Op) → is_in_progress (status t.0) ≡ true → (items : List Item) → list_all (is_held_well status) items ≡ true → list_all (is_held_well status) (added items t ob op) ≡ true
+pub well-added : (status : ℕ → Status) (t : TxnId) (ob : ObjId) (op : Op) → is_in_progress (status t.0) ≡ true → (items : List HeldOp) → list_all (is_held_well status) items ≡ true → list_all (is_held_well status) (added items t ob op) ≡ true
 well-added status t ob op on items all = all-more (is_held_well status) items (record { ob = ob; op = op; holder = t; fate = InProgress }) all on

@@ -7,7 +7,7 @@ use Rattle.acta_table.specs.declared.answer.Status.{Status}
 use Rattle.acta_table.specs.Fates.{is_open}
 use Rattle.acta_table.specs.Numbered.{numbers_from}
 use Rattle.acta_deps.specs.Statuses.{is_in_progress}
-use Rattle.acta_sets.specs.declared.item.Item.{Item}
+use Rattle.acta_sets.specs.declared.held_op.HeldOp.{HeldOp}
 use Rattle.acta_sets.specs.Operations.{is_held, access_set}
 use Rattle.acta_machine.specs.Places.{is_held_well}
 
@@ -19,7 +19,7 @@ neither : (b : Bool) → (b && false) ≡ false
 neither true = refl
 neither false = refl
 
-not_held : (status : ℕ → Status) (t : ℕ) (i : Item) → is_in_progress (status t) ≡ false → is_held_well status i ≡ true → is_held t i ≡ false
+not_held : (status : ℕ → Status) (t : ℕ) (i : HeldOp) → is_in_progress (status t) ≡ false → is_held_well status i ≡ true → is_held t i ≡ false
 not_held status t i idle well =
     elim (cases_eq i.holder.0 t) [
       | inl e ↦ ap (λ b. (i.holder.0 == t) && b) (closed (is_open i.fate) (is_in_progress (status i.holder.0)) (ap (λ u. is_in_progress (status u)) e ∙ idle) well) ∙ neither (i.holder.0 == t)
@@ -34,12 +34,12 @@ second : (a b : Bool) → (a && b) ≡ true → b ≡ true
 second true b e = e
 second false b e = absurd (true≢false (sym e))
 
-none_from : (status : ℕ → Status) (t n : ℕ) (items : List Item) → is_in_progress (status t) ≡ false → list_all (is_held_well status) items ≡ true → numbers_from (is_held t) n items ≡ []
+none_from : (status : ℕ → Status) (t n : ℕ) (items : List HeldOp) → is_in_progress (status t) ≡ false → list_all (is_held_well status) items ≡ true → numbers_from (is_held t) n items ≡ []
 none_from status t n [] idle well = refl
 none_from status t n (i ∷ items) idle well =
     ap (λ b. if b then n ∷ numbers_from (is_held t) (n + 1) items else numbers_from (is_held t) (n + 1) items) (not_held status t i idle (first (is_held_well status i) (list_all (is_held_well status) items) well))
     ∙ none_from status t (n + 1) items idle (second (is_held_well status i) (list_all (is_held_well status) items) well)
 
 -- its access set is empty
-pub none_held : (status : ℕ → Status) (t : ℕ) (items : List Item) → is_in_progress (status t) ≡ false → list_all (is_held_well status) items ≡ true → access_set t items ≡ []
+pub none_held : (status : ℕ → Status) (t : ℕ) (items : List HeldOp) → is_in_progress (status t) ≡ false → list_all (is_held_well status) items ≡ true → access_set t items ≡ []
 none_held status t items idle well = ap (λ numbers. map (λ n. record { 0 = n }) numbers) (none_from status t 1 items idle well)

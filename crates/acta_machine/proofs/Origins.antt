@@ -7,7 +7,7 @@ use Rattle.std.proofs.lemmas.Grind.{get_or-set_at}
 use Rattle.std.proofs.lemmas.Option.{unwrap_or-slice_get}
 use Rattle.acta_machine.specs.declared.board.Origin.{Origin}
 use Rattle.acta_machine.specs.Summary.{with_entry}
-use Rattle.acta_machine.specs.Shown.{unbegun, origin_in}
+use Rattle.acta_machine.specs.inside.Shown.{unbegun, origin_in}
 
 -- what is shown of each entry is what is shown of the new one at t, and else what was shown
 pub origin-entered : {X : Type 0} (show : Origin → X) (origins : List Origin) (t : ℕ) (o : Origin) → t < length origins → (u : ℕ) → show (origin_in (set origins t o) u) ≡ with_entry (λ v. show (origin_in origins v)) t (show o) u

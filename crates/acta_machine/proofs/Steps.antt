@@ -38,10 +38,9 @@ use Rattle.acta_table.specs.WellFormed.{same_transaction}
 use Rattle.acta_table.specs.declared.event.OpNo.{OpNo}
 use Rattle.acta_objects.specs.Objects.{suits}
 use Rattle.acta_axioms.specs.History.{starts, class_number, has_class, has_begun, has_ended, is_in_progress, spawner, parent_of}
-use Rattle.acta_axioms.specs.Faults.{has_number, ill_formed, lacks_kind, cannot_form, in_conflict, without_heir, idle, formed_late, wrong_return, is_due, is_same_ret, when}
+use Rattle.acta_axioms.specs.Faults.{has_number, ill_formed, lacks_kind, cannot_form, in_conflict, without_heir, idle, not_in_time, wrong_return, is_due, is_same_ret, when}
 use Rattle.acta_axioms.specs.History.{course, class_of}
 use Rattle.acta_axioms.specs.Operations.{Operation, heir}
-use Rattle.acta_axioms.specs.Legal.{is_legal}
 use Rattle.acta_axioms.specs.Claims.{MeetsAxioms, IsOrderly, status_at}
 use Rattle.acta_axioms.specs.Values as by_places
 use Rattle.acta_axioms.proofs.EdgeGrowth.{EndsInProgress, edges-push, apart-push, course-orderly-push, orderly-none}
@@ -59,12 +58,13 @@ use Rattle.acta_machine.specs.Families as families
 use Rattle.acta_machine.specs.Values.{return_due}
 use Rattle.acta_machine.specs.Rules.{not_in_progress, already_begun, not_in_model, partner_not_in_progress, not_responsible, wants_whole, partial_delegation, bad_set, refuses_conflicts, first_against, conflict, form_too_late, fails, too_late, lost_heir, no_heir, lowest_broken, earlier_broken, dependency, txn_may, class_may, forms_none}
 use Rattle.acta_machine.specs.Table.{State, kept_as, answered, answer_to}
-use Rattle.acta_machine.specs.Places.{items_at, HasParent, is_held_well, AreHeldWell, ShowsPlaces, FollowsPlaces, RefusesIllegal, is_dependency_rule, is_refused_by_dependency}
+use Rattle.acta_machine.specs.Exactness.{RefusesIllegal, is_dependency_rule, is_refused_by_dependency}
+use Rattle.acta_machine.specs.Places.{held_ops_at, HasParent, is_held_well, AreHeldWell, ShowsPlaces, FollowsPlaces}
 use Rattle.acta_machine.proofs.Broken.{by_none, not_broken, in_progress, not_begun}
 use Rattle.acta_machine.proofs.Unbroken.{Unbroken, unbroken, none-earlier, none-dependency, none-heirless}
 use Rattle.acta_machine.proofs.ConflictTies.{conflict_edges-places}
 use Rattle.acta_machine.proofs.FamilyTies.{has_class-places, heir-places}
-use Rattle.acta_machine.proofs.Exactness.{IsChecked, exact-on, dependency-rule}
+use Rattle.acta_machine.proofs.Exactness.{IsChecked, IsExact, exact-on, dependency-rule}
 use Rattle.acta_machine.proofs.Histories.{summary_more}
 use Rattle.acta_machine.proofs.StatusGrowth.{statuses-begin, statuses-spawn, statuses-split, statuses-commit, statuses-abort, statuses-join, ended-places, begun-places, no_class, class-stays, classes-begin, classes-spawn, classes-split, parent-stays, parents-start}
 use Rattle.acta_machine.proofs.OperationGrowth.{operations-begin, operations-spawn, operations-split, operations-join, operations-delegate, operations-form, operations-operate, operations-commit, operations-inherited, operations-abort}
@@ -185,7 +185,7 @@ module _ {A : Type 0} (m : Parts A) (h : List (Kept A)) (shows : ShowsPlaces m h
       let j_may : forms_none m s j.0 ≡ false = sym (not_twice (forms_none m s j.0)) ∙ ap not of_j.1 in
       λ n. not (of_j.0 n) || (forms_some j.0 j_may n || forms_some i.0 i_may n)
 
-  in_time : (kind : Dep) (j i : TxnId) → too_late s kind j.0 i.0 ≡ None → formed_late h (Form kind j i) ≡ []
+  in_time : (kind : Dep) (j i : TxnId) → too_late s kind j.0 i.0 ≡ None → not_in_time h (Form kind j i) ≡ []
   in_time kind j i none = of_kind (is_begin_kind kind) none
     where
       of_kind : (b : Bool) → (if b then fails s by_status.is_new j.0 else smallest (filter (λ t. by_status.has_ended (s.status t)) (j.0 ∷ i.0 ∷ []))) ≡ None
@@ -394,7 +394,7 @@ module _ {A : Type 0} (m : Parts A) (h : List (Kept A)) (shows : ShowsPlaces m h
       }
 
   -- what becomes of operations at a commit
-  settled-operations : (t : TxnId) (ret : Option Ret) (o : Option TxnId) → heir m h t.0 ≡ o → (settled s t o).operations ≡ items_at m (h ++ (record { event = Commit t; ret = ret }) ∷ [])
+  settled-operations : (t : TxnId) (ret : Option Ret) (o : Option TxnId) → heir m h t.0 ≡ o → (settled s t o).operations ≡ held_ops_at m (h ++ (record { event = Commit t; ret = ret }) ∷ [])
   unfolding inherited fated
   settled-operations t ret None none = ap (ended t.0 Committed) shows.operations ∙ sym (operations-commit m h ret t none)
   settled-operations t ret (Some v) is = ap (handed t.0 v) shows.operations ∙ sym (operations-inherited m h ret t v is)
@@ -555,8 +555,7 @@ shows-push m h k shows u =
     subst (λ (x : Summary). ShowsPlaces m (h ++ k ∷ []) x) (sym (summary_more m h k)) (shows_on m h shows k.event k.ret u)
 
 -- the rules on dependencies refuse exactly what would be illegal
-
-pub exact-push : {A : Type 0} (m : Parts A) (h : List (Kept A)) (k : Kept A) → IsChecked m (summary_of m h) → AreHeldWell (summary_of m h) → ShowsPlaces m h (summary_of m h) → MeetsAxioms m h → IsOrderly m h → earlier_broken m (summary_of m h) k.event ≡ None → is_some (dependency (summary_of m h) k.event) ≡ not (is_legal m (h ++ k ∷ []))
+pub exact-push : {A : Type 0} (m : Parts A) (h : List (Kept A)) (k : Kept A) → IsChecked m (summary_of m h) → AreHeldWell (summary_of m h) → ShowsPlaces m h (summary_of m h) → MeetsAxioms m h → IsOrderly m h → earlier_broken m (summary_of m h) k.event ≡ None → IsExact m (h ++ k ∷ []) (summary_of m h) k.event
 exact-push m h k checked well shows meets orderly none =
     let u = unbroken m (summary_of m h) k.event none in
     exact-on m h k checked well shows meets orderly u (orderly-push m h k shows orderly u)
@@ -578,10 +577,20 @@ refused-by state e none =
 
 refuses-illegal : {A : Type 0} (m : Parts A) (h : List (Kept A)) → IsChecked m (summary_of m h) → AreHeldWell (summary_of m h) → ShowsPlaces m h (summary_of m h) → MeetsAxioms m h → IsOrderly m h → (e : Event A) → RefusesIllegal (record { model = m; kept = h }) e
 refuses-illegal m h checked well shows meets orderly e none =
-    refused-by (record { model = m; kept = h }) e none ∙ exact-push m h (kept_as (record { model = m; kept = h }) e) checked well shows meets orderly none
+    refused-by (record { model = m; kept = h }) e none ∙ (exact-push m h (kept_as (record { model = m; kept = h }) e) checked well shows meets orderly none).refuses
 
 follows-of : {A : Type 0} (m : Parts A) (h : List (Kept A)) → IsChecked m (summary_of m h) → AreHeldWell (summary_of m h) → ShowsPlaces m h (summary_of m h) → MeetsAxioms m h → IsOrderly m h → ((t : ℕ) → HasParent m h t) → FollowsPlaces (record { model = m; kept = h })
-follows-of m h checked well shows meets orderly parents = record { shows = shows; meets = meets; orderly = orderly; parents = parents; holders = well; exact = refuses-illegal m h checked well shows meets orderly }
+follows-of m h checked well shows meets orderly parents =
+    record {
+      shows = shows;
+      meets = meets;
+      orderly = orderly;
+      parents = parents;
+      holders = well;
+      exact = refuses-illegal m h checked well shows meets orderly;
+      edges_exact = λ e none. (exact-push m h (kept_as (record { model = m; kept = h }) e) checked well shows meets orderly none).alike;
+      clashes_exact = λ e none. (exact-push m h (kept_as (record { model = m; kept = h }) e) checked well shows meets orderly none).clashes;
+    }
 
 -- an event that breaks no rule goes on as the places do
 pub follows-push : {A : Type 0} (m : Parts A) (h : List (Kept A)) (e : Event A) → lowest_fault m ≡ None → FollowsPlaces (record { model = m; kept = h }) → lowest_broken m (summary_of m h) e ≡ None
@@ -590,7 +599,7 @@ follows-push m h e faultless follows none =
     let earlier = none-earlier m (summary_of m h) e none in
     let u = unbroken m (summary_of m h) e earlier in
     let k = kept_as (record { model = m; kept = h }) e in
-    let legal = not_not _ (sym (exact-push m h k (λ t on. faultless) follows.holders follows.shows follows.meets follows.orderly earlier) ∙ ap is_some (none-dependency m (summary_of m h) e none)) in
+    let legal = not_not _ (sym (exact-push m h k (λ t on. faultless) follows.holders follows.shows follows.meets follows.orderly earlier).refuses ∙ ap is_some (none-dependency m (summary_of m h) e none)) in
     follows-of m (h ++ k ∷ []) (λ t on. faultless) (holders-push m h follows.shows e k.ret u (none-heirless m (summary_of m h) e none) follows.holders) (shows-push m h k follows.shows u)
     (meets-push m h k follows.meets (faultless-of m h follows.shows follows.parents e u (none-heirless m (summary_of m h) e none)) legal)
     (orderly-push m h k follows.shows follows.orderly u)

@@ -14,6 +14,7 @@ use Rattle.acta_table.specs.Faults.{lowest_fault}
 use Rattle.acta_deps.specs.Dependencies.{start_refusal}
 use Rattle.acta_table.specs.Refusals.{first_of}
 use Rattle.acta_table.specs.WellFormed.{bad_number, bad_class, bad_object, same_transaction}
+use Rattle.acta_table.specs.declared.limits.TheConstants.{MOST_EDGES}
 use Rattle.acta_objects.specs.WellFormed.{bad_operation}
 use Rattle.acta_machine.specs.Summary.{Summary, linked}
 use Rattle.acta_machine.specs.Changes.{edges_due}
@@ -152,9 +153,9 @@ still-admissible m s later e due faultless none is_due forms =
     }
 
 -- there is room for the edges of an event that breaks none of the earlier rules
-pub linked-room : {A : Type 0} (m : Parts A) (s : Summary) (e : Event A) → edges_full m s e ≡ None → length (formed s.edges (edges_due m s e)) ≤ 16384
+pub linked-room : {A : Type 0} (m : Parts A) (s : Summary) (e : Event A) → edges_full m s e ≡ None → length (formed s.edges (edges_due m s e)) ≤ MOST_EDGES
 unfolding edges_full
 linked-room m s e none =
-    let few = if_none (nat_lt 16384 (length (formed s.edges (edges_due m s e)))) EdgesFull none in
-    let many : 16384 < length (formed s.edges (edges_due m s e)) → ⊥ = λ l. true≢false (sym (lt-ltb 16384 (length (formed s.edges (edges_due m s e))) l) ∙ few) in
+    let few = if_none (nat_lt MOST_EDGES (length (formed s.edges (edges_due m s e)))) EdgesFull none in
+    let many : MOST_EDGES < length (formed s.edges (edges_due m s e)) → ⊥ = λ l. true≢false (sym (lt-ltb MOST_EDGES (length (formed s.edges (edges_due m s e))) l) ∙ few) in
     omega (arith, many)

@@ -9,13 +9,13 @@ use Rattle.acta_table.specs.declared.model.Parts.{Parts}
 use Rattle.acta_table.specs.Numbered.{ascending}
 use Rattle.acta_table.specs.Policies.{edges_upon}
 use Rattle.acta_objects.specs.Conflicts.{conflict_on}
-use Rattle.acta_sets.specs.declared.item.Item.{Item}
+use Rattle.acta_sets.specs.declared.held_op.HeldOp.{HeldOp}
 use Rattle.acta_sets.specs.Operations.{is_of_others}
 use Rattle.acta_machine.specs.Summary.{Summary}
 use Rattle.acta_machine.specs.Families.{class_of, spared}
 
 -- whether the operation is in t's conflict set, on the same object, and conflicts
-abbrev pub stands_against : {A : Type 0} → Parts A → Summary → ℕ → ObjId → Op → Item → Bool
+abbrev pub stands_against : {A : Type 0} → Parts A → Summary → ℕ → ObjId → Op → HeldOp → Bool
 stands_against m s t ob op i =
     is_of_others t (spared m s t) i && (i.ob.0 == ob.0) && conflict_on m ob.0 i.op op
 

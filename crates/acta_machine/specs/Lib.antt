@@ -1,9 +1,10 @@
 pub mod Changes
 pub mod Conflicts
+pub mod Exactness
 pub mod Families
 pub mod Places
 pub mod Rules
-pub mod Shown
 pub mod Summary
 pub mod Table
 pub mod Values
+pub mod inside

@@ -1,63 +1,41 @@
 -- That the written table and the places of the history say the same.
-use Rattle.std.specs.Prelude.{◌≡◌, ℕ, Bool, true, false, ◌&&◌, ◌||◌, not, nat_le, List, [], ◌∷◌, ◌++◌, Option, None, map, option_map, is_some}
+use Rattle.std.specs.Prelude.{◌≡◌, ℕ, Bool, true, ◌||◌, not, List, Option, map, option_map, is_some}
 use Rattle.std.specs.List.{list_all}
 use Rattle.acta_table.specs.declared.event.Event.{Event}
 use Rattle.acta_table.specs.declared.event.Kept.{Kept}
 use Rattle.acta_table.specs.declared.event.OpNo.{OpNo}
 use Rattle.acta_table.specs.declared.model.Parts.{Parts}
-use Rattle.acta_table.specs.declared.answer.Answer.{Answer}
-use Rattle.acta_table.specs.declared.answer.Answer.TheVariants.{Refused}
-use Rattle.acta_table.specs.declared.answer.Rule.{Rule}
 use Rattle.acta_table.specs.declared.answer.Status.{Status}
 use Rattle.acta_table.specs.Classes.{kind_at, has_heir}
-use Rattle.acta_table.specs.Numbers.{rule_number}
 use Rattle.acta_table.specs.Fates.{is_open}
 use Rattle.acta_objects.specs.declared.state.ObjectState.{ObjectState}
 use Rattle.acta_axioms.specs.History.{class_number, has_class, parent_of}
 use Rattle.acta_axioms.specs.Operations.{Operation, Standing, operations, standing}
 use Rattle.acta_axioms.specs.Values.{value}
 use Rattle.acta_axioms.specs.Edges.{edges}
-use Rattle.acta_axioms.specs.Legal.{is_legal}
 use Rattle.acta_axioms.specs.Claims.{MeetsAxioms, IsOrderly, status_at}
 use Rattle.acta_deps.specs.Statuses.{is_in_progress}
-use Rattle.acta_sets.specs.declared.item.Item.{Item}
+use Rattle.acta_sets.specs.declared.held_op.HeldOp.{HeldOp}
 use Rattle.acta_machine.specs.Summary.{Summary}
 use Rattle.acta_machine.specs.Changes.{summary_of}
-use Rattle.acta_machine.specs.Rules.{earlier_broken}
-use Rattle.acta_machine.specs.Table.{State, kept_as, answer_to}
+use Rattle.acta_machine.specs.Exactness.{RefusesIllegal, RefusesByEdge, RefusesByDebts}
+use Rattle.acta_machine.specs.Table.{State}
 
 -- an operation that stands so
-abbrev pub item_of : Operation → Standing → Item
-item_of o s = record { ob = record { 0 = o.object }; op = o.op; holder = record { 0 = s.holder }; fate = s.fate }
+abbrev pub held_op_of : Operation → Standing → HeldOp
+held_op_of o s = record { ob = record { 0 = o.object }; op = o.op; holder = record { 0 = s.holder }; fate = s.fate }
 
 -- the operations of a history, with holders and fates by places
-abbrev pub items_at : {A : Type 0} → Parts A → List (Kept A) → List Item
-items_at m h = map (λ o. item_of o (standing m h o)) (operations h)
+abbrev pub held_ops_at : {A : Type 0} → Parts A → List (Kept A) → List HeldOp
+held_ops_at m h = map (λ o. held_op_of o (standing m h o)) (operations h)
 
 -- the statuses, classes, parents, holders, fates and edges of a summary are those by places
 pub record ShowsPlaces {A : Type 0} (m : Parts A) (h : List (Kept A)) (s : Summary) : Type 0 where
   pub status : (t : ℕ) → s.status t ≡ status_at h t
   pub class : (t : ℕ) → option_map (λ c. c.0) (s.class t) ≡ class_number h t
   pub parent : (t : ℕ) → s.parent t ≡ parent_of h t
-  pub operations : s.operations ≡ items_at m h
+  pub operations : s.operations ≡ held_ops_at m h
   pub edges : s.edges ≡ edges m h
-
--- whether the rule is one of those on dependencies
-abbrev pub is_dependency_rule : Rule → Bool
-is_dependency_rule rule = nat_le 17 (rule_number rule) && nat_le (rule_number rule) 27
-
--- whether the event is refused by one of them
-abbrev pub is_refused_by_dependency : Answer → Bool
-is_refused_by_dependency (Refused rule by) = is_dependency_rule rule
-is_refused_by_dependency _ = false
-
--- an event that breaks none of the earlier rules is refused by one of those on dependencies exactly
--- where the history with it would not be legal
-abbrev pub RefusesIllegal : {A : Type 0} → State A → Event A → Type 0
-RefusesIllegal state event =
-    earlier_broken state.model (summary_of state.model state.kept) event ≡ None
-    → is_refused_by_dependency (answer_to state event)
-    ≡ not (is_legal state.model (state.kept ++ kept_as state event ∷ []))
 
 -- one whose class commits to its parent has a parent
 abbrev pub HasParent : {A : Type 0} → Parts A → List (Kept A) → ℕ → Type 0
@@ -65,7 +43,7 @@ HasParent m h t =
     has_class (λ k. has_heir k.at_commit) m h t ≡ true → is_some (parent_of h t) ≡ true
 
 -- whether the holder of the operation is in progress, or the operation is not
-abbrev pub is_held_well : (ℕ → Status) → Item → Bool
+abbrev pub is_held_well : (ℕ → Status) → HeldOp → Bool
 is_held_well status i = not (is_open i.fate) || is_in_progress (status i.holder.0)
 
 -- who holds an operation in progress is in progress
@@ -74,7 +52,8 @@ AreHeldWell s = list_all (is_held_well s.status) s.operations ≡ true
 
 -- the summary of the history is that by places; the history meets the axioms, and is orderly; each that
 -- commits to its parent has one; who holds an operation in progress is in progress; and of each event that
--- may come next the rules on dependencies refuse exactly what would be illegal
+-- may come next the rules on dependencies refuse exactly what would be illegal, as a whole, edge by edge, and
+-- by debts that would meet
 pub record FollowsPlaces {A : Type 0} (state : State A) : Type 0 where
   pub shows : ShowsPlaces state.model state.kept (summary_of state.model state.kept)
   pub meets : MeetsAxioms state.model state.kept
@@ -82,10 +61,12 @@ pub record FollowsPlaces {A : Type 0} (state : State A) : Type 0 where
   pub parents : (t : ℕ) → HasParent state.model state.kept t
   pub holders : AreHeldWell (summary_of state.model state.kept)
   pub exact : (event : Event A) → RefusesIllegal state event
+  pub edges_exact : (event : Event A) → RefusesByEdge state event
+  pub clashes_exact : (event : Event A) → RefusesByDebts state event
 
 -- the numbers of operations
-abbrev pub numbers_of : List Operation → List OpNo
-numbers_of os = map (λ o. record { 0 = o.number }) os
+abbrev pub op_numbers : List Operation → List OpNo
+op_numbers os = map (λ o. record { 0 = o.number }) os
 
 -- the value of an object, by places
 abbrev pub value_at : {A : Type 0} → State A → ℕ → Option (ObjectState A)

@@ -21,6 +21,7 @@ use Rattle.acta_table.specs.Sets.{numbers_of, is_named}
 use Rattle.acta_table.specs.Policies.{refuses}
 use Rattle.acta_table.specs.Refusals.{broken_if, broken_by, first_of}
 use Rattle.acta_table.specs.WellFormed.{bad_number, bad_class, bad_object, same_transaction}
+use Rattle.acta_table.specs.declared.limits.TheConstants.{MOST_EDGES, MOST_EVENTS}
 use Rattle.acta_objects.specs.WellFormed.{bad_operation}
 use Rattle.acta_deps.specs.Dependencies.{start_refusal, commit_refusal, abort_refusal, join_refusal}
 use Rattle.acta_deps.specs.Statuses.{is_new, has_begun, is_in_progress, has_ended}
@@ -32,7 +33,7 @@ use Rattle.acta_machine.specs.Conflicts.{stands_against}
 
 -- as many events are kept as there may be
 unfoldable pub full : Summary → Option Refusal
-full s = broken_if (nat_le 65536 s.kept) Full
+full s = broken_if (nat_le MOST_EVENTS s.kept) Full
 
 -- the transaction, if its status fails the test
 abbrev pub fails : Summary → (Status → Bool) → ℕ → Option ℕ
@@ -150,7 +151,7 @@ form_too_late s e = broken_by FormTooLate (formed_late s e)
 
 -- more edges would be in force than there may be
 unfoldable pub edges_full : {A : Type 0} → Parts A → Summary → Event A → Option Refusal
-edges_full m s e = broken_if (nat_lt 16384 (length (formed s.edges (edges_due m s e)))) EdgesFull
+edges_full m s e = broken_if (nat_lt MOST_EDGES (length (formed s.edges (edges_due m s e)))) EdgesFull
 
 -- the lowest of the rules before that on too many edges that the event breaks
 abbrev pub broken_before_edges : {A : Type 0} → Parts A → Summary → Event A → Option Refusal

@@ -11,7 +11,7 @@ use Rattle.acta_table.specs.declared.answer.Fate.{Fate}
 use Rattle.acta_table.specs.declared.dep.Edge.{Edge}
 use Rattle.acta_table.specs.Edges.{formed}
 use Rattle.acta_deps.specs.Statuses.{with_status}
-use Rattle.acta_sets.specs.declared.item.Item.{Item}
+use Rattle.acta_sets.specs.declared.held_op.HeldOp.{HeldOp}
 use Rattle.acta_sets.specs.Operations.{added, moved, handed, ended}
 
 -- kept: how many events; status, class and parent: of each transaction; operations and edges: by number
@@ -20,7 +20,7 @@ pub record Summary : Type 0 where
   pub status : ℕ → Status
   pub class : ℕ → Option ClassId
   pub parent : ℕ → Option TxnId
-  pub operations : List Item
+  pub operations : List HeldOp
   pub edges : List Edge
 
 -- before any event

@@ -1,18 +1,39 @@
-ghost use Rattle.std.specs.Prelude.{◌≡◌, map, filter, IfOk, if◌then◌else◌};
+//! Which operations stand against one that may come next, and the edges that an event forms.
+
+ghost use Rattle.std.specs.Prelude.{◌≡◌, map, filter, None, IfOk, if◌then◌else◌};
 ghost use Rattle.std.specs.BTreeSet.{insert_key};
 ghost use Rattle.std.specs.Ordering.{nat_cmp};
+ghost use Rattle.acta_table.specs.Faults.{lowest_fault};
 ghost use Rattle.acta_table.specs.Numbered.{first_number, ascending};
+ghost use Rattle.acta_table.specs.Starts.{edges_between};
+ghost use Rattle.acta_machine.specs.Changes.{edges_due};
 ghost use Rattle.acta_machine.specs.Conflicts.{stands_against, conflict_edges};
 ghost use Rattle.acta_machine.specs.Families.{spared, spared_numbers};
 ghost use Rattle.acta_sets.specs.Operations.{is_among};
-ghost use Rattle.acta_machine.specs.Shown.{shown};
+ghost use Rattle.acta_machine.specs.inside.Shown.{shown};
 
 use crate::board::Board;
 use acta_objects::ObjectState;
-use acta_sets::Item;
-use acta_table::{Edge, ObjId, Op, TxnId};
+use acta_sets::HeldOp;
+use acta_table::{Edge, Event, ObjId, Op, StartEdge, TxnId};
 use std::alloc::{AllocError, Allocator};
 use std::collections::BTreeSet;
+
+// The edges that these start edges mean between the one that starts and the one that is started.
+fn edges_between<A: Allocator>(
+    alloc: A,
+    starter: TxnId,
+    started: TxnId,
+    edges: &[StartEdge],
+) -> Result<Vec<Edge, A>, AllocError>
+    ensures { IfOk result (λ between. between.items ≡ edges_between starter started edges.now) }
+{
+    let mut between = Vec::new(alloc);
+    for edge in edges {
+        between.push(edge.between(starter, started))?;
+    }
+    Ok(between)
+}
 
 impl<A: Allocator + Copy> Board<A> {
     // Whether u is among those whom t spares.
@@ -30,7 +51,7 @@ impl<A: Allocator + Copy> Board<A> {
         ob: ObjId,
         op: &Op,
         spares: &BTreeSet<u16, A>,
-        item: &Item,
+        item: &HeldOp,
     ) -> bool
         requires { spares.now.keys ≡ spared_numbers self.now.model (shown self.now) t.0 }
         ensures { result ≡ stands_against self.now.model (shown self.now) t.0 ob op.now item.now }
@@ -41,7 +62,7 @@ impl<A: Allocator + Copy> Board<A> {
         {
             return false;
         }
-        match self.model.objects().get(ob.0 as usize) {
+        match self.model.object(ob) {
             Some(object) => ObjectState::<A>::conflicts(&object.kind, &item.op, op),
             None => false,
         }
@@ -74,7 +95,7 @@ impl<A: Allocator + Copy> Board<A> {
         ob: ObjId,
         op: &Op,
         spares: &BTreeSet<u16, A>,
-        item: &Item,
+        item: &HeldOp,
         holders: &mut BTreeSet<u16, A>,
     ) -> Result<(), AllocError>
         requires { spares.now.keys ≡ spared_numbers self.now.model (shown self.now) t.0 }
@@ -92,7 +113,7 @@ impl<A: Allocator + Copy> Board<A> {
         t: TxnId,
         ob: ObjId,
         op: &Op,
-        items: &[Item],
+        items: &[HeldOp],
     ) -> Result<BTreeSet<u16, A>, AllocError>
         ensures { IfOk result (λ holders. holders.keys ≡ ascending (map (λ i. i.holder.0) (filter (stands_against self.now.model (shown self.now) t.0 ob op.now) items.now))) }
     {
@@ -123,5 +144,34 @@ impl<A: Allocator + Copy> Board<A> {
         }
         let holders = self.opponents_among(t, ob, op, self.operations.operations())?;
         class.policy.edges_upon(alloc, t, &holders)
+    }
+
+    /// The edges that the event forms, in order. `Err` where there is no memory.
+    pub(crate) fn edges_due(&self, event: &Event<A>) -> Result<Vec<Edge, A>, AllocError>
+        ensures due { IfOk result (λ edges. edges.items ≡ edges_due self.now.model (shown self.now) event.now) }
+        ensures faultless { lowest_fault self.now.model ≡ None }
+    {
+        let alloc = self.allocator();
+        let classes = self.model.classes();
+        match event {
+            Event::Spawn(t, c, class) => match classes.get(class.0 as usize) {
+                Some(class) => edges_between(alloc, *t, *c, class.spawn_edges.as_slice()),
+                None => Ok(Vec::new(alloc)),
+            },
+            Event::Split(t, u, class, _) => match classes.get(class.0 as usize) {
+                Some(class) => edges_between(alloc, *t, *u, class.split_edges.as_slice()),
+                None => Ok(Vec::new(alloc)),
+            },
+            Event::Form(kind, j, i) => {
+                let edge = Edge {
+                    kind: *kind,
+                    j: *j,
+                    i: *i,
+                };
+                Vec::from_slice(alloc, &[edge])
+            }
+            Event::Operate(t, ob, op) => self.conflict_edges(*t, *ob, op),
+            _ => Ok(Vec::new(alloc)),
+        }
     }
 }

@@ -4,6 +4,7 @@
 #![tactic(auto)]
 
 mod board;
+mod changes;
 mod conflicts;
 mod machine;
 mod rules;

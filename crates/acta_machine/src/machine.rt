@@ -1,20 +1,21 @@
 ghost use Rattle.std.specs.Prelude.{◌≡◌, ◌≤◌, true, [], length, None, OnOk, OnErr, IfOk, replicate};
 ghost use Rattle.acta_table.specs.WellFormed.{is_bad_number};
 ghost use Rattle.acta_machine.specs.Changes.{summary_of};
-ghost use Rattle.acta_machine.specs.Shown.{unbegun};
+ghost use Rattle.acta_machine.specs.inside.Shown.{unbegun};
 ghost use Rattle.acta_axioms.specs.Claims.{status_at};
 ghost use Rattle.acta_axioms.specs.Edges as edges_by_places;
 ghost use Rattle.acta_axioms.specs.Legal as debts_by_places;
 ghost use Rattle.acta_axioms.specs.Operations as by_places;
-ghost use Rattle.acta_machine.specs.Places.{FollowsPlaces, numbers_of, value_at};
+ghost use Rattle.acta_machine.specs.Places.{FollowsPlaces, op_numbers, value_at};
 ghost use Rattle.acta_machine.specs.Table.{fresh, answer_to, after, run_answers, run_state, status_in, value_in, access_set_in, conflict_set_in, view_set_in, edges_in, debts_in};
 
-use crate::board::{Board, Origin, TABLE_SIZE};
+use crate::board::{Board, Origin};
 use acta_deps::Deps;
 use acta_objects::ObjectState;
 use acta_sets::OpTable;
 use acta_table::{
-    Answer, Edge, Event, Items, Kept, Model, ObjId, OpNo, Owed, Refusal, Status, TxnId,
+    Answer, Edge, Event, Items, Kept, MOST_EVENTS, Model, ObjId, OpNo, Owed, Refusal, Status,
+    TABLE_SIZE, TxnId,
 };
 use std::alloc::{AllocError, Allocator};
 
@@ -32,25 +33,26 @@ impl<A: Allocator> std::marker::Model for Machine<A> {
     ghost Value = { State A };
 
     ghost use Rattle.acta_machine.specs.Changes.{summary_of};
-    ghost use Rattle.acta_machine.specs.Shown.{shown};
+    ghost use Rattle.acta_machine.specs.inside.Shown.{shown};
     ghost use Rattle.acta_machine.specs.Places.{FollowsPlaces};
+    ghost use Rattle.acta_table.specs.declared.limits.TheConstants.{MOST_EVENTS, TABLE_SIZE};
 
     ghost view = { λ m. record { model = m.board.model; kept = m.board.kept.items } };
 
     ghost invariant = { λ m. record {
       agrees : shown m.board ≡ summary_of m.board.model m.board.kept.items;
-      origins : length m.board.origins.items ≡ 4096;
-      within : length m.board.kept.items ≤ 65536;
+      origins : length m.board.origins.items ≡ TABLE_SIZE;
+      within : length m.board.kept.items ≤ MOST_EVENTS;
       follows : FollowsPlaces (record { model = m.board.model; kept = m.board.kept.items });
     } };
 }
 
-// The origins of transactions that have not begun.
-fn no_origins<A: Allocator>(alloc: A) -> Result<Vec<Origin, A>, AllocError>
-    ensures { IfOk result (λ table. table.items ≡ replicate 4096 unbegun) }
+// The origins of so many transactions that have not begun.
+fn no_origins<A: Allocator>(alloc: A, count: usize) -> Result<Vec<Origin, A>, AllocError>
+    ensures { IfOk result (λ table. table.items ≡ replicate count unbegun) }
 {
     let origin = Origin::UNBEGUN;
-    vec![in alloc; origin; TABLE_SIZE]
+    vec![in alloc; origin; count]
 }
 
 impl<A: Allocator + Copy> Machine<A> {
@@ -63,7 +65,7 @@ impl<A: Allocator + Copy> Machine<A> {
             board: Board {
                 model,
                 deps: Deps::new(alloc)?,
-                origins: no_origins(alloc)?,
+                origins: no_origins(alloc, TABLE_SIZE)?,
                 operations: OpTable::new(alloc),
                 kept: Vec::new(alloc),
             },
@@ -132,7 +134,7 @@ impl<A: Allocator + Copy> Machine<A> {
     /// no memory.
     pub fn access_set(&self, t: TxnId) -> Result<Vec<OpNo, A>, AllocError>
         ensures set { IfOk result (λ numbers. numbers.items ≡ access_set_in self.now t.0) }
-        ensures places { IfOk result (λ numbers. numbers.items ≡ numbers_of (by_places.access_set self.now.model self.now.kept t.0)) }
+        ensures places { IfOk result (λ numbers. numbers.items ≡ op_numbers (by_places.access_set self.now.model self.now.kept t.0)) }
         ensures nobody { IfOk result (λ numbers. is_bad_number t.0 ≡ true → numbers.items ≡ []) }
     {
         self.board.access_set(t)
@@ -142,7 +144,7 @@ impl<A: Allocator + Copy> Machine<A> {
     /// its ancestors hold, also once the transaction has ended. `Err` where there is no memory.
     pub fn conflict_set(&self, t: TxnId) -> Result<Vec<OpNo, A>, AllocError>
         ensures set { IfOk result (λ numbers. numbers.items ≡ conflict_set_in self.now t.0) }
-        ensures places { IfOk result (λ numbers. numbers.items ≡ numbers_of (by_places.conflict_set self.now.model self.now.kept t.0)) }
+        ensures places { IfOk result (λ numbers. numbers.items ≡ op_numbers (by_places.conflict_set self.now.model self.now.kept t.0)) }
     {
         self.board.conflict_set(t)
     }
@@ -150,7 +152,7 @@ impl<A: Allocator + Copy> Machine<A> {
     /// The operations that are not aborted, ascending (ACTA's view). `Err` where there is no memory.
     pub fn view_set(&self) -> Result<Vec<OpNo, A>, AllocError>
         ensures set { IfOk result (λ numbers. numbers.items ≡ view_set_in self.now) }
-        ensures places { IfOk result (λ numbers. numbers.items ≡ numbers_of (by_places.view_set self.now.model self.now.kept)) }
+        ensures places { IfOk result (λ numbers. numbers.items ≡ op_numbers (by_places.view_set self.now.model self.now.kept)) }
     {
         self.board.operations.view_set()
     }
@@ -204,7 +206,7 @@ impl<A: Allocator> Machine<A> {
     /// most 65,536.
     pub fn history(&self) -> &[Kept<A>]
         ensures history { result.now ≡ self.now.kept }
-        ensures within { length self.now.kept ≤ 65536 }
+        ensures within { length self.now.kept ≤ MOST_EVENTS }
         // The axioms, the legality and all else that `take` says of it.
         ensures follows { FollowsPlaces self.now }
     {

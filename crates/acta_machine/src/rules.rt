@@ -14,21 +14,16 @@ ghost use Rattle.acta_sets.specs.Operations.{operation_at};
 ghost use Rattle.acta_machine.specs.Changes.{edges_due};
 ghost use Rattle.acta_machine.specs.Rules.{full, not_in_progress, already_begun, class_may, txn_may, forms_none, not_in_model, partner_not_in_progress, is_of_another, not_held, not_responsible, wants_whole, left_out, partial_delegation, unknown_in, bad_set, refuses_conflicts, conflict, too_late, form_too_late, edges_full, broken_before_edges, dependency, fails, no_heir, lowest_broken};
 ghost use Rattle.acta_machine.specs.Families.{heir_of};
-ghost use Rattle.acta_machine.specs.Shown.{shown};
+ghost use Rattle.acta_machine.specs.inside.Shown.{shown};
 
 use crate::board::Board;
 use acta_objects::is_of_kind;
-use acta_sets::Item;
+use acta_sets::HeldOp;
 use acta_table::{
-    ClassId, Dep, Edge, Event, EventKind, Extent, OpNo, Refusal, Rule, Status, TxnId,
+    ClassId, Dep, Edge, Event, EventKind, Extent, LAST_TXN, MOST_EDGES, MOST_EVENTS, OpNo, OpSet,
+    Refusal, Rule, Status, TxnId, lesser,
 };
 use std::alloc::{AllocError, Allocator};
-
-/// How many events a history may have (our limit).
-const MOST_EVENTS: usize = 65_536;
-
-/// How many edges may be in force (our limit).
-const MOST_EDGES: usize = 16_384;
 
 // The transaction that has to be in progress.
 fn acting_of<A: Allocator>(event: &Event<A>) -> Option<TxnId>
@@ -59,7 +54,7 @@ fn partner_of<A: Allocator>(event: &Event<A>) -> Option<TxnId>
 fn is_bad_number(t: TxnId) -> bool
     ensures { result ≡ is_bad_number t.0 }
 {
-    t.0 == 0 || t.0 > TxnId::LAST.0
+    t.0 == 0 || t.0 > LAST_TXN
 }
 
 // The smaller of those of two transactions that are so.
@@ -132,28 +127,6 @@ fn same_transaction<A: Allocator>(event: &Event<A>) -> Option<Refusal>
     }
 }
 
-// The lesser of the least so far and one more.
-fn lesser(least: Option<u32>, n: u32) -> Option<u32>
-    ensures { result ≡ Some (option_map_or (min n) least n) }
-{
-    match least {
-        Some(m) => Some(n.min(m)),
-        None => Some(n),
-    }
-}
-
-// Whether the operation of this number is named.
-fn is_named(ops: &[OpNo], number: u32) -> bool
-    ensures { result ≡ is_named ops.now number }
-{
-    for op in ops {
-        if op.0 == number {
-            return true;
-        }
-    }
-    false
-}
-
 fn has_ended(status: Status) -> bool
     ensures { result ≡ has_ended status }
 {
@@ -203,7 +176,7 @@ impl<A: Allocator + Copy> Board<A> {
         let Event::Operate(_, ob, op) = event else {
             return None;
         };
-        match self.model.objects().get(ob.0 as usize) {
+        match self.model.object(*ob) {
             Some(object) if !is_of_kind(&object.kind, op) => Some(Refusal::of(Rule::BadOperation)),
             _ => None,
         }
@@ -237,7 +210,7 @@ impl<A: Allocator + Copy> Board<A> {
     fn may_begin(&self, class: ClassId) -> bool
         ensures { result ≡ class_may self.now.model class.0 EventKind.Begin }
     {
-        match self.model.classes().get(class.0 as usize) {
+        match self.model.class(class) {
             Some(class) => class.starts.begin,
             None => false,
         }
@@ -247,7 +220,7 @@ impl<A: Allocator + Copy> Board<A> {
     fn may_be_spawned(&self, class: ClassId) -> bool
         ensures { result ≡ class_may self.now.model class.0 EventKind.Spawn }
     {
-        match self.model.classes().get(class.0 as usize) {
+        match self.model.class(class) {
             Some(class) => class.starts.spawned,
             None => false,
         }
@@ -257,7 +230,7 @@ impl<A: Allocator + Copy> Board<A> {
     fn may_be_split(&self, class: ClassId) -> bool
         ensures { result ≡ class_may self.now.model class.0 EventKind.Split }
     {
-        match self.model.classes().get(class.0 as usize) {
+        match self.model.class(class) {
             Some(class) => class.starts.split,
             None => false,
         }
@@ -333,7 +306,7 @@ impl<A: Allocator + Copy> Board<A> {
     }
 
     // The operation of this number.
-    fn operation(&self, op: OpNo) -> Option<Item>
+    fn operation(&self, op: OpNo) -> Option<HeldOp>
         ensures { result ≡ operation_at (shown self.now).operations op.0 }
     {
         if op.0 == 0 {
@@ -389,12 +362,12 @@ impl<A: Allocator + Copy> Board<A> {
     }
 
     // The smallest operation that the transaction holds in progress, and that is not named.
-    fn left_out(&self, ops: &[OpNo], t: TxnId) -> Option<u32>
+    fn left_out(&self, ops: &OpSet<A>, t: TxnId) -> Option<u32>
         ensures { result ≡ left_out (shown self.now) ops.now t.0 }
     {
         let mut number = 1u32;
         for item in self.operations.operations() {
-            if item.is_held(t) && !is_named(ops, number) {
+            if item.is_held(t) && !ops.has_number(number as usize) {
                 return Some(number);
             }
             number += 1;
@@ -408,7 +381,7 @@ impl<A: Allocator + Copy> Board<A> {
     {
         match event {
             Event::Split(t, _, _, ops) | Event::Delegate(t, _, ops) if self.wants_whole(*t) => {
-                broken_by(Rule::PartialDelegation, self.left_out(ops.as_slice(), *t))
+                broken_by(Rule::PartialDelegation, self.left_out(ops, *t))
             }
             _ => None,
         }
@@ -586,15 +559,5 @@ impl<A: Allocator + Copy> Board<A> {
             return Ok(Some(refusal));
         }
         Ok(self.no_heir(event))
-    }
-
-    /// The place that the next event gets, where none is refused for want of room.
-    #[tactic(auto, unfolding(crate::specs::Rules::full))]
-    pub(crate) fn next_place(&self, event: &Event<A>) -> u32
-        requires { lowest_broken self.now.model (shown self.now) event.now ≡ None }
-        ensures place { result ≡ length self.now.kept.items + 1 }
-        ensures room { length self.now.kept.items < 65536 }
-    {
-        self.kept.len() as u32 + 1
     }
 }

@@ -4,12 +4,12 @@ ghost use Rattle.acta_objects.specs.Limits.{IsSmall};
 ghost use Rattle.acta_machine.specs.Values.{live_on, live_ops};
 
 use acta_objects::{ObjectState, is_of_kind};
-use acta_sets::Item;
-use acta_table::{Kind, ObjId};
+use acta_sets::HeldOp;
+use acta_table::{Kind, MOST_EVENTS, ObjId};
 use std::alloc::{AllocError, Allocator};
 
 // Whether the operation counts for the value of an object of this kind.
-fn is_live_on(item: &Item, kind: &Kind, ob: ObjId) -> bool
+fn is_live_on(item: &HeldOp, kind: &Kind, ob: ObjId) -> bool
     ensures { live_on kind.now ob.0 item.now ≡ (if result then Some item.now.op else None) }
 {
     item.ob.0 == ob.0 && item.is_live() && is_of_kind(kind, &item.op)
@@ -20,10 +20,10 @@ fn is_live_on(item: &Item, kind: &Kind, ob: ObjId) -> bool
 pub(crate) fn value_after<A: Allocator + Copy>(
     alloc: A,
     kind: &Kind,
-    items: &[Item],
+    items: &[HeldOp],
     ob: ObjId,
 ) -> Result<ObjectState<A>, AllocError>
-    requires { length items.now ≤ 65536 }
+    requires { length items.now ≤ MOST_EVENTS }
     ensures value { IfOk result (λ value. value ≡ state_after (first_state kind.now) (live_ops kind.now items.now ob.0)) }
     // A counter is far from the ends of 64 bits.
     ensures small { IfOk result (λ value. IsSmall (length items.now + 1) value) }

@@ -1,5 +1,5 @@
 -- Each of the texts means a model: none has a fault. And each is the canonical text of this model.
-use Rattle.std.proofs.Common.{◌≡◌, ℕ, Bool, true, false, List, [], ◌∷◌, refl, sym, ap, ◌∙◌, arith}
+use Rattle.std.proofs.Common.{◌≡◌, ℕ, true, List, [], ◌∷◌, refl, sym, ap, ◌∙◌, arith}
 use Rattle.std.specs.Prelude.{Result, Ok, Err, is_ok, decimal}
 use Rattle.std.proofs.lemmas.Bool.{true≢false}
 use Rattle.std.proofs.lemmas.Fmt.{decimal_digit}

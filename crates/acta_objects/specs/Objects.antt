@@ -1,6 +1,6 @@
 -- What operations do to objects, and what they return: registers and counters are whole numbers,
 -- sets are finite sets of them, seen as their elements, ascending.
-use Rattle.std.specs.Prelude.{Bool, true, false, List, [], ◌∷◌, ℤ, pos, ◌+ℤ◌, length, not, ⊤, fold, scan, FitsSigned}
+use Rattle.std.specs.Prelude.{Bool, true, false, List, [], ℤ, pos, ◌+ℤ◌, length, not, ⊤, fold, scan, FitsSigned}
 use Rattle.std.specs.Int.{w64}
 use Rattle.std.specs.Ordering.{int_eq, int_cmp}
 use Rattle.std.specs.BTreeSet.{insert_key}
@@ -119,8 +119,3 @@ returns_of s ops = scan step returned s ops
 abbrev pub StaysWithin : {A : Type 0} → ObjectState A → Op → Type 0
 StaysWithin (Counter v) op = FitsSigned w64 (counter_step v op)
 StaysWithin _ op = ⊤
-
--- and at each of a list, in order
-abbrev pub AllStayWithin : {A : Type 0} → ObjectState A → List Op → Type 0
-AllStayWithin s [] = ⊤
-AllStayWithin s (op ∷ ops) = StaysWithin s op × AllStayWithin (step s op) ops

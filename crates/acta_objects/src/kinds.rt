@@ -2,9 +2,9 @@ ghost use Rattle.std.specs.Prelude.{◌≡◌, true, false, Bool, ⊤, FitsSigne
 ghost use Rattle.std.specs.Int.{w64};
 ghost use Rattle.acta_objects.specs.Objects.{register_step, register_return, counter_step, counter_return, set_step, set_return, set_takes_memory};
 ghost use Rattle.acta_objects.specs.Conflicts.{Commutes, Conflict, IsNumber, IsSet, register_conflicts, counter_conflicts, set_conflicts};
-ghost use Rattle.acta_objects.specs.RegisterLaws.{register_commutes, register_differs, register_symmetric};
-ghost use Rattle.acta_objects.specs.CounterLaws.{counter_commutes, counter_differs, counter_symmetric};
-ghost use Rattle.acta_objects.specs.SetLaws.{set_commutes, set_differs, set_symmetric};
+ghost use Rattle.acta_objects.specs.inside.RegisterLaws.{register_commutes, register_differs, register_symmetric};
+ghost use Rattle.acta_objects.specs.inside.CounterLaws.{counter_commutes, counter_differs, counter_symmetric};
+ghost use Rattle.acta_objects.specs.inside.SetLaws.{set_commutes, set_differs, set_symmetric};
 
 use crate::members::Members;
 use acta_table::{Op, Ret};

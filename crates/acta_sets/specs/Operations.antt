@@ -11,10 +11,10 @@ use Rattle.acta_table.specs.declared.answer.Fate.TheVariants.{InProgress}
 use Rattle.acta_table.specs.Numbered.{numbers_where}
 use Rattle.acta_table.specs.Sets.{is_named}
 use Rattle.acta_table.specs.Fates.{is_open, is_aborted}
-use Rattle.acta_sets.specs.declared.item.Item.{Item}
+use Rattle.acta_sets.specs.declared.held_op.HeldOp.{HeldOp}
 
 -- whether t holds the operation in progress
-abbrev pub is_held : ℕ → Item → Bool
+abbrev pub is_held : ℕ → HeldOp → Bool
 is_held t i = (i.holder.0 == t) && is_open i.fate
 
 -- whether the transaction is among these
@@ -22,70 +22,70 @@ abbrev pub is_among : List TxnId → TxnId → Bool
 is_among ts t = list_any (λ u. u.0 == t.0) ts
 
 -- whether the operation is in progress, and held by none of t and these ancestors of t
-abbrev pub is_of_others : ℕ → List TxnId → Item → Bool
+abbrev pub is_of_others : ℕ → List TxnId → HeldOp → Bool
 is_of_others t ancestors i =
     is_open i.fate && not (i.holder.0 == t) && not (is_among ancestors i.holder)
 
 -- whether the operation counts: whether it is not aborted
-abbrev pub is_live : Item → Bool
+abbrev pub is_live : HeldOp → Bool
 is_live i = not (is_aborted i.fate)
 
 -- the operations that pass, by number, ascending
-abbrev pub operations_where : (Item → Bool) → List Item → List OpNo
+abbrev pub operations_where : (HeldOp → Bool) → List HeldOp → List OpNo
 operations_where test items = map (λ n. record { 0 = n }) (numbers_where test items)
 
 -- the access set: the operations that t holds in progress
-abbrev pub access_set : ℕ → List Item → List OpNo
+abbrev pub access_set : ℕ → List HeldOp → List OpNo
 access_set t items = operations_where (is_held t) items
 
 -- the conflict set: the operations in progress that others hold, where these ancestors of t are no
 -- others
-abbrev pub conflict_set : ℕ → List TxnId → List Item → List OpNo
+abbrev pub conflict_set : ℕ → List TxnId → List HeldOp → List OpNo
 conflict_set t ancestors items = operations_where (is_of_others t ancestors) items
 
 -- the view: the operations that are not aborted
-abbrev pub view_set : List Item → List OpNo
+abbrev pub view_set : List HeldOp → List OpNo
 view_set items = operations_where is_live items
 
 -- one more operation, in progress, held by t
-abbrev pub added : List Item → TxnId → ObjId → Op → List Item
+abbrev pub added : List HeldOp → TxnId → ObjId → Op → List HeldOp
 added items t ob op = items ++ (record { ob = ob; op = op; holder = t; fate = InProgress }) ∷ []
 
 -- the operation of this number; there is no number 0
-abbrev pub operation_at : List Item → ℕ → Option Item
+abbrev pub operation_at : List HeldOp → ℕ → Option HeldOp
 operation_at items zero = None
 operation_at items (suc k) = slice_get items k
 
 -- whether there is an operation of this number, in progress
-abbrev pub is_open_in : List Item → OpNo → Bool
+abbrev pub is_open_in : List HeldOp → OpNo → Bool
 is_open_in items o = option_map_or (λ i. is_open i.fate) (operation_at items o.0) false
 
 -- whether all that are named are there and in progress
-abbrev pub are_open : List OpNo → List Item → Bool
+abbrev pub are_open : List OpNo → List HeldOp → Bool
 are_open ops items = list_all (is_open_in items) ops
 
 -- the same as below, where the first item has the number n
-abbrev pub moved_from : ℕ → List OpNo → TxnId → List Item → List Item
+abbrev pub moved_from : ℕ → List OpNo → TxnId → List HeldOp → List HeldOp
 moved_from n ops u [] = []
 moved_from n ops u (i ∷ items) =
     (if is_named ops n then record i { holder = u } else i) ∷ moved_from (n + 1) ops u items
 
 -- the operations, where u holds those that are named
-abbrev pub moved : List OpNo → TxnId → List Item → List Item
+abbrev pub moved : List OpNo → TxnId → List HeldOp → List HeldOp
 moved ops u items = moved_from 1 ops u items
 
 -- the operation, with this fate where t holds it in progress
-abbrev pub ended_item : ℕ → Fate → Item → Item
-ended_item t fate i = if is_held t i then record i { fate = fate } else i
+abbrev pub ended_op : ℕ → Fate → HeldOp → HeldOp
+ended_op t fate i = if is_held t i then record i { fate = fate } else i
 
 -- the operations, where all that t holds in progress have this fate
-abbrev pub ended : ℕ → Fate → List Item → List Item
-ended t fate items = map (ended_item t fate) items
+abbrev pub ended : ℕ → Fate → List HeldOp → List HeldOp
+ended t fate items = map (ended_op t fate) items
 
 -- the operation, held by u where t holds it in progress
-abbrev pub handed_item : ℕ → TxnId → Item → Item
-handed_item t u i = if is_held t i then record i { holder = u } else i
+abbrev pub handed_op : ℕ → TxnId → HeldOp → HeldOp
+handed_op t u i = if is_held t i then record i { holder = u } else i
 
 -- the operations, where u holds all that t holds in progress
-abbrev pub handed : ℕ → TxnId → List Item → List Item
-handed t u items = map (handed_item t u) items
+abbrev pub handed : ℕ → TxnId → List HeldOp → List HeldOp
+handed t u items = map (handed_op t u) items

@@ -5,9 +5,9 @@
 //! progress end with it.
 #![tactic(auto)]
 
-mod item;
+mod held_op;
 mod selection;
 mod table;
 
-pub use item::Item;
+pub use held_op::HeldOp;
 pub use table::OpTable;

@@ -1,9 +1,9 @@
 ghost use Rattle.std.specs.Prelude.{◌≡◌, ◌≤◌, length, IfOk};
 ghost use Rattle.acta_sets.specs.Operations.{operations_where};
-ghost use Rattle.acta_sets.specs.Selections.{is_selected};
+ghost use Rattle.acta_sets.specs.inside.Selections.{is_selected};
 
-use crate::item::Item;
-use acta_table::{OpNo, TxnId};
+use crate::held_op::HeldOp;
+use acta_table::{MOST_EVENTS, OpNo, TxnId};
 use std::alloc::{AllocError, Allocator};
 
 /// The sets of operations that ACTA speaks of.
@@ -19,7 +19,7 @@ pub(crate) enum Selection<'a> {
 
 impl<'a> Selection<'a> {
     // Whether the operation is in the set.
-    fn has(self, item: Item) -> bool
+    fn has(self, item: HeldOp) -> bool
         ensures { result ≡ is_selected self.entry item }
     {
         match self {
@@ -31,12 +31,12 @@ impl<'a> Selection<'a> {
 }
 
 /// The numbers of the operations in the set, ascending. `Err` where there is no memory.
-pub(crate) fn numbers_of<A: Allocator>(
+pub(crate) fn selected<A: Allocator>(
     alloc: A,
     selection: Selection,
-    items: &[Item],
+    items: &[HeldOp],
 ) -> Result<Vec<OpNo, A>, AllocError>
-    requires { length items.now ≤ 65536 }
+    requires { length items.now ≤ MOST_EVENTS }
     ensures { IfOk result (λ ops. ops.items ≡ operations_where (is_selected selection.entry) items.now) }
 {
     let mut numbers = Vec::new(alloc);

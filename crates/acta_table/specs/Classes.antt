@@ -6,6 +6,7 @@ use Rattle.acta_table.specs.declared.model.Class.{Class}
 use Rattle.acta_table.specs.declared.model.Extent.{Extent}
 use Rattle.acta_table.specs.declared.model.Extent.TheVariants.{Whole}
 use Rattle.acta_table.specs.declared.model.Kind.{Kind}
+use Rattle.acta_table.specs.declared.model.Object.{Object}
 use Rattle.acta_table.specs.declared.model.Scope.{Scope}
 use Rattle.acta_table.specs.declared.model.Scope.TheVariants.{NonAncestors}
 use Rattle.acta_table.specs.declared.model.AtCommit.{AtCommit}
@@ -13,13 +14,17 @@ use Rattle.acta_table.specs.declared.model.AtCommit.TheVariants.{ToParent}
 use Rattle.acta_table.specs.declared.model.Parts.{Parts}
 use Rattle.acta_table.specs.Kinds.{has_kind}
 
+-- the object of this number
+abbrev pub object_at : {A : Type 0} → Parts A → ℕ → Option (Object A)
+object_at m object = slice_get m.objects object
+
 -- the class of this number
 abbrev pub class_at : {A : Type 0} → Parts A → ℕ → Option (Class A)
 class_at m class = slice_get m.classes class
 
 -- the kind of the object of this number
 abbrev pub kind_at : {A : Type 0} → Parts A → ℕ → Option Kind
-kind_at m object = option_map (λ o. o.kind) (slice_get m.objects object)
+kind_at m object = option_map (λ o. o.kind) (object_at m object)
 
 -- whether the class may start by an event of this kind
 abbrev pub can_start : {A : Type 0} → EventKind → Class A → Bool

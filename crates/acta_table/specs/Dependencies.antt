@@ -1,7 +1,9 @@
 -- The kinds of dependency: their codes and words, and the sets of them as the bits of a number.
-use Rattle.std.specs.Prelude.{ℕ, ◌^◌, Bool, true, false, List, [], ◌∷◌, codes}
+use Rattle.std.specs.Prelude.{ℕ, ◌^◌, Bool, true, false, List, [], ◌∷◌, Option, Some, codes}
 use Rattle.acta_table.specs.declared.dep.Dep.{Dep}
 use Rattle.acta_table.specs.declared.dep.Dep.TheVariants.{Cd, Scd, Ad, Wd, Td, Ed, Cmd, Bd, Sd, Bcd, Bad, Wcd}
+use Rattle.acta_table.specs.declared.dep.Missing.{Missing}
+use Rattle.acta_table.specs.declared.dep.Missing.TheVariants.{Commit, Abort}
 use Rattle.acta_table.specs.Kinds.{has_bit}
 
 -- the code of the kind, which is also the bit that stands for it, the lowest being 0
@@ -54,3 +56,12 @@ has_dep kinds kind = has_bit kinds (code_of kind)
 -- the set of the kind alone
 abbrev pub only_dep : Dep → ℕ
 only_dep kind = 2 ^ code_of kind
+
+-- whether the missing event is a commit, or an abort
+abbrev pub is_commit : Option Missing → Bool
+is_commit (Some Commit) = true
+is_commit _ = false
+
+abbrev pub is_abort : Option Missing → Bool
+is_abort (Some Abort) = true
+is_abort _ = false

@@ -9,6 +9,7 @@ use Rattle.acta_table.specs.declared.model.Parts.{Parts}
 use Rattle.acta_table.specs.declared.model.ModelFault.{ModelFault}
 use Rattle.acta_table.specs.declared.model.ModelFault.TheVariants.{NoClass, TooManyClasses, TooManyObjects, DuplicateName, BadName, BeginKindAtStart, HeirWithoutSpawn, BadPolicyKind}
 use Rattle.acta_table.specs.declared.start_edges.StartEdge.{StartEdge}
+use Rattle.acta_table.specs.declared.limits.TheConstants.{LONGEST_NAME, MOST_CLASSES, MOST_OBJECTS}
 use Rattle.acta_table.specs.Classes.{has_heir}
 use Rattle.acta_table.specs.Dependencies.{is_begin_kind}
 use Rattle.acta_table.specs.Policies.{is_bad_policy}
@@ -16,7 +17,7 @@ use Rattle.acta_table.specs.Policies.{is_bad_policy}
 -- a name has 1 to 32 bytes: an ASCII letter first, then letters, digits or underscores
 abbrev pub is_name : List ℕ → Bool
 is_name name =
-    nat_lt 0 (length name) && nat_le (length name) 32
+    nat_lt 0 (length name) && nat_le (length name) LONGEST_NAME
     && is_ascii_alphabetic (slice_index name 0)
     && list_all (λ b. is_ascii_alphanumeric b || (b == 95)) name
 
@@ -52,8 +53,8 @@ fault_if test fault = if test then Some fault else None
 abbrev pub lowest_fault : {A : Type 0} → Parts A → Option ModelFault
 lowest_fault m = fold option_or None (
     fault_if (length m.classes == 0) NoClass
-    ∷ fault_if (nat_lt 16 (length m.classes)) TooManyClasses
-    ∷ fault_if (nat_lt 256 (length m.objects)) TooManyObjects
+    ∷ fault_if (nat_lt MOST_CLASSES (length m.classes)) TooManyClasses
+    ∷ fault_if (nat_lt MOST_OBJECTS (length m.objects)) TooManyObjects
     ∷ fault_if (has_twice (object_names m) || has_twice (class_names m)) DuplicateName
     ∷ fault_if (not (list_all is_name (object_names m) && list_all is_name (class_names m))) BadName
     ∷ fault_if (list_any has_begin_kind m.classes) BeginKindAtStart

@@ -5,13 +5,14 @@ use Rattle.acta_table.specs.declared.event.Event.{Event}
 use Rattle.acta_table.specs.declared.answer.Rule.TheVariants.{BadNumber, BadClass, BadObject, SameTransaction}
 use Rattle.acta_table.specs.declared.answer.Refusal.{Refusal}
 use Rattle.acta_table.specs.declared.model.Parts.{Parts}
+use Rattle.acta_table.specs.declared.limits.TheConstants.{LAST_TXN}
 use Rattle.acta_table.specs.Events.{named, class_named, object_named}
 use Rattle.acta_table.specs.Numbered.{smallest}
 use Rattle.acta_table.specs.Refusals.{broken_if, broken_by}
 
--- a transaction's number is not from 1 to 4,095
+-- a transaction's number is not from 1 to the last
 abbrev pub is_bad_number : ℕ → Bool
-is_bad_number t = (t == 0) || nat_lt 4095 t
+is_bad_number t = (t == 0) || nat_lt LAST_TXN t
 
 -- a number named is bad
 unfoldable pub bad_number : {A : Type 0} → Event A → Option Refusal

@@ -1,4 +1,5 @@
-ghost use Rattle.std.specs.Prelude.{◌≡◌, Some, None};
+ghost use Rattle.std.specs.Prelude.{◌≡◌, min, Some, None};
+ghost use Rattle.std.specs.Option.{option_map_or};
 ghost use Rattle.acta_table.specs.Numbers.{rule_number};
 
 use crate::event::Ret;
@@ -87,6 +88,16 @@ impl Refusal {
             rule,
             by: Some(number),
         }
+    }
+}
+
+/// The lesser of the least number so far and one more: of the numbers that break a rule the smallest is named.
+pub fn lesser(least: Option<u32>, number: u32) -> Option<u32>
+    ensures { result ≡ Some (option_map_or (min number) least number) }
+{
+    match least {
+        Some(least) => Some(number.min(least)),
+        None => Some(number),
     }
 }
 

@@ -267,12 +267,7 @@ impl Edge {
     pub fn is_among(&self, edges: &[Edge]) -> bool
         ensures { result ≡ is_among edges.now self.now }
     {
-        for edge in edges {
-            if self.is_same(edge) {
-                return true;
-            }
-        }
-        false
+        edges.iter().any(|edge| self.is_same(edge))
     }
 }
 

@@ -5,14 +5,9 @@ use crate::dep::Dep;
 use crate::op_set::OpSet;
 use std::alloc::{AllocError, Allocator};
 
-/// The number of a transaction: from 1 to `TxnId::LAST` where it is one of a history.
+/// The number of a transaction: from 1 to `LAST_TXN` where it is one of a history.
 #[derive(Clone, Copy, PartialEq, Eq, Debug)]
 pub struct TxnId(pub u16);
-
-impl TxnId {
-    /// The largest number of a transaction (our limit).
-    pub const LAST: TxnId = TxnId(4095);
-}
 
 /// The position of a class in its model's list, from 0.
 #[derive(Clone, Copy, PartialEq, Eq, Debug)]

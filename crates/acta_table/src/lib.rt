@@ -7,16 +7,20 @@ mod dep;
 mod event;
 mod items;
 mod kinds;
+mod limits;
 mod model;
 mod op_set;
 mod policy;
 mod start_edges;
 
-pub use answer::{Answer, Fate, Refusal, Rule, Status};
+pub use answer::{Answer, Fate, Refusal, Rule, Status, lesser};
 pub use dep::{Dep, DepKinds, Edge, EdgeNo, Missing, Owed};
 pub use event::{ClassId, Event, EventKind, Kept, ObjId, Op, OpNo, Ret, TxnId};
 pub use items::Items;
 pub use kinds::Kinds;
+pub use limits::{
+    LAST_TXN, LONGEST_NAME, MOST_CLASSES, MOST_EDGES, MOST_EVENTS, MOST_OBJECTS, TABLE_SIZE,
+};
 pub use model::{
     AtCommit, Class, Extent, Kind, Model, ModelFault, Object, Parts, Scope, Starts, is_named_well,
 };

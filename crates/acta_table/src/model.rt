@@ -1,14 +1,17 @@
-ghost use Rattle.std.specs.Prelude.{◌≡◌, ◌||◌, ◌==◌, ℕ, List, map, None, Some, IfOk, IfErr, OnOk};
+ghost use Rattle.std.specs.Prelude.{◌≡◌, ◌||◌, ◌==◌, ℕ, List, map, None, Some, IfOk, IfErr, OnOk, option_map};
 ghost use Rattle.std.specs.List.{list_any, list_all};
 ghost use Rattle.std.specs.Str.{bytes_eq};
 ghost use Rattle.std.specs.Char.{is_ascii_alphanumeric};
+ghost use Rattle.acta_table.specs.Classes.{class_at, object_at};
 ghost use Rattle.acta_table.specs.Numbers.{model_fault_number};
 ghost use Rattle.acta_table.specs.Policies.{is_bad_policy};
 ghost use Rattle.acta_table.specs.SetsOfClasses.{HasSets};
 ghost use Rattle.acta_table.specs.Faults.{lowest_fault, is_name, has_twice, has_begin_edge, has_begin_kind, lacks_parents, fault_if};
 
+use crate::event::{ClassId, ObjId};
 use crate::items::Items;
 use crate::kinds::Kinds;
+use crate::limits::{LONGEST_NAME, MOST_CLASSES, MOST_OBJECTS};
 use crate::policy::Policy;
 use crate::start_edges::{StartEdge, StartEdges};
 use std::alloc::{AllocError, Allocator};
@@ -96,9 +99,9 @@ pub struct Parts<A: Allocator> {
 pub enum ModelFault {
     /// There is no class.
     NoClass = 1,
-    /// There are more than 16 classes.
+    /// There are more than `MOST_CLASSES` classes.
     TooManyClasses = 2,
-    /// There are more than 256 objects.
+    /// There are more than `MOST_OBJECTS` objects.
     TooManyObjects = 3,
     /// Two objects have one name, or two classes have.
     DuplicateName = 4,
@@ -152,7 +155,10 @@ fn has_name_bytes(name: &[u8]) -> bool
 pub fn is_named_well(name: &[u8]) -> bool
     ensures { result ≡ is_name name.now }
 {
-    !name.is_empty() && name.len() <= 32 && name[0].is_ascii_alphabetic() && has_name_bytes(name)
+    !name.is_empty()
+        && name.len() <= LONGEST_NAME
+        && name[0].is_ascii_alphabetic()
+        && has_name_bytes(name)
 }
 
 /// What has a name in a model.
@@ -292,8 +298,8 @@ impl<A: Allocator> Parts<A> {
         let is_heirless = have_heirless(classes);
         let is_misled = have_bad_policies(classes);
         fault_where(classes.is_empty(), ModelFault::NoClass)
-            .or(fault_where(classes.len() > 16, ModelFault::TooManyClasses))
-            .or(fault_where(objects.len() > 256, ModelFault::TooManyObjects))
+            .or(fault_where(classes.len() > MOST_CLASSES, ModelFault::TooManyClasses))
+            .or(fault_where(objects.len() > MOST_OBJECTS, ModelFault::TooManyObjects))
             .or(fault_where(is_doubled, ModelFault::DuplicateName))
             .or(fault_where(!is_well_named, ModelFault::BadName))
             .or(fault_where(is_begun_late, ModelFault::BeginKindAtStart))
@@ -329,6 +335,20 @@ impl<A: Allocator> Model<A> {
         ensures faultless { lowest_fault self.now ≡ None }
     {
         self.parts.classes.as_slice()
+    }
+
+    /// The object with this number; `None` where the model has none.
+    pub fn object(&self, id: ObjId) -> Option<&Object<A>>
+        ensures { option_map (λ object. object.now) result ≡ object_at self.now id.0 }
+    {
+        self.objects().get(usize::from(id.0))
+    }
+
+    /// The class with this number; `None` where the model has none.
+    pub fn class(&self, id: ClassId) -> Option<&Class<A>>
+        ensures { option_map (λ class. class.now) result ≡ class_at self.now id.0 }
+    {
+        self.classes().get(usize::from(id.0))
     }
 }
 

@@ -2,7 +2,7 @@ ghost use Rattle.std.specs.Prelude.{◌≡◌, Decides, [], fold, IfOk};
 ghost use Rattle.std.specs.BTreeSet.{insert_key};
 ghost use Rattle.std.specs.List.Sorted.{IsStrictlySortedBy};
 ghost use Rattle.std.specs.Ordering.{nat_cmp};
-ghost use Rattle.acta_table.specs.Sets.{numbers_of, numbered, each_once};
+ghost use Rattle.acta_table.specs.Sets.{numbers_of, numbered, each_once, is_named};
 
 use crate::event::OpNo;
 use crate::items::Items;
@@ -58,6 +58,13 @@ impl<A: Allocator> OpSet<A> {
         ensures { Decides result (self.now ≡ other.now) }
     {
         self.as_slice() == other.as_slice()
+    }
+
+    /// Whether the operation of this number is among them.
+    pub fn has_number(&self, number: usize) -> bool
+        ensures { result ≡ is_named self.now number }
+    {
+        self.as_slice().iter().any(|op| op.0 as usize == number)
     }
 
     /// The numbers, ascending, each once.

@@ -1,4 +1,5 @@
-ghost use Rattle.std.specs.Prelude.{◌≡◌, ◌++◌, [], filter, IfOk};
+ghost use Rattle.std.specs.Prelude.{◌≡◌, ◌↔◌, ◌++◌, [], filter, IfOk, IfSome, IsSome, IsTrue};
+ghost use Rattle.std.specs.Ordering.{is_lt};
 ghost use Rattle.std.specs.List.Sorted.{IsStrictlySortedBy};
 ghost use Rattle.acta_table.specs.Starts.{rank_of, same_start_edge, start_edge_cmp, both_of, is_listed, each_start_edge_once, edge_between};
 
@@ -43,16 +44,18 @@ impl StartEdge {
         self.kind.code() == other.kind.code() && self.dependent.rank() == other.dependent.rank()
     }
 
+    // Whether it stands before the other in their order.
+    fn is_before(&self, other: &StartEdge) -> bool
+        ensures { result ≡ is_lt (start_edge_cmp self.now other.now) }
+    {
+        (self.kind.code(), self.dependent.rank()) < (other.kind.code(), other.dependent.rank())
+    }
+
     /// Whether it is among these.
     pub fn is_among(&self, edges: &[StartEdge]) -> bool
         ensures { result ≡ is_listed edges.now self.now }
     {
-        for edge in edges {
-            if self.is_same(edge) {
-                return true;
-            }
-        }
-        false
+        edges.iter().any(|edge| self.is_same(edge))
     }
 
     /// The edge that it means, between the one that starts and the one that is started.
@@ -127,6 +130,13 @@ fn in_order<A: Allocator>(alloc: A, edges: &[StartEdge]) -> Result<Vec<StartEdge
     Ok(listed)
 }
 
+// Whether each stands before the next in their order.
+fn ascend(edges: &[StartEdge]) -> bool
+    ensures { IsTrue result ↔ IsStrictlySortedBy start_edge_cmp edges.now }
+{
+    edges.is_sorted_by(|edge, next| edge.is_before(next))
+}
+
 impl<A: Allocator> StartEdges<A> {
     /// No edge. Takes no memory.
     pub fn new(alloc: A) -> StartEdges<A>
@@ -144,6 +154,21 @@ impl<A: Allocator> StartEdges<A> {
         Ok(StartEdges {
             edges: Items::of(in_order(alloc, edges)?),
         })
+    }
+
+    /// The set of start edges that stand in its order already, each once; `None` where they do not (ours).
+    /// Takes no memory and sorts nothing.
+    pub fn ascending(edges: Vec<StartEdge, A>) -> Option<StartEdges<A>>
+        ensures same { IfSome result (λ set. set ≡ edges.items) }
+        ensures known { IsSome result ↔ IsStrictlySortedBy start_edge_cmp edges.items }
+    {
+        if ascend(&edges) {
+            Some(StartEdges {
+                edges: Items::of(edges),
+            })
+        } else {
+            None
+        }
     }
 
     /// The start edges, each once, in order.

@@ -59,7 +59,7 @@ fn class_in<A: Allocator>(history: &[Kept<A>], t: TxnId) -> Option<ClassId> {
 // Whether the transaction's class leaves its ancestors out of its conflict set.
 fn spares<A: Allocator>(model: &Model<A>, history: &[Kept<A>], t: TxnId) -> bool {
     match class_in(history, t) {
-        Some(class) => match model.classes().get(class.0 as usize) {
+        Some(class) => match model.class(class) {
             Some(class) => class.scope == Scope::NonAncestors,
             None => false,
         },

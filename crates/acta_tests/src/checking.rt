@@ -76,54 +76,34 @@ fn fault_of_class<A: Allocator + Copy>(
     Ok(Model::check(Parts { objects, classes }).err())
 }
 
-// Models of these registers and classes have this fault, or none; each line has the names of the registers and,
-// after `|`, those of the classes.
-fn have_fault(
-    rt: &(impl Abort + AllocGlobal),
-    lines: &str,
-    fault: Option<ModelFault>,
-) -> Result<(), Fail> {
-    for line in lines.lines() {
-        let (objects, classes) = line.split_once('|').ok_or("a line has no classes")?;
+// Each line has the names of registers, after `|` those of classes, and the number of the model's fault, or none.
+const NAMED: &str = "\
+x|x : none
+|a1234567890123456789012345678901 : none
+x| : 1
+x x| : 1
+x y x|x : 4
+_ _|x : 4
+x|x y y : 4
+_a|x : 5
+1a|x : 5
+a-b|x : 5
+a12345678901234567890123456789012|x : 5
+x|y  : 5";
+
+#[test]
+fn faults_of_names(rt: HostRuntime) -> Result<(), Fail> {
+    for line in NAMED.lines() {
+        let (names, due) = line.split_once(" : ").ok_or("a line has no fault")?;
+        let (objects, classes) = names.split_once('|').ok_or("a line has no classes")?;
+        let fault = fault_of(rt.alloc(), objects, classes)?;
         assert_eq!(rt;
-            fault_of(rt.alloc(), objects.trim_start(), classes)?,
-            fault,
+            fault.map(ModelFault::number),
+            due.parse().ok(),
             "at {line}"
         );
     }
     Ok(())
-}
-
-#[test]
-fn no_fault(rt: HostRuntime) -> Result<(), Fail> {
-    let lines = "x|x
-        |a1234567890123456789012345678901";
-    have_fault(&rt, lines, None)
-}
-
-#[test]
-fn no_class(rt: HostRuntime) -> Result<(), Fail> {
-    let lines = "x|
-        x x|";
-    have_fault(&rt, lines, Some(ModelFault::NoClass))
-}
-
-#[test]
-fn names_alike(rt: HostRuntime) -> Result<(), Fail> {
-    let lines = "x y x|x
-        _ _|x
-        x|x y y";
-    have_fault(&rt, lines, Some(ModelFault::DuplicateName))
-}
-
-#[test]
-fn bad_names(rt: HostRuntime) -> Result<(), Fail> {
-    let lines = "_a|x
-        1a|x
-        a-b|x
-        a12345678901234567890123456789012|x";
-    have_fault(&rt, lines, Some(ModelFault::BadName))?;
-    have_fault(&rt, "x|y ", Some(ModelFault::BadName))
 }
 
 // The one edge of this kind, of what is started on the one that starts it.

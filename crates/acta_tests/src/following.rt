@@ -9,55 +9,30 @@ use crate::playing::play;
 use acta_models::Standard;
 use std::test::Fail;
 
-#[test]
-fn of_flat(rt: HostRuntime) -> Result<(), Fail> {
-    play(&rt, rt.alloc(), Standard::Atomic.text(), FLAT)
+// The histories of each model, by its text.
+fn histories() -> [(&'static str, &'static str); 11] {
+    [
+        (Standard::Atomic.text(), FLAT),
+        (Standard::Contingent.text(), CONTINGENT),
+        (Standard::SplitJoin.text(), SPLIT_JOIN),
+        (models::PARTING, PARTING),
+        (models::DELEGATING, DELEGATING),
+        (Standard::Nested.text(), NESTED),
+        (models::UNTIED, UNTIED),
+        (models::WAITING, WAITING),
+        (models::FAMILIES, FAMILIES),
+        (Standard::Recoverable.text(), RECOVERABLE),
+        (models::LENDING, LENDING),
+    ]
 }
 
 #[test]
-fn of_contingent(rt: HostRuntime) -> Result<(), Fail> {
-    play(&rt, rt.alloc(), Standard::Contingent.text(), CONTINGENT)
+fn go_as_they_say(rt: HostRuntime) -> Result<(), Fail> {
+    for (model, lines) in histories() {
+        play(&rt, rt.alloc(), model, lines)?;
+    }
+    Ok(())
 }
-
-#[test]
-fn of_parts(rt: HostRuntime) -> Result<(), Fail> {
-    play(&rt, rt.alloc(), Standard::SplitJoin.text(), SPLIT_JOIN)?;
-    play(&rt, rt.alloc(), models::PARTING, PARTING)?;
-    play(&rt, rt.alloc(), models::DELEGATING, DELEGATING)
-}
-
-#[test]
-fn of_nested(rt: HostRuntime) -> Result<(), Fail> {
-    play(&rt, rt.alloc(), Standard::Nested.text(), NESTED)?;
-    play(&rt, rt.alloc(), models::UNTIED, UNTIED)?;
-    play(&rt, rt.alloc(), models::WAITING, WAITING)
-}
-
-#[test]
-fn of_families(rt: HostRuntime) -> Result<(), Fail> {
-    play(&rt, rt.alloc(), models::FAMILIES, FAMILIES)
-}
-
-#[test]
-fn of_loose(rt: HostRuntime) -> Result<(), Fail> {
-    play(&rt, rt.alloc(), Standard::Recoverable.text(), RECOVERABLE)?;
-    play(&rt, rt.alloc(), models::LENDING, LENDING)
-}
-
-// The histories of each model.
-const HISTORIES: [&str; 11] = [
-    FLAT,
-    CONTINGENT,
-    SPLIT_JOIN,
-    PARTING,
-    DELEGATING,
-    NESTED,
-    UNTIED,
-    WAITING,
-    FAMILIES,
-    RECOVERABLE,
-    LENDING,
-];
 
 // The number of the rule by which the event of the line is refused.
 fn refused_by(line: &str) -> Option<u8> {
@@ -66,8 +41,8 @@ fn refused_by(line: &str) -> Option<u8> {
 }
 
 // Whether a line of the histories has an event that is refused by this rule.
-fn meets(histories: &str, rule: u8) -> bool {
-    for line in histories.lines() {
+fn meets(lines: &str, rule: u8) -> bool {
+    for line in lines.lines() {
         if refused_by(line) == Some(rule) {
             return true;
         }
@@ -77,8 +52,8 @@ fn meets(histories: &str, rule: u8) -> bool {
 
 // Whether one of them meets the rule.
 fn is_met(rule: u8) -> bool {
-    for histories in HISTORIES {
-        if meets(histories, rule) {
+    for (_, lines) in histories() {
+        if meets(lines, rule) {
             return true;
         }
     }

@@ -8,8 +8,8 @@ use acta_models::Standard;
 use acta_objects::{ObjectState, replay};
 use acta_script::{answer_line, read_event};
 use acta_table::{
-    Answer, Dep, Dependent, Event, Items, Kept, Kind, Model, ObjId, Op, OpNo, OpSet, StartEdge,
-    StartEdges, Status, TxnId,
+    Answer, Dep, Dependent, Event, Items, Kept, Kind, Model, ObjId, Op, OpNo, OpSet, Ret,
+    StartEdge, StartEdges, Status, TxnId,
 };
 use refusing::Refusing;
 use std::alloc::{AllocError, Allocator};
@@ -20,42 +20,6 @@ const ONE: TxnId = TxnId(1);
 
 // More allocations than any of these calls makes.
 const MOST: u64 = 40;
-
-// Refuses the first allocation of the call, then the second, and so on, until it succeeds. Each refused
-// call has to answer `Err`. Gives what the call answers in the end, and how many calls were refused.
-fn refuse_each<T: Drop, B: Allocator, F: FnMut() -> Result<T, AllocError>>(
-    rt: &impl Abort,
-    heap: &Refusing<B>,
-    mut call: F,
-) -> (Option<T>, u64)
-    requires { F.IsAlwaysCallable call }
-{
-    for nth in 1..MOST {
-        heap.refuse(nth);
-        let result = call();
-        if heap.is_waiting() {
-            heap.refuse(0);
-            return (result.ok(), nth.saturating_sub(1));
-        }
-        assert!(rt; result.is_err());
-    }
-    heap.refuse(0);
-    (None, MOST)
-}
-
-// The call has as many growths. Gives what it answers with memory.
-fn grows<T: Drop, B: Allocator, F: FnMut() -> Result<T, AllocError>>(
-    rt: &impl Abort,
-    heap: &Refusing<B>,
-    growths: u64,
-    call: F,
-) -> Result<T, Fail>
-    requires { F.IsAlwaysCallable call }
-{
-    let (answer, refused) = refuse_each(rt, heap, call);
-    assert_eq!(rt; refused, growths);
-    Ok(answer.ok_or("with memory there is an answer")?)
-}
 
 // Whether the machine has so many events and edges, and the first transaction stands so.
 fn stands<A: Allocator>(machine: &Machine<A>, events: usize, edges: usize, status: Status) -> bool {
@@ -76,6 +40,27 @@ fn take<A: Allocator + Copy>(
     let taken = machine.take(event);
     assert!(rt; taken.is_ok() || stands(machine, events, edges, status));
     taken
+}
+
+// Takes the event, its first allocation refused, then the second, and so on, until it succeeds: each refused call has to answer
+// `Err`. Gives the answer in the end, and how many calls were refused.
+fn refuse_each<A: Allocator + Copy, B: Allocator>(
+    rt: &impl Abort,
+    heap: &Refusing<B>,
+    machine: &mut Machine<A>,
+    event: &Event<A>,
+) -> (Option<Answer>, u64) {
+    for nth in 1..MOST {
+        heap.refuse(nth);
+        let answer = take(rt, machine, event);
+        if heap.is_waiting() {
+            heap.refuse(0);
+            return (answer.ok(), nth.saturating_sub(1));
+        }
+        assert!(rt; answer.is_err());
+    }
+    heap.refuse(0);
+    (None, MOST)
 }
 
 // A machine on a copy of the model.
@@ -110,7 +95,7 @@ fn grow_each<A: Allocator + Copy, B: Allocator>(
         let (said, due) = line.split_once(" : ").ok_or("a line has no answer")?;
         let (due, growths) = due.split_once(" : ").ok_or("a line has no growths")?;
         let event = read_event(alloc, &model, said.as_bytes())?;
-        let (answer, refused) = refuse_each(rt, heap, || take(rt, &mut machine, &event));
+        let (answer, refused) = refuse_each(rt, heap, &mut machine, &event);
         let told = answer_line(alloc, &answer.ok_or("with memory there is an answer")?)?;
         assert_eq!(rt; told.as_slice(), due.as_bytes(), "at {line}");
         assert_eq!(rt; Some(refused), growths.parse().ok(), "at {line}");
@@ -125,12 +110,6 @@ form AD 2 1 : ok 2 : 2
 begin 2 try : ok 3 : 0
 abort 1 : ok 4 : 1";
 
-#[test]
-fn of_forms(rt: HostRuntime) -> Result<(), Fail> {
-    let heap = Refusing::new(rt.alloc());
-    grow_each(&rt, &heap, &heap, Standard::Contingent.text(), OF_FORMS)
-}
-
 // Of the operations, of a set that is an object, and of one that is handed over; for a split with two edges, of the edges that
 // are due, of the set that is kept, and of the edges in force. A join has none.
 const OF_PARTS: &str = "\
@@ -143,12 +122,6 @@ do 1 n add 1 : ok 6 done : 0
 split 1 4 part 3 : ok 7 : 3
 join 1 2 : ok 8 : 0";
 
-#[test]
-fn of_parts(rt: HostRuntime) -> Result<(), Fail> {
-    let heap = Refusing::new(rt.alloc());
-    grow_each(&rt, &heap, &heap, PARTING, OF_PARTS)
-}
-
 // Of the edges that are due, and of the edges in force; of the list of ancestors who are spared, and of the set of them. A
 // commit to a parent has none.
 const OF_SPAWNS: &str = "\
@@ -156,12 +129,6 @@ begin 1 top : ok 1 : 1
 spawn 1 2 sub : ok 2 : 2
 do 2 x write 5 : ok 3 done : 3
 commit 2 : ok 4 : 0";
-
-#[test]
-fn of_spawns(rt: HostRuntime) -> Result<(), Fail> {
-    let heap = Refusing::new(rt.alloc());
-    grow_each(&rt, &heap, &heap, Standard::Nested.text(), OF_SPAWNS)
-}
 
 // For an operation with two edges, of the set of those whom it depends on, of the edges that are due, of the edges in force,
 // and of the operations, where the edges are taken back.
@@ -175,15 +142,17 @@ do 1 x write 5 : ok 6 done : 0
 do 2 x read : ok 7 5 : 4";
 
 #[test]
-fn of_depending(rt: HostRuntime) -> Result<(), Fail> {
+fn of_events(rt: HostRuntime) -> Result<(), Fail> {
     let heap = Refusing::new(rt.alloc());
-    grow_each(
-        &rt,
-        &heap,
-        &heap,
-        Standard::Recoverable.text(),
-        OF_DEPENDING,
-    )
+    for (model, text) in [
+        (Standard::Contingent.text(), OF_FORMS),
+        (PARTING, OF_PARTS),
+        (Standard::Nested.text(), OF_SPAWNS),
+        (Standard::Recoverable.text(), OF_DEPENDING),
+    ] {
+        grow_each(&rt, &heap, &heap, model, text)?;
+    }
+    Ok(())
 }
 
 // The events that the lines say.
@@ -211,144 +180,74 @@ begin 5 top
 spawn 5 6 sub
 abort 5";
 
-// The growths of each set. The conflict set of one with ancestors needs a list of these too.
-fn grow_sets<A: Allocator + Copy, B: Allocator>(
-    rt: &impl Abort,
-    heap: &Refusing<B>,
-    machine: &Machine<A>,
-) -> Result<(), Fail> {
-    let ops = grows(rt, heap, 1, || machine.access_set(ONE))?;
-    assert_eq!(rt; ops.as_slice(), [OpNo(1)].as_slice());
-    let ops = grows(rt, heap, 2, || machine.conflict_set(TxnId(3)))?;
-    assert_eq!(rt; ops.as_slice(), [OpNo(2)].as_slice());
-    let ops = grows(rt, heap, 1, || machine.view_set())?;
-    assert_eq!(rt; ops.as_slice(), [OpNo(1), OpNo(2)].as_slice());
-    Ok(())
+// The operations that 1 holds.
+fn access<A: Allocator + Copy>(machine: &Machine<A>) -> Result<usize, AllocError> {
+    Ok(numbers(&machine.access_set(ONE)?))
 }
 
-// The growths of a value and of the debts.
-fn grow_others<A: Allocator + Copy, B: Allocator>(
-    rt: &impl Abort,
-    heap: &Refusing<B>,
-    machine: &Machine<A>,
-) -> Result<(), Fail> {
-    let value = grows(rt, heap, 1, || machine.value(ObjId(3)))?;
-    assert!(rt; value.is_some());
-    let owed = grows(rt, heap, 1, || machine.owed())?;
-    assert_eq!(rt; owed.len(), 1);
-    Ok(())
+// The operations that others hold than this transaction and its ancestors.
+fn conflicts<A: Allocator + Copy>(machine: &Machine<A>, t: TxnId) -> Result<usize, AllocError> {
+    Ok(numbers(&machine.conflict_set(t)?))
 }
 
-// A copy shows the same.
-fn grow_copy<A: Allocator + Copy, B: Allocator>(
-    rt: &impl Abort,
-    heap: &Refusing<B>,
-    machine: &Machine<A>,
-) -> Result<(), Fail> {
-    let copy = grows(rt, heap, 14, || machine.copy())?;
-    assert!(rt; stands(&copy, 9, 6, Status::InProgress));
-    assert_eq!(rt; copy.owed()?.as_slice(), machine.owed()?.as_slice());
-    Ok(())
+fn view<A: Allocator + Copy>(machine: &Machine<A>) -> Result<usize, AllocError> {
+    Ok(numbers(&machine.view_set()?))
 }
 
-// The growths of a whole run, and of what can be asked of its machine.
-fn grow_run<A: Allocator + Copy, B: Allocator>(
-    rt: &impl Abort,
-    heap: &Refusing<B>,
-    alloc: A,
-) -> Result<(), Fail> {
-    let model = assemble(alloc, Standard::Nested.text().as_bytes())?;
-    let events = events(alloc, &model, READ)?;
-    let run = grows(rt, heap, 25, || run_on(alloc, &model, &events))?;
-    assert_eq!(rt; run.answers.as_slice().len(), 9);
-    grow_sets(rt, heap, &run.machine)?;
-    grow_others(rt, heap, &run.machine)?;
-    grow_copy(rt, heap, &run.machine)
+// Whether the object has a value.
+fn valued<A: Allocator + Copy>(machine: &Machine<A>) -> Result<usize, AllocError> {
+    Ok(usize::from(machine.value(ObjId(3))?.is_some()))
 }
 
-#[test]
-fn of_run(rt: HostRuntime) -> Result<(), Fail> {
-    let heap = Refusing::new(rt.alloc());
-    grow_run(&rt, &heap, &heap)
+// How many debts there are.
+fn debts<A: Allocator + Copy>(machine: &Machine<A>) -> Result<usize, AllocError> {
+    Ok(machine.owed()?.len())
 }
 
-// The growths of a model's copy, and of a new machine.
-fn grow_new<A: Allocator + Copy, B: Allocator>(
-    rt: &impl Abort,
-    heap: &Refusing<B>,
-    alloc: A,
-) -> Result<(), Fail> {
-    let model = assemble(alloc, Standard::Nested.text().as_bytes())?;
-    grows(rt, heap, 9, || model.copy())?;
-    grows(rt, heap, 11, || copied_machine(alloc, &model))?;
-    Ok(())
+// Where the first transaction starts, by an index of the history.
+fn first_start<A: Allocator + Copy>(alloc: A, machine: &Machine<A>) -> Result<usize, AllocError> {
+    let places = Places::of(alloc, machine.model(), machine.history())?;
+    Ok(places.start(ONE).unwrap_or(0) as usize)
 }
 
-#[test]
-fn of_new(rt: HostRuntime) -> Result<(), Fail> {
-    let heap = Refusing::new(rt.alloc());
-    grow_new(&rt, &heap, &heap)
-}
-
-// Where the first transaction starts, by an index of its own.
-fn first_start<A: Allocator + Copy>(
+// How many events a machine has kept after a run.
+fn ran<A: Allocator + Copy>(
     alloc: A,
     model: &Model<A>,
-    machine: &Machine<A>,
-) -> Result<Option<u32>, AllocError> {
-    Ok(Places::of(alloc, model, machine.history())?.start(ONE))
+    events: &[Event<A>],
+) -> Result<usize, AllocError> {
+    Ok(run_on(alloc, model, events)?.machine.history().len())
 }
 
-// Finds the first start, each growth refused in turn.
-fn grow_start<A: Allocator + Copy, B: Allocator>(
-    rt: &impl Abort,
-    heap: &Refusing<B>,
-    alloc: A,
-    model: &Model<A>,
-    machine: &Machine<A>,
-) -> Result<Option<u32>, Fail> {
-    grows(rt, heap, 11, || first_start(alloc, model, machine))
+// How many classes a copy of the model has.
+fn copied_model<A: Allocator + Copy>(model: &Model<A>) -> Result<usize, AllocError> {
+    Ok(model.copy()?.classes().len())
 }
 
-// The growths of the index of a history by its places.
-fn grow_places<A: Allocator + Copy, B: Allocator>(
-    rt: &impl Abort,
-    heap: &Refusing<B>,
-    alloc: A,
-) -> Result<(), Fail> {
-    let model = assemble(alloc, Standard::Nested.text().as_bytes())?;
-    let events = events(alloc, &model, READ)?;
-    let machine = run_on(alloc, &model, &events)?.machine;
-    assert_eq!(rt; grow_start(rt, heap, alloc, &model, &machine)?, Some(1));
-    Ok(())
+// How many events a new machine has kept.
+fn made<A: Allocator + Copy>(alloc: A, model: &Model<A>) -> Result<usize, AllocError> {
+    Ok(copied_machine(alloc, model)?.history().len())
 }
 
-#[test]
-fn of_places(rt: HostRuntime) -> Result<(), Fail> {
-    let heap = Refusing::new(rt.alloc());
-    grow_places(&rt, &heap, &heap)
+// How many events, edges and debts a copy of the machine shows, as digits.
+fn copied<A: Allocator + Copy>(machine: &Machine<A>) -> Result<usize, AllocError> {
+    let copy = machine.copy()?;
+    let counts = [copy.history().len(), copy.edges().len(), copy.owed()?.len()];
+    Ok(digits(&counts))
 }
 
-// A set with one element, and a copy of it.
-fn one_element<A: Allocator + Copy>(alloc: A) -> Result<ObjectState<A>, AllocError> {
+// What a copy of a set with one element answers for it.
+fn one_element<A: Allocator + Copy>(alloc: A) -> Result<usize, AllocError> {
     let mut set = ObjectState::new(alloc, &Kind::Elements);
     set.apply(&Op::Insert(3))?;
-    set.copy()
+    let found = set.copy()?.apply(&Op::Has(3))?;
+    Ok(usize::from(found == Ret::Flag(true)))
 }
 
 // How many returns a replay tells.
 fn replayed<A: Allocator + Copy>(alloc: A) -> Result<usize, AllocError> {
     let ops = [Op::Insert(3), Op::Has(3)];
     Ok(replay(alloc, &Kind::Elements, &ops)?.rets.as_slice().len())
-}
-
-// The growths of an operation and of a replay.
-#[test]
-fn of_objects(rt: HostRuntime) -> Result<(), Fail> {
-    let heap = Refusing::new(rt.alloc());
-    grows(&rt, &heap, 2, || one_element(&heap))?;
-    assert_eq!(rt; grows(&rt, &heap, 2, || replayed(&heap))?, 2);
-    Ok(())
 }
 
 // How many operations a set of four numbers names, one of them twice, as a copy of a delegation has it.
@@ -380,12 +279,138 @@ fn listed<A: Allocator + Copy>(alloc: A) -> Result<usize, AllocError> {
     Ok(list.copy()?.as_slice().len())
 }
 
-// The growths of a set of operations, of a set of start edges, of a list, and of their copies.
-#[test]
-fn of_lists(rt: HostRuntime) -> Result<(), Fail> {
-    let heap = Refusing::new(rt.alloc());
-    assert_eq!(rt; grows(&rt, &heap, 3, || named(&heap))?, 3);
-    assert_eq!(rt; grows(&rt, &heap, 2, || wanted(&heap))?, 2);
-    assert_eq!(rt; grows(&rt, &heap, 2, || listed(&heap))?, 1);
+// The counts, as the digits of a number.
+fn digits(counts: &[usize]) -> usize {
+    let mut number = 0usize;
+    for count in counts {
+        number = number.saturating_mul(10).saturating_add(*count);
+    }
+    number
+}
+
+// The numbers of the operations, as digits.
+fn numbers(ops: &[OpNo]) -> usize {
+    let mut number = 0usize;
+    for op in ops {
+        number = number.saturating_mul(10).saturating_add(op.0 as usize);
+    }
+    number
+}
+
+// A call that takes memory.
+#[derive(Clone, Copy, Debug)]
+enum Call {
+    AccessSet,
+    ConflictsOfRoot,
+    ConflictsOfChild,
+    ViewSet,
+    Value,
+    Owed,
+    MachineCopy,
+    Run,
+    ModelCopy,
+    NewMachine,
+    FirstStart,
+    Element,
+    Replay,
+    OpSet,
+    StartEdges,
+    Items,
+}
+
+// Each call, how many growths it has, and what it answers with memory. The conflict set of one with ancestors needs a list of
+// these too.
+const CALLS: [(Call, u64, usize); 16] = [
+    (Call::AccessSet, 1, 1),
+    (Call::ConflictsOfRoot, 1, 1),
+    (Call::ConflictsOfChild, 2, 2),
+    (Call::ViewSet, 1, 12),
+    (Call::Value, 1, 1),
+    (Call::Owed, 1, 1),
+    (Call::MachineCopy, 15, 961),
+    (Call::Run, 25, 9),
+    (Call::ModelCopy, 9, 2),
+    (Call::NewMachine, 11, 0),
+    (Call::FirstStart, 11, 1),
+    (Call::Element, 2, 1),
+    (Call::Replay, 2, 2),
+    (Call::OpSet, 3, 3),
+    (Call::StartEdges, 2, 2),
+    (Call::Items, 2, 1),
+];
+
+// What is called: a model, some events, and a machine that took them.
+#[derive(Drop)]
+struct Called<'a, A: Allocator> {
+    alloc: A,
+    model: &'a Model<A>,
+    events: &'a [Event<A>],
+    machine: &'a Machine<A>,
+}
+
+// What the call answers, as a number.
+fn answer<A: Allocator + Copy>(on: &Called<'_, A>, call: Call) -> Result<usize, AllocError> {
+    match call {
+        Call::AccessSet => access(on.machine),
+        Call::ConflictsOfRoot => conflicts(on.machine, TxnId(4)),
+        Call::ConflictsOfChild => conflicts(on.machine, TxnId(3)),
+        Call::ViewSet => view(on.machine),
+        Call::Value => valued(on.machine),
+        Call::Owed => debts(on.machine),
+        Call::MachineCopy => copied(on.machine),
+        Call::Run => ran(on.alloc, on.model, on.events),
+        Call::ModelCopy => copied_model(on.model),
+        Call::NewMachine => made(on.alloc, on.model),
+        Call::FirstStart => first_start(on.alloc, on.machine),
+        Call::Element => one_element(on.alloc),
+        Call::Replay => replayed(on.alloc),
+        Call::OpSet => named(on.alloc),
+        Call::StartEdges => wanted(on.alloc),
+        Call::Items => listed(on.alloc),
+    }
+}
+
+// Each growth of the call is refused in turn, until it succeeds: it has as many growths, and answers this.
+fn grow<A: Allocator + Copy, B: Allocator>(
+    rt: &impl Abort,
+    heap: &Refusing<B>,
+    on: &Called<'_, A>,
+    (call, growths, due): (Call, u64, usize),
+) {
+    for nth in 1..=growths {
+        heap.refuse(nth);
+        assert!(rt; answer(on, call).is_err(), "growth {nth} of {call:?}");
+    }
+    heap.refuse(growths.saturating_add(1));
+    let answered = answer(on, call);
+    assert!(rt; heap.is_waiting(), "{call:?} has more growths");
+    heap.refuse(0);
+    assert_eq!(rt; answered.ok(), Some(due), "{call:?}");
+}
+
+// The growths of each call on the model of nested transactions.
+fn grow_calls<A: Allocator + Copy, B: Allocator>(
+    rt: &impl Abort,
+    heap: &Refusing<B>,
+    alloc: A,
+) -> Result<(), Fail> {
+    let model = assemble(alloc, Standard::Nested.text().as_bytes())?;
+    let events = events(alloc, &model, READ)?;
+    let run = run_on(alloc, &model, &events)?;
+    let on = Called {
+        alloc,
+        model: &model,
+        events: &events,
+        machine: &run.machine,
+    };
+    for call in CALLS {
+        grow(rt, heap, &on, call);
+    }
     Ok(())
+}
+
+#[test]
+fn of_calls(rt: HostRuntime) -> Result<(), Fail> {
+    let heap = Refusing::new(rt.alloc());
+    grow_calls(&rt, &heap, &heap)
 }

@@ -6,8 +6,9 @@ use acta_axioms::Places;
 use acta_lang::assemble;
 use acta_machine::Machine;
 use acta_models::Standard;
+use acta_script::read_event;
 use acta_table::{
-    Answer, ClassId, Dep, Edge, EdgeNo, Event, Kept, Missing, Model, Owed, Rule, TxnId,
+    Answer, Dep, Edge, EdgeNo, Event, Kept, MOST_EVENTS, Missing, Model, Owed, Rule, TxnId,
 };
 use std::alloc::{AllocError, Allocator};
 use std::process::Abort;
@@ -107,7 +108,7 @@ fn found_after<A: Allocator + Copy>(
     event: &Event<A>,
 ) -> Result<Finding, AllocError> {
     let longer = with(alloc, machine.history(), event)?;
-    assert!(rt; longer.len() <= 65536);
+    assert!(rt; longer.len() <= MOST_EVENTS);
     Ok(finding_of(kind, &Places::of(alloc, model, longer.as_slice())?))
 }
 
@@ -170,52 +171,47 @@ fn along<A: Allocator + Copy>(
 }
 
 // The orders of the starts and ends of two transactions.
-const ORDERS: &str = "begin 1, end 1, begin 2, end 2
-    begin 1, begin 2, end 1, end 2
-    begin 1, begin 2, end 2, end 1
-    begin 2, begin 1, end 1, end 2
-    begin 2, begin 1, end 2, end 1
-    begin 2, end 2, begin 1, end 1";
+const ORDERS: &str = "\
+begin 1 try, commit 1, begin 2 try, commit 2
+begin 1 try, commit 1, begin 2 try, abort 2
+begin 1 try, abort 1, begin 2 try, commit 2
+begin 1 try, abort 1, begin 2 try, abort 2
+begin 1 try, begin 2 try, commit 1, commit 2
+begin 1 try, begin 2 try, commit 1, abort 2
+begin 1 try, begin 2 try, abort 1, commit 2
+begin 1 try, begin 2 try, abort 1, abort 2
+begin 1 try, begin 2 try, commit 2, commit 1
+begin 1 try, begin 2 try, abort 2, commit 1
+begin 1 try, begin 2 try, commit 2, abort 1
+begin 1 try, begin 2 try, abort 2, abort 1
+begin 2 try, begin 1 try, commit 1, commit 2
+begin 2 try, begin 1 try, commit 1, abort 2
+begin 2 try, begin 1 try, abort 1, commit 2
+begin 2 try, begin 1 try, abort 1, abort 2
+begin 2 try, begin 1 try, commit 2, commit 1
+begin 2 try, begin 1 try, abort 2, commit 1
+begin 2 try, begin 1 try, commit 2, abort 1
+begin 2 try, begin 1 try, abort 2, abort 1
+begin 2 try, commit 2, begin 1 try, commit 1
+begin 2 try, abort 2, begin 1 try, commit 1
+begin 2 try, commit 2, begin 1 try, abort 1
+begin 2 try, abort 2, begin 1 try, abort 1";
 
-// The event that is said, where the end of a transaction is a commit or an abort.
-fn event_of<A: Allocator>(
-    said: &str,
-    one_commits: bool,
-    two_commits: bool,
-) -> Result<Event<A>, Fail> {
-    Ok(match said {
-        "begin 1" => Event::Begin(ONE, ClassId(0)),
-        "begin 2" => Event::Begin(TWO, ClassId(0)),
-        "end 1" => end_of(ONE, one_commits),
-        "end 2" => end_of(TWO, two_commits),
-        _ => Err("an order says no event")?,
-    })
-}
-
-fn end_of<A: Allocator>(t: TxnId, commits: bool) -> Event<A> {
-    if commits {
-        Event::Commit(t)
-    } else {
-        Event::Abort(t)
-    }
-}
-
-// The events of an order with these ends.
+// The events of an order.
 fn events_of<A: Allocator + Copy>(
     alloc: A,
+    model: &Model<A>,
     order: &str,
-    one_commits: bool,
-    two_commits: bool,
 ) -> Result<Vec<Event<A>, A>, Fail> {
     let mut events = Vec::new(alloc);
-    for words in order.split(',') {
-        events.push(event_of(words.trim(), one_commits, two_commits)?)?;
+    for said in order.split(", ") {
+        events.push(read_event(alloc, model, said.as_bytes())?)?;
     }
     Ok(events)
 }
 
-// Machines with an edge of one kind agree along each order, whichever of the two commit. Gives whether one refused
-// an event by a rule on dependencies, and whether there was a debt.
+// Machines with an edge of one kind agree along each order. Gives whether one refused an event by a rule on dependencies, and
+// whether there was a debt.
 fn through_each_order<A: Allocator + Copy>(
     rt: &impl Abort,
     alloc: A,
@@ -224,17 +220,10 @@ fn through_each_order<A: Allocator + Copy>(
 ) -> Result<(bool, bool), Fail> {
     let (mut refused, mut owed) = (false, false);
     for order in ORDERS.lines() {
-        for (one_commits, two_commits) in [
-            (true, true),
-            (true, false),
-            (false, true),
-            (false, false),
-        ] {
-            let events = events_of(alloc, order, one_commits, two_commits)?;
-            let said = along(rt, alloc, model, kind, &events)?;
-            refused |= said.0;
-            owed |= said.1;
-        }
+        let events = events_of(alloc, model, order)?;
+        let said = along(rt, alloc, model, kind, &events)?;
+        refused |= said.0;
+        owed |= said.1;
     }
     Ok((refused, owed))
 }

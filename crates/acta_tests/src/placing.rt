@@ -15,14 +15,14 @@ use crate::showing::{push_edges, txn};
 use acta_axioms::Places;
 use acta_models::Standard;
 use acta_script::read_event;
-use acta_table::{Event, Fate, Kept, OpNo, Ret};
+use acta_table::{Event, Fate, Kept, MOST_EVENTS, OpNo, Ret};
 use acta_words::{push_natural, push_word, read_u32};
 use std::alloc::{AllocError, Allocator};
 use std::process::Abort;
 use std::test::Fail;
 
-// The item of an event; the places don't look at what an operation returned.
-fn item<A: Allocator>(event: Event<A>) -> Kept<A> {
+// The event as it is kept; the places don't look at what an operation returned.
+fn kept<A: Allocator>(event: Event<A>) -> Kept<A> {
     let ret = match event {
         Event::Operate(_, _, _) => Some(Ret::Done),
         _ => None,
@@ -96,7 +96,7 @@ fn ask<A: Allocator + Copy>(
     line: &str,
 ) -> Result<(), Fail> {
     let (asked, due) = line.split_once(" :").ok_or("a question has no answer")?;
-    assert!(rt; items.len() <= 65536);
+    assert!(rt; items.len() <= MOST_EVENTS);
     let places = Places::of(alloc, &models.model, items)?;
     let told = said(alloc, &places, asked)?;
     assert_eq!(rt; told.as_slice(), due.as_bytes(), "at {line}");
@@ -118,7 +118,7 @@ fn expect<A: Allocator + Copy>(
         } else if let Some(asked) = line.strip_prefix("? ") {
             ask(rt, alloc, &models, &items, asked)?;
         } else {
-            items.push(item(read_event(alloc, &models.wider, line.as_bytes())?))?;
+            items.push(kept(read_event(alloc, &models.wider, line.as_bytes())?))?;
         }
     }
     Ok(())
@@ -285,11 +285,6 @@ do 1 x write 5
 do 2 x read
 ? edges :";
 
-#[test]
-fn of_flat(rt: HostRuntime) -> Result<(), Fail> {
-    expect(&rt, rt.alloc(), Standard::Atomic.text(), FLAT)
-}
-
 // Transactions that split with edges.
 const PARTS: &str = "\
 # One splits off a second and joins it, which joins a third
@@ -355,11 +350,6 @@ split 2 1 part -
 split 1 2 part -
 ? edges : CD 1 2 AD 2 1";
 
-#[test]
-fn of_parts(rt: HostRuntime) -> Result<(), Fail> {
-    expect(&rt, rt.alloc(), FOLLOWING, PARTS)
-}
-
 // Transactions that split without edges.
 const PLAIN_PARTS: &str = "\
 # A class that wants no edges leaves the one that is formed by itself
@@ -380,11 +370,6 @@ commit 2
 ? op 1 at 4 : 2 open
 ? op 1 at 5 : 2 open
 ? op 1 at 6 : 2 committed";
-
-#[test]
-fn of_plain_parts(rt: HostRuntime) -> Result<(), Fail> {
-    expect(&rt, rt.alloc(), Standard::SplitJoin.text(), PLAIN_PARTS)
-}
 
 // Transactions that depend on those who hold what conflicts.
 const LOOSE: &str = "\
@@ -432,11 +417,6 @@ do 1 x write 5
 do 3 x read
 ? edges : AD 3 1 TD 3 1";
 
-#[test]
-fn of_loose(rt: HostRuntime) -> Result<(), Fail> {
-    expect(&rt, rt.alloc(), Standard::Recoverable.text(), LOOSE)
-}
-
 // The same, where ancestors are spared.
 const LENT: &str = "\
 # None on an ancestor where the class spares ancestors
@@ -446,11 +426,6 @@ spawn 2 3 loose
 do 1 x write 5
 do 3 x read
 ? edges :";
-
-#[test]
-fn of_lending(rt: HostRuntime) -> Result<(), Fail> {
-    expect(&rt, rt.alloc(), LENDING, LENT)
-}
 
 // Nested transactions.
 const NESTED: &str = "\
@@ -512,6 +487,16 @@ spawn 2 1 sub
 ? start 5 : none";
 
 #[test]
-fn of_nested(rt: HostRuntime) -> Result<(), Fail> {
-    expect(&rt, rt.alloc(), ORDERED, NESTED)
+fn say_their_places(rt: HostRuntime) -> Result<(), Fail> {
+    for (model, lists) in [
+        (Standard::Atomic.text(), FLAT),
+        (FOLLOWING, PARTS),
+        (Standard::SplitJoin.text(), PLAIN_PARTS),
+        (Standard::Recoverable.text(), LOOSE),
+        (LENDING, LENT),
+        (ORDERED, NESTED),
+    ] {
+        expect(&rt, rt.alloc(), model, lists)?;
+    }
+    Ok(())
 }

@@ -23,9 +23,9 @@ fn ended<A: Allocator>(alloc: A) -> Result<OpTable<A>, AllocError> {
 #[test]
 fn hands_over_what_is_in_progress(rt: HostRuntime) -> Result<(), Fail> {
     let mut table = ended(rt.alloc())?;
-    table.hand_all(ONE, THREE);
-    for (item, holder) in table.operations().iter().zip([2, 1, 3]) {
-        assert_eq!(rt; item.holder, TxnId(holder));
+    table.hand_all(ONE, THREE)?;
+    for (held, holder) in table.operations().iter().zip([2, 1, 3]) {
+        assert_eq!(rt; held.holder, TxnId(holder));
     }
     let held = table.access_set(THREE)?;
     assert_eq!(rt; held.as_slice(), [OpNo(3)].as_slice());

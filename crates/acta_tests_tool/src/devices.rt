@@ -1,7 +1,7 @@
 //! Readers and writers that fail, and a reader without end.
 
 use acta_models::Standard;
-use acta_tool::{Args, Command, Metered, ModelName, ReadFault, Status, Watched, run_tool};
+use acta_tool::{Args, Command, Metered, ModelName, Outcome, ReadFault, Watched, run_tool};
 use std::alloc::{AllocError, Global};
 use std::io;
 use std::io::{ErrorKind, Read, Write};
@@ -14,7 +14,7 @@ const RUN_ATOMIC: Args<'static> = Args {
 };
 
 // The run of the standard model over this reader and writer.
-fn run<R: Read, W: Write>(alloc: Global, input: &mut R, output: &mut W) -> Status {
+fn run<R: Read, W: Write>(alloc: Global, input: &mut R, output: &mut W) -> Outcome {
     let model = Standard::Atomic.text().as_bytes();
     let mut input = Metered::new(input);
     run_tool(
@@ -112,11 +112,11 @@ fn each_read_fails_in_turn(rt: HostRuntime) -> Result<(), Fail> {
         let mut output = Vec::new(rt.alloc());
         let status = run(rt.alloc(), &mut input, &mut output);
         if fails_at == 9 {
-            assert_eq!(rt; status, Status::Done);
+            assert_eq!(rt; status, Outcome::Done);
             assert_eq!(rt; input.reads, 8);
             assert_eq!(rt; output.as_slice(), b"ok 1\n".as_slice());
         } else {
-            assert_eq!(rt; status, Status::Unread(ReadFault::Device));
+            assert_eq!(rt; status, Outcome::Unread(ReadFault::Device));
             assert_eq!(rt; input.reads, fails_at);
             assert!(rt; output.is_empty());
         }
@@ -129,7 +129,7 @@ fn a_reader_without_end(rt: HostRuntime) {
     let mut input = Unending { reads: 0 };
     let mut output = Vec::new(rt.alloc());
     let status = run(rt.alloc(), &mut input, &mut output);
-    assert_eq!(rt; status, Status::Unread(ReadFault::TooMuch));
+    assert_eq!(rt; status, Outcome::Unread(ReadFault::TooMuch));
     assert_eq!(rt; input.reads, 16_777_217);
     assert!(rt; output.is_empty());
 }
@@ -139,11 +139,11 @@ fn a_writer_that_fails(rt: HostRuntime) {
     let mut input = b"begin 1 flat\n".as_slice();
     let mut output = Stuck { writes: 0 };
     let status = run(rt.alloc(), &mut input, &mut output);
-    assert_eq!(rt; status, Status::Unwritten);
+    assert_eq!(rt; status, Outcome::Unwritten);
     assert_eq!(rt; output.writes, 1);
     let mut input = b"begin 1 flat\n".as_slice();
     let status = run(rt.alloc(), &mut input, &mut Unflushed);
-    assert_eq!(rt; status, Status::Unwritten);
+    assert_eq!(rt; status, Outcome::Unwritten);
 }
 
 // The longest input is answered, and one byte more is not; nor is a model that is as long.
@@ -152,10 +152,10 @@ fn the_longest_input(rt: HostRuntime) -> Result<(), AllocError> {
     let mut bytes = vec![in rt.alloc(); b'#'; 16_777_216]?;
     let mut output = Vec::new(rt.alloc());
     let status = run(rt.alloc(), &mut bytes.as_slice(), &mut output);
-    assert_eq!(rt; status, Status::Done);
+    assert_eq!(rt; status, Outcome::Done);
     bytes.push(b'#')?;
     let status = run(rt.alloc(), &mut bytes.as_slice(), &mut output);
-    assert_eq!(rt; status, Status::Unread(ReadFault::TooMuch));
+    assert_eq!(rt; status, Outcome::Unread(ReadFault::TooMuch));
     let mut input = Metered::new(b"".as_slice());
     let status = run_tool(
         rt.alloc(),
@@ -164,7 +164,7 @@ fn the_longest_input(rt: HostRuntime) -> Result<(), AllocError> {
         &mut input,
         &mut Watched::new(&mut output),
     );
-    assert_eq!(rt; status, Status::Unread(ReadFault::TooMuch));
+    assert_eq!(rt; status, Outcome::Unread(ReadFault::TooMuch));
     assert!(rt; output.is_empty());
     Ok(())
 }

@@ -191,17 +191,31 @@ begin 1 nosuch = 5 -> 5";
 
 #[test]
 fn what_lines_say(rt: HostRuntime) -> Result<(), Fail> {
-    play(&rt, rt.alloc(), Standard::SplitJoin, SAID, false)
+    for (lines, is_kept) in [(SAID, false), (FAULTY, false), (KEPT, true)] {
+        play(&rt, rt.alloc(), Standard::SplitJoin, lines, is_kept)?;
+    }
+    Ok(())
 }
 
-#[test]
-fn faulty_lines(rt: HostRuntime) -> Result<(), Fail> {
-    play(&rt, rt.alloc(), Standard::SplitJoin, FAULTY, false)
+// The line of an event is read, and what it says is written again, or its fault, as these bytes.
+fn says<A: Allocator + Copy>(
+    rt: &impl Abort,
+    alloc: A,
+    model: &Model<A>,
+    line: &[u8],
+    due: &[u8],
+) -> Result<(), Fail> {
+    let told = event_again(alloc, model, line)?;
+    assert_eq!(rt; told.as_slice(), due);
+    Ok(())
 }
 
-#[test]
-fn kept_lines(rt: HostRuntime) -> Result<(), Fail> {
-    play(&rt, rt.alloc(), Standard::SplitJoin, KEPT, true)
+// A commit of a number of four hundred digits.
+fn long_number<A: Allocator + Copy>(alloc: A) -> Result<Vec<u8, A>, AllocError> {
+    let digits = vec![in alloc; b'1'; 400]?;
+    let mut line = Vec::from_slice(alloc, b"commit ")?;
+    line.extend_from_slice(digits.as_slice())?;
+    Ok(line)
 }
 
 // Bytes that no text has belong to words, and long words and numbers are read to their end.
@@ -209,29 +223,10 @@ fn kept_lines(rt: HostRuntime) -> Result<(), Fail> {
 fn hostile_lines(rt: HostRuntime) -> Result<(), Fail> {
     let alloc = rt.alloc();
     let model = assemble(alloc, Standard::Atomic.text().as_bytes())?;
-    assert_eq!(rt;
-        event_again(alloc, &model, b"commit 1\0")?.as_slice(),
-        b"4".as_slice()
-    );
-    assert_eq!(rt;
-        event_again(alloc, &model, b"commit\xff 1")?.as_slice(),
-        b"2".as_slice()
-    );
-    assert_eq!(rt;
-        event_again(alloc, &model, b"begin 1 flat\r")?.as_slice(),
-        b"5".as_slice()
-    );
-    let long = vec![in alloc; b'1'; 1_000_000]?;
-    assert_eq!(rt;
-        event_again(alloc, &model, long.as_slice())?.as_slice(),
-        b"2".as_slice()
-    );
-    let digits = vec![in alloc; b'1'; 400]?;
-    let mut number = Vec::from_slice(alloc, b"commit ")?;
-    number.extend_from_slice(digits.as_slice())?;
-    assert_eq!(rt;
-        event_again(alloc, &model, number.as_slice())?.as_slice(),
-        b"4".as_slice()
-    );
-    Ok(())
+    says(&rt, alloc, &model, b"commit 1\0", b"4")?;
+    says(&rt, alloc, &model, b"commit\xff 1", b"2")?;
+    says(&rt, alloc, &model, b"begin 1 flat\r", b"5")?;
+    let word = vec![in alloc; b'1'; 1_000_000]?;
+    says(&rt, alloc, &model, word.as_slice(), b"2")?;
+    says(&rt, alloc, &model, long_number(alloc)?.as_slice(), b"4")
 }

@@ -7,7 +7,7 @@ use acta_script::{
     LineError, answer_line, fault_line, owed_line, read_event, read_kept, write_event, write_kept,
 };
 use acta_table::{Answer, EdgeNo, Missing, Model, Owed, Ret, Rule, TxnId};
-use acta_tool::{Args, Command, Metered, ModelName, ReadFault, Status, Watched, run_tool};
+use acta_tool::{Args, Command, Metered, ModelName, Outcome, ReadFault, Watched, run_tool};
 use refusing::Refusing;
 use std::alloc::{AllocError, Allocator};
 use std::process::Abort;
@@ -229,14 +229,14 @@ fn refuse_run(
             &mut reader,
             &mut Watched::new(&mut output),
         );
-        if status == Status::Refused {
+        if status == Outcome::Refused {
             assert_eq!(rt; output.as_slice(), want);
         } else {
-            assert_eq!(rt; status, Status::Unread(ReadFault::Memory));
+            assert_eq!(rt; status, Outcome::Unread(ReadFault::Memory));
             assert!(rt; output.is_empty());
         }
         if heap.is_waiting() {
-            assert!(rt; status == Status::Refused && nth > 20);
+            assert!(rt; status == Outcome::Refused && nth > 20);
             return Ok(());
         }
     }

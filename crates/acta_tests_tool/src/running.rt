@@ -1,7 +1,7 @@
 //! Runs of the tool, as text. A case is a command line, `%` before each line of its model where that is a file, `|`
 //! before each line of its input, the lines that are wanted, and the exit status.
 
-use acta_tool::{Metered, ModelName, Status, Watched, exit_status, parse, run_tool};
+use acta_tool::{Metered, ModelName, Outcome, Watched, exit_status, parse, run_tool};
 use std::alloc::{AllocError, Global};
 use std::process::Abort;
 use std::test::Fail;
@@ -417,7 +417,7 @@ fn files_and_command_lines(rt: HostRuntime) -> Result<(), Fail> {
 
 #[test]
 fn the_statuses(rt: HostRuntime) {
-    assert_eq!(rt; exit_status(&Ok(Status::Done)), 0);
-    assert_eq!(rt; exit_status(&Ok(Status::Refused)), 1);
-    assert_eq!(rt; exit_status(&Ok(Status::Unwritten)), 3);
+    assert_eq!(rt; exit_status(&Ok(Outcome::Done)), 0);
+    assert_eq!(rt; exit_status(&Ok(Outcome::Refused)), 1);
+    assert_eq!(rt; exit_status(&Ok(Outcome::Unwritten)), 3);
 }

@@ -1,6 +1,6 @@
 -- One line after another: what they say so far, before what the lines that are left say.
 use Rattle.std.proofs.Common.{◌≡◌, ℕ, ◌+◌, List, [], ◌∷◌, ◌++◌, sym, ap, ◌∙◌}
-use Rattle.std.specs.Prelude.{Option, Some, None, Result, Err}
+use Rattle.std.specs.Prelude.{Option, None, Result}
 use Rattle.std.proofs.lemmas.List.{append-nil}
 use Rattle.acta_script.specs.declared.fault.LineFault.{LineFault}
 use Rattle.acta_words.specs.Text.{lines_of}
@@ -25,7 +25,3 @@ pub turn : {X : Type 0} (read : List ℕ → Result X LineFault) (n : ℕ) (xs :
     → put_before xs (with_line n says (said_from read (n + 1) rest)) ≡ all
 turn read n xs line left rest says all parts is h =
     (λ i. put_before xs (with_line n (sym is i) (said_from read (n + 1) rest))) ∙ sym (ap (λ l. put_before xs (said_from read n l)) parts) ∙ h
-
--- it is faulty
-pub stops : {X : Type 0} (n : ℕ) (xs : List X) (fault : LineFault) (rest all : Said X) → put_before xs (with_line n (Some (Err fault)) rest) ≡ all → all ≡ record { said = xs; stop = Some (record { line = n; fault = fault }) }
-stops n xs fault rest all h = sym h ∙ (λ i. record { said = append-nil xs i; stop = Some (record { line = n; fault = fault }) })

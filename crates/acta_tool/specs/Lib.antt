@@ -1,5 +1,4 @@
 pub mod CommandLines
 pub mod Outcome
 pub mod Output
-pub mod Reports
-pub mod Spelling
+pub mod inside

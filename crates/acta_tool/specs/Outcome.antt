@@ -5,21 +5,21 @@ use Rattle.acta_tool.specs.declared.args.Command.{Command}
 use Rattle.acta_tool.specs.declared.args.Command.TheVariants.{Run}
 use Rattle.acta_tool.specs.declared.fault.UsageFault.{UsageFault}
 use Rattle.acta_tool.specs.declared.fault.UsageFault.TheVariants.{Usage, UnknownModel, NotText, Memory as no_memory}
-use Rattle.acta_tool.specs.declared.status.Status.{Status}
-use Rattle.acta_tool.specs.declared.status.Status.TheVariants.{Done, Refused, Unread, Unwritten}
+use Rattle.acta_tool.specs.declared.outcome.Outcome.{Outcome}
+use Rattle.acta_tool.specs.declared.outcome.Outcome.TheVariants.{Done, Refused, Unread, Unwritten}
 use Rattle.acta_tool.specs.declared.source.ReadFault.{ReadFault}
 use Rattle.acta_tool.specs.declared.source.ReadFault.TheVariants.{Device, TooMuch, Memory}
 use Rattle.acta_tool.specs.Output.{Output}
 
 -- the number of a run's end
-abbrev pub code_of : Status → ℕ
+abbrev pub code_of : Outcome → ℕ
 code_of Done = 0
 code_of Refused = 1
 code_of (Unread reason) = 3
 code_of Unwritten = 3
 
 -- the exit status of the program, by what came of its words and of its run
-abbrev pub exit_status_of : Result Status UsageFault → ℕ
+abbrev pub exit_status_of : Result Outcome UsageFault → ℕ
 exit_status_of (Ok status) = code_of status
 exit_status_of (Err (Usage e)) = 2
 exit_status_of (Err UnknownModel) = 2
@@ -31,7 +31,7 @@ abbrev pub is_kept : Command → Bool
 is_kept (Run kept) = kept
 
 -- why the input was not answered, where it was not
-abbrev pub reason_of : Status → Option ReadFault
+abbrev pub reason_of : Outcome → Option ReadFault
 reason_of (Unread reason) = Some reason
 reason_of Done = None
 reason_of Refused = None
@@ -45,7 +45,7 @@ FailsBy (Some TooMuch) old new = new ≡ old
 FailsBy (Some Memory) old new = new ≡ old
 
 -- whether a write has failed, before and after: after, one has where the run is unwritten, and else it is as before
-abbrev pub WritesBy : Status → Bool → Bool → Type 0
+abbrev pub WritesBy : Outcome → Bool → Bool → Type 0
 WritesBy Unwritten old new = new ≡ true
 WritesBy Done old new = new ≡ old
 WritesBy Refused old new = new ≡ old
@@ -57,7 +57,7 @@ KeepsUnread None old new = ⊤
 KeepsUnread (Some reason) old new = Keeps old new
 
 -- where the input was answered, the writer got the output and nothing else, and the status says whether it was refused
-abbrev pub Answers : Status → Output → Option (List ℕ) → Option (List ℕ) → Type 0
+abbrev pub Answers : Outcome → Output → Option (List ℕ) → Option (List ℕ) → Type 0
 Answers Done out old new = (out.is_refused ≡ false) × Appends old new out.text
 Answers Refused out old new = (out.is_refused ≡ true) × Appends old new out.text
 Answers (Unread reason) out old new = ⊤

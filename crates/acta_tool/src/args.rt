@@ -6,7 +6,7 @@ ghost use Rattle.std.specs.Str.{bytes_eq};
 ghost use Rattle.clap.specs.Words.{app_of, first_value, found_of, rule_of, subcommand_rows_of};
 ghost use Rattle.acta_models.specs.declared.texts.Standard.{Standard as StandardModel};
 ghost use Rattle.acta_tool.specs.CommandLines.{AsksFor, IsCommand, IsFaultOf, IsModel, IsUnknown, bare_app, begins_at, faults_of, kept_rule, model_rule, named_by, named_in, standard_text, tool_app};
-ghost use Rattle.acta_tool.specs.Spelling.{IsMissing, named_of};
+ghost use Rattle.acta_tool.specs.inside.Spelling.{IsMissing, named_of};
 
 use crate::fault::UsageFault;
 use acta_models::Standard;

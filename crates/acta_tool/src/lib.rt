@@ -4,16 +4,16 @@
 
 mod args;
 mod fault;
+mod outcome;
 mod run;
 mod script;
 mod sink;
 mod source;
-mod status;
 mod telling;
 
 pub use args::{Args, Command, ModelName, parse};
 pub use fault::UsageFault;
+pub use outcome::{Outcome, exit_status};
 pub use run::run_tool;
 pub use sink::{Sink, Watched};
 pub use source::{Metered, ReadFault, Source, read_all};
-pub use status::{Status, exit_status};

@@ -4,13 +4,13 @@ ghost use Rattle.std.specs.Prelude.{◌≡◌, ◌≤◌, ◌+◌, IfOk, IfSome}
 ghost use Rattle.acta_script.specs.Reading.{event_of};
 ghost use Rattle.acta_tool.specs.Outcome.{Answers, FailsBy, IsUnreadTooLong, KeepsUnread, WritesBy, is_kept, reason_of};
 ghost use Rattle.acta_tool.specs.Output.{refused_model, run_on, run_output, said_in};
-ghost use Rattle.acta_tool.specs.Reports.{output_of};
+ghost use Rattle.acta_tool.specs.inside.Reports.{output_of};
 
 use crate::args::{Args, Command};
+use crate::outcome::Outcome;
 use crate::script::read_script;
 use crate::sink::Sink;
 use crate::source::{MOST_BYTES, ReadFault, Source, read_all};
-use crate::status::Status;
 use crate::telling::{tell_end, tell_events, tell_model_fault};
 use acta_lang::{AsmError, AsmFault, assemble};
 use acta_machine::Machine;
@@ -83,7 +83,7 @@ pub fn run_tool<A: Allocator + Copy, S: Source, W: Sink>(
     model: &[u8],
     input: &mut S,
     output: &mut W,
-) -> Status
+) -> Outcome
     ensures answers { IfSome (S.remaining input.old) (λ bytes. Answers result (run_output A (is_kept args.now.command) model.now bytes) (W.contents output.old) (W.contents output.new)) }
     ensures unread { KeepsUnread (reason_of result) (W.contents output.old) (W.contents output.new) }
     ensures written { WritesBy result (W.has_failed output.old) (W.has_failed output.new) }
@@ -93,20 +93,20 @@ pub fn run_tool<A: Allocator + Copy, S: Source, W: Sink>(
 {
     let bytes = match read_all(alloc, input) {
         Ok(bytes) => bytes,
-        Err(reason) => return Status::Unread(reason),
+        Err(reason) => return Outcome::Unread(reason),
     };
     if model.len() > MOST_BYTES {
-        return Status::Unread(ReadFault::TooMuch);
+        return Outcome::Unread(ReadFault::TooMuch);
     }
     let Ok(report) = answer(alloc, args.command, model, bytes.as_slice()) else {
-        return Status::Unread(ReadFault::Memory);
+        return Outcome::Unread(ReadFault::Memory);
     };
     if output.put(report.text.as_slice()).is_err() {
-        return Status::Unwritten;
+        return Outcome::Unwritten;
     }
     if report.is_refused {
-        Status::Refused
+        Outcome::Refused
     } else {
-        Status::Done
+        Outcome::Done
     }
 }

@@ -1,3 +1,3 @@
-pub mod LinesToCome
 pub mod Numerals
 pub mod Text
+pub mod inside

@@ -5,7 +5,7 @@ ghost use Rattle.std.specs.Iterator.{YieldsFirstRef, item_count};
 ghost use Rattle.std.specs.List.{position_or_len};
 ghost use Rattle.std.specs.Option.{option_map_or};
 ghost use Rattle.acta_words.specs.Text.{is_line_feed, lines_left, lines_of};
-ghost use Rattle.acta_words.specs.LinesToCome.{lines_to_come};
+ghost use Rattle.acta_words.specs.inside.LinesToCome.{lines_to_come};
 
 /// The lines of a text, without their line feeds. What stands behind the last line feed is a line only where it
 /// isn't empty, and a text without any byte is one empty line.

@@ -1,4 +1,4 @@
-use Rattle.acta_axioms.specs.Behind.{brought}
+use Rattle.acta_axioms.specs.inside.Behind.{brought}
 use Rattle.acta_axioms.proofs.Following.{mapped-more}
 use Rattle.acta_axioms.proofs.behind.bring.Goals as goal
 

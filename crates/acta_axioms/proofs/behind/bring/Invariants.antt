@@ -1,5 +1,5 @@
 use Rattle.std.proofs.Common.{◌≡◌, ◌++◌, map, take, drop}
-use Rattle.acta_axioms.specs.Behind.{brought}
+use Rattle.acta_axioms.specs.inside.Behind.{brought}
 use Rattle.acta_axioms.proofs.behind.bring.Given as goal
 
 -- those up to i are one event further

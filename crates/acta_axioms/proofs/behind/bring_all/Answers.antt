@@ -1,6 +1,6 @@
 use Rattle.std.proofs.Common.{◌≡◌, length, map, sym, ap, arith, ◌∙◌}
 use Rattle.std.proofs.lemmas.List.{length-map}
-use Rattle.acta_axioms.specs.Behind.{brought}
+use Rattle.acta_axioms.specs.inside.Behind.{brought}
 use Rattle.acta_axioms.proofs.Following.{brought-still}
 use Rattle.acta_axioms.proofs.Tables.{written_back}
 use Rattle.acta_axioms.proofs.behind.bring_all.Goals as goal

@@ -1,7 +1,7 @@
 use Rattle.std.proofs.Common.{◌≡◌, ◌==◌}
 use Rattle.std.specs.List.{list_any}
 use Rattle.acta_table.specs.Ancestors.{ancestors_from}
-use Rattle.acta_axioms.specs.Behind.{parent_in, is_above}
+use Rattle.acta_axioms.specs.inside.Behind.{parent_in, is_above}
 use Rattle.acta_axioms.proofs.behind.is_above.Given as goal
 
 -- it is in the rest of the line where it is in the line

@@ -1,7 +1,7 @@
 use Rattle.std.proofs.Common.{◌≡◌, ◌++◌, ◌+◌, length, map, sym, ap, arith, ◌∙◌}
 use Rattle.std.specs.Prelude.{option_to_list}
 use Rattle.std.proofs.lemmas.List.{append-nil, length-map}
-use Rattle.acta_axioms.specs.Behind.{brought, op_done}
+use Rattle.acta_axioms.specs.inside.Behind.{brought, op_done}
 use Rattle.acta_axioms.proofs.behind.note_event.Goals as goal
 
 pub returns-in_ok-push : goal.returns-in_ok-push

@@ -3,7 +3,7 @@ use Rattle.std.specs.List.{All}
 use Rattle.std.proofs.Math.ListN.{replicate}
 use Rattle.std.proofs.lemmas.List.{length-replicate}
 use Rattle.acta_table.specs.Events.{named}
-use Rattle.acta_axioms.specs.Index.{unbegun, begun_in, heir_in, with_start}
+use Rattle.acta_axioms.specs.inside.Index.{unbegun, begun_in, heir_in, with_start}
 use Rattle.acta_axioms.proofs.Following.{behind-none, behind-lent, behind-more, edges-more}
 use Rattle.acta_axioms.proofs.Lineages.{lines-blank}
 use Rattle.acta_axioms.proofs.Named.{named-below}

@@ -1,7 +1,7 @@
 use Rattle.std.proofs.Common.{◌≡◌, ◌<◌, length, take}
 use Rattle.std.specs.List.{All}
 use Rattle.acta_table.specs.Events.{named}
-use Rattle.acta_axioms.specs.Behind.{IsBehind}
+use Rattle.acta_axioms.specs.inside.Behind.{IsBehind}
 use Rattle.acta_axioms.specs.Edges.{edges}
 use Rattle.acta_axioms.proofs.edges.edges_behind.Given as goal
 

@@ -6,7 +6,7 @@ use Rattle.acta_table.specs.declared.event.TxnId.{TxnId}
 use Rattle.acta_axioms.specs.declared.follow.Turn.{Turn}
 use Rattle.acta_axioms.specs.declared.follow.Turn.TheVariants.{On, Ended}
 use Rattle.acta_axioms.specs.declared.index.Onward.{Onward}
-use Rattle.acta_axioms.specs.Index.{turn_from, onward_from, turned_by}
+use Rattle.acta_axioms.specs.inside.Index.{turn_from, onward_from, turned_by}
 use Rattle.acta_axioms.proofs.Turns.{stays_held, turn_within, moves_on, next_turn, ends_there, length-onward}
 use Rattle.acta_axioms.proofs.follow.follow.Goals as goal
 

@@ -1,7 +1,7 @@
 use Rattle.std.proofs.Common.{◌≡◌, ◌+◌, ◌-◌, ◌≤◌, ℕ, length, take, drop}
 use Rattle.std.specs.Option.{option_map_or}
 use Rattle.acta_table.specs.declared.model.Parts.{Parts}
-use Rattle.acta_axioms.specs.Index.{turn_from, heirs_of, held_from}
+use Rattle.acta_axioms.specs.inside.Index.{turn_from, heirs_of, held_from}
 use Rattle.acta_axioms.proofs.follow.follow.Given as goal
 
 -- some place p among the first n, behind which the holder has the operation, and the next turn is the holder's

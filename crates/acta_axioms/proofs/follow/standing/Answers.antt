@@ -3,7 +3,7 @@ use Rattle.std.specs.Prelude.{slice_get}
 use Rattle.std.specs.Option.{option_map}
 use Rattle.std.proofs.lemmas.Option.{slice_get_read, slice_get_past}
 use Rattle.acta_axioms.specs.declared.index.Traced.{Traced}
-use Rattle.acta_axioms.specs.Index.{numbered, standing_in}
+use Rattle.acta_axioms.specs.inside.Index.{numbered, standing_in}
 use Rattle.acta_axioms.proofs.Tracing.{untraced, traced_later, traced_there, turn_of_traced}
 use Rattle.acta_axioms.proofs.follow.standing.Goals as goal
 

@@ -3,7 +3,7 @@ use Rattle.std.specs.List.{All}
 use Rattle.std.proofs.Math.ListN.{replicate}
 use Rattle.std.proofs.lemmas.List.{length-replicate}
 use Rattle.acta_table.specs.Events.{named}
-use Rattle.acta_axioms.specs.Index.{unbegun}
+use Rattle.acta_axioms.specs.inside.Index.{unbegun}
 use Rattle.acta_axioms.proofs.Lineages.{lines-blank, lines-more, heirs-more}
 use Rattle.acta_axioms.proofs.Named.{named-below}
 use Rattle.acta_axioms.proofs.Tables.{written_back}

@@ -1,7 +1,7 @@
 use Rattle.std.proofs.Common.{◌≡◌, ◌<◌, ℕ, length, get_or, take}
 use Rattle.std.specs.List.{All}
 use Rattle.acta_table.specs.Events.{named}
-use Rattle.acta_axioms.specs.Index.{unbegun, lineage, heirs_of}
+use Rattle.acta_axioms.specs.inside.Index.{unbegun, lineage, heirs_of}
 use Rattle.acta_axioms.proofs.heirs.heirs_of.Given as goal
 
 -- the table and the heirs are those of the items so far

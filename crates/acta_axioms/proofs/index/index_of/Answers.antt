@@ -4,7 +4,7 @@ use Rattle.std.proofs.lemmas.List.{drop_all, length-replicate, reverse-reverse}
 use Rattle.std.specs.List.{All}
 use Rattle.acta_table.specs.Events.{named}
 use Rattle.acta_axioms.specs.declared.index.Traced.{Traced}
-use Rattle.acta_axioms.specs.Index.{nowhere, course_in, course_from, course_from, turn_in, turn_from, traced_from, onward_in, onward_from}
+use Rattle.acta_axioms.specs.inside.Index.{nowhere, course_in, course_from, course_from, turn_in, turn_from, traced_from, onward_in, onward_from}
 use Rattle.acta_axioms.proofs.Named.{named-below}
 use Rattle.acta_axioms.proofs.Tables.{written_back}
 use Rattle.acta_axioms.proofs.Tracing.{courses-blank, turns-blank, courses-more, turns-more, then_put, traced-more, onward-more}

@@ -1,7 +1,7 @@
 use Rattle.std.proofs.Common.{◌≡◌, ◌≤◌, ◌<◌, ℕ, length, reverse, drop, ◌+◌}
 use Rattle.std.specs.List.{All}
 use Rattle.acta_table.specs.Events.{named}
-use Rattle.acta_axioms.specs.Index.{course_in, course_from, turn_in, turn_from, traced_from, onward_from}
+use Rattle.acta_axioms.specs.inside.Index.{course_in, course_from, turn_in, turn_from, traced_from, onward_from}
 use Rattle.acta_axioms.proofs.index.index_of.Given as goal
 
 -- the table, the operations and the turns behind places are those of the items from i on

@@ -1,7 +1,7 @@
 use Rattle.std.proofs.Common.{◌≡◌, Some, None, sym, ap, ◌∙◌}
 use Rattle.acta_table.specs.Faults.{lowest_fault}
 use Rattle.acta_lang.specs.Drafts.{parts_of}
-use Rattle.acta_lang.specs.Shown.{shown}
+use Rattle.acta_lang.specs.inside.Shown.{shown}
 use Rattle.acta_lang.proofs.Sound.{is_sound}
 use Rattle.acta_lang.proofs.assembling.assemble.Goals as goal
 

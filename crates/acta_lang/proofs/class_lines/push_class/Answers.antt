@@ -1,6 +1,6 @@
 use Rattle.std.proofs.Common.{codes, [], ◌∷◌, ◌++◌, map, ap, ◌∙◌}
 use Rattle.acta_lang.specs.Canonical.{edge_words}
-use Rattle.acta_lang.specs.Written.{rest_lines, start_lines, written}
+use Rattle.acta_lang.specs.inside.Written.{rest_lines, start_lines, written}
 use Rattle.acta_lang.proofs.Writing.{lines_more}
 use Rattle.acta_lang.proofs.class_lines.push_class.Goals as goal
 

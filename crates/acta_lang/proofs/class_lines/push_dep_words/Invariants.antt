@@ -1,7 +1,7 @@
 use Rattle.std.proofs.Common.{◌≡◌, ◌++◌, drop, filter, map}
 use Rattle.acta_table.specs.Dependencies.{all_kinds, has_dep, word_of}
 use Rattle.acta_lang.specs.Canonical.{dep_words}
-use Rattle.acta_lang.specs.Written.{spaced}
+use Rattle.acta_lang.specs.inside.Written.{spaced}
 use Rattle.acta_lang.proofs.class_lines.push_dep_words.Given as goal
 
 -- with those that are left it is all

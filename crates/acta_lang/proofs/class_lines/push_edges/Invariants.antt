@@ -1,6 +1,6 @@
 use Rattle.std.proofs.Common.{◌≡◌, ◌++◌, drop, map}
 use Rattle.acta_lang.specs.Canonical.{edge_words}
-use Rattle.acta_lang.specs.Written.{written}
+use Rattle.acta_lang.specs.inside.Written.{written}
 use Rattle.acta_lang.proofs.class_lines.push_edges.Given as goal
 
 -- with those that are left it is all

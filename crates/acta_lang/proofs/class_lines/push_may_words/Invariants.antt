@@ -2,7 +2,7 @@ use Rattle.std.proofs.Common.{◌≡◌, ◌++◌, drop, filter, map}
 use Rattle.acta_table.specs.Kinds.{has_kind}
 use Rattle.acta_lang.specs.Canonical.{may_words}
 use Rattle.acta_lang.specs.Words.{may_kinds, may_word}
-use Rattle.acta_lang.specs.Written.{spaced}
+use Rattle.acta_lang.specs.inside.Written.{spaced}
 use Rattle.acta_lang.proofs.class_lines.push_may_words.Given as goal
 
 -- with those that are left it is all

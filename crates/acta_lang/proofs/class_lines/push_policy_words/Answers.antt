@@ -1,6 +1,6 @@
 use Rattle.std.proofs.Common.{codes, ◌∷◌, ◌++◌, sym, ap, ◌∙◌}
 use Rattle.acta_lang.specs.Canonical.{dep_words, policy_words}
-use Rattle.acta_lang.specs.Written.{spaced}
+use Rattle.acta_lang.specs.inside.Written.{spaced}
 use Rattle.acta_lang.proofs.Writing.{word_more}
 use Rattle.acta_lang.proofs.class_lines.push_policy_words.Goals as goal
 

@@ -1,7 +1,7 @@
 use Rattle.std.proofs.Common.{codes, [], ◌∷◌, ◌++◌, ◌∙◌}
 use Rattle.acta_lang.specs.Canonical.{policy_words}
 use Rattle.acta_lang.specs.Words.{commit_word, extent_word}
-use Rattle.acta_lang.specs.Written.{written}
+use Rattle.acta_lang.specs.inside.Written.{written}
 use Rattle.acta_lang.proofs.Writing.{lines_more}
 use Rattle.acta_lang.proofs.class_lines.push_rest.Goals as goal
 

@@ -1,7 +1,7 @@
 use Rattle.std.proofs.Common.{codes, [], ◌∷◌, ◌++◌, ◌∙◌}
 use Rattle.acta_lang.specs.Canonical.{may_words, starts_words}
 use Rattle.acta_lang.specs.Words.{scope_word}
-use Rattle.acta_lang.specs.Written.{written}
+use Rattle.acta_lang.specs.inside.Written.{written}
 use Rattle.acta_lang.proofs.Writing.{lines_more}
 use Rattle.acta_lang.proofs.class_lines.push_start.Goals as goal
 

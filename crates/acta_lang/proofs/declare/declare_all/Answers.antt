@@ -1,9 +1,9 @@
 use Rattle.std.proofs.Common.{◌+◌, ◌==◌, [], length, Ok, sym, ap, ◌∙◌, arith}
 use Rattle.acta_words.specs.Text.{lines_of, words_of}
-use Rattle.acta_words.specs.LinesToCome.{lines_to_come}
+use Rattle.acta_words.specs.inside.LinesToCome.{lines_to_come}
 use Rattle.acta_lang.specs.Faults.{code_at}
 use Rattle.acta_lang.specs.Forms.{form_of}
-use Rattle.acta_lang.specs.Shown.{shown}
+use Rattle.acta_lang.specs.inside.Shown.{shown}
 use Rattle.acta_lang.proofs.NoCodes.{no_test}
 use Rattle.acta_lang.proofs.Sound.{faultless_at, keeps, current_is_new}
 use Rattle.acta_lang.proofs.Turns.{meaning_from, behind_is_from, turn, ends, stops, goes_by}

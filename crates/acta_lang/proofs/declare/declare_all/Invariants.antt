@@ -1,8 +1,8 @@
 use Rattle.std.proofs.Common.{◌≡◌, ◌≤◌, ◌+◌, length}
 use Rattle.acta_words.specs.Text.{lines_of}
-use Rattle.acta_words.specs.LinesToCome.{lines_to_come}
+use Rattle.acta_words.specs.inside.LinesToCome.{lines_to_come}
 use Rattle.acta_lang.specs.Drafts.{nothing_yet}
-use Rattle.acta_lang.specs.Shown.{shown}
+use Rattle.acta_lang.specs.inside.Shown.{shown}
 use Rattle.acta_lang.proofs.Sound.{IsFaultless}
 use Rattle.acta_lang.proofs.Turns.{meaning_from}
 use Rattle.acta_lang.proofs.declare.declare_all.Given as goal

@@ -1,6 +1,6 @@
 use Rattle.std.proofs.Common.{[], ◌++◌, map, flat_map, ap, ◌∙◌}
 use Rattle.acta_lang.specs.Canonical.{canonical, class_words, object_words}
-use Rattle.acta_lang.specs.Written.{written}
+use Rattle.acta_lang.specs.inside.Written.{written}
 use Rattle.acta_lang.proofs.Writing.{lines_more}
 use Rattle.acta_lang.proofs.printing.print_model.Goals as goal
 

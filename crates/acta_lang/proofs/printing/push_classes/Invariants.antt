@@ -1,6 +1,6 @@
 use Rattle.std.proofs.Common.{◌≡◌, ◌++◌, drop, flat_map}
 use Rattle.acta_lang.specs.Canonical.{class_words}
-use Rattle.acta_lang.specs.Written.{written}
+use Rattle.acta_lang.specs.inside.Written.{written}
 use Rattle.acta_lang.proofs.printing.push_classes.Given as goal
 
 -- with those that are left it is all

@@ -1,5 +1,4 @@
-use Rattle.std.proofs.Common.{◌≡◌, ℕ, List, subst, ap, sym, ◌∙◌}
-use Rattle.std.specs.Prelude.{Err}
+use Rattle.std.proofs.Common.{ℕ, List, subst, ap, sym, ◌∙◌}
 use Rattle.acta_lang.specs.Meaning.{meaning, IsWhy}
 use Rattle.acta_models.proofs.Meanings.{is_canonical, no_fault}
 use Rattle.acta_models.proofs.loading.load.Goals as goal

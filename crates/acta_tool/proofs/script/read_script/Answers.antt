@@ -1,6 +1,6 @@
 use Rattle.std.proofs.Common.{rules}
 use Rattle.acta_script.specs.Reading.{event_of}
-use Rattle.acta_words.specs.LinesToCome.{lines_to_come}
+use Rattle.acta_words.specs.inside.LinesToCome.{lines_to_come}
 use Rattle.acta_tool.proofs.Lines.{begins}
 use Rattle.acta_tool.proofs.script.read_script.Goals as goal
 

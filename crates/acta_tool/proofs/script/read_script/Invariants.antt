@@ -1,6 +1,6 @@
 use Rattle.std.proofs.Common.{◌≡◌, ◌≤◌, ◌+◌, length}
 use Rattle.acta_script.specs.Reading.{event_of}
-use Rattle.acta_words.specs.LinesToCome.{lines_to_come}
+use Rattle.acta_words.specs.inside.LinesToCome.{lines_to_come}
 use Rattle.acta_tool.specs.Output.{said_in, said_from}
 use Rattle.acta_tool.proofs.Lines.{put_before}
 use Rattle.acta_tool.proofs.script.read_script.Given as goal

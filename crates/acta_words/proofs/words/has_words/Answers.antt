@@ -1,5 +1,5 @@
-use Rattle.std.proofs.Common.{◌≡◌, ◌==◌, not, ◌∙◌, ap, sym, length, filter}
-use Rattle.std.specs.List.{before_first, list_any, slice_split}
+use Rattle.std.proofs.Common.{not, ◌∙◌, ap, sym}
+use Rattle.std.specs.List.{before_first, list_any}
 use Rattle.acta_words.specs.Text.{is_blank, is_mark}
 use Rattle.acta_words.proofs.Blanks.{has_word}
 use Rattle.acta_words.proofs.words.has_words.Goals as goal

@@ -1,6 +1,6 @@
 use Rattle.std.proofs.Common.{◌≡◌, map, filter, take}
 use Rattle.acta_table.specs.Numbered.{ascending}
-use Rattle.acta_axioms.specs.Behind.{is_against}
+use Rattle.acta_axioms.specs.inside.Behind.{is_against}
 use Rattle.acta_axioms.proofs.behind.Behind.holders_against.Given as goal
 
 -- the holders of those that conflict, of the operations so far

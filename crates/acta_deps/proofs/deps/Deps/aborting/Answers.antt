@@ -4,15 +4,16 @@ use Rattle.std.specs.Ordering.{nat_cmp}
 use Rattle.std.proofs.lemmas.List.{at_drop_more}
 use Rattle.acta_table.specs.declared.dep.Edge.{Edge}
 use Rattle.acta_table.proofs.AscendingSets.{one-put}
-use Rattle.acta_deps.specs.Deps.{status_in}
+use Rattle.acta_table.specs.Dependencies.{is_abort}
+use Rattle.acta_deps.specs.Deps.{status_of}
 use Rattle.acta_deps.specs.Statuses.{with_status}
-use Rattle.acta_deps.specs.Debts.{debt_of, is_abort}
+use Rattle.acta_deps.specs.Debts.{debt_of}
 use Rattle.acta_deps.proofs.deps.Deps.aborting.Goals as goal
 
 pub loop-e-preserved : goal.loop-e-preserved
 loop-e-preserved g c =
     let edges = c.edges-edges.result.now in
-    let test = λ (e : Edge). is_abort (debt_of (with_status (status_in c.args.self.now) c.args.change.txn.0 c.args.change.status) e) in
+    let test = λ (e : Edge). is_abort (debt_of (with_status (status_of c.args.self.now) c.args.change.txn.0 c.args.change.status) e) in
     let i = c.loop-e.e-index in
     let before = c.loop-e.txns.keys in
     let rest = drop (i + 1) edges in

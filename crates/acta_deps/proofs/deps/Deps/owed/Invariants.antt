@@ -1,5 +1,6 @@
 use Rattle.std.proofs.Common.{◌≡◌, ◌≤◌, ◌+◌, ◌++◌, length, drop}
-use Rattle.acta_deps.specs.Deps.{status_in}
+use Rattle.acta_table.specs.declared.limits.TheConstants.{MOST_EDGES}
+use Rattle.acta_deps.specs.Deps.{status_of}
 use Rattle.acta_deps.specs.Debts.{owed_from}
 use Rattle.acta_deps.proofs.deps.Deps.owed.Given as goal
 
@@ -8,6 +9,6 @@ abbrev pub invariant-loop-e : goal.invariant-loop-e
 invariant-loop-e g l =
     record {
       count : l.number ≡ l.e-index;
-      few : length l.edges ≤ 16384;
-      rest : l.owed.items ++ owed_from (status_in l.self) (l.number + 1) (drop l.e-index l.edges) ≡ owed_from (status_in l.self) 1 l.edges;
+      few : length l.edges ≤ MOST_EDGES;
+      rest : l.owed.items ++ owed_from (status_of l.self) (l.number + 1) (drop l.e-index l.edges) ≡ owed_from (status_of l.self) 1 l.edges;
     }

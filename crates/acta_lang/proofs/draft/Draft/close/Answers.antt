@@ -1,7 +1,7 @@
 use Rattle.std.proofs.Common.{false, map, option_map, sym, ap, ◌∙◌}
 use Rattle.std.specs.Option.{option_map_or}
 use Rattle.acta_words.specs.Text.{is_word_among}
-use Rattle.acta_lang.specs.Shown.{current_shown, closed_shown}
+use Rattle.acta_lang.specs.inside.Shown.{current_shown, closed_shown}
 use Rattle.acta_lang.proofs.Held.{closed_names-shown}
 use Rattle.acta_lang.proofs.draft.Draft.close.Goals as goal
 

@@ -1,6 +1,6 @@
 use Rattle.std.proofs.Common.{Some, map, sym, ap, ◌∙◌}
 use Rattle.acta_lang.specs.Drafts.{opened, extended}
-use Rattle.acta_lang.specs.Shown.{shown}
+use Rattle.acta_lang.specs.inside.Shown.{shown}
 use Rattle.acta_lang.proofs.draft.Draft.extend.Goals as goal
 
 pub returns-in-Class : goal.returns-in-Class

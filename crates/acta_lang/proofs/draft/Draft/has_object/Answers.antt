@@ -5,4 +5,4 @@ use Rattle.acta_lang.proofs.draft.Draft.has_object.Goals as goal
 
 pub returns : goal.returns
 returns g c =
-    c.is_named.ensures ∙ sym (ap (λ names. is_word_among names c.args.name.now) (object_names-shown g.row.A.Denot c.args.self.now.objects.entries))
+    c.is_declared.ensures ∙ sym (ap (λ names. is_word_among names c.args.name.now) (object_names-shown g.row.A.Denot c.args.self.now.objects.entries))

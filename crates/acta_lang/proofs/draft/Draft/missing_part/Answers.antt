@@ -1,5 +1,5 @@
 use Rattle.std.proofs.Common.{not, map, option_map, sym, ap, ◌∙◌}
-use Rattle.acta_lang.specs.Shown.{current_shown, shown}
+use Rattle.acta_lang.specs.inside.Shown.{current_shown, shown}
 use Rattle.acta_lang.proofs.Held.{end_inside}
 use Rattle.acta_lang.proofs.draft.Draft.missing_part.Goals as goal
 

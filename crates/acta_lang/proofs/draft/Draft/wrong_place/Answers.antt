@@ -1,6 +1,6 @@
 use Rattle.std.proofs.Common.{◌≡◌, false, option_map, sym, ap, ◌∙◌, true≢false}
 use Rattle.acta_lang.specs.Faults.{is_object, is_class}
-use Rattle.acta_lang.specs.Shown.{current_shown, shown}
+use Rattle.acta_lang.specs.inside.Shown.{current_shown, shown}
 use Rattle.acta_lang.proofs.Held.{said_inside}
 use Rattle.acta_lang.proofs.draft.Draft.wrong_place.Goals as goal
 use Rattle.acta_lang.proofs.draft.Draft.wrong_place.Goals.{then-is_object, else-is_object}

@@ -1,7 +1,7 @@
 use Rattle.acta_table.specs.declared.answer.Rule.TheVariants.{NotInProgress}
 use Rattle.acta_table.specs.WellFormed.{bad_number}
 use Rattle.acta_machine.specs.Rules.{not_in_progress}
-use Rattle.acta_machine.specs.Shown.{shown}
+use Rattle.acta_machine.specs.inside.Shown.{shown}
 use Rattle.acta_machine.proofs.Broken.{good_number, in_progress}
 use Rattle.acta_machine.proofs.board.Board.abort.Goals as goal
 

@@ -1,5 +1,5 @@
 use Rattle.std.proofs.Common.{◌∙◌, sym}
-use Rattle.acta_machine.specs.Shown.{shown}
+use Rattle.acta_machine.specs.inside.Shown.{shown}
 use Rattle.acta_machine.proofs.Idle.{none_held}
 use Rattle.acta_machine.proofs.board.Board.access_set.Goals as goal
 

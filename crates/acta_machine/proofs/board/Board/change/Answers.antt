@@ -1,8 +1,11 @@
-use Rattle.std.proofs.Common.{sym, ap, ◌∙◌}
+use Rattle.std.proofs.Common.{None, sym, ap, ◌∙◌}
 use Rattle.acta_table.specs.declared.event.Event.{Event}
 use Rattle.acta_table.specs.declared.answer.Rule.TheVariants.{NotInProgress, AlreadyBegun}
+use Rattle.acta_deps.specs.Deps.{status_of}
+use Rattle.acta_machine.specs.Summary.{Summary, stood, entered, given}
+use Rattle.acta_machine.specs.Changes.{begun, changed}
 use Rattle.acta_machine.specs.Rules.{not_in_progress, already_begun}
-use Rattle.acta_machine.specs.Shown.{shown}
+use Rattle.acta_machine.specs.inside.Shown.{shown}
 use Rattle.acta_machine.proofs.Broken.{not_begun, in_progress}
 use Rattle.acta_machine.proofs.board.Board.change.Goals as goal
 
@@ -21,7 +24,8 @@ begin-requires-in-Spawn-clause-stands g c =
 pub begin-requires-in-Split-clause-stands : goal.begin-requires-in-Split-clause-stands
 unfolding already_begun
 begin-requires-in-Split-clause-stands g c =
-    not_begun (shown c.args.self.now) AlreadyBegun c.in-Split.u.0
+    ap (λ b. status_of b.deps c.in-Split.u.0) c.give.ensures.others
+    ∙ not_begun (shown c.args.self.now) AlreadyBegun c.in-Split.u.0
     (ap (λ (e : Event g.row.A.Denot). already_begun (shown c.args.self.now) e) (sym c.in-Split.is) ∙ c.requires.new)
 
 pub join-requires-clause-stands : goal.join-requires-clause-stands
@@ -29,3 +33,11 @@ unfolding not_in_progress
 join-requires-clause-stands g c =
     in_progress (shown c.args.self.now) NotInProgress c.in-Join.t.0
     (ap (λ (e : Event g.row.A.Denot). not_in_progress (shown c.args.self.now) e) (sym c.in-Join.is) ∙ c.requires.progress)
+
+-- operations are given first, and then the one that holds them begins, or the other way round
+pub returns-in_ok-give-in-Split-clause-shows : goal.returns-in_ok-give-in-Split-clause-shows
+unfolding stood entered given
+returns-in_ok-give-in-Split-clause-shows g c =
+    c.begin-in-Split.ensures.shows
+    ∙ ap (λ (s : Summary). begun s c.in-Split.u c.in-Split.class None) c.in_ok-give-in-Split.ensures.shows
+    ∙ ap (changed c.args.self.now.model (shown c.args.self.now)) (sym c.in-Split.is)

@@ -1,7 +1,14 @@
+use Rattle.std.proofs.Common.{◌≡◌, Option, Some, None, refl, ap, ◌∙◌}
 use Rattle.acta_table.specs.declared.answer.Rule.TheVariants.{NotInProgress}
+use Rattle.acta_table.specs.declared.answer.Status.{Status}
+use Rattle.acta_table.specs.declared.answer.Status.TheVariants.{Committed}
+use Rattle.acta_table.specs.declared.event.TxnId.{TxnId}
 use Rattle.acta_table.specs.WellFormed.{bad_number}
+use Rattle.acta_deps.specs.Deps.{status_of}
+use Rattle.acta_machine.specs.Summary.{Summary, stood, inherited, fated}
+use Rattle.acta_machine.specs.Changes.{settled}
 use Rattle.acta_machine.specs.Rules.{not_in_progress}
-use Rattle.acta_machine.specs.Shown.{shown}
+use Rattle.acta_machine.specs.inside.Shown.{shown}
 use Rattle.acta_machine.proofs.Broken.{good_number, in_progress}
 use Rattle.acta_machine.proofs.board.Board.commit.Goals as goal
 
@@ -15,4 +22,19 @@ committed-requires-clause-high g c = (good_number c.args.t.0 c.requires.number).
 
 pub committed-requires-clause-stands : goal.committed-requires-clause-stands
 unfolding not_in_progress
-committed-requires-clause-stands g c = in_progress (shown c.args.self.now) NotInProgress c.args.t.0 c.requires.stands
+committed-requires-clause-stands g c =
+    ap (λ b. status_of b.deps c.args.t.0) c.settle.ensures.others
+    ∙ in_progress (shown c.args.self.now) NotInProgress c.args.t.0 c.requires.stands
+
+-- what t holds goes on first, and then t stands so, or the other way round
+stood-settled : (s : Summary) (t : TxnId) (x : Status) (heir : Option TxnId) → stood (settled s t heir) t x ≡ settled (stood s t x) t heir
+unfolding stood inherited fated
+stood-settled s t x None = refl
+stood-settled s t x (Some heir) = refl
+
+pub returns-clause-shows : goal.returns-clause-shows
+unfolding stood
+returns-clause-shows g c =
+    (λ i. record (shown c.settle.new.self) { status = c.committed.ensures.status i; edges = c.committed.ensures.edges i })
+    ∙ ap (λ s. stood s c.args.t Committed) c.in_ok-settle.ensures.shows
+    ∙ stood-settled (shown c.args.self.now) c.args.t Committed _

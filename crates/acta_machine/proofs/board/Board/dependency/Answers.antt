@@ -2,7 +2,7 @@ use Rattle.std.proofs.Common.{◌≡◌, subst, sym}
 use Rattle.std.specs.Prelude.{IfOk}
 use Rattle.acta_table.specs.declared.event.Event.{Event}
 use Rattle.acta_machine.specs.Rules.{dependency}
-use Rattle.acta_machine.specs.Shown.{shown}
+use Rattle.acta_machine.specs.inside.Shown.{shown}
 use Rattle.acta_machine.proofs.board.Board.dependency.Goals as goal
 
 pub returns-in-Begin : goal.returns-in-Begin

@@ -1,6 +1,6 @@
 use Rattle.acta_machine.specs.declared.board.Origin.{Origin}
 use Rattle.acta_machine.specs.Summary.{entered}
-use Rattle.acta_machine.specs.Shown.{shown}
+use Rattle.acta_machine.specs.inside.Shown.{shown}
 use Rattle.acta_machine.proofs.Origins.{origin-entered}
 use Rattle.acta_machine.proofs.board.Board.enter.Goals as goal
 

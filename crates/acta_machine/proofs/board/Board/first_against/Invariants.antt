@@ -1,7 +1,7 @@
 use Rattle.std.proofs.Common.{◌≡◌, ◌+◌, drop}
 use Rattle.std.specs.List.{position_from}
 use Rattle.acta_machine.specs.Conflicts.{stands_against}
-use Rattle.acta_machine.specs.Shown.{shown}
+use Rattle.acta_machine.specs.inside.Shown.{shown}
 use Rattle.acta_machine.proofs.board.Board.first_against.Given as goal
 
 -- the first that stands against it is the first of what is left

@@ -2,7 +2,7 @@ use Rattle.std.proofs.Common.{ap, ◌∙◌, ℕ, List}
 use Rattle.std.specs.List.{list_any}
 use Rattle.std.specs.Ordering.{nat_cmp}
 use Rattle.std.specs.BTreeMap.{is_at}
-use Rattle.acta_machine.specs.Shown.{shown}
+use Rattle.acta_machine.specs.inside.Shown.{shown}
 use Rattle.acta_machine.proofs.Opponents.{in_spared}
 use Rattle.acta_machine.proofs.board.Board.is_spared.Goals as goal
 

@@ -4,7 +4,7 @@ use Rattle.acta_table.specs.Numbered.{numbers_from}
 use Rattle.acta_table.specs.Sets.{is_named}
 use Rattle.acta_sets.specs.Operations.{is_held}
 use Rattle.acta_machine.specs.Rules.{left_out}
-use Rattle.acta_machine.specs.Shown.{shown}
+use Rattle.acta_machine.specs.inside.Shown.{shown}
 use Rattle.acta_machine.proofs.board.Board.left_out.Given as goal
 
 -- the first that is left out is the first of what is left

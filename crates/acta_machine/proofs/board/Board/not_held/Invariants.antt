@@ -2,7 +2,7 @@ use Rattle.std.proofs.Common.{◌≡◌, drop, filter}
 use Rattle.acta_table.specs.Sets.{numbers_of}
 use Rattle.acta_table.proofs.Smallest.{least_from}
 use Rattle.acta_machine.specs.Rules.{is_of_another, not_held}
-use Rattle.acta_machine.specs.Shown.{shown}
+use Rattle.acta_machine.specs.inside.Shown.{shown}
 use Rattle.acta_machine.proofs.board.Board.not_held.Given as goal
 
 -- the least so far, with what is left, gives the least of all

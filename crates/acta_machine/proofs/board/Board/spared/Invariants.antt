@@ -1,7 +1,7 @@
 use Rattle.std.proofs.Common.{◌≡◌, ◌-◌, ◌++◌, length}
 use Rattle.acta_table.specs.Ancestors.{ancestors_from}
 use Rattle.acta_machine.specs.Families.{ancestors_of}
-use Rattle.acta_machine.specs.Shown.{shown}
+use Rattle.acta_machine.specs.inside.Shown.{shown}
 use Rattle.acta_machine.proofs.board.Board.spared.Given as goal
 
 -- what is listed and what is left of the line make the line

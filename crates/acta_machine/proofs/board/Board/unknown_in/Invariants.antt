@@ -3,7 +3,7 @@ use Rattle.acta_table.specs.Sets.{numbers_of}
 use Rattle.acta_table.proofs.Smallest.{least_from}
 use Rattle.acta_sets.specs.Operations.{operation_at}
 use Rattle.acta_machine.specs.Rules.{unknown_in}
-use Rattle.acta_machine.specs.Shown.{shown}
+use Rattle.acta_machine.specs.inside.Shown.{shown}
 use Rattle.acta_machine.proofs.board.Board.unknown_in.Given as goal
 
 -- the least so far, with what is left, gives the least of all

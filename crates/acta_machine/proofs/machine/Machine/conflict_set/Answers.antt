@@ -4,7 +4,7 @@ use Rattle.acta_axioms.specs.Operations as by_places
 use Rattle.acta_machine.specs.Summary.{Summary}
 use Rattle.acta_machine.specs.Families.{conflict_set_of}
 use Rattle.acta_machine.specs.Table.{State, conflict_set_in}
-use Rattle.acta_machine.specs.Places.{numbers_of}
+use Rattle.acta_machine.specs.Places.{op_numbers}
 use Rattle.acta_machine.proofs.SetTies.{conflict-places}
 use Rattle.acta_machine.proofs.machine.Machine.conflict_set.Goals as goal
 
@@ -20,5 +20,5 @@ returns-clause-places g c =
     let board = c.self.inside.board in
     let state : State g.row.A.Denot = record { model = board.model; kept = board.kept.items } in
     let same = ap (λ (s : Summary). conflict_set_of board.model s c.args.t.0) c.self.invariant.agrees ∙ conflict-places state c.args.t.0 c.self.invariant.follows
-    ∙ ap (λ (x : State g.row.A.Denot). numbers_of (by_places.conflict_set x.model x.kept c.args.t.0)) c.self.view_is in
+    ∙ ap (λ (x : State g.row.A.Denot). op_numbers (by_places.conflict_set x.model x.kept c.args.t.0)) c.self.view_is in
     subst (λ (numbers : List OpNo). IfOk c.conflict_set.result (λ v. v.items ≡ numbers)) same c.conflict_set.ensures

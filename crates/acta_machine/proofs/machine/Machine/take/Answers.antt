@@ -4,7 +4,7 @@ use Rattle.acta_machine.specs.Summary.{Summary, linked, counted}
 use Rattle.acta_machine.specs.Changes.{edges_due, changed, summary_of}
 use Rattle.acta_machine.specs.Values.{return_due}
 use Rattle.acta_machine.specs.Rules.{lowest_broken}
-use Rattle.acta_machine.specs.Shown.{shown}
+use Rattle.acta_machine.specs.inside.Shown.{shown}
 use Rattle.acta_machine.specs.Table.{State, kept_as}
 use Rattle.acta_machine.specs.Places.{FollowsPlaces}
 use Rattle.acta_table.specs.Edges.{formed}

@@ -1,8 +1,8 @@
 use Rattle.acta_objects.specs.Objects.{register_step, register_return, counter_step, counter_return, set_step, set_return}
 use Rattle.acta_objects.specs.Conflicts.{IsNumber, IsSet, register_conflicts, counter_conflicts, set_conflicts}
-use Rattle.acta_objects.specs.RegisterLaws.{register_commutes, register_differs}
-use Rattle.acta_objects.specs.CounterLaws.{counter_commutes, counter_differs}
-use Rattle.acta_objects.specs.SetLaws.{set_commutes, set_differs}
+use Rattle.acta_objects.specs.inside.RegisterLaws.{register_commutes, register_differs}
+use Rattle.acta_objects.specs.inside.CounterLaws.{counter_commutes, counter_differs}
+use Rattle.acta_objects.specs.inside.SetLaws.{set_commutes, set_differs}
 use Rattle.acta_objects.proofs.Meanings.{is_meant}
 use Rattle.acta_objects.proofs.state.ObjectState.conflicts.Goals as goal
 

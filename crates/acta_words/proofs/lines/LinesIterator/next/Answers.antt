@@ -1,7 +1,7 @@
 use Rattle.std.proofs.Common.{◌≡◌, ◌∷◌, [], length, take, ap, ◌∙◌, arith}
 use Rattle.std.specs.Option.{option_map_or}
 use Rattle.acta_words.specs.Text.{lines_of}
-use Rattle.acta_words.specs.LinesToCome.{lines_to_come}
+use Rattle.acta_words.specs.inside.LinesToCome.{lines_to_come}
 use Rattle.acta_words.proofs.FirstLines.{goes_on}
 use Rattle.acta_words.proofs.lines.LinesIterator.next.Goals as goal
 

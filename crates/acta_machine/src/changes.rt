@@ -1,0 +1,258 @@
+//! What an admitted event changes. Each call says which lists it leaves alone; those that can find no memory leave all
+//! as it was. They ask no rule.
+
+ghost use Rattle.std.specs.Prelude.{◌≡◌, take, ◌+◌, ◌-◌, ◌<◌, ◌≤◌, ◌++◌, ◌∷◌, [], true, false, length, OnOk, OnErr, IfOk, vec_capacity, None};
+ghost use Rattle.acta_table.specs.declared.answer.Status.{Status};
+ghost use Rattle.acta_table.specs.WellFormed.{bad_number};
+ghost use Rattle.acta_table.specs.Events.{operations_named};
+ghost use Rattle.acta_table.specs.Fates.{is_open};
+ghost use Rattle.acta_sets.specs.Operations.{are_open};
+ghost use Rattle.acta_table.specs.Edges.{formed};
+ghost use Rattle.acta_deps.specs.Dependencies.{start_refusal, join_refusal};
+ghost use Rattle.acta_machine.specs.Families.{heir_of};
+ghost use Rattle.acta_machine.specs.Summary.{stood, entered, linked, given, inherited, operated, fated, counted};
+ghost use Rattle.acta_machine.specs.Changes.{begun, settled, changed};
+ghost use Rattle.acta_machine.specs.Rules.{not_in_progress, already_begun, dependency};
+ghost use Rattle.acta_machine.specs.inside.Shown.{shown};
+
+use crate::board::{Board, Origin};
+use acta_table::{
+    ClassId, Edge, Event, Fate, Kept, LAST_TXN, MOST_EDGES, MOST_EVENTS, ObjId, Op, OpSet,
+    TABLE_SIZE, TxnId,
+};
+use std::alloc::{AllocError, Allocator};
+
+impl<A: Allocator> Board<A> {
+    // The last edges, so many of them, are in force no longer.
+    fn unlink(&mut self, count: usize)
+        requires { count ≤ length (shown self.old).edges }
+        ensures shows { shown self.new ≡ record (shown self.old) { edges = take (length (shown self.old).edges - count) (shown self.old).edges } }
+        ensures others { self.new ≡ record self.old { deps = self.new.deps } }
+    {
+        self.deps.take_back(count);
+    }
+
+    #[tactic(auto, unfolding(crate::specs::Summary::entered))]
+    fn enter(&mut self, t: TxnId, class: Option<ClassId>, parent: Option<TxnId>)
+        requires { t.0 < length self.old.origins.items }
+        ensures shows { shown self.new ≡ entered (shown self.old) t class parent }
+        ensures table { length self.new.origins.items ≡ length self.old.origins.items }
+        ensures others { self.new ≡ record self.old { origins = self.new.origins } }
+    {
+        self.origins[t.0 as usize] = Origin { class, parent };
+    }
+
+    #[tactic(auto, unfolding(crate::specs::Summary::given))]
+    fn give(&mut self, ops: &OpSet<A>, u: TxnId) -> Result<(), AllocError>
+        requires named { are_open ops.now self.old.operations ≡ true }
+        requires low { 0 < u.0 }
+        requires high { u.0 ≤ LAST_TXN }
+        ensures shows { OnOk result (shown self.new ≡ given (shown self.old) ops.now u) }
+        ensures err { OnErr result (shown self.new ≡ shown self.old) }
+        ensures others { self.new ≡ record self.old { operations = self.new.operations } }
+    {
+        self.operations.move_to(ops.as_slice(), u)
+    }
+
+    #[tactic(auto, unfolding(crate::specs::Summary::inherited))]
+    fn hand_all(&mut self, t: TxnId, u: TxnId) -> Result<(), AllocError>
+        ensures shows { OnOk result (shown self.new ≡ inherited (shown self.old) t u) }
+        ensures err { OnErr result (shown self.new ≡ shown self.old) }
+        ensures others { self.new ≡ record self.old { operations = self.new.operations } }
+    {
+        self.operations.hand_all(t, u)
+    }
+
+    #[tactic(auto, unfolding(crate::specs::Summary::fated))]
+    fn end(&mut self, t: TxnId, fate: Fate)
+        requires { is_open fate ≡ false }
+        ensures shows { shown self.new ≡ fated (shown self.old) t fate }
+        ensures others { self.new ≡ record self.old { operations = self.new.operations } }
+    {
+        self.operations.end_all(t, fate);
+    }
+
+    #[tactic(auto, unfolding(crate::specs::Summary::counted))]
+    fn keep(&mut self, kept: Kept<A>)
+        requires { length self.old.kept.items < vec_capacity self.old.kept }
+        ensures shows { shown self.new ≡ counted (shown self.old) }
+        ensures kept { self.new.kept.items ≡ self.old.kept.items ++ kept ∷ [] }
+        ensures others { self.new ≡ record self.old { kept = self.new.kept } }
+    {
+        let _ = self.kept.push(kept);
+    }
+
+    #[tactic(auto, unfolding(crate::specs::Summary::stood))]
+    fn begin(&mut self, t: TxnId, class: ClassId, parent: Option<TxnId>)
+        requires low { 0 < t.0 }
+        requires high { t.0 ≤ LAST_TXN }
+        requires stands { (shown self.old).status t.0 ≡ Status.NotBegun }
+        requires allowed { start_refusal (shown self.old).status (shown self.old).edges t.0 ≡ None }
+        requires origins { length self.old.origins.items ≡ TABLE_SIZE }
+        ensures shows { shown self.new ≡ begun (shown self.old) t class parent }
+        ensures origins { length self.new.origins.items ≡ TABLE_SIZE }
+        ensures others { self.new ≡ record self.old { deps = self.new.deps; origins = self.new.origins } }
+    {
+        self.deps.started(t);
+        self.enter(t, Some(class), parent);
+    }
+
+    #[tactic(auto, unfolding(crate::specs::Summary::stood, crate::specs::Summary::inherited))]
+    fn join(&mut self, t: TxnId, u: TxnId) -> Result<(), AllocError>
+        requires low { 0 < t.0 }
+        requires high { t.0 ≤ LAST_TXN }
+        requires stands { (shown self.old).status t.0 ≡ Status.InProgress }
+        requires allowed { join_refusal (shown self.old).status (shown self.old).edges t.0 ≡ None }
+        ensures shows { OnOk result (shown self.new ≡ inherited (stood (shown self.old) t Status.Joined) t u) }
+        ensures err { OnErr result (shown self.new ≡ shown self.old) }
+        ensures others { self.new ≡ record self.old { deps = self.new.deps; operations = self.new.operations } }
+    {
+        self.hand_all(t, u)?;
+        self.deps.joined(t);
+        Ok(())
+    }
+
+    // What the transaction holds in progress goes to its heir, or is committed where it has none. `Err` where there is no
+    // memory, and then nothing is changed.
+    fn settle(&mut self, t: TxnId) -> Result<(), AllocError>
+        ensures shows { OnOk result (shown self.new ≡ settled (shown self.old) t (heir_of self.old.model (shown self.old) t.0)) }
+        ensures err { OnErr result (shown self.new ≡ shown self.old) }
+        ensures others { self.new ≡ record self.old { operations = self.new.operations } }
+    {
+        match self.heir(t) {
+            Some(heir) => self.hand_all(t, heir)?,
+            None => self.end(t, Fate::Committed),
+        }
+        Ok(())
+    }
+
+    #[tactic(auto, unfolding(crate::specs::Summary::stood))]
+    fn commit(&mut self, t: TxnId) -> Result<(), AllocError>
+        requires number { bad_number {A = A} (Event.Commit t) ≡ None }
+        requires stands { not_in_progress {A = A} (shown self.old) (Event.Commit t) ≡ None }
+        requires allowed { dependency {A = A} (shown self.old) (Event.Commit t) ≡ None }
+        ensures shows { OnOk result (shown self.new ≡ settled (stood (shown self.old) t Status.Committed) t (heir_of self.old.model (shown self.old) t.0)) }
+        ensures err { OnErr result (shown self.new ≡ shown self.old) }
+        ensures others { self.new ≡ record self.old { deps = self.new.deps; operations = self.new.operations } }
+    {
+        self.settle(t)?;
+        self.deps.committed(t);
+        Ok(())
+    }
+
+    #[tactic(auto, unfolding(crate::specs::Summary::stood))]
+    fn abort(&mut self, t: TxnId)
+        requires number { bad_number {A = A} (Event.Abort t) ≡ None }
+        requires stands { not_in_progress {A = A} (shown self.old) (Event.Abort t) ≡ None }
+        requires allowed { dependency {A = A} (shown self.old) (Event.Abort t) ≡ None }
+        ensures shows { shown self.new ≡ fated (stood (shown self.old) t Status.Aborted) t Fate.Aborted }
+        ensures others { self.new ≡ record self.old { deps = self.new.deps; operations = self.new.operations } }
+    {
+        self.deps.aborted(t);
+        self.end(t, Fate::Aborted);
+    }
+
+    #[tactic(auto, unfolding(crate::specs::Summary::operated))]
+    fn operate(&mut self, t: TxnId, ob: ObjId, op: Op) -> Result<(), AllocError>
+        requires number { 0 < t.0 }
+        requires high { t.0 ≤ LAST_TXN }
+        requires few { length self.old.operations < MOST_EVENTS }
+        ensures shows { OnOk result (shown self.new ≡ operated (shown self.old) t ob op) }
+        ensures err { OnErr result (shown self.new ≡ shown self.old) }
+        ensures others { self.new ≡ record self.old { operations = self.new.operations } }
+    {
+        self.operations.add(t, ob, op)?;
+        Ok(())
+    }
+
+    // Changes how transactions and operations stand. `Err` where there is no memory, and then nothing is changed.
+    #[tactic(auto, unfolding(acta_table::specs::WellFormed::bad_number))]
+    fn change(&mut self, event: &Event<A>) -> Result<(), AllocError>
+        requires origins { length self.old.origins.items ≡ TABLE_SIZE }
+        requires few { length self.old.operations < MOST_EVENTS }
+        requires number { bad_number event.now ≡ None }
+        requires progress { not_in_progress (shown self.old) event.now ≡ None }
+        requires new { already_begun (shown self.old) event.now ≡ None }
+        requires allowed { dependency (shown self.old) event.now ≡ None }
+        requires named { are_open (operations_named event.now) self.old.operations ≡ true }
+        ensures shows { OnOk result (shown self.new ≡ changed self.old.model (shown self.old) event.now) }
+        ensures err { OnErr result (shown self.new ≡ shown self.old) }
+        ensures origins { length self.new.origins.items ≡ TABLE_SIZE }
+        ensures others { self.new ≡ record self.old { deps = self.new.deps; origins = self.new.origins; operations = self.new.operations } }
+    {
+        match event {
+            Event::Begin(t, class) => self.begin(*t, *class, None),
+            Event::Spawn(t, c, class) => self.begin(*c, *class, Some(*t)),
+            Event::Split(_, u, class, ops) => {
+                self.give(ops, *u)?;
+                self.begin(*u, *class, None);
+            }
+            Event::Join(t, u) => return self.join(*t, *u),
+            Event::Delegate(_, u, ops) => return self.give(ops, *u),
+            Event::Form(_, _, _) => {}
+            Event::Operate(t, ob, op) => return self.operate(*t, *ob, *op),
+            Event::Commit(t) => return self.commit(*t),
+            Event::Abort(t) => self.abort(*t),
+        }
+        Ok(())
+    }
+}
+
+impl<A: Allocator + Copy> Board<A> {
+    /// Room for one more event.
+    pub(crate) fn make_room(&mut self) -> Result<(), AllocError>
+        ensures shows { shown self.new ≡ shown self.old }
+        ensures others { self.new ≡ record self.old { kept = self.new.kept } }
+        ensures kept { self.new.kept.items ≡ self.old.kept.items }
+        ensures room { OnOk result (length self.new.kept.items < vec_capacity self.new.kept) }
+    {
+        self.kept.reserve(1)
+    }
+
+    // Forms these edges, and answers how many are new. `Err` where there is no memory, and then none is formed.
+    #[tactic(auto, unfolding(crate::specs::Summary::linked))]
+    fn link(&mut self, due: &[Edge]) -> Result<usize, AllocError>
+        requires { length (formed self.old.deps.edges due.now) ≤ MOST_EDGES }
+        ensures shows { OnOk result (shown self.new ≡ linked (shown self.old) due.now) }
+        ensures count { IfOk result (λ count. length (shown self.new).edges ≡ length (shown self.old).edges + count) }
+        ensures kept { OnOk result (take (length (shown self.old).edges) (shown self.new).edges ≡ (shown self.old).edges) }
+        ensures err { OnErr result (shown self.new ≡ shown self.old) }
+        ensures others { self.new ≡ record self.old { deps = self.new.deps } }
+    {
+        let count = self.deps.form(due)?;
+        Ok(count)
+    }
+
+    /// Does what an admitted event does: forms these edges, changes how transactions and operations stand, and
+    /// keeps the event. `Err` where there is no memory, and then nothing is done: edges that are new are taken back.
+    pub(crate) fn admit(
+        &mut self,
+        event: &Event<A>,
+        kept: Kept<A>,
+        due: &[Edge],
+    ) -> Result<(), AllocError>
+        requires room { length self.old.kept.items < vec_capacity self.old.kept }
+        requires origins { length self.old.origins.items ≡ TABLE_SIZE }
+        requires few { length self.old.operations < MOST_EVENTS }
+        requires fits { length (formed self.old.deps.edges due.now) ≤ MOST_EDGES }
+        requires number { bad_number event.now ≡ None }
+        requires progress { not_in_progress (linked (shown self.old) due.now) event.now ≡ None }
+        requires new { already_begun (linked (shown self.old) due.now) event.now ≡ None }
+        requires allowed { dependency (linked (shown self.old) due.now) event.now ≡ None }
+        requires named { are_open (operations_named event.now) self.old.operations ≡ true }
+        ensures shows { OnOk result (shown self.new ≡ counted (changed self.old.model (linked (shown self.old) due.now) event.now)) }
+        ensures kept { OnOk result (self.new.kept.items ≡ self.old.kept.items ++ kept ∷ []) }
+        ensures model { self.new.model ≡ self.old.model }
+        ensures origins { length self.new.origins.items ≡ TABLE_SIZE }
+        ensures err { OnErr result (shown self.new ≡ shown self.old) }
+        ensures as_it_was { OnErr result (self.new.kept.items ≡ self.old.kept.items) }
+    {
+        let formed = self.link(due)?;
+        if let Err(error) = self.change(event) {
+            self.unlink(formed);
+            return Err(error);
+        }
+        self.keep(kept);
+        Ok(())
+    }
+}
