@@ -2,6 +2,8 @@
 use Rattle.std.proofs.Common.{◌≡◌, ℕ, ◌<◌, ◌^◌, Bool, true, false, ◌==◌, [], ◌∷◌, codes, Some, option_map, option_and_then, unwrap_or, pos, negsuc, ℤ, refl, sym, ap, true≢false, arith}
 use Rattle.std.specs.Fmt.{signed_decimal}
 use Rattle.std.proofs.lemmas.Bool.{agree_below_at, eqb-true}
+use Rattle.std.specs.Prelude.{FitsSigned}
+use Rattle.std.specs.Int.{w32}
 use Rattle.acta_words.proofs.NumeralsAgain.{positive_again, negative_again}
 use Rattle.acta_table.specs.declared.dep.Dep.{Dep}
 use Rattle.acta_table.specs.declared.dep.Dep.TheVariants.{Cd, Scd, Ad, Wd, Td, Ed, Cmd, Bd, Sd, Bcd, Bad, Wcd}
@@ -16,21 +18,20 @@ use Rattle.acta_table.specs.declared.policy.Policy.TheVariants.{Refuse, Depend}
 use Rattle.acta_table.specs.declared.start_edges.Dependent.{Dependent}
 use Rattle.acta_table.specs.declared.start_edges.Dependent.TheVariants.{Starter, Started}
 use Rattle.acta_table.specs.Dependencies.{word_of}
-use Rattle.acta_table.specs.SetsOfClasses.{HasDeps}
 use Rattle.acta_words.specs.Numerals.{read_integer}
 use Rattle.acta_lang.specs.declared.form.Form.{Form}
 use Rattle.acta_lang.specs.declared.form.Form.TheVariants as form
 use Rattle.acta_lang.specs.Canonical.{dep_words, edge_words, may_words, policy_words, starts_words}
-use Rattle.acta_lang.specs.FirstValues.{Fits32}
+use Rattle.acta_table.specs.Typed.{HasDeps}
 use Rattle.acta_lang.specs.Drafts.{first_value}
 use Rattle.acta_lang.specs.Forms.{depend_form, dependent_named, form_of, known, may_form}
 use Rattle.acta_lang.specs.Words.{commit_word, dep_named, extent_word, scope_word}
 
-pub integer_again : (z : ℤ) → Fits32 z → read_integer 0x8000_0000 (signed_decimal z) ≡ Some z
+pub integer_again : (z : ℤ) → FitsSigned w32 z → read_integer 0x8000_0000 (signed_decimal z) ≡ Some z
 integer_again (pos n) small = positive_again 0x8000_0000 n (omega (arith, small)) (omega (arith, small))
 integer_again (negsuc n) small = negative_again 0x8000_0000 n (omega (arith, small)) (omega (arith, small))
 
-pub first_again : (z : ℤ) → Fits32 z → first_value (signed_decimal z) ≡ z
+pub first_again : (z : ℤ) → FitsSigned w32 z → first_value (signed_decimal z) ≡ z
 first_again z small = ap (λ o. unwrap_or o (pos 0)) (integer_again z small)
 
 abbrev is_may : ℕ → Form → Bool

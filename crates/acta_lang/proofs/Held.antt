@@ -1,10 +1,9 @@
 -- What the code holds, and the draft that it stands for.
-use Rattle.std.proofs.Common.{◌≡◌, ℕ, Bool, true, false, ◌||◌, ◌&&◌, not, ◌==◌, List, [], ◌∷◌, ◌++◌, map, length, Option, Some, None, refl, sym, ap, ◌∙◌, Bor, true≢false, arith, length-append, subst, get_or, ◌<◌}
+use Rattle.std.proofs.Common.{◌≡◌, ℕ, Bool, true, false, ◌||◌, ◌&&◌, not, ◌==◌, List, [], ◌∷◌, ◌++◌, map, length, Option, Some, None, refl, sym, ap, ◌∙◌, Bor, true≢false, arith, length-append}
 use Rattle.std.specs.List.{list_any}
 use Rattle.std.specs.Map.{keys_of}
 use Rattle.std.specs.Option.{option_map_or}
 use Rattle.std.specs.Str.{bytes_eq}
-use Rattle.std.proofs.lemmas.List.{get_or_read}
 use Rattle.std.proofs.lemmas.List.Folds.{list_any-append}
 use Rattle.std.proofs.lemmas.Bool.{ne_eqb}
 use Rattle.std.proofs.Math.Bool.{and-false, or-false}
@@ -88,7 +87,3 @@ end_inside is_last words said d c ends is =
     ∙ ap (λ b. not (has_said_all c) || is_last && b) (one_more d.classes (closed c))
     ∙ ap (λ b. not (has_said_all c) || b) (and-false is_last)
     ∙ or-false (not (has_said_all c)))
-
--- what holds of the element at a place holds there, whatever stands in for a list that is too short
-pub holds_at : {X : Type 0} (P : X → Type 0) (xs : List X) (i : ℕ) (x : X) → i < length xs → x ≡ get_or xs i x → P x → (d : X) → P (get_or xs i d)
-holds_at P xs i x within is h = λ d. subst P (get_or_read xs i x within is d) h

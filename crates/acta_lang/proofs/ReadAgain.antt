@@ -31,7 +31,6 @@ use Rattle.acta_table.specs.Dependencies.{all_kinds, has_dep, is_begin_kind, wor
 use Rattle.acta_table.specs.Faults.{fault_if, has_begin_edge, has_begin_kind, has_twice, is_name, lacks_parents, lowest_fault}
 use Rattle.acta_table.specs.Kinds.{has_kind}
 use Rattle.acta_table.specs.Policies.{is_bad_policy}
-use Rattle.acta_table.specs.SetsOfClasses.{HasSets}
 use Rattle.acta_table.specs.declared.limits.TheConstants.{MOST_CLASSES, MOST_OBJECTS}
 use Rattle.acta_words.specs.Text.{is_word_among, line_of, lines_of, text_of}
 use Rattle.acta_words.proofs.TextAgain.{IsOneLine, lines_again, words_again}
@@ -41,7 +40,7 @@ use Rattle.acta_lang.specs.declared.form.Form.TheVariants as form
 use Rattle.acta_lang.specs.Canonical.{canonical, class_words, edge_words, may_words, model_words, object_words, policy_words, starts_words}
 use Rattle.acta_lang.specs.Drafts.{Draft, OpenClass, closed, extended, nothing_yet, opened}
 use Rattle.acta_lang.specs.Faults.{bad_word, bad_name, duplicate_name, wrong_place, bad_number, too_many, missing_end, missing_part, begin_kind_at_start, heir_without_spawn, bad_policy_kind, lowest_of}
-use Rattle.acta_lang.specs.FirstValues.{HasFirst}
+use Rattle.acta_table.specs.Typed.{AreOfModel, HasFirst, HasSets}
 use Rattle.acta_lang.specs.Forms.{form_of}
 use Rattle.acta_lang.specs.Meaning.{judged, meaning, meaning_behind}
 use Rattle.acta_lang.specs.Words.{commit_word, extent_word, may_kinds, may_word, scope_word}
@@ -402,10 +401,10 @@ each_whole {A = A} (c ∷ cs) named sets begins heirs policies =
       each_whole cs names.1 (λ k d within. sets (suc k) d (omega arith)) begin.1 heir.1 policy.1,
     )
 
--- the canonical text of a checked model, whose types say so much of it, means the model
-pub read_again : {A : Type 0} (m : Parts A) → lowest_fault m ≡ None → All (λ o. HasFirst o.kind) m.objects → All (λ c. HasSets c) m.classes → meaning (canonical m) ≡ Ok m
-read_again {A = A} m faultless firsts sets =
-    let policies = or_none _ (fault_if (list_any (λ (k : Class A). is_bad_policy k.policy) m.classes) fault.BadPolicyKind) faultless in
+-- the canonical text of a model means the model
+pub read_again : {A : Type 0} (m : Parts A) → AreOfModel m → meaning (canonical m) ≡ Ok m
+read_again {A = A} m known =
+    let policies = or_none _ (fault_if (list_any (λ (k : Class A). is_bad_policy k.policy) m.classes) fault.BadPolicyKind) known.faultless in
     let heirs = or_none _ (fault_if (list_any lacks_parents m.classes) fault.HeirWithoutSpawn) policies.0 in
     let begins = or_none _ (fault_if (list_any has_begin_kind m.classes) fault.BeginKindAtStart) heirs.0 in
     let names = or_none _ (fault_if (not (list_all is_name (map (λ (o : Object A). o.name) m.objects) && list_all is_name (map (λ (c : Class A). c.name) m.classes))) fault.BadName) begins.0 in
@@ -415,6 +414,6 @@ read_again {A = A} m faultless firsts sets =
     let some = or_none None (fault_if (length m.classes == 0) fault.NoClass) classes.0 in
     let once = or_parts (has_twice (map (λ (o : Object A). o.name) m.objects)) (has_twice (map (λ (c : Class A). c.name) m.classes)) (no_fault _ fault.DuplicateName twice.1) in
     let named = and_parts (list_all is_name (map (λ (o : Object A). o.name) m.objects)) (list_all is_name (map (λ (c : Class A). c.name) m.classes)) (not-false _ (no_fault _ fault.BadName names.1)) in
-    model_again m.objects m.classes (no_fault _ fault.NoClass some.1) (each_first m.objects firsts) named.0 once.0 (ltb-false MOST_OBJECTS (length m.objects) (no_fault _ fault.TooManyObjects objects.1))
-    (each_whole m.classes named.1 sets (no_fault _ fault.BeginKindAtStart begins.1) (no_fault _ fault.HeirWithoutSpawn heirs.1) (no_fault _ fault.BadPolicyKind policies.1))
+    model_again m.objects m.classes (no_fault _ fault.NoClass some.1) (each_first m.objects known.firsts) named.0 once.0 (ltb-false MOST_OBJECTS (length m.objects) (no_fault _ fault.TooManyObjects objects.1))
+    (each_whole m.classes named.1 known.sets (no_fault _ fault.BeginKindAtStart begins.1) (no_fault _ fault.HeirWithoutSpawn heirs.1) (no_fault _ fault.BadPolicyKind policies.1))
     once.1 (ltb-false MOST_CLASSES (length m.classes) (no_fault _ fault.TooManyClasses classes.1))

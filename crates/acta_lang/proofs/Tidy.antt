@@ -9,11 +9,12 @@ use Rattle.std.proofs.lemmas.Bool.Decides.{nat_tests}
 use Rattle.std.proofs.lemmas.Fmt.{decimal_is_IsNumeral}
 use Rattle.std.proofs.lemmas.List.Folds.{list_all-append}
 use Rattle.std.proofs.lemmas.Str.Parse.{digit_from_value}
+use Rattle.std.specs.Prelude.{FitsSigned}
+use Rattle.std.specs.Int.{w32}
 use Rattle.acta_table.specs.Faults.{is_name}
 use Rattle.acta_words.specs.Text.{line_of}
 use Rattle.acta_words.proofs.TextAgain.{IsOneLine, IsPlain, IsWord}
 use Rattle.acta_lang.specs.Faults.{is_printable, not_ascii}
-use Rattle.acta_lang.specs.FirstValues.{Fits32}
 
 -- a printable byte that stands in words
 abbrev pub is_tidy : ℕ → Bool
@@ -113,7 +114,7 @@ digit_bytes (c ∷ cs) all =
     and_from _ _ (tidy_byte c (omega (arith, low)) (omega (arith, high)) (λ e. omega (arith, e, low))) (digit_bytes cs all.1)
 
 -- so are numbers
-pub tidy_number : (z : ℤ) → Fits32 z → is_tidy_word (signed_decimal z) ≡ true
+pub tidy_number : (z : ℤ) → FitsSigned w32 z → is_tidy_word (signed_decimal z) ≡ true
 tidy_number (pos n) small =
     let is = decimal_is_IsNumeral n (omega (arith, small)) in
     and_from _ _ (some_bytes (decimal n) is.0.0) (digit_bytes (decimal n) is.0.1)

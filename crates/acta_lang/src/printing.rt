@@ -1,16 +1,14 @@
 //! From a model to its canonical text.
 
 ghost use Rattle.std.specs.Prelude.{◌≡◌, ◌++◌, map, Ok, IfOk, OnOk};
-ghost use Rattle.std.specs.List.{flat_map, All};
-ghost use Rattle.acta_table.specs.SetsOfClasses.{HasSets};
+ghost use Rattle.std.specs.List.{flat_map};
 ghost use Rattle.acta_lang.specs.Canonical.{canonical, class_words, object_words};
-ghost use Rattle.acta_lang.specs.FirstValues.{Fits32, HasFirst};
 ghost use Rattle.acta_lang.specs.Meaning.{meaning};
 ghost use Rattle.acta_lang.specs.inside.Written.{written};
 
 use crate::class_lines::push_class;
 use crate::object_lines::push_object;
-use acta_table::{Class, Kind, Model, Object};
+use acta_table::{Class, Model, Object};
 use std::alloc::{AllocError, Allocator};
 
 fn push_objects<A: Allocator>(
@@ -34,43 +32,11 @@ fn push_classes<A: Allocator>(text: &mut Vec<u8, A>, classes: &[Class<A>]) -> Re
     Ok(())
 }
 
-// A first value is a number of 32 bits: a fact of its type.
-fn known_first(first: i32)
-    ensures { Fits32 first }
-{}
-
-fn known_kind(kind: Kind)
-    ensures { HasFirst kind }
-{
-    match kind {
-        Kind::Register(first) => known_first(first),
-        Kind::Counter(first) => known_first(first),
-        Kind::Elements => {}
-    }
-}
-
-fn known_objects<A: Allocator>(objects: &[Object<A>])
-    ensures { All (λ object. HasFirst object.kind) objects.now }
-{
-    for object in objects {
-        known_kind(object.kind);
-    }
-}
-
-fn known_classes<A: Allocator>(classes: &[Class<A>])
-    ensures { All (λ class. HasSets class) classes.now }
-{
-    for class in classes {
-        class.known();
-    }
-}
-
 // The canonical text of a model means the model.
 fn means_again<A: Allocator>(model: &Model<A>)
     ensures { meaning (canonical model.now) ≡ Ok model.now }
 {
-    known_objects(model.objects());
-    known_classes(model.classes());
+    model.known();
 }
 
 /// The canonical text of the model (ours): its objects, then its classes, in order, with one space between words and a

@@ -1,4 +1,5 @@
 pub mod AscendingSets
+pub mod Held
 pub mod KindSets
 pub mod OpSets
 pub mod Smallest

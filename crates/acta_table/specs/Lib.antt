@@ -11,6 +11,6 @@ pub mod Numbers
 pub mod Policies
 pub mod Refusals
 pub mod Sets
-pub mod SetsOfClasses
 pub mod Starts
+pub mod Typed
 pub mod WellFormed

@@ -1,11 +1,12 @@
-ghost use Rattle.std.specs.Prelude.{◌≡◌, ◌||◌, ◌==◌, ℕ, List, map, None, Some, IfOk, IfErr, OnOk, option_map};
-ghost use Rattle.std.specs.List.{list_any, list_all};
+ghost use Rattle.std.specs.Prelude.{◌≡◌, ◌||◌, ◌==◌, ℕ, List, map, None, Some, FitsSigned, IfOk, IfErr, OnOk, option_map};
+ghost use Rattle.std.specs.Int.{w32};
+ghost use Rattle.std.specs.List.{All, list_any, list_all};
 ghost use Rattle.std.specs.Str.{bytes_eq};
 ghost use Rattle.std.specs.Char.{is_ascii_alphanumeric};
 ghost use Rattle.acta_table.specs.Classes.{class_at, object_at};
 ghost use Rattle.acta_table.specs.Numbers.{model_fault_number};
 ghost use Rattle.acta_table.specs.Policies.{is_bad_policy};
-ghost use Rattle.acta_table.specs.SetsOfClasses.{HasSets};
+ghost use Rattle.acta_table.specs.Typed.{AreOfModel, HasFirst, HasSets};
 ghost use Rattle.acta_table.specs.Faults.{lowest_fault, is_name, has_twice, has_begin_edge, has_begin_kind, lacks_parents, fault_if};
 
 use crate::event::{ClassId, ObjId};
@@ -223,15 +224,49 @@ fn are_named_well<T: Named>(items: &[T]) -> bool
     true
 }
 
+// A first value has 32 bits: a fact of its type.
+fn known_first(first: i32)
+    ensures { FitsSigned w32 first }
+{}
+
+impl Kind {
+    // Its first value has 32 bits.
+    fn known(self)
+        ensures { HasFirst self }
+    {
+        match self {
+            Kind::Register(first) => known_first(first),
+            Kind::Counter(first) => known_first(first),
+            Kind::Elements => {}
+        }
+    }
+}
+
 impl<A: Allocator> Class<A> {
-    /// Its sets are sets: a fact of the types of its fields, for laws that need it.
-    pub fn known(&self)
+    // Its sets are sets: a fact of the types of its fields.
+    fn known(&self)
         ensures { HasSets self.now }
     {
         self.may.known();
         self.policy.known();
         self.spawn_edges.as_slice();
         self.split_edges.as_slice();
+    }
+}
+
+fn known_objects<A: Allocator>(objects: &[Object<A>])
+    ensures { All (λ object. HasFirst object.kind) objects.now }
+{
+    for object in objects {
+        object.kind.known();
+    }
+}
+
+fn known_classes<A: Allocator>(classes: &[Class<A>])
+    ensures { All (λ class. HasSets class) classes.now }
+{
+    for class in classes {
+        class.known();
     }
 }
 
@@ -319,6 +354,15 @@ impl<A: Allocator> Model<A> {
             Some(fault) => Err(fault),
             None => Ok(Model { parts }),
         }
+    }
+
+    /// What holds of each model, for laws that need it: its parts have no fault, its first values are numbers of 32
+    /// bits, no set has a bit that no kind has, and start edges stand in order, each once. Changes nothing.
+    pub fn known(&self)
+        ensures { AreOfModel self.now }
+    {
+        known_objects(self.objects());
+        known_classes(self.classes());
     }
 
     /// The objects, by number from 0.

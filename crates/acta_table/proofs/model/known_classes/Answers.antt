@@ -1,8 +1,8 @@
 use Rattle.std.proofs.Common.{arith}
 use Rattle.std.proofs.lemmas.List.Elements.{AllWithin-more}
-use Rattle.acta_table.specs.SetsOfClasses.{HasSets}
-use Rattle.acta_lang.proofs.Held.{holds_at}
-use Rattle.acta_lang.proofs.printing.known_classes.Goals as goal
+use Rattle.acta_table.specs.Typed.{HasSets}
+use Rattle.acta_table.proofs.Held.{holds_at}
+use Rattle.acta_table.proofs.model.known_classes.Goals as goal
 
 pub loop-class-preserved : goal.loop-class-preserved
 loop-class-preserved g c =

@@ -1,0 +1,60 @@
+-- Examples: a model's image, and what comes of images that are not good.
+use Rattle.std.specs.Prelude.{ℕ, pos, true, false, List, [], ◌∷◌, ◌++◌, map, take, slice_set, Result, Ok, Err, codes, ◌≡◌, refl}
+use Rattle.acta_table.specs.declared.model.AtCommit.TheVariants.{Keeps}
+use Rattle.acta_table.specs.declared.model.Class.{Class}
+use Rattle.acta_table.specs.declared.model.Extent.TheVariants.{Whole}
+use Rattle.acta_table.specs.declared.model.Kind.TheVariants.{Register}
+use Rattle.acta_table.specs.declared.model.ModelFault.TheVariants.{HeirWithoutSpawn}
+use Rattle.acta_table.specs.declared.model.Parts.{Parts}
+use Rattle.acta_table.specs.declared.model.Scope.TheVariants.{Others}
+use Rattle.acta_table.specs.declared.policy.Policy.TheVariants.{Refuse}
+use Rattle.acta_image.specs.declared.fault.ImageFault.{ImageFault}
+use Rattle.acta_image.specs.declared.fault.ImageFault.TheVariants.{Magic, Version, Truncated, BadField, Trailing, Model}
+use Rattle.acta_image.specs.Spelling.{image}
+use Rattle.acta_image.specs.Reading.{read_magic, read_header, read_edges, read_object, read_class, read_parts, loaded}
+
+-- a class that starts by begin, by the bits of what it may do
+abbrev class : List ℕ → ℕ → Class (Unit {0})
+class name may = record { name = name; starts = record { begin = true; spawned = false; split = false }; may = may; scope = Others; policy = Refuse; at_commit = Keeps; extent = Whole; spawn_edges = []; split_edges = [] }
+
+-- one register, and transactions that begin, operate, commit and abort
+abbrev flat : Parts (Unit {0})
+flat = record { objects = record { name = codes "x"; kind = Register (pos 0) } ∷ []; classes = class (codes "flat") 224 ∷ [] }
+
+abbrev flat_image : List ℕ
+flat_image =
+    65 ∷ 67 ∷ 84 ∷ 65 ∷ 1 ∷ 1 ∷ 0 ∷ 1 ∷ 1 ∷ 120 ∷ 0 ∷ 0 ∷ 0 ∷ 0 ∷ 0 ∷ 4 ∷ 102 ∷ 108 ∷ 97 ∷ 116 ∷ 1 ∷ 0 ∷ 224 ∷ 0 ∷ 0
+    ∷ 0 ∷ 0 ∷ 0 ∷ 0 ∷ 0 ∷ 0 ∷ []
+
+flat_spelled : image flat ≡ flat_image
+unfolding image
+flat_spelled = refl
+
+abbrev read : List ℕ → Result (Parts (Unit {0})) ImageFault
+read bytes = loaded bytes
+
+flat_read : read flat_image ≡ Ok flat
+unfolding read_magic read_header read_edges read_object read_class read_parts loaded
+flat_read = refl
+
+-- shorter by any number of bytes
+abbrev lengths : List ℕ
+lengths = 0 ∷ 3 ∷ 4 ∷ 5 ∷ 6 ∷ 7 ∷ 8 ∷ 9 ∷ 10 ∷ 13 ∷ 15 ∷ 16 ∷ 19 ∷ 21 ∷ 22 ∷ 25 ∷ 29 ∷ 30 ∷ []
+
+cut_short : map (λ n. read (take n flat_image)) lengths ≡ map (λ n. Err Truncated) lengths
+unfolding read_magic read_header read_edges read_object read_class read_parts loaded
+cut_short = refl
+
+-- one byte more, another magic, version, scope, and what a commit does
+one_more : read (flat_image ++ 0 ∷ []) ≡ Err (Trailing 31)
+unfolding read_magic read_header read_edges read_object read_class read_parts loaded
+one_more = refl
+
+magic_first : map (λ bytes. read bytes) ((65 ∷ 88 ∷ []) ∷ (65 ∷ 67 ∷ []) ∷ slice_set flat_image 3 0 ∷ []) ≡ Err Magic ∷ Err Truncated ∷ Err Magic ∷ []
+unfolding read_magic read_header read_edges read_object read_class read_parts loaded
+magic_first = refl
+
+turned : map (λ (p : ℕ × ℕ). read (slice_set flat_image p.0 p.1)) ((4, 2) ∷ (5, 0) ∷ (5, 17) ∷ (7, 0) ∷ (8, 33) ∷ (9, 48) ∷ (10, 3) ∷ (20, 8) ∷ (21, 1) ∷ (23, 2) ∷ (24, 2) ∷ (26, 1) ∷ (27, 1) ∷ (27, 2) ∷ (28, 2) ∷ (29, 25) ∷ [])
+    ≡ Err Version ∷ Err (BadField 5) ∷ Err (BadField 5) ∷ Err (BadField 15) ∷ Err (BadField 8) ∷ Err (BadField 9) ∷ Err (BadField 10) ∷ Err (BadField 20) ∷ Err (BadField 21) ∷ Err (BadField 23) ∷ Err (BadField 24) ∷ Err (BadField 25) ∷ Err (Model HeirWithoutSpawn) ∷ Err (BadField 27) ∷ Err (BadField 28) ∷ Err (BadField 29) ∷ []
+unfolding read_magic read_header read_edges read_object read_class read_parts loaded
+turned = refl

@@ -1,0 +1,222 @@
+-- What is loaded is a model with this image, and an image is loaded as its model.
+use Rattle.std.proofs.Common.{◌≡◌, ℕ, zero, suc, ◌-◌, ◌≤◌, Bool, true, false, not, ◌&&◌, ◌||◌, ◌==◌, eqb, List, [], ◌∷◌, ◌++◌, length, map, Option, Some, None, Ok, refl, sym, ap, subst, ◌∙◌, append-nil, arith}
+use Rattle.std.specs.Prelude.{nat_lt}
+use Rattle.std.specs.List.{All, AllByRecursion, list_all, list_any}
+use Rattle.std.specs.Option.{option_or}
+use Rattle.std.specs.Int.{w16, to_be_bytes}
+use Rattle.std.proofs.lemmas.Bool.{eqb-true, and_parts, ltb-false}
+use Rattle.std.proofs.lemmas.Bool.Decides.{nat_tests}
+use Rattle.std.proofs.lemmas.List.{nil_from_length}
+use Rattle.acta_table.specs.declared.model.Class.{Class}
+use Rattle.acta_table.specs.declared.model.Kind.{Kind}
+use Rattle.acta_table.specs.declared.model.Kind.TheVariants.{Register, Counter, Elements}
+use Rattle.acta_table.specs.declared.model.ModelFault.{ModelFault}
+use Rattle.acta_table.specs.declared.model.ModelFault.TheVariants.{TooManyClasses, TooManyObjects, DuplicateName, BadName, BeginKindAtStart, HeirWithoutSpawn, BadPolicyKind}
+use Rattle.acta_table.specs.declared.model.Object.{Object}
+use Rattle.acta_table.specs.declared.model.Parts.{Parts}
+use Rattle.acta_table.specs.declared.policy.Policy.{Policy}
+use Rattle.acta_table.specs.declared.policy.Policy.TheVariants.{Refuse, Depend}
+use Rattle.acta_table.specs.declared.limits.TheConstants.{LONGEST_NAME, MOST_CLASSES, MOST_OBJECTS}
+use Rattle.acta_table.specs.Faults.{is_name, has_twice, object_names, class_names, has_begin_kind, lacks_parents, fault_if, lowest_fault}
+use Rattle.acta_table.specs.Policies.{is_bad_policy}
+use Rattle.acta_table.specs.Typed.{AreOfModel, HasFirst, HasSets}
+use Rattle.acta_image.specs.declared.fault.ImageFault.TheVariants.{Version, Trailing}
+use Rattle.acta_image.specs.Codes.{magic, object_code, policy_code}
+use Rattle.acta_image.specs.Spelling.{byte, object_bytes, class_bytes, image}
+use Rattle.acta_image.specs.Reading.{read_object, read_class, read_header, read_parts, checked, finished, loaded}
+use Rattle.acta_image.specs.inside.Gives.{AreBytes}
+use Rattle.acta_image.proofs.Formats.{then-ok, then-is, done-is, IsFormat, then-format, last-format, said-format, items-format}
+use Rattle.acta_image.proofs.FieldCodes.{guard-met, fault-format, field-format, byte-code, number-code, name-code, kind-code, starts-code, scope-format, commit-format, extent-format, policy-code, magic-format}
+use Rattle.acta_image.proofs.RowFormats.{edges-format}
+
+name-long : (name : List ℕ) → is_name name ≡ true → (1 ≤ length name) × (length name ≤ LONGEST_NAME)
+name-long name e = grind (arith, nat_tests)
+
+kind-small : (k : Kind) → object_code k ≤ 2
+kind-small (Register v) = omega arith
+kind-small (Counter v) = omega arith
+kind-small Elements = omega arith
+
+policy-small : (p : Policy) → policy_code p ≤ 1
+policy-small Refuse = omega arith
+policy-small (Depend kinds) = omega arith
+
+-- what is said of an object, and of a class
+abbrev ObjectSaid : {A : Type 0} → Object A → Type 0
+ObjectSaid o = (is_name o.name ≡ true) × HasFirst o.kind
+
+abbrev ClassSaid : {A : Type 0} → Class A → Type 0
+ClassSaid c = (is_name c.name ≡ true) × HasSets c
+
+object-format : {A : Type 0} (size : ℕ) → IsFormat (read_object {A = A} size) object_bytes ObjectSaid
+unfolding read_object
+object-format {A} size =
+    said-format
+    (then-format (field-format (byte-code 1 LONGEST_NAME) size) (λ (o : Object A). length o.name) _ _ _
+    (λ len l. then-format (field-format (name-code len) size) (λ (o : Object A). o.name) _ _ _
+    (λ name n. then-format (field-format (byte-code 0 2) size) (λ (o : Object A). object_code o.kind) _ _ _
+    (λ code c. last-format (field-format (kind-code code c.1) size) (λ (o : Object A). o.kind) (λ kind. record { name = name; kind = kind }) (λ kind. refl))
+    (λ code c o r. r.0.1))
+    (λ name n o r. ap (λ (x : Object A). x.name) (sym r.1.1)))
+    (λ len l o r. r.0.1))
+    object_bytes ObjectSaid (λ o. refl) (λ o ok. (ok.1.0.0, ok.1.1.1.0.0))
+    (λ o ok. (name-long o.name ok.0, ((ok.0, refl), ((omega arith, kind-small o.kind), ((ok.1, refl), refl)))))
+
+class-format : {A : Type 0} (size : ℕ) → IsFormat (read_class {A = A} size) class_bytes ClassSaid
+unfolding read_class
+class-format {A} size =
+    said-format
+    (then-format (field-format (byte-code 1 LONGEST_NAME) size) (λ (c : Class A). length c.name) _ _ _
+    (λ len l. then-format (field-format (name-code len) size) (λ (c : Class A). c.name) _ _ _
+    (λ name n. then-format (field-format starts-code size) (λ (c : Class A). c.starts) _ _ _
+    (λ starts s. then-format (field-format (number-code 255 (omega arith)) size) (λ (c : Class A). c.may) _ _ _
+    (λ may y. then-format (field-format scope-format size) (λ (c : Class A). c.scope) _ _ _
+    (λ scope o. then-format (field-format (byte-code 0 1) size) (λ (c : Class A). policy_code c.policy) _ _ _
+    (λ code d. then-format (field-format (policy-code code d.1) size) (λ (c : Class A). c.policy) _ _ _
+    (λ policy p. then-format (field-format commit-format size) (λ (c : Class A). c.at_commit) _ _ _
+    (λ at_commit a. then-format (field-format extent-format size) (λ (c : Class A). c.extent) _ _ _
+    (λ extent x. then-format (edges-format size) (λ (c : Class A). c.spawn_edges) _ _ _
+    (λ spawn_edges e. last-format (edges-format size) (λ (c : Class A). c.split_edges) (λ split_edges. record { name = name; starts = starts; may = may; scope = scope; policy = policy; at_commit = at_commit; extent = extent; spawn_edges = spawn_edges; split_edges = split_edges }) (λ split_edges. refl))
+    (λ spawn_edges e c r. ap (λ (z : Class A). z.spawn_edges) (sym r.1)))
+    (λ extent x c r. ap (λ (z : Class A). z.extent) (sym r.1.1)))
+    (λ at_commit a c r. ap (λ (z : Class A). z.at_commit) (sym r.1.1.1)))
+    (λ policy p c r. ap (λ (z : Class A). z.policy) (sym r.1.1.1.1)))
+    (λ code d c r. r.0.1))
+    (λ scope o c r. ap (λ (z : Class A). z.scope) (sym r.1.1.1.1.1.1)))
+    (λ may y c r. ap (λ (z : Class A). z.may) (sym r.1.1.1.1.1.1.1)))
+    (λ starts s c r. ap (λ (z : Class A). z.starts) (sym r.1.1.1.1.1.1.1.1)))
+    (λ name n c r. ap (λ (z : Class A). z.name) (sym r.1.1.1.1.1.1.1.1.1)))
+    (λ len l c r. r.0.1))
+    class_bytes ClassSaid (λ c. refl)
+    (λ c ok. (ok.1.0.0, record { may = let le = ok.1.1.1.0 in omega (arith, le); policy = ok.1.1.1.1.1.1.0.0; spawn_edges = ok.1.1.1.1.1.1.1.1.1.0; split_edges = ok.1.1.1.1.1.1.1.1.1.1.0 }))
+    (λ c ok. (name-long c.name ok.0, ((ok.0, refl), (tt, (let lt = ok.1.may in omega (arith, lt), (tt, ((omega arith, policy-small c.policy), ((ok.1.policy, refl), (tt, (tt, (ok.1.spawn_edges, (ok.1.split_edges, refl))))))))))))
+
+header-format : (size : ℕ) → IsFormat (read_header size) (λ c. magic ++ (byte 1 ++ (byte c.0 ++ to_be_bytes w16 c.1))) (λ c. ((1 ≤ c.0) × (c.0 ≤ MOST_CLASSES)) × (c.1 ≤ MOST_OBJECTS))
+unfolding read_header
+header-format size =
+    said-format
+    (then-format magic-format (λ (c : ℕ × ℕ). magic) _ _ _
+    (λ start s. then-format (fault-format (byte-code 1 1) Version) (λ (c : ℕ × ℕ). 1) _ _ _
+    (λ version v. then-format (field-format (byte-code 1 MOST_CLASSES) size) (λ (c : ℕ × ℕ). c.0) _ _ _
+    (λ classes n. last-format (field-format (number-code MOST_OBJECTS (omega arith)) size) (λ (c : ℕ × ℕ). c.1) (λ objects. (classes, objects)) (λ objects. refl))
+    (λ classes n c r. ap (λ (z : ℕ × ℕ). z.0) (sym r.1)))
+    (λ version v c r. let low = v.0 in let high = v.1 in omega (arith, low, high)))
+    (λ start s c r. s))
+    _ _ (λ c. refl) (λ c ok. (ok.1.1.0, ok.1.1.1.0)) (λ c ok. (refl, ((omega arith, omega arith), (ok.0, (ok.1, refl)))))
+
+-- what is said of parts by the fields
+record PartsSaid {A : Type 0} (m : Parts A) : Type 0 where
+  classes : (1 ≤ length m.classes) × (length m.classes ≤ MOST_CLASSES)
+  objects : length m.objects ≤ MOST_OBJECTS
+  of_objects : AllByRecursion ObjectSaid m.objects
+  of_classes : AllByRecursion ClassSaid m.classes
+
+parts-format : {A : Type 0} (size : ℕ) → IsFormat (read_parts {A = A} size) image PartsSaid
+unfolding read_parts image
+parts-format {A} size =
+    said-format
+    (then-format (header-format size) (λ (m : Parts A). (length m.classes, length m.objects)) _ _ _
+    (λ counts h. then-format (items-format (object-format {A = A} size) counts.1) (λ (m : Parts A). m.objects) _ _ _
+    (λ objects o. last-format (items-format (class-format {A = A} size) counts.0) (λ (m : Parts A). m.classes) (λ classes. record { objects = objects; classes = classes }) (λ classes. refl))
+    (λ objects o m r. ap (λ (z : Parts A). z.objects) (sym r.1)))
+    (λ counts h m r. λ i. (r.1.0.0 i, r.0.0 i)))
+    image PartsSaid (λ m. refl)
+    (λ m ok. record { classes = ok.0.0; objects = ok.0.1; of_objects = ok.1.0.1; of_classes = ok.1.1.0.1 })
+    (λ m ok. ((ok.classes, ok.objects), ((refl, ok.of_objects), ((refl, ok.of_classes), refl))))
+
+-- ---- what a model without fault says
+
+or-none : (a b : Option ModelFault) → option_or a b ≡ None → (a ≡ None) × (b ≡ None)
+or-none None b e = (refl, e)
+or-none (Some x) b e = absurd cc
+
+no-fault : (test : Bool) (fault : ModelFault) → fault_if test fault ≡ None → test ≡ false
+no-fault true fault e = absurd cc
+no-fault false fault e = refl
+
+not-true : (b : Bool) → not b ≡ false → b ≡ true
+not-true true e = refl
+not-true false e = absurd cc
+
+names-each : {X : Type 0} (name : X → List ℕ) (xs : List X) → list_all is_name (map name xs) ≡ true → AllByRecursion (λ x. is_name (name x) ≡ true) xs
+names-each name [] e = tt
+names-each name (x ∷ xs) e = let p = and_parts (is_name (name x)) (list_all is_name (map name xs)) e in (p.0, names-each name xs p.1)
+
+all-both : {X : Type 0} (P Q : X → Type 0) (xs : List X) → AllByRecursion P xs → AllByRecursion Q xs → AllByRecursion (λ x. P x × Q x) xs
+all-both P Q [] p q = tt
+all-both P Q (x ∷ xs) p q = ((p.0, q.0), all-both P Q xs p.1 q.1)
+
+all-seconds : {X : Type 0} (P Q : X → Type 0) (xs : List X) → AllByRecursion (λ x. P x × Q x) xs → AllByRecursion Q xs
+all-seconds P Q [] p = tt
+all-seconds P Q (x ∷ xs) p = (p.0.1, all-seconds P Q xs p.1)
+
+-- what holds of each element, told by places and one by one
+each : {X : Type 0} (P : X → Type 0) (xs : List X) → All P xs → AllByRecursion P xs
+each P [] all = tt
+each P (x ∷ xs) all = (all 0 x (omega arith), each P xs (λ k d within. all (suc k) d (omega arith)))
+
+by-place : {X : Type 0} (P : X → Type 0) (xs : List X) → AllByRecursion P xs → All P xs
+by-place P [] each k d within = absurd (omega (arith, within))
+by-place P (x ∷ xs) each zero d within = each.0
+by-place P (x ∷ xs) each (suc k) d within = by-place P xs each.1 k d (omega (arith, within))
+
+said-of : {A : Type 0} (m : Parts A) → AreOfModel m → PartsSaid m
+said-of m has =
+    let p8 = or-none _ (fault_if (list_any (λ class. is_bad_policy class.policy) m.classes) BadPolicyKind) has.faultless in
+    let p7 = or-none _ (fault_if (list_any lacks_parents m.classes) HeirWithoutSpawn) p8.0 in
+    let p6 = or-none _ (fault_if (list_any has_begin_kind m.classes) BeginKindAtStart) p7.0 in
+    let p5 = or-none _ (fault_if (not (list_all is_name (object_names m) && list_all is_name (class_names m))) BadName) p6.0 in
+    let p4 = or-none _ (fault_if (has_twice (object_names m) || has_twice (class_names m)) DuplicateName) p5.0 in
+    let p3 = or-none _ (fault_if (nat_lt MOST_OBJECTS (length m.objects)) TooManyObjects) p4.0 in
+    let p2 = or-none _ (fault_if (nat_lt MOST_CLASSES (length m.classes)) TooManyClasses) p3.0 in
+    let none = no-fault _ _ p2.0 in
+    let many = ltb-false _ _ (no-fault _ _ p2.1) in
+    let objects = ltb-false _ _ (no-fault _ _ p3.1) in
+    let names = and_parts _ _ (not-true _ (no-fault _ _ p5.1)) in
+    record {
+      classes = (some-there (length m.classes) none, many);
+      objects = objects;
+      of_objects = all-both _ _ m.objects (names-each (λ o. o.name) m.objects names.0) (each _ m.objects has.firsts);
+      of_classes = all-both _ _ m.classes (names-each (λ c. c.name) m.classes names.1) (each _ m.classes has.sets);
+    }
+  where
+    some-there : (n : ℕ) → (n == 0) ≡ false → 1 ≤ n
+    some-there zero e = absurd cc
+    some-there (suc n) e = omega arith
+
+-- names are short
+short : {X : Type 0} (name : X → List ℕ) (Other : X → Type 0) (xs : List X) → AllByRecursion (λ x. (is_name (name x) ≡ true) × Other x) xs → AllByRecursion (λ x. length (name x) ≤ LONGEST_NAME) xs
+short name Other [] all = tt
+short name Other (x ∷ xs) all = ((name-long (name x) all.0.0).1, short name Other xs all.1)
+
+pub short-objects : {A : Type 0} (m : Parts A) → AreOfModel m → All (λ o. length o.name ≤ LONGEST_NAME) m.objects
+short-objects m has = by-place _ m.objects (short (λ o. o.name) (λ o. HasFirst o.kind) m.objects (said-of m has).of_objects)
+
+pub short-classes : {A : Type 0} (m : Parts A) → AreOfModel m → All (λ c. length c.name ≤ LONGEST_NAME) m.classes
+short-classes m has = by-place _ m.classes (short (λ c. c.name) (λ c. HasSets c) m.classes (said-of m has).of_classes)
+
+-- ---- the two laws
+
+pub image-again : {A : Type 0} (m : Parts A) → AreOfModel m → loaded (image m) ≡ Ok m
+unfolding loaded
+image-again {A} m has =
+    let size = length (image m) in
+    let read = ap (read_parts {A = A} size) (sym (append-nil (image m))) ∙ (parts-format {A = A} size).again m [] (said-of m has) in
+    then-is (read_parts {A = A} size (image m)) (finished size) (m, []) (Ok m) read (ap (λ (o : Option ModelFault). checked m o) has.faultless)
+
+checked-ok : {A : Type 0} (m n : Parts A) (o : Option ModelFault) → checked m o ≡ Ok n → (o ≡ None) × (m ≡ n)
+checked-ok m n None e = (refl, done-is m n e)
+checked-ok m n (Some fault) e = absurd cc
+
+pub image-only : {A : Type 0} (m : Parts A) (bytes : List ℕ) → AreBytes bytes → loaded bytes ≡ Ok m → AreOfModel m × (image m ≡ bytes)
+unfolding loaded
+image-only {A} m bytes fits e =
+    let size = length bytes in
+    let a = then-ok (read_parts {A = A} size bytes) (finished size) m e in
+    let n = a.0.0 in
+    let g = guard-met (eqb (length a.0.1) 0) (Trailing (size - length a.0.1)) (checked n (lowest_fault n)) m a.2 in
+    let t = (parts-format {A = A} size).takes bytes n a.0.1 fits a.1 in
+    let nothing : a.0.1 ≡ [] = nil_from_length a.0.1 (eqb-true _ _ g.0) in
+    let c = checked-ok n m (lowest_fault n) g.1 in
+    let has : AreOfModel n = record { firsts = by-place _ n.objects (all-seconds _ _ n.objects t.1.of_objects); sets = by-place _ n.classes (all-seconds _ _ n.classes t.1.of_classes); faultless = c.0 } in
+    subst (λ (x : Parts A). AreOfModel x × (image x ≡ bytes)) c.1 (has, sym (t.0.parts ∙ ap (λ (r : List ℕ). image n ++ r) nothing ∙ append-nil (image n)))

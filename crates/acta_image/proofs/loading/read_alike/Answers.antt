@@ -1,0 +1,10 @@
+use Rattle.std.proofs.Common.{◌≡◌, Ok, subst}
+use Rattle.acta_image.specs.Reading.{loaded}
+use Rattle.acta_image.proofs.Images.{image-again, image-only}
+use Rattle.acta_image.proofs.loading.read_alike.Goals as goal
+
+pub returns-clause-spelled : goal.returns-clause-spelled
+returns-clause-spelled g c = λ m is. (image-only m c.args.bytes.now (λ i. (c.type_inv.bytes i).fits) is).1
+
+pub returns-clause-only : goal.returns-clause-only
+returns-clause-only g c = λ m of is. subst (λ bytes. loaded bytes ≡ Ok m) is (image-again m of)

@@ -1,0 +1,11 @@
+use Rattle.acta_image.proofs.Images.{image-again, short-classes, short-objects}
+use Rattle.acta_image.proofs.writing.known.Goals as goal
+
+pub returns-clause-again : goal.returns-clause-again
+returns-clause-again g c = image-again c.args.model.now c.known.ensures
+
+pub returns-clause-objects : goal.returns-clause-objects
+returns-clause-objects g c = short-objects c.args.model.now c.known.ensures
+
+pub returns-clause-classes : goal.returns-clause-classes
+returns-clause-classes g c = short-classes c.args.model.now c.known.ensures

@@ -1,0 +1,5 @@
+pub mod Claims
+pub mod Codes
+pub mod Reading
+pub mod Spelling
+pub mod inside

@@ -1,0 +1,228 @@
+-- Reading an image from left to right, field by field: a value and the bytes behind it, or the first fault.
+use Rattle.std.specs.Prelude.{ℕ, zero, suc, ◌+◌, ◌-◌, ◌*◌, Bool, ◌&&◌, ◌==◌, nat_lt, nat_le, List, [], ◌∷◌, length, take, drop, slice_get, slice_index, Option, Some, None, option_map, option_and_then, Result, Ok, Err, if◌then◌else◌}
+use Rattle.std.specs.Int.{w16, w32, from_be_bytes, cast_signed}
+use Rattle.std.specs.Str.{bytes_eq}
+use Rattle.acta_table.specs.declared.model.AtCommit.{AtCommit}
+use Rattle.acta_table.specs.declared.model.AtCommit.TheVariants.{Keeps, ToParent}
+use Rattle.acta_table.specs.declared.model.Class.{Class}
+use Rattle.acta_table.specs.declared.model.Extent.{Extent}
+use Rattle.acta_table.specs.declared.model.Extent.TheVariants.{Whole, Any}
+use Rattle.acta_table.specs.declared.model.Kind.{Kind}
+use Rattle.acta_table.specs.declared.model.Kind.TheVariants.{Register, Counter, Elements}
+use Rattle.acta_table.specs.declared.model.Object.{Object}
+use Rattle.acta_table.specs.declared.model.ModelFault.{ModelFault}
+use Rattle.acta_table.specs.declared.model.Parts.{Parts}
+use Rattle.acta_table.specs.declared.model.Scope.{Scope}
+use Rattle.acta_table.specs.declared.model.Scope.TheVariants.{Others, NonAncestors}
+use Rattle.acta_table.specs.declared.model.Starts.{Starts}
+use Rattle.acta_table.specs.declared.policy.Policy.{Policy}
+use Rattle.acta_table.specs.declared.policy.Policy.TheVariants.{Refuse, Depend}
+use Rattle.acta_table.specs.declared.start_edges.Dependent.{Dependent}
+use Rattle.acta_table.specs.declared.start_edges.Dependent.TheVariants.{Starter, Started}
+use Rattle.acta_table.specs.declared.start_edges.StartEdge.{StartEdge}
+use Rattle.acta_table.specs.declared.limits.TheConstants.{LONGEST_NAME, MOST_CLASSES, MOST_OBJECTS}
+use Rattle.acta_table.specs.Dependencies.{code_of, all_kinds}
+use Rattle.acta_table.specs.Faults.{is_name, lowest_fault}
+use Rattle.acta_table.specs.Kinds.{has_bit}
+use Rattle.acta_table.specs.Starts.{rank_of}
+use Rattle.acta_image.specs.declared.fault.ImageFault.{ImageFault}
+use Rattle.acta_image.specs.declared.fault.ImageFault.TheVariants.{Magic, Version, Truncated, BadField, Trailing, Model}
+use Rattle.acta_image.specs.Codes.{magic}
+
+-- a reader: what the first bytes give, and the bytes behind them, or the first fault
+abbrev pub Reader : Type 0 → Type 0
+Reader X = List ℕ → Result (X × List ℕ) ImageFault
+
+-- what comes of what was read, where there was no fault
+abbrev pub and_then : {X Y : Type 0} → Result X ImageFault → (X → Result Y ImageFault) → Result Y ImageFault
+and_then (Ok x) next = next x
+and_then (Err fault) next = Err fault
+
+-- one reader, and then another, given what the first has read
+infixl 10 ◌>>=◌
+abbrev pub ◌>>=◌ : {X Y : Type 0} → Reader X → (X → Reader Y) → Reader Y
+read >>= next = λ bytes. and_then (read bytes) (λ x. next x.0 x.1)
+
+-- nothing is read, and this is given
+abbrev pub give : {X : Type 0} → X → Reader X
+give x = λ bytes. Ok (x, bytes)
+
+-- what was found in a field, and the bytes behind it; the fault, where nothing is allowed
+abbrev pub found_or : {X : Type 0} → ImageFault → List ℕ → Option X → Result (X × List ℕ) ImageFault
+found_or fault rest None = Err fault
+found_or fault rest (Some x) = Ok (x, rest)
+
+-- a field of n bytes, and the bytes behind it: truncated where fewer are left, and the fault where they
+-- stand for nothing that is allowed
+abbrev pub field_or : {X : Type 0} → ImageFault → ℕ → (List ℕ → Option X) → Reader X
+field_or fault n read bytes =
+    if nat_lt (length bytes) n then Err Truncated else found_or fault (drop n bytes) (read (take n bytes))
+
+-- a field whose fault is its offset, in an image of this size: as many bytes as are not left
+abbrev pub field : {X : Type 0} → ℕ → ℕ → (List ℕ → Option X) → Reader X
+field size n read bytes = field_or (BadField (size - length bytes)) n read bytes
+
+-- the value, where the test is true
+abbrev pub some_if : {X : Type 0} → Bool → X → Option X
+some_if test x = if test then Some x else None
+
+-- a byte from least to most
+abbrev pub byte_in : ℕ → ℕ → List ℕ → Option ℕ
+byte_in least most bytes =
+    let b = slice_index bytes 0 in
+    some_if (nat_le least b && nat_le b most) b
+
+-- a number of two bytes that is at most this
+abbrev pub number_to : ℕ → List ℕ → Option ℕ
+number_to most bytes = some_if (nat_le (from_be_bytes w16 bytes) most) (from_be_bytes w16 bytes)
+
+-- a name
+abbrev pub name_by : List ℕ → Option (List ℕ)
+name_by bytes = some_if (is_name bytes) bytes
+
+-- a first value, behind the code of the kind
+abbrev pub kind_in : ℕ → List ℕ → Option Kind
+kind_in code bytes =
+    let n = from_be_bytes w32 bytes in
+    if code == 0 then Some (Register (cast_signed w32 n))
+    else if code == 1 then Some (Counter (cast_signed w32 n))
+    else some_if (n == 0) Elements
+
+-- how transactions may start, by three bits
+abbrev pub starts_by : ℕ → Starts
+starts_by bits = record { begin = has_bit bits 0; spawned = has_bit bits 1; split = has_bit bits 2 }
+
+abbrev pub starts_in : List ℕ → Option Starts
+starts_in bytes = option_map starts_by (byte_in 0 7 bytes)
+
+-- one of two choices, by a byte that is 0 or 1
+abbrev pub choice_in : {X : Type 0} → X → X → List ℕ → Option X
+choice_in x y bytes = option_map (λ b. if b == 0 then x else y) (byte_in 0 1 bytes)
+
+abbrev pub scope_in : List ℕ → Option Scope
+scope_in bytes = choice_in Others NonAncestors bytes
+
+abbrev pub commit_in : List ℕ → Option AtCommit
+commit_in bytes = choice_in Keeps ToParent bytes
+
+abbrev pub extent_in : List ℕ → Option Extent
+extent_in bytes = choice_in Whole Any bytes
+
+-- the kinds of a policy, behind its code: none where it refuses
+abbrev pub policy_in : ℕ → List ℕ → Option Policy
+policy_in code bytes =
+    let n = from_be_bytes w16 bytes in
+    if code == 0 then some_if (n == 0) Refuse else some_if (nat_le n 4095) (Depend n)
+
+-- who depends, by a byte that is 0 or 1
+abbrev pub dependent_in : ℕ → Option Dependent
+dependent_in b = if b == 0 then Some Starter else some_if (b == 1) Started
+
+-- the place of a start edge in their order
+abbrev pub rank : StartEdge → ℕ
+rank e = 2 * code_of e.kind + rank_of e.dependent
+
+-- the start edge of two bytes
+abbrev pub edge_in : ℕ → ℕ → Option StartEdge
+edge_in kind dependent =
+    option_and_then (λ k. option_map (λ d. record { kind = k; dependent = d }) (dependent_in dependent)) (slice_get all_kinds kind)
+
+-- the start edge of a row of two bytes, if it stands behind those of lower rank: its rank is at least this
+abbrev pub row_in : ℕ → List ℕ → Option StartEdge
+row_in least bytes =
+    option_and_then (λ e. some_if (nat_le least (rank e)) e) (edge_in (slice_index bytes 0) (slice_index bytes 1))
+
+-- n rows, each of higher rank than the one before it, the first of this rank at least
+abbrev pub read_rows : ℕ → ℕ → ℕ → Reader (List StartEdge)
+read_rows size least zero = give []
+read_rows size least (suc n) = do
+  first ← field size 2 (row_in least)
+  others ← read_rows size (suc (rank first)) n
+  give (first ∷ others)
+
+-- how many rows, and the rows
+unfoldable pub read_edges : ℕ → Reader (List StartEdge)
+read_edges size = do
+  count ← field size 1 (byte_in 0 24)
+  read_rows size 0 count
+
+-- an object
+unfoldable pub read_object : {A : Type 0} → ℕ → Reader (Object A)
+read_object size = do
+  len ← field size 1 (byte_in 1 LONGEST_NAME)
+  name ← field size len name_by
+  code ← field size 1 (byte_in 0 2)
+  kind ← field size 4 (kind_in code)
+  give (record { name = name; kind = kind })
+
+-- a class
+unfoldable pub read_class : {A : Type 0} → ℕ → Reader (Class A)
+read_class size = do
+  len ← field size 1 (byte_in 1 LONGEST_NAME)
+  name ← field size len name_by
+  starts ← field size 1 starts_in
+  may ← field size 2 (number_to 255)
+  scope ← field size 1 scope_in
+  code ← field size 1 (byte_in 0 1)
+  policy ← field size 2 (policy_in code)
+  at_commit ← field size 1 commit_in
+  extent ← field size 1 extent_in
+  spawn_edges ← read_edges size
+  split_edges ← read_edges size
+  give (record {
+    name = name;
+    starts = starts;
+    may = may;
+    scope = scope;
+    policy = policy;
+    at_commit = at_commit;
+    extent = extent;
+    spawn_edges = spawn_edges;
+    split_edges = split_edges;
+  })
+
+-- n items, each read so
+abbrev pub read_items : {X : Type 0} → Reader X → ℕ → Reader (List X)
+read_items read zero = give []
+read_items read (suc n) = do
+  first ← read
+  others ← read_items read n
+  give (first ∷ others)
+
+-- the magic; a byte that is there and differs comes before one that is not there
+unfoldable pub read_magic : Reader (List ℕ)
+read_magic bytes =
+    if bytes_eq (take 4 bytes) (take (length bytes) magic)
+    then (if nat_lt (length bytes) 4 then Err Truncated else Ok (magic, drop 4 bytes))
+    else Err Magic
+
+-- how many classes and how many objects, behind the magic and the version
+unfoldable pub read_header : ℕ → Reader (ℕ × ℕ)
+read_header size = do
+  start ← read_magic
+  version ← field_or Version 1 (byte_in 1 1)
+  classes ← field size 1 (byte_in 1 MOST_CLASSES)
+  objects ← field size 2 (number_to MOST_OBJECTS)
+  give (classes, objects)
+
+-- the objects and the classes
+unfoldable pub read_parts : {A : Type 0} → ℕ → Reader (Parts A)
+read_parts size = do
+  counts ← read_header size
+  objects ← read_items (read_object size) counts.1
+  classes ← read_items (read_class size) counts.0
+  give (record { objects = objects; classes = classes })
+
+-- the parts, where they have no fault
+abbrev pub checked : {A : Type 0} → Parts A → Option ModelFault → Result (Parts A) ImageFault
+checked m None = Ok m
+checked m (Some fault) = Err (Model fault)
+
+-- the parts that were read, where no byte is left and they have no fault
+abbrev pub finished : {A : Type 0} → ℕ → Parts A × List ℕ → Result (Parts A) ImageFault
+finished size x =
+    if length x.1 == 0 then checked x.0 (lowest_fault x.0) else Err (Trailing (size - length x.1))
+
+-- what the bytes give: a model, or their first fault
+unfoldable pub loaded : {A : Type 0} → List ℕ → Result (Parts A) ImageFault
+loaded bytes = and_then (read_parts (length bytes) bytes) (finished (length bytes))

@@ -1,0 +1,53 @@
+-- The one spelling of a model: its fields in order, each as its bytes, numbers big endian.
+use Rattle.std.specs.Prelude.{ℕ, List, [], ◌∷◌, ◌++◌, length}
+use Rattle.std.specs.List.{flat_map}
+use Rattle.std.specs.Int.{w16, w32, to_be_bytes}
+use Rattle.acta_table.specs.declared.model.Class.{Class}
+use Rattle.acta_table.specs.declared.model.Object.{Object}
+use Rattle.acta_table.specs.declared.model.Parts.{Parts}
+use Rattle.acta_table.specs.declared.start_edges.StartEdge.{StartEdge}
+use Rattle.acta_table.specs.Dependencies.{code_of}
+use Rattle.acta_table.specs.Starts.{rank_of}
+use Rattle.acta_image.specs.Codes.{magic, object_code, first_bits, starts_bits, scope_code, policy_code, policy_bits, commit_code, extent_code}
+
+-- a field of one byte
+abbrev pub byte : ℕ → List ℕ
+byte n = n ∷ []
+
+-- an object: its name and how long it is, its kind, its first value
+abbrev pub object_bytes : {A : Type 0} → Object A → List ℕ
+object_bytes o = byte (length o.name) ++ (o.name ++ (byte (object_code o.kind) ++ to_be_bytes w32 (first_bits o.kind)))
+
+-- a start edge: the code of its kind, and which of the two depends, 0 the starter and 1 the started
+abbrev pub row_bytes : StartEdge → List ℕ
+row_bytes e = code_of e.kind ∷ rank_of e.dependent ∷ []
+
+-- how many start edges, and the rows
+abbrev pub rows_bytes : List StartEdge → List ℕ
+rows_bytes es = byte (length es) ++ flat_map row_bytes es
+
+-- how its transactions start and what they may do, its scope, its policy and the kinds of that, what a commit does, and
+-- how much is handed over
+abbrev pub choices : {A : Type 0} → Class A → List ℕ
+choices c =
+    byte (starts_bits c.starts)
+    ++ (to_be_bytes w16 c.may
+    ++ (byte (scope_code c.scope)
+    ++ (byte (policy_code c.policy)
+    ++ (to_be_bytes w16 (policy_bits c.policy)
+    ++ (byte (commit_code c.at_commit)
+    ++ byte (extent_code c.extent))))))
+
+-- a class: its name and how long it is, what it says, the edges of a spawn, and those of a split
+abbrev pub class_bytes : {A : Type 0} → Class A → List ℕ
+class_bytes c =
+    byte (length c.name) ++ (c.name ++ (choices c ++ (rows_bytes c.spawn_edges ++ rows_bytes c.split_edges)))
+
+-- the image: the magic, the version 1, how many classes and how many objects, the objects, the classes
+unfoldable pub image : {A : Type 0} → Parts A → List ℕ
+image m =
+    magic ++ (byte 1
+    ++ (byte (length m.classes)
+    ++ (to_be_bytes w16 (length m.objects)
+    ++ (flat_map object_bytes m.objects
+    ++ flat_map class_bytes m.classes))))

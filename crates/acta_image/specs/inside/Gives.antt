@@ -1,0 +1,26 @@
+-- What a call that reads fields gives.
+use Rattle.std.specs.Prelude.{◌≡◌, ℕ, ◌<◌, List, length, get_or, take, drop, nat_lt, ◌==◌, Result, Ok, Err, if◌then◌else◌}
+use Rattle.acta_table.specs.declared.policy.Policy.{Policy}
+use Rattle.acta_table.specs.declared.policy.Policy.TheVariants.{Refuse, Depend}
+use Rattle.acta_image.specs.declared.fault.ImageFault.{ImageFault}
+use Rattle.acta_image.specs.declared.fault.ImageFault.TheVariants.{Truncated}
+use Rattle.acta_image.specs.declared.fault.LoadError.{LoadError}
+use Rattle.acta_image.specs.Claims.{IsWhy}
+use Rattle.acta_image.specs.Reading.{Reader}
+
+-- each number is that of a byte
+abbrev pub AreBytes : List ℕ → Type 0
+AreBytes bytes = (i : ℕ) → get_or bytes i 0 < 256
+
+-- the first n bytes, and those behind them
+abbrev pub part_of : ℕ → Reader (List ℕ)
+part_of n bytes = if nat_lt (length bytes) n then Err Truncated else Ok (take n bytes, drop n bytes)
+
+-- the policy that has this code and these bits
+abbrev pub policy_by : ℕ → ℕ → Policy
+policy_by code bits = if code == 0 then Refuse else Depend bits
+
+-- what a call returned is what reading gives, unless there was no memory
+abbrev pub Gives : {X Y : Type 0} → (X → Y) → Result X LoadError → Result Y ImageFault → Type 0
+Gives view (Ok x) read = read ≡ Ok (view x)
+Gives view (Err e) read = IsWhy read e

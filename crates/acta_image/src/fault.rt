@@ -1,0 +1,67 @@
+//! Why bytes are no image.
+
+ghost use Rattle.std.specs.Prelude.{◌≡◌};
+ghost use Rattle.acta_image.specs.Claims.{image_fault_number};
+ghost use Rattle.acta_image.specs.declared.fault.LoadError.TheVariants.{Memory};
+
+use acta_table::ModelFault;
+use std::alloc::{AllocError, AllocFailed};
+
+/// The first fault of an image, from left to right (our list). An offset is that of the faulty field's first byte,
+/// from 0.
+#[derive(Clone, Copy, PartialEq, Eq, Debug)]
+pub enum ImageFault {
+    /// One of the first four bytes is another than in `ACTA`.
+    Magic,
+    /// The version isn't 1.
+    Version,
+    /// The bytes end inside a field, or before one.
+    Truncated,
+    /// The field at this offset has a value that is not allowed.
+    BadField(usize),
+    /// Bytes are left behind the last field; the first has this offset.
+    Trailing(usize),
+    /// All fields are good, and what they say makes no model.
+    Model(ModelFault),
+}
+
+impl ImageFault {
+    /// The number of the fault, from 1 to 6, as the program prints it.
+    pub fn number(self) -> u8
+        ensures { result ≡ image_fault_number self }
+    {
+        match self {
+            ImageFault::Magic => 1,
+            ImageFault::Version => 2,
+            ImageFault::Truncated => 3,
+            ImageFault::BadField(_) => 4,
+            ImageFault::Trailing(_) => 5,
+            ImageFault::Model(_) => 6,
+        }
+    }
+}
+
+/// Why no model was loaded.
+#[derive(Debug, Drop)]
+pub enum LoadError {
+    /// There is no memory.
+    Memory,
+    /// The bytes are no image.
+    Fault(ImageFault),
+}
+
+impl From<AllocError> for LoadError {
+    ghost from_gives = { λ _ e. e ≡ Memory };
+
+    fn from(_e: AllocError) -> LoadError {
+        LoadError::Memory
+    }
+}
+
+impl<T: Drop> From<AllocFailed<T>> for LoadError {
+    ghost from_gives = { λ _ e. e ≡ Memory };
+
+    fn from(_e: AllocFailed<T>) -> LoadError {
+        LoadError::Memory
+    }
+}

@@ -1,0 +1,175 @@
+//! The fields of fixed length: each is read from the front of what is left of an image of a known size, and gives its
+//! value with the bytes behind it.
+
+ghost use Rattle.std.specs.Prelude.{◌≡◌, ◌-◌, ◌≤◌, length, IfOk};
+ghost use Rattle.acta_image.specs.declared.fault.ImageFault.TheVariants.{BadField};
+ghost use Rattle.acta_image.specs.declared.fault.LoadError.TheVariants as error;
+ghost use Rattle.acta_image.specs.Reading.{byte_in, commit_in, extent_in, field, kind_in, name_by, number_to, policy_in, scope_in, starts_in};
+ghost use Rattle.acta_image.specs.inside.Gives.{Gives, part_of, policy_by};
+
+use crate::fault::{ImageFault, LoadError};
+use acta_table::{
+    AtCommit, DepKinds, Extent, Items, Kind, Kinds, Policy, Scope, Starts, is_named_well,
+};
+use std::alloc::Allocator;
+
+/// The first bytes, and those behind them.
+pub fn part(bytes: &[u8], len: usize) -> Result<(&[u8], &[u8]), LoadError>
+    ensures { Gives (λ x. (x.0.now, x.1.now)) result (part_of len bytes.now) }
+{
+    if bytes.len() < len {
+        return Err(LoadError::Fault(ImageFault::Truncated));
+    }
+    Ok(bytes.split_at(len))
+}
+
+/// The fault of the field that these bytes begin with, in an image of this size.
+pub fn bad(size: usize, bytes: &[u8]) -> LoadError
+    ensures { result ≡ error.Fault (BadField (size - length bytes.now)) }
+{
+    LoadError::Fault(ImageFault::BadField(size.saturating_sub(bytes.len())))
+}
+
+/// A byte from least to most.
+pub fn byte(size: usize, least: u8, most: u8, bytes: &[u8]) -> Result<(u8, &[u8]), LoadError>
+    ensures { Gives (λ x. (x.0, x.1.now)) result (field size 1 (byte_in least most) bytes.now) }
+{
+    let (found, rest) = part(bytes, 1)?;
+    if least <= found[0] && found[0] <= most {
+        Ok((found[0], rest))
+    } else {
+        Err(bad(size, bytes))
+    }
+}
+
+/// A number of two bytes that is at most this.
+pub fn number(size: usize, most: u16, bytes: &[u8]) -> Result<(u16, &[u8]), LoadError>
+    ensures { Gives (λ x. (x.0, x.1.now)) result (field size 2 (number_to most) bytes.now) }
+{
+    let (found, rest) = part(bytes, 2)?;
+    let number = u16::from_be_bytes([found[0], found[1]]);
+    if number <= most {
+        Ok((number, rest))
+    } else {
+        Err(bad(size, bytes))
+    }
+}
+
+/// A name of this length.
+pub fn name<A: Allocator>(
+    alloc: A,
+    size: usize,
+    len: u8,
+    bytes: &[u8],
+) -> Result<(Items<u8, A>, &[u8]), LoadError>
+    ensures { Gives (λ x. (x.0, x.1.now)) result (field size len name_by bytes.now) }
+{
+    let (found, rest) = part(bytes, usize::from(len))?;
+    if is_named_well(found) {
+        Ok((Items::of(Vec::from_slice(alloc, found)?), rest))
+    } else {
+        Err(bad(size, bytes))
+    }
+}
+
+/// The first value of an object whose kind has this code.
+pub fn kind(size: usize, code: u8, bytes: &[u8]) -> Result<(Kind, &[u8]), LoadError>
+    ensures { Gives (λ x. (x.0, x.1.now)) result (field size 4 (kind_in code) bytes.now) }
+{
+    let (found, rest) = part(bytes, 4)?;
+    let number = u32::from_be_bytes([found[0], found[1], found[2], found[3]]);
+    if code == 0 {
+        Ok((Kind::Register(number.cast_signed()), rest))
+    } else if code == 1 {
+        Ok((Kind::Counter(number.cast_signed()), rest))
+    } else if number == 0 {
+        Ok((Kind::Elements, rest))
+    } else {
+        Err(bad(size, bytes))
+    }
+}
+
+/// How transactions may start.
+pub fn starts(size: usize, bytes: &[u8]) -> Result<(Starts, &[u8]), LoadError>
+    ensures { Gives (λ x. (x.0, x.1.now)) result (field size 1 starts_in bytes.now) }
+{
+    let (bits, rest) = byte(size, 0, 7, bytes)?;
+    let starts = Starts {
+        begin: bits & 1 != 0,
+        spawned: bits & 2 != 0,
+        split: bits & 4 != 0,
+    };
+    Ok((starts, rest))
+}
+
+/// The set of kinds of event that has these bits.
+pub fn kinds_of(bits: u16) -> Kinds
+    requires { bits ≤ 255 }
+    ensures { result ≡ bits }
+{
+    match Kinds::from_bits(bits) {
+        Some(kinds) => kinds,
+        None => unreachable!(),
+    }
+}
+
+/// Whose operations count.
+pub fn scope(size: usize, bytes: &[u8]) -> Result<(Scope, &[u8]), LoadError>
+    ensures { Gives (λ x. (x.0, x.1.now)) result (field size 1 scope_in bytes.now) }
+{
+    let (code, rest) = byte(size, 0, 1, bytes)?;
+    let scope = if code == 0 {
+        Scope::Others
+    } else {
+        Scope::NonAncestors
+    };
+    Ok((scope, rest))
+}
+
+/// The bits of the kinds of a policy that has this code: none where it refuses.
+pub fn policy_bits(size: usize, code: u8, bytes: &[u8]) -> Result<(u16, &[u8]), LoadError>
+    ensures field { Gives (λ x. (policy_by code x.0, x.1.now)) result (field size 2 (policy_in code) bytes.now) }
+    ensures small { IfOk result (λ x. x.0 ≤ 4095) }
+{
+    number(size, if code == 0 { 0 } else { 4095 }, bytes)
+}
+
+/// The policy that has this code and these bits.
+pub fn policy_of(code: u8, bits: u16) -> Policy
+    requires { bits ≤ 4095 }
+    ensures { result ≡ policy_by code bits }
+{
+    if code == 0 {
+        return Policy::Refuse;
+    }
+    match DepKinds::from_bits(bits) {
+        Some(kinds) => Policy::Depend(kinds),
+        None => unreachable!(),
+    }
+}
+
+/// What becomes of what is held at a commit.
+pub fn at_commit(size: usize, bytes: &[u8]) -> Result<(AtCommit, &[u8]), LoadError>
+    ensures { Gives (λ x. (x.0, x.1.now)) result (field size 1 commit_in bytes.now) }
+{
+    let (code, rest) = byte(size, 0, 1, bytes)?;
+    let at_commit = if code == 0 {
+        AtCommit::Keeps
+    } else {
+        AtCommit::ToParent
+    };
+    Ok((at_commit, rest))
+}
+
+/// How much is handed over.
+pub fn extent(size: usize, bytes: &[u8]) -> Result<(Extent, &[u8]), LoadError>
+    ensures { Gives (λ x. (x.0, x.1.now)) result (field size 1 extent_in bytes.now) }
+{
+    let (code, rest) = byte(size, 0, 1, bytes)?;
+    let extent = if code == 0 {
+        Extent::Whole
+    } else {
+        Extent::Any
+    };
+    Ok((extent, rest))
+}

@@ -1,0 +1,185 @@
+//! From an image to its model.
+
+ghost use Rattle.std.specs.Prelude.{◌≡◌, Ok, List, IfOk, IfErr, ℕ, length};
+ghost use Rattle.acta_table.specs.declared.model.Parts.{Parts};
+ghost use Rattle.acta_table.specs.Typed.{AreOfModel};
+ghost use Rattle.acta_image.specs.Claims.{IsWhy};
+ghost use Rattle.acta_image.specs.declared.fault.ImageFault.TheVariants.{Version};
+ghost use Rattle.acta_image.specs.Reading.{byte_in, field_or, loaded, read_class, read_header, read_items, read_magic, read_object, read_parts};
+ghost use Rattle.acta_image.specs.Spelling.{image};
+ghost use Rattle.acta_image.specs.inside.Gives.{Gives};
+
+use crate::fault::{ImageFault, LoadError};
+use crate::fields::{
+    at_commit, byte, extent, kind, kinds_of, name, number, part, policy_bits, policy_of, scope,
+    starts,
+};
+use crate::rows::edges;
+use acta_table::{Class, Items, LONGEST_NAME, MOST_CLASSES, MOST_OBJECTS, Model, Object, Parts};
+use std::alloc::Allocator;
+
+// An object.
+#[tactic(auto, unfolding(crate::specs::Reading::read_object))]
+fn object<A: Allocator>(
+    alloc: A,
+    size: usize,
+    bytes: &[u8],
+) -> Result<(Object<A>, &[u8]), LoadError>
+    ensures { Gives (λ x. (x.0, x.1.now)) result (read_object size bytes.now) }
+{
+    let (len, rest) = byte(size, 1, LONGEST_NAME as u8, bytes)?;
+    let (name, rest) = name(alloc, size, len, rest)?;
+    let (code, rest) = byte(size, 0, 2, rest)?;
+    let (kind, rest) = kind(size, code, rest)?;
+    Ok((Object { name, kind }, rest))
+}
+
+// A class.
+#[tactic(auto, unfolding(crate::specs::Reading::read_class))]
+fn class<A: Allocator + Copy>(
+    alloc: A,
+    size: usize,
+    bytes: &[u8],
+) -> Result<(Class<A>, &[u8]), LoadError>
+    ensures { Gives (λ x. (x.0, x.1.now)) result (read_class size bytes.now) }
+{
+    let (len, rest) = byte(size, 1, LONGEST_NAME as u8, bytes)?;
+    let (name, rest) = name(alloc, size, len, rest)?;
+    let (starts, rest) = starts(size, rest)?;
+    let (may, rest) = number(size, 255, rest)?;
+    let (scope, rest) = scope(size, rest)?;
+    let (code, rest) = byte(size, 0, 1, rest)?;
+    let (kinds, rest) = policy_bits(size, code, rest)?;
+    let (at_commit, rest) = at_commit(size, rest)?;
+    let (extent, rest) = extent(size, rest)?;
+    let (spawn_edges, rest) = edges(alloc, size, rest)?;
+    let (split_edges, rest) = edges(alloc, size, rest)?;
+    let class = Class {
+        name,
+        starts,
+        may: kinds_of(may),
+        scope,
+        policy: policy_of(code, kinds),
+        at_commit,
+        extent,
+        spawn_edges,
+        split_edges,
+    };
+    Ok((class, rest))
+}
+
+// So many objects.
+fn objects<A: Allocator + Copy>(
+    alloc: A,
+    size: usize,
+    count: u16,
+    bytes: &[u8],
+) -> Result<(Items<Object<A>, A>, &[u8]), LoadError>
+    ensures { Gives (λ x. (x.0, x.1.now)) result (read_items (read_object size) count bytes.now) }
+{
+    let mut objects = Vec::new(alloc);
+    let mut rest = bytes;
+    for _ in 0..count {
+        let (object, behind) = object(alloc, size, rest)?;
+        objects.push(object)?;
+        rest = behind;
+    }
+    Ok((Items::of(objects), rest))
+}
+
+// So many classes.
+fn classes<A: Allocator + Copy>(
+    alloc: A,
+    size: usize,
+    count: u8,
+    bytes: &[u8],
+) -> Result<(Items<Class<A>, A>, &[u8]), LoadError>
+    ensures { Gives (λ x. (x.0, x.1.now)) result (read_items (read_class size) count bytes.now) }
+{
+    let mut classes = Vec::new(alloc);
+    let mut rest = bytes;
+    for _ in 0..count {
+        let (class, behind) = class(alloc, size, rest)?;
+        classes.push(class)?;
+        rest = behind;
+    }
+    Ok((Items::of(classes), rest))
+}
+
+// The magic: a byte that is there and differs comes before one that is not there.
+#[tactic(auto, unfolding(crate::specs::Reading::read_magic))]
+fn magic(bytes: &[u8]) -> Result<(&[u8], &[u8]), LoadError>
+    ensures { Gives (λ x. (x.0.now, x.1.now)) result (read_magic bytes.now) }
+{
+    let magic = b"ACTA";
+    if bytes[..bytes.len().min(4)] != magic[..bytes.len().min(4)] {
+        return Err(LoadError::Fault(ImageFault::Magic));
+    }
+    if bytes.len() < 4 {
+        return Err(LoadError::Fault(ImageFault::Truncated));
+    }
+    Ok((magic, &bytes[4..]))
+}
+
+// The version.
+fn version(bytes: &[u8]) -> Result<(u8, &[u8]), LoadError>
+    ensures { Gives (λ x. (x.0, x.1.now)) result (field_or Version 1 (byte_in 1 1) bytes.now) }
+{
+    let (found, rest) = part(bytes, 1)?;
+    if found[0] == 1 {
+        Ok((1, rest))
+    } else {
+        Err(LoadError::Fault(ImageFault::Version))
+    }
+}
+
+// How many classes there are and how many objects, behind the magic and the version.
+#[tactic(auto, unfolding(crate::specs::Reading::read_header))]
+fn header(size: usize, bytes: &[u8]) -> Result<((u8, u16), &[u8]), LoadError>
+    ensures { Gives (λ x. (x.0, x.1.now)) result (read_header size bytes.now) }
+{
+    let (_, rest) = magic(bytes)?;
+    let (_, rest) = version(rest)?;
+    let (classes, rest) = byte(size, 1, MOST_CLASSES as u8, rest)?;
+    let (objects, rest) = number(size, MOST_OBJECTS as u16, rest)?;
+    Ok(((classes, objects), rest))
+}
+
+// The objects and the classes.
+#[tactic(auto, unfolding(crate::specs::Reading::read_parts))]
+fn parts<A: Allocator + Copy>(alloc: A, bytes: &[u8]) -> Result<(Parts<A>, &[u8]), LoadError>
+    ensures { Gives (λ x. (x.0, x.1.now)) result (read_parts (length bytes.now) bytes.now) }
+{
+    let size = bytes.len();
+    let (counts, rest) = header(size, bytes)?;
+    let (objects, rest) = objects(alloc, size, counts.1, rest)?;
+    let (classes, rest) = classes(alloc, size, counts.0, rest)?;
+    Ok((Parts { objects, classes }, rest))
+}
+
+// Bytes that are read as a model are its image, and the image of a model is read as the model.
+fn read_alike<A: Allocator>(alloc: &A, bytes: &[u8])
+    ensures spelled { (m : Parts A) → loaded bytes.now ≡ Ok m → image m ≡ bytes.now }
+    ensures only { (m : Parts A) → AreOfModel m → image m ≡ bytes.now → loaded bytes.now ≡ Ok m }
+{}
+
+/// The model whose image the bytes are (the format is ours). `Fault` with the first fault of bytes that are no image;
+/// `Memory` where there is none.
+#[tactic(auto, unfolding(crate::specs::Reading::loaded))]
+pub fn load<A: Allocator + Copy>(alloc: A, bytes: &[u8]) -> Result<Model<A>, LoadError>
+    ensures ok { IfOk result (λ model. loaded bytes.now ≡ Ok model) }
+    ensures fault { IfErr result (IsWhy (loaded {A = A} bytes.now)) }
+    ensures spelled { IfOk result (λ model. image model ≡ bytes.now) }
+    ensures only { (m : Parts A) → AreOfModel m → image m ≡ bytes.now → loaded bytes.now ≡ Ok m }
+{
+    read_alike(&alloc, bytes);
+    let (parts, rest) = parts(alloc, bytes)?;
+    if !rest.is_empty() {
+        let offset = bytes.len().saturating_sub(rest.len());
+        return Err(LoadError::Fault(ImageFault::Trailing(offset)));
+    }
+    match Model::check(parts) {
+        Ok(model) => Ok(model),
+        Err(fault) => Err(LoadError::Fault(ImageFault::Model(fault))),
+    }
+}

@@ -1,0 +1,99 @@
+//! The start edges of a class: how many there are, and a row of two bytes for each, in their order.
+
+ghost use Rattle.std.specs.Prelude.{◌≡◌, slice_get};
+ghost use Rattle.acta_table.specs.Dependencies.{all_kinds};
+ghost use Rattle.acta_image.specs.Reading.{dependent_in, edge_in, field, rank, read_edges, read_rows, row_in};
+ghost use Rattle.acta_image.specs.inside.Gives.{Gives};
+
+use crate::codes::dependent_code;
+use crate::fault::LoadError;
+use crate::fields::{bad, byte, part};
+use acta_table::{Dep, Dependent, StartEdge, StartEdges};
+use std::alloc::Allocator;
+
+// The kind that has this code.
+fn kind_of(code: u8) -> Option<Dep>
+    ensures { result ≡ slice_get all_kinds code }
+{
+    Dep::ALL.get(usize::from(code)).copied()
+}
+
+// Who depends, by its code.
+fn dependent_of(code: u8) -> Option<Dependent>
+    ensures { result ≡ dependent_in code }
+{
+    match code {
+        0 => Some(Dependent::Starter),
+        1 => Some(Dependent::Started),
+        _ => None,
+    }
+}
+
+// The start edge of these two codes.
+fn edge_of(kind: u8, dependent: u8) -> Option<StartEdge>
+    ensures { result ≡ edge_in kind dependent }
+{
+    let kind = kind_of(kind)?;
+    let dependent = dependent_of(dependent)?;
+    Some(StartEdge { kind, dependent })
+}
+
+// The place of the start edge in their order.
+fn rank_of(edge: &StartEdge) -> u8
+    ensures { result ≡ rank edge.now }
+{
+    2 * edge.kind.code() + dependent_code(edge.dependent)
+}
+
+// A row whose start edge has this rank at least.
+fn row(size: usize, least: u8, bytes: &[u8]) -> Result<(StartEdge, &[u8]), LoadError>
+    ensures { Gives (λ x. (x.0, x.1.now)) result (field size 2 (row_in least) bytes.now) }
+{
+    let (found, rest) = part(bytes, 2)?;
+    let Some(edge) = edge_of(found[0], found[1]) else {
+        return Err(bad(size, bytes));
+    };
+    if least <= rank_of(&edge) {
+        Ok((edge, rest))
+    } else {
+        Err(bad(size, bytes))
+    }
+}
+
+// So many rows, in order.
+fn rows<A: Allocator>(
+    alloc: A,
+    size: usize,
+    count: u8,
+    bytes: &[u8],
+) -> Result<(Vec<StartEdge, A>, &[u8]), LoadError>
+    ensures { Gives (λ x. (x.0.items, x.1.now)) result (read_rows size 0 count bytes.now) }
+{
+    let mut edges = Vec::new(alloc);
+    let mut least = 0;
+    let mut rest = bytes;
+    for _ in 0..count {
+        let (edge, behind) = row(size, least, rest)?;
+        least = rank_of(&edge) + 1;
+        edges.push(edge)?;
+        rest = behind;
+    }
+    Ok((edges, rest))
+}
+
+/// The start edges of one list of a class.
+#[tactic(auto, unfolding(crate::specs::Reading::read_edges))]
+pub fn edges<A: Allocator>(
+    alloc: A,
+    size: usize,
+    bytes: &[u8],
+) -> Result<(StartEdges<A>, &[u8]), LoadError>
+    ensures { Gives (λ x. (x.0, x.1.now)) result (read_edges size bytes.now) }
+{
+    let (count, rest) = byte(size, 0, 24, bytes)?;
+    let (edges, rest) = rows(alloc, size, count, rest)?;
+    match StartEdges::ascending(edges) {
+        Some(edges) => Ok((edges, rest)),
+        None => unreachable!(),
+    }
+}

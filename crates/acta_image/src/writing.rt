@@ -1,0 +1,136 @@
+//! From a model to its image.
+
+ghost use Rattle.std.specs.Prelude.{◌≡◌, ◌++◌, ◌∷◌, ◌≤◌, length, Ok, IfOk, OnOk};
+ghost use Rattle.std.specs.List.{All, flat_map};
+ghost use Rattle.acta_image.specs.Reading.{loaded};
+ghost use Rattle.acta_image.specs.Spelling.{choices, class_bytes, image, object_bytes, row_bytes, rows_bytes};
+
+use crate::codes::{
+    commit_code, dependent_code, extent_code, first_bits, object_code, policy_bits, policy_code,
+    scope_code, starts_bits,
+};
+use acta_table::{Class, LONGEST_NAME, Model, Object, StartEdge, StartEdges};
+use std::alloc::{AllocError, Allocator};
+
+// Appends a name behind its length.
+fn push_name<A: Allocator>(image: &mut Vec<u8, A>, name: &[u8]) -> Result<(), AllocError>
+    requires { length name.now ≤ LONGEST_NAME }
+    ensures { OnOk result (image.new.items ≡ image.old.items ++ (length name.now ∷ name.now)) }
+{
+    image.push(name.len() as u8)?;
+    image.extend_from_slice(name)
+}
+
+// Appends an object.
+fn push_object<A: Allocator>(image: &mut Vec<u8, A>, object: &Object<A>) -> Result<(), AllocError>
+    requires { length object.now.name ≤ LONGEST_NAME }
+    ensures { OnOk result (image.new.items ≡ image.old.items ++ object_bytes object.now) }
+{
+    push_name(image, object.name.as_slice())?;
+    image.push(object_code(object.kind))?;
+    image.extend_from_slice(&first_bits(object.kind).to_be_bytes())
+}
+
+fn push_objects<A: Allocator>(
+    image: &mut Vec<u8, A>,
+    objects: &[Object<A>],
+) -> Result<(), AllocError>
+    requires { All (λ object. length object.name ≤ LONGEST_NAME) objects.now }
+    ensures { OnOk result (image.new.items ≡ image.old.items ++ flat_map object_bytes objects.now) }
+{
+    for object in objects {
+        push_object(image, object)?;
+    }
+    Ok(())
+}
+
+// Appends a row for each of the start edges.
+fn push_rows<A: Allocator>(image: &mut Vec<u8, A>, edges: &[StartEdge]) -> Result<(), AllocError>
+    ensures { OnOk result (image.new.items ≡ image.old.items ++ flat_map row_bytes edges.now) }
+{
+    for edge in edges {
+        image.extend_from_slice(&[edge.kind.code(), dependent_code(edge.dependent)])?;
+    }
+    Ok(())
+}
+
+// Appends start edges, behind how many there are.
+fn push_edges<A: Allocator>(image: &mut Vec<u8, A>, edges: &StartEdges<A>) -> Result<(), AllocError>
+    ensures { OnOk result (image.new.items ≡ image.old.items ++ rows_bytes edges.now) }
+{
+    let edges = edges.as_slice();
+    image.push(edges.len() as u8)?;
+    push_rows(image, edges)
+}
+
+// Appends what a class says in fields of fixed length.
+fn push_choices<A: Allocator>(image: &mut Vec<u8, A>, class: &Class<A>) -> Result<(), AllocError>
+    ensures { OnOk result (image.new.items ≡ image.old.items ++ choices class.now) }
+{
+    let [may_high, may_low] = class.may.bits().to_be_bytes();
+    let [kinds_high, kinds_low] = policy_bits(class.policy).to_be_bytes();
+    image.extend_from_slice(&[
+        starts_bits(class.starts),
+        may_high,
+        may_low,
+        scope_code(class.scope),
+        policy_code(class.policy),
+        kinds_high,
+        kinds_low,
+        commit_code(class.at_commit),
+        extent_code(class.extent),
+    ])
+}
+
+// Appends a class.
+fn push_class<A: Allocator>(image: &mut Vec<u8, A>, class: &Class<A>) -> Result<(), AllocError>
+    requires { length class.now.name ≤ LONGEST_NAME }
+    ensures { OnOk result (image.new.items ≡ image.old.items ++ class_bytes class.now) }
+{
+    push_name(image, class.name.as_slice())?;
+    push_choices(image, class)?;
+    push_edges(image, &class.spawn_edges)?;
+    push_edges(image, &class.split_edges)
+}
+
+fn push_classes<A: Allocator>(
+    image: &mut Vec<u8, A>,
+    classes: &[Class<A>],
+) -> Result<(), AllocError>
+    requires { All (λ class. length class.name ≤ LONGEST_NAME) classes.now }
+    ensures { OnOk result (image.new.items ≡ image.old.items ++ flat_map class_bytes classes.now) }
+{
+    for class in classes {
+        push_class(image, class)?;
+    }
+    Ok(())
+}
+
+// The image of a model is loaded as the model, and its names are short.
+fn known<A: Allocator>(model: &Model<A>)
+    ensures again { loaded (image model.now) ≡ Ok model.now }
+    ensures objects { All (λ object. length object.name ≤ LONGEST_NAME) model.now.objects }
+    ensures classes { All (λ class. length class.name ≤ LONGEST_NAME) model.now.classes }
+{
+    model.known();
+}
+
+/// The image of the model (the format is ours): the one list of bytes that `load` reads as this model. `Err` where
+/// there is no memory.
+#[tactic(auto, unfolding(crate::specs::Spelling::image))]
+pub fn write_image<A: Allocator + Copy>(
+    alloc: A,
+    model: &Model<A>,
+) -> Result<Vec<u8, A>, AllocError>
+    ensures image { IfOk result (λ bytes. bytes.items ≡ image model.now) }
+    ensures again { loaded (image model.now) ≡ Ok model.now }
+{
+    known(model);
+    let mut bytes = Vec::new(alloc);
+    bytes.extend_from_slice(b"ACTA\x01")?;
+    bytes.push(model.classes().len() as u8)?;
+    bytes.extend_from_slice(&(model.objects().len() as u16).to_be_bytes())?;
+    push_objects(&mut bytes, model.objects())?;
+    push_classes(&mut bytes, model.classes())?;
+    Ok(bytes)
+}
