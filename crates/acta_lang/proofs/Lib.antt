@@ -4,6 +4,7 @@ pub mod FormsAgain
 pub mod Held
 pub mod NameLists
 pub mod NoCodes
+pub mod OtherWords
 pub mod ReadAgain
 pub mod Sound
 pub mod Tidy

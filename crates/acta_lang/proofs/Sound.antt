@@ -287,7 +287,7 @@ sound_end d h closed some =
     ∷ fault_if (h.policies i) BadPolicyKind
     ∷ [])
 
-judged_ok : {X : Type 0} (n : ℕ) (o : Option Code) (rest : Result X AsmFault) (m : X) → judged n o rest ≡ Ok m → (o ≡ None) × (rest ≡ Ok m)
+pub judged_ok : {X : Type 0} (n : ℕ) (o : Option Code) (rest : Result X AsmFault) (m : X) → judged n o rest ≡ Ok m → (o ≡ None) × (rest ≡ Ok m)
 judged_ok n None rest m h = (refl, h)
 judged_ok n (Some code) rest m h = absurd (cc)
 

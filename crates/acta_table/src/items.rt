@@ -39,14 +39,6 @@ impl<T, A: Allocator> Items<T, A> {
     {
         self.items.as_slice()
     }
-
-    /// The vector of the elements, in the same memory.
-    pub fn into_vec(self) -> Vec<T, A>
-        ensures { result.items ≡ self }
-    {
-        let Items { items } = self;
-        items
-    }
 }
 
 impl<T, A: Allocator + Copy> Items<T, A> {

@@ -54,6 +54,14 @@ fn classes<A: Allocator + Copy>(
     Ok(Items::of(classes))
 }
 
+// The fault of a model of these objects and classes.
+fn fault_in<A: Allocator>(
+    objects: Items<Object<A>, A>,
+    classes: Items<Class<A>, A>,
+) -> Option<ModelFault> {
+    Model::check(Parts { objects, classes }).err()
+}
+
 // The fault of a model of such registers and such classes, all of them flat.
 fn fault_of<A: Allocator + Copy>(
     alloc: A,
@@ -62,8 +70,7 @@ fn fault_of<A: Allocator + Copy>(
 ) -> Result<Option<ModelFault>, Fail> {
     let flat = class_of(alloc, Standard::Atomic.text())?;
     let objects = objects(alloc, registers)?;
-    let classes = classes(alloc, &flat, flats)?;
-    Ok(Model::check(Parts { objects, classes }).err())
+    Ok(fault_in(objects, classes(alloc, &flat, flats)?))
 }
 
 // The fault of a model of one class.
@@ -71,9 +78,7 @@ fn fault_of_class<A: Allocator + Copy>(
     alloc: A,
     class: &Class<A>,
 ) -> Result<Option<ModelFault>, AllocError> {
-    let objects = Items::new(alloc);
-    let classes = classes(alloc, class, "class")?;
-    Ok(Model::check(Parts { objects, classes }).err())
+    Ok(fault_in(Items::new(alloc), classes(alloc, class, "class")?))
 }
 
 // Each line has the names of registers, after `|` those of classes, and the number of the model's fault, or none.
@@ -138,12 +143,15 @@ fn heirs_without_a_spawn(rt: HostRuntime) -> Result<(), Fail> {
     let alloc = rt.alloc();
     let fault = Some(ModelFault::HeirWithoutSpawn);
     let mut sub = class_of(alloc, Standard::Nested.text())?;
-    assert_eq!(rt; fault_of_class(alloc, &sub)?, None);
-    sub.starts.begin = true;
-    assert_eq!(rt; fault_of_class(alloc, &sub)?, fault);
-    sub.starts.begin = false;
-    sub.starts.split = true;
-    assert_eq!(rt; fault_of_class(alloc, &sub)?, fault);
+    for (begin, split, due) in [
+        (false, false, None),
+        (true, false, fault),
+        (false, true, fault),
+    ] {
+        sub.starts.begin = begin;
+        sub.starts.split = split;
+        assert_eq!(rt; fault_of_class(alloc, &sub)?, due);
+    }
     Ok(())
 }
 
@@ -253,15 +261,20 @@ fn numbers_and_kinds(rt: HostRuntime) {
     assert_eq!(rt; begin.kind(), EventKind::Begin);
 }
 
+// The set of some operations, as a copy of it shows them.
+fn has_ops(rt: &impl Abort, set: &OpSet<Global>, due: &[OpNo]) -> Result<(), AllocError> {
+    let copied = set.copy()?;
+    assert!(rt; set.as_slice() == due && copied.as_slice() == due);
+    Ok(())
+}
+
 // A set of operations has each once, ascending.
 #[test]
-fn sets(rt: HostRuntime) -> Result<(), Fail> {
-    let given = [OpNo(9), OpNo(2), OpNo(9), OpNo(0)];
-    let set = OpSet::of(rt.alloc(), &given)?;
-    assert_eq!(rt; set.as_slice(), [OpNo(0), OpNo(2), OpNo(9)].as_slice());
-    assert_eq!(rt; set.copy()?.as_slice(), set.as_slice());
-    assert!(rt; OpSet::of(rt.alloc(), &[])?.as_slice().is_empty());
-    Ok(())
+fn sets(rt: HostRuntime) -> Result<(), AllocError> {
+    let set = OpSet::of(rt.alloc(), &[OpNo(9), OpNo(2), OpNo(9), OpNo(0)])?;
+    has_ops(&rt, &set, &[OpNo(0), OpNo(2), OpNo(9)])?;
+    let set = OpSet::of(rt.alloc(), &[])?;
+    has_ops(&rt, &set, &[])
 }
 
 // Of the events that the lines say, each is the same as itself alone.
@@ -305,7 +318,7 @@ fn checks_without_memory<A: Allocator + Copy, B: Allocator>(
     let objects = objects(alloc, "x")?;
     let classes = classes(alloc, &flat, "flat")?;
     heap.refuse(1);
-    assert!(rt; Model::check(Parts { objects, classes }).is_ok());
+    assert_eq!(rt; fault_in(objects, classes), None);
     assert!(rt; heap.is_waiting());
     Ok(())
 }

@@ -388,6 +388,28 @@ fn grow<A: Allocator + Copy, B: Allocator>(
     assert_eq!(rt; answered.ok(), Some(due), "{call:?}");
 }
 
+// The growths of each call on this model, after these events.
+fn grow_on<A: Allocator + Copy, B: Allocator>(
+    rt: &impl Abort,
+    heap: &Refusing<B>,
+    alloc: A,
+    model: &Model<A>,
+    events: &[Event<A>],
+) -> Result<(), AllocError> {
+    let run = run_on(alloc, model, events)?;
+    let machine = &run.machine;
+    let on = Called {
+        alloc,
+        model,
+        events,
+        machine,
+    };
+    for call in CALLS {
+        grow(rt, heap, &on, call);
+    }
+    Ok(())
+}
+
 // The growths of each call on the model of nested transactions.
 fn grow_calls<A: Allocator + Copy, B: Allocator>(
     rt: &impl Abort,
@@ -396,17 +418,7 @@ fn grow_calls<A: Allocator + Copy, B: Allocator>(
 ) -> Result<(), Fail> {
     let model = assemble(alloc, Standard::Nested.text().as_bytes())?;
     let events = events(alloc, &model, READ)?;
-    let run = run_on(alloc, &model, &events)?;
-    let on = Called {
-        alloc,
-        model: &model,
-        events: &events,
-        machine: &run.machine,
-    };
-    for call in CALLS {
-        grow(rt, heap, &on, call);
-    }
-    Ok(())
+    Ok(grow_on(rt, heap, alloc, &model, &events)?)
 }
 
 #[test]

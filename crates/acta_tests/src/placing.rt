@@ -103,6 +103,27 @@ fn ask<A: Allocator + Copy>(
     Ok(())
 }
 
+// A line begins a list, asks something of it, or puts an event behind it.
+fn follow<A: Allocator + Copy>(
+    rt: &impl Abort,
+    alloc: A,
+    models: &Models<A>,
+    items: &mut Vec<Kept<A>, A>,
+    line: &str,
+) -> Result<(), Fail> {
+    if line.starts_with("# ") {
+        items.clear();
+        return Ok(());
+    }
+    match line.strip_prefix("? ") {
+        Some(asked) => ask(rt, alloc, models, items, asked),
+        None => {
+            let event = read_event(alloc, &models.wider, line.as_bytes())?;
+            Ok(items.push(kept(event))?)
+        }
+    }
+}
+
 // Goes through the lists of the model that the text means.
 fn expect<A: Allocator + Copy>(
     rt: &impl Abort,
@@ -113,13 +134,7 @@ fn expect<A: Allocator + Copy>(
     let models = Models::of(alloc, model)?;
     let mut items = Vec::new(alloc);
     for line in lists.lines() {
-        if line.starts_with("# ") {
-            items = Vec::new(alloc);
-        } else if let Some(asked) = line.strip_prefix("? ") {
-            ask(rt, alloc, &models, &items, asked)?;
-        } else {
-            items.push(kept(read_event(alloc, &models.wider, line.as_bytes())?))?;
-        }
+        follow(rt, alloc, &models, &mut items, line)?;
     }
     Ok(())
 }

@@ -38,6 +38,14 @@ impl<A: Allocator + Copy> Played<A> {
         })
     }
 
+    // What the machine answers the event, as a line.
+    fn answer(&mut self, alloc: A, event: Event<A>) -> Result<Vec<u8, A>, AllocError> {
+        let answer = self.machine.take(&event)?;
+        self.events.push(event)?;
+        self.answers.push(answer)?;
+        answer_line(alloc, &answer)
+    }
+
     // The machine answers the event of the line as it says, and shows what the places of its history say.
     fn take(
         &mut self,
@@ -48,11 +56,8 @@ impl<A: Allocator + Copy> Played<A> {
     ) -> Result<(), Fail> {
         let (said, due) = line.split_once(" : ").ok_or("a line has no answer")?;
         let event = read_event(alloc, &models.wider, said.as_bytes())?;
-        let answer = self.machine.take(&event)?;
-        let told = answer_line(alloc, &answer)?;
+        let told = self.answer(alloc, event)?;
         assert_eq!(rt; told.as_slice(), due.as_bytes(), "at {line}");
-        self.events.push(event)?;
-        self.answers.push(answer)?;
         agrees(rt, alloc, &models.model, &self.machine, line)
     }
 

@@ -1,6 +1,7 @@
 //! Each allocation of a call refused in turn: a call answers want of memory, or what is wanted where it can do without
 //! that one, and nothing else.
 
+use acta_image::{LoadError, load, write_image};
 use acta_lang::{AsmError, assemble, print_model};
 use acta_models::{Standard, load_all};
 use acta_script::{
@@ -85,6 +86,35 @@ fn texts(rt: HostRuntime) -> Result<(), Fail> {
         let said = all_printed(&heap);
         if is_whole(&rt, &heap, said, all.as_slice()) {
             assert!(rt; nth > 50);
+            return Ok(());
+        }
+    }
+    Err(too_many())
+}
+
+// The image of what is loaded from an image.
+fn image_again<A: Allocator + Copy>(
+    rt: &impl Abort,
+    alloc: A,
+    image: &[u8],
+) -> Result<Vec<u8, A>, AllocError> {
+    match load(alloc, image) {
+        Ok(model) => write_image(alloc, &model),
+        Err(LoadError::Memory) => Err(AllocError),
+        Err(LoadError::Fault(_)) => panic!(rt; "a refused call answers a fault"),
+    }
+}
+
+#[test]
+fn images(rt: HostRuntime) -> Result<(), Fail> {
+    let heap = Refusing::new(rt.alloc());
+    let model = assemble(rt.alloc(), Standard::Nested.text().as_bytes())?;
+    let image = write_image(rt.alloc(), &model)?;
+    for nth in 1..MOST {
+        heap.refuse(nth);
+        let said = image_again(&rt, &heap, image.as_slice());
+        if is_whole(&rt, &heap, said, image.as_slice()) {
+            assert!(rt; nth > 10);
             return Ok(());
         }
     }
@@ -205,19 +235,20 @@ fn answers(rt: HostRuntime) -> Result<(), Fail> {
     refuse_told(&rt, &heap, 3, b"fault 33 65536 18446744073709551615")
 }
 
-// Refuses each allocation of a run in turn: a run that is cut short writes nothing.
-fn refuse_run(
+// Refuses each allocation of a command in turn, of which there are at least so many: one that is cut short writes
+// nothing.
+fn refuse_command(
     rt: &(impl Abort + AllocGlobal),
-    kept: bool,
+    command: Command,
+    model: &[u8],
     input: &[u8],
-    want: &[u8],
+    (least, due, want): (u64, Outcome, &[u8]),
 ) -> Result<(), Fail> {
     let heap = Refusing::new(rt.alloc());
     let args = Args {
-        command: Command::Run { kept },
+        command,
         model: ModelName::Standard(Standard::Atomic),
     };
-    let model = Standard::Atomic.text().as_bytes();
     for nth in 1..MOST {
         let mut reader = Metered::new(input);
         let mut output = Vec::new(rt.alloc());
@@ -229,28 +260,51 @@ fn refuse_run(
             &mut reader,
             &mut Watched::new(&mut output),
         );
-        if status == Outcome::Refused {
+        if status == due {
             assert_eq!(rt; output.as_slice(), want);
         } else {
             assert_eq!(rt; status, Outcome::Unread(ReadFault::Memory));
             assert!(rt; output.is_empty());
         }
         if heap.is_waiting() {
-            assert!(rt; status == Outcome::Refused && nth > 20);
+            assert!(rt; status == due && nth > least);
             return Ok(());
         }
     }
-    Err(Fail::new("a run makes too many allocations"))
+    Err(too_many())
 }
 
 #[test]
-fn a_run(rt: HostRuntime) -> Result<(), Fail> {
+fn commands(rt: HostRuntime) -> Result<(), Fail> {
     let input = b"begin 1 flat\ndo 1 x write 5\ncommit x\n".as_slice();
-    refuse_run(&rt, false, input, b"ok 1\nok 2 done\nline 3 fault 4\n")?;
-    refuse_run(
-        &rt,
-        true,
-        input,
-        b"begin 1 flat\ndo 1 x write 5 = done\nline 3 fault 4\n",
-    )
+    let text = Standard::Atomic.text().as_bytes();
+    let image = write_image(rt.alloc(), &assemble(rt.alloc(), text)?)?;
+    let image = image.as_slice();
+    let (done, refused) = (Outcome::Done, Outcome::Refused);
+    for (command, model, said) in [
+        (
+            Command::Run { kept: false },
+            text,
+            (20, refused, b"ok 1\nok 2 done\nline 3 fault 4\n".as_slice()),
+        ),
+        (
+            Command::Run { kept: true },
+            image,
+            (
+                20,
+                refused,
+                b"begin 1 flat\ndo 1 x write 5 = done\nline 3 fault 4\n".as_slice(),
+            ),
+        ),
+        (Command::Assemble, text, (10, done, image)),
+        (Command::CheckImage, image, (10, done, text)),
+        (
+            Command::CheckImage,
+            text,
+            (0, refused, b"image fault 1\n".as_slice()),
+        ),
+    ] {
+        refuse_command(&rt, command, model, input, said)?;
+    }
+    Ok(())
 }

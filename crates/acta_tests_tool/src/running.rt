@@ -1,5 +1,6 @@
-//! Runs of the tool, as text. A case is a command line, `%` before each line of its model where that is a file, `|`
-//! before each line of its input, the lines that are wanted, and the exit status.
+//! Runs of the tool, as text. A case is a command line, `%` before each line of its model where that is a file, or `&`
+//! before its bytes as pairs of digits, `|` before each line of its input, the lines that are wanted, or `=` before the
+//! bytes, and the exit status.
 
 use acta_tool::{Metered, ModelName, Outcome, Watched, exit_status, parse, run_tool};
 use std::alloc::{AllocError, Global};
@@ -30,6 +31,21 @@ impl Case {
 fn add(text: &mut Vec<u8>, line: &str) -> Result<(), AllocError> {
     text.extend_from_slice(line.as_bytes())?;
     text.extend_from_slice(b"\n")
+}
+
+/// Adds the bytes that a line of pairs of hexadecimal digits has; what is no digit is passed over.
+pub fn add_bytes(bytes: &mut Vec<u8>, line: &str) -> Result<(), AllocError> {
+    let mut high = None;
+    for digit in line.chars().filter_map(|c| c.to_digit(16)) {
+        match high {
+            None => high = Some(digit),
+            Some(first) => {
+                bytes.push((16 * first + digit) as u8)?;
+                high = None;
+            }
+        }
+    }
+    Ok(())
 }
 
 // The words of a command line, behind the program's name.
@@ -89,6 +105,10 @@ pub fn play(rt: &(impl Abort + AllocGlobal), cases: &str) -> Result<(), Fail> {
             case = Case::of(rt.alloc(), command)?;
         } else if let Some(model) = line.strip_prefix("% ") {
             add(&mut case.model, model)?;
+        } else if let Some(bytes) = line.strip_prefix("& ") {
+            add_bytes(&mut case.model, bytes)?;
+        } else if let Some(bytes) = line.strip_prefix("= ") {
+            add_bytes(&mut case.want, bytes)?;
         } else if let Some(input) = line.strip_prefix("| ") {
             add(&mut case.input, input)?;
         } else if let Some(status) = line.strip_prefix("status ") {

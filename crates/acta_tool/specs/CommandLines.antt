@@ -9,7 +9,7 @@ use Rattle.acta_models.specs.declared.texts.Standard.{Standard as StandardModel}
 use Rattle.acta_models.specs.Standards.{name_of_standard}
 use Rattle.acta_tool.specs.declared.args.Args.{Args}
 use Rattle.acta_tool.specs.declared.args.Command.{Command}
-use Rattle.acta_tool.specs.declared.args.Command.TheVariants.{Run}
+use Rattle.acta_tool.specs.declared.args.Command.TheVariants.{Assemble, CheckImage, Run}
 use Rattle.acta_tool.specs.declared.args.ModelName.{ModelName}
 use Rattle.acta_tool.specs.declared.args.ModelName.TheVariants.{Standard, Path}
 use Rattle.acta_tool.specs.declared.fault.UsageFault.{UsageFault}
@@ -23,7 +23,13 @@ model_rule = record (new_rule (codes "MODEL")) { required = true; action = Some 
 abbrev pub kept_rule : Rule
 kept_rule = record (new_rule (codes "kept")) { long = Some (codes "kept"); action = Some SetTrue }
 
--- the command `run`
+-- the commands
+abbrev pub assemble_app : App
+assemble_app = with_rule (new_app (codes "assemble")) model_rule
+
+abbrev pub check_app : App
+check_app = with_rule (new_app (codes "check-image")) model_rule
+
 abbrev pub run_app : App
 run_app = with_rule (with_rule (new_app (codes "run")) model_rule) kept_rule
 
@@ -35,7 +41,7 @@ bare_app =
 
 -- the program
 abbrev pub tool_app : App
-tool_app = with_subcommand bare_app run_app.top
+tool_app = with_subcommand (with_subcommand (with_subcommand bare_app assemble_app.top) check_app.top) run_app.top
 
 -- a command line as it is spelled: the command, whether the flag stands with it, and the model
 pub record Named : Type 0 where
@@ -70,7 +76,13 @@ standard_text name = 64 ∷ name_of_standard name
 
 -- the command is this one
 abbrev pub IsCommand : Named → Command → Type 0
+IsCommand line Assemble = line.command ≡ codes "assemble"
+IsCommand line CheckImage = line.command ≡ codes "check-image"
 IsCommand line (Run kept) = (line.command ≡ codes "run") × (line.is_kept ≡ kept)
+
+-- it is one of the three
+abbrev pub IsKnown : Named → Type 0
+IsKnown line = (line.command ≡ codes "assemble") ⊎ ((line.command ≡ codes "check-image") ⊎ (line.command ≡ codes "run"))
 
 -- the model is this one: a standard one, or a file
 abbrev pub IsModel : Text → ModelName → Type 0
@@ -92,7 +104,7 @@ AsksFor words args =
 abbrev pub IsFaultOf : List Text → UsageFault → Type 0
 IsFaultOf words (Usage e) =
     IsAmong (kind_of e) (faults_of words)
-    ⊎ ((faults_of words ≡ []) × (kind_of e ≡ MissingSubcommand) × ¬ (IsSomeAnd (named_by words) (λ line. line.command ≡ codes "run")))
+    ⊎ ((faults_of words ≡ []) × (kind_of e ≡ MissingSubcommand) × ¬ (IsSomeAnd (named_by words) IsKnown))
 IsFaultOf words UnknownModel = (faults_of words ≡ []) × IsSomeAnd (named_by words) (λ line. IsUnknown line.model)
 IsFaultOf words NotText = ⊥
 IsFaultOf words (Memory e) = ⊤

@@ -1,4 +1,5 @@
 pub mod CommandLines
+pub mod Models
 pub mod Outcome
 pub mod Output
 pub mod inside

@@ -1,8 +1,8 @@
 -- What a run leaves.
-use Rattle.std.specs.Prelude.{◌≡◌, ◌<◌, ◌⊎◌, ℕ, List, Bool, true, false, Option, Some, None, Result, Ok, Err, IfSome, IsSome, length, ⊤}
+use Rattle.std.specs.Prelude.{◌≡◌, ◌<◌, ◌⊎◌, ℕ, List, [], Bool, true, false, if◌then◌else◌, Option, Some, None, Result, Ok, Err, IfSome, IsSome, length, ⊤}
 use Rattle.std.specs.Io.KnownBytes.{Appends, Keeps}
 use Rattle.acta_tool.specs.declared.args.Command.{Command}
-use Rattle.acta_tool.specs.declared.args.Command.TheVariants.{Run}
+use Rattle.acta_tool.specs.declared.args.Command.TheVariants.{Assemble, CheckImage, Run}
 use Rattle.acta_tool.specs.declared.fault.UsageFault.{UsageFault}
 use Rattle.acta_tool.specs.declared.fault.UsageFault.TheVariants.{Usage, UnknownModel, NotText, Memory as no_memory}
 use Rattle.acta_tool.specs.declared.outcome.Outcome.{Outcome}
@@ -26,9 +26,15 @@ exit_status_of (Err UnknownModel) = 2
 exit_status_of (Err NotText) = 2
 exit_status_of (Err (no_memory e)) = 3
 
--- whether the kept events are wanted alone
-abbrev pub is_kept : Command → Bool
-is_kept (Run kept) = kept
+-- whether the command reads the input
+abbrev pub reads_input : Command → Bool
+reads_input Assemble = false
+reads_input CheckImage = false
+reads_input (Run kept) = true
+
+-- the input of a command, where this is left to be read: none, where it reads none
+abbrev pub input_of : Command → Option (List ℕ) → Option (List ℕ)
+input_of command left = if reads_input command then left else Some []
 
 -- why the input was not answered, where it was not
 abbrev pub reason_of : Outcome → Option ReadFault
@@ -63,7 +69,8 @@ Answers Refused out old new = (out.is_refused ≡ true) × Appends old new out.t
 Answers (Unread reason) out old new = ⊤
 Answers Unwritten out old new = ⊤
 
--- a model or an input of more than 16,777,216 bytes is not answered, and where that is the reason one of them is so long
+-- a model, or an input that is read, of more than 16,777,216 bytes is not answered, and where that is the reason one of
+-- them is so long
 abbrev pub IsUnreadTooLong : List ℕ → Option (List ℕ) → Option ReadFault → Type 0
 IsUnreadTooLong model input reason =
     (16777216 < length model → IsSome reason)

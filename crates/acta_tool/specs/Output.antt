@@ -3,14 +3,25 @@ use Rattle.std.specs.Prelude.{ℕ, ◌+◌, Bool, true, false, ◌==◌, List, [
 use Rattle.acta_table.specs.declared.answer.Answer.{Answer}
 use Rattle.acta_table.specs.declared.event.Event.{Event}
 use Rattle.acta_table.specs.declared.model.Parts.{Parts}
+use Rattle.acta_table.specs.Numbers.{model_fault_number}
 use Rattle.acta_words.specs.Text.{lines_of, words_of, line_of, text_of}
 use Rattle.acta_lang.specs.declared.fault.AsmFault.{AsmFault}
-use Rattle.acta_lang.specs.Meaning.{code_number, meaning}
+use Rattle.acta_image.specs.declared.fault.ImageFault.{ImageFault}
+use Rattle.acta_image.specs.declared.fault.ImageFault.TheVariants.{Magic, Version, Truncated, BadField, Trailing, Model}
+use Rattle.acta_image.specs.Claims.{image_fault_number}
+use Rattle.acta_image.specs.Spelling.{image}
+use Rattle.acta_lang.specs.Canonical.{canonical}
+use Rattle.acta_lang.specs.Meaning.{code_number}
 use Rattle.acta_script.specs.declared.fault.LineFault.{LineFault}
 use Rattle.acta_script.specs.Answers.{answer_line, owed_line}
 use Rattle.acta_script.specs.Reading.{fault_number, event_of}
 use Rattle.acta_script.specs.Writing.{kept_line}
+use Rattle.acta_tool.specs.declared.args.Command.{Command}
+use Rattle.acta_tool.specs.declared.args.Command.TheVariants.{Assemble, CheckImage, Run}
+use Rattle.acta_tool.specs.declared.models.NoModel.{NoModel}
+use Rattle.acta_tool.specs.declared.models.NoModel.TheVariants.{Text, Image}
 use Rattle.acta_tool.specs.declared.script.BadLine.{BadLine}
+use Rattle.acta_tool.specs.Models.{model_by}
 use Rattle.acta_machine.specs.Table.{State, run_answers, run_state, debts_in}
 
 -- what the lines say, up to the first that is faulty, and that one
@@ -46,6 +57,26 @@ abbrev pub model_line : AsmFault → List ℕ
 model_line f =
     line_of (codes "model" ∷ codes "line" ∷ decimal f.line ∷ codes "fault" ∷ decimal (code_number f.code) ∷ [])
 
+-- image fault C, with the offset of a field, or the fault of a model
+abbrev pub fault_number_words : ℕ → List (List ℕ)
+fault_number_words number = codes "image" ∷ codes "fault" ∷ decimal number ∷ []
+
+abbrev pub fault_words : ImageFault → List (List ℕ)
+fault_words Magic = []
+fault_words Version = []
+fault_words Truncated = []
+fault_words (BadField offset) = codes "at" ∷ decimal offset ∷ []
+fault_words (Trailing offset) = codes "at" ∷ decimal offset ∷ []
+fault_words (Model fault) = codes "model" ∷ decimal (model_fault_number fault) ∷ []
+
+abbrev pub image_line : ImageFault → List ℕ
+image_line f = line_of (fault_number_words (image_fault_number f) ++ fault_words f)
+
+-- the line for bytes that mean no model
+abbrev pub no_model_line : NoModel → List ℕ
+no_model_line (Text fault) = model_line fault
+no_model_line (Image fault) = image_line fault
+
 -- what is written, and whether the input was refused
 pub record Output : Type 0 where
   pub is_refused : Bool
@@ -71,16 +102,22 @@ run_on is_kept m s =
       text = text_of (told is_kept (run_answers m s.said) state ++ told_last is_kept state s.stop);
     }
 
--- the output for a text that means no model
-abbrev pub refused_model : AsmFault → Output
-refused_model fault = record { is_refused = true; text = text_of (model_line fault ∷ []) }
+-- the output of a command on a model: its image, its canonical text, or a run of the input's events
+abbrev pub output_on : {A : Type 0} → Command → Parts A → List ℕ → Output
+output_on Assemble m input = record { is_refused = false; text = image m }
+output_on CheckImage m input = record { is_refused = false; text = canonical m }
+output_on (Run kept) m input = run_on kept m (said_in (event_of m) input)
 
--- the output of `run`, where this is what the model's text means
-abbrev pub run_of : {A : Type 0} → Bool → Result (Parts A) AsmFault → List ℕ → Output
-run_of is_kept (Err fault) input = refused_model fault
-run_of is_kept (Ok m) input = run_on is_kept m (said_in (event_of m) input)
+-- the output for bytes that mean no model
+abbrev pub refused_model : NoModel → Output
+refused_model fault = record { is_refused = true; text = text_of (no_model_line fault ∷ []) }
 
--- the output of `run`, with `--kept` or without, for the bytes of a model and of an input; A is the allocator's type,
--- which makes no difference
-abbrev pub run_output : (A : Type 0) → Bool → List ℕ → List ℕ → Output
-run_output A is_kept model input = run_of {A = A} is_kept (meaning model) input
+-- the output of a command, where this is what it finds in the model's bytes
+abbrev pub output_by : {A : Type 0} → Command → Result (Parts A) NoModel → List ℕ → Output
+output_by command (Err fault) input = refused_model fault
+output_by command (Ok m) input = output_on command m input
+
+-- the output of a command for the bytes of a model and of an input; A is the allocator's type, which makes no
+-- difference
+abbrev pub tool_output : (A : Type 0) → Command → List ℕ → List ℕ → Output
+tool_output A command model input = output_by {A = A} command (model_by command model) input

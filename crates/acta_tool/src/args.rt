@@ -3,9 +3,9 @@
 ghost use Rattle.std.specs.Prelude.{◌≡◌, ◌≢◌, [], map, option_map, string_bytes, codes, false, IfOk, IfErr, IfSome, IfNone};
 ghost use Rattle.std.specs.Option.{option_map_or};
 ghost use Rattle.std.specs.Str.{bytes_eq};
-ghost use Rattle.clap.specs.Words.{app_of, first_value, found_of, rule_of, subcommand_rows_of};
+ghost use Rattle.clap.specs.Words.{app_of, first_value, found_of, new_app, rule_of, subcommand_rows_of, with_rule, with_subcommand};
 ghost use Rattle.acta_models.specs.declared.texts.Standard.{Standard as StandardModel};
-ghost use Rattle.acta_tool.specs.CommandLines.{AsksFor, IsCommand, IsFaultOf, IsModel, IsUnknown, bare_app, begins_at, faults_of, kept_rule, model_rule, named_by, named_in, standard_text, tool_app};
+ghost use Rattle.acta_tool.specs.CommandLines.{AsksFor, IsCommand, IsFaultOf, IsKnown, IsModel, IsUnknown, bare_app, begins_at, faults_of, kept_rule, model_rule, named_by, named_in, run_app, standard_text, tool_app};
 ghost use Rattle.acta_tool.specs.inside.Spelling.{IsMissing, named_of};
 
 use crate::fault::UsageFault;
@@ -17,12 +17,16 @@ use std::alloc::{AllocError, Global};
 /// What is to be done.
 #[derive(Clone, Copy, Debug, PartialEq, Eq)]
 pub enum Command {
+    /// Writes the image of the model that a text means.
+    Assemble,
+    /// Writes the canonical text of the model whose image the bytes are.
+    CheckImage,
     /// Answers the event lines of the standard input; or, where `kept`, tells the events that were kept, with what
     /// they returned, and nothing else.
     Run { kept: bool },
 }
 
-/// Where the text of the model is.
+/// Where the model is.
 #[derive(Clone, Copy, Debug, PartialEq, Eq)]
 pub enum ModelName<'a> {
     /// The program holds it: it was named after an `@`.
@@ -49,9 +53,11 @@ struct Spelled<'a> {
 // The command that is spelled so.
 fn command_named(spelled: &Spelled<'_>) -> Option<Command>
     ensures some { IfSome result (IsCommand (named_of spelled.now)) }
-    ensures none { IfNone result (spelled.now.command.now ≢ codes "run") }
+    ensures none { IfNone result (¬ (IsKnown (named_of spelled.now))) }
 {
     match spelled.command {
+        "assemble" => Some(Command::Assemble),
+        "check-image" => Some(Command::CheckImage),
         "run" => Some(Command::Run {
             kept: spelled.is_kept,
         }),
@@ -112,7 +118,7 @@ fn model_argument<'a>(alloc: Global) -> Arg<'a>
         .required(true)
         .action(ArgAction::Set)
         .help(
-            "A file with the model's text, or one of @atomic, @nested, @split_join, @recoverable, @contingent",
+            "A file with the model's text or image, or one of @atomic, @nested, @split_join, @recoverable, @contingent",
         )
 }
 
@@ -127,9 +133,24 @@ fn kept_flag<'a>(alloc: Global) -> Arg<'a>
         .help("Tells the events that were kept, with what they returned, and nothing else")
 }
 
-// The command line that the program takes.
-fn surface<'a>(alloc: Global) -> Result<clap::Command<'a>, AllocError>
-    ensures { IfOk result (λ command. app_of command ≡ tool_app) }
+// The program with one command more, which has the model alone.
+fn with_command<'a>(
+    alloc: Global,
+    program: clap::Command<'a>,
+    name: &'a str,
+    about: &'a str,
+) -> Result<clap::Command<'a>, AllocError>
+    ensures { IfOk result (λ command. app_of command ≡ with_subcommand (app_of program.entry) (with_rule (new_app name.now) model_rule).top) }
+{
+    let added = clap::Command::new(alloc, name)
+        .about(about)
+        .arg(model_argument(alloc))?;
+    program.subcommand(added)
+}
+
+// The program with the command `run` more.
+fn with_run<'a>(alloc: Global, program: clap::Command<'a>) -> Result<clap::Command<'a>, AllocError>
+    ensures { IfOk result (λ command. app_of command ≡ with_subcommand (app_of program.entry) run_app.top) }
 {
     let run = clap::Command::new(alloc, "run")
         .about(
@@ -137,7 +158,26 @@ fn surface<'a>(alloc: Global) -> Result<clap::Command<'a>, AllocError>
         )
         .arg(model_argument(alloc))?
         .arg(kept_flag(alloc))?;
-    bare_command(alloc).subcommand(run)
+    program.subcommand(run)
+}
+
+// The command line that the program takes.
+fn surface<'a>(alloc: Global) -> Result<clap::Command<'a>, AllocError>
+    ensures { IfOk result (λ command. app_of command ≡ tool_app) }
+{
+    let program = with_command(
+        alloc,
+        bare_command(alloc),
+        "assemble",
+        "Writes the image of the model's text, its one spelling as bytes",
+    )?;
+    let program = with_command(
+        alloc,
+        program,
+        "check-image",
+        "Writes the text of the model's image, or what is wrong with it",
+    )?;
+    with_run(alloc, program)
 }
 
 // Whether the flag was set.

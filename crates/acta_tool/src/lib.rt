@@ -4,6 +4,8 @@
 
 mod args;
 mod fault;
+mod laws;
+mod models;
 mod outcome;
 mod run;
 mod script;
@@ -13,6 +15,8 @@ mod telling;
 
 pub use args::{Args, Command, ModelName, parse};
 pub use fault::UsageFault;
+pub use laws::images_run_as_their_texts;
+pub use models::NoModel;
 pub use outcome::{Outcome, exit_status};
 pub use run::run_tool;
 pub use sink::{Sink, Watched};

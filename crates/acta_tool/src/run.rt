@@ -1,18 +1,23 @@
 //! The run of the tool over any reader and writer.
 
-ghost use Rattle.std.specs.Prelude.{◌≡◌, ◌≤◌, ◌+◌, IfOk, IfSome};
+ghost use Rattle.std.specs.Prelude.{◌≡◌, ◌≤◌, ◌<◌, ◌+◌, false, length, vec_len, IfOk, IfErr, IfSome, MatchResult, None, Some};
 ghost use Rattle.acta_script.specs.Reading.{event_of};
-ghost use Rattle.acta_tool.specs.Outcome.{Answers, FailsBy, IsUnreadTooLong, KeepsUnread, WritesBy, is_kept, reason_of};
-ghost use Rattle.acta_tool.specs.Output.{refused_model, run_on, run_output, said_in};
+ghost use Rattle.acta_image.specs.Spelling.{image};
+ghost use Rattle.acta_lang.specs.Canonical.{canonical};
+ghost use Rattle.acta_tool.specs.Outcome.{Answers, FailsBy, IsUnreadTooLong, KeepsUnread, WritesBy, input_of, reads_input, reason_of};
+ghost use Rattle.acta_tool.specs.Output.{output_on, refused_model, run_on, said_in, tool_output};
+ghost use Rattle.acta_tool.specs.declared.source.ReadFault.TheVariants.{TooMuch as too_much};
 ghost use Rattle.acta_tool.specs.inside.Reports.{output_of};
 
 use crate::args::{Args, Command};
+use crate::models::{ModelError, NoModel, read_model};
 use crate::outcome::Outcome;
 use crate::script::read_script;
 use crate::sink::Sink;
 use crate::source::{MOST_BYTES, ReadFault, Source, read_all};
-use crate::telling::{tell_end, tell_events, tell_model_fault};
-use acta_lang::{AsmError, AsmFault, assemble};
+use crate::telling::{tell_end, tell_events, tell_no_model};
+use acta_image::write_image;
+use acta_lang::print_model;
 use acta_machine::Machine;
 use acta_table::Model;
 use std::alloc::{AllocError, Allocator};
@@ -44,12 +49,32 @@ fn run_model<A: Allocator + Copy>(
     })
 }
 
-// What is told of a model's text that means none.
-fn refuse_model<A: Allocator>(alloc: A, fault: AsmFault) -> Result<Report<A>, AllocError>
+// What a command tells of a model.
+fn tell_model<A: Allocator + Copy>(
+    alloc: A,
+    command: Command,
+    model: Model<A>,
+    input: &[u8],
+) -> Result<Report<A>, AllocError>
+    ensures { IfOk result (λ report. output_of report ≡ output_on command model input.now) }
+{
+    let text = match command {
+        Command::Assemble => write_image(alloc, &model)?,
+        Command::CheckImage => print_model(alloc, &model)?,
+        Command::Run { kept } => return run_model(alloc, kept, model, input),
+    };
+    Ok(Report {
+        text,
+        is_refused: false,
+    })
+}
+
+// What is told of bytes that mean no model.
+fn refuse_model<A: Allocator>(alloc: A, fault: NoModel) -> Result<Report<A>, AllocError>
     ensures { IfOk result (λ report. output_of report ≡ refused_model fault) }
 {
     let mut text = Vec::new(alloc);
-    tell_model_fault(&mut text, fault)?;
+    tell_no_model(&mut text, fault)?;
     Ok(Report {
         text,
         is_refused: true,
@@ -63,18 +88,36 @@ fn answer<A: Allocator + Copy>(
     model: &[u8],
     input: &[u8],
 ) -> Result<Report<A>, AllocError>
-    ensures { IfOk result (λ report. output_of report ≡ run_output A (is_kept command) model.now input.now) }
+    ensures { IfOk result (λ report. output_of report ≡ tool_output A command model.now input.now) }
 {
-    let Command::Run { kept } = command;
-    match assemble(alloc, model) {
-        Ok(model) => run_model(alloc, kept, model, input),
-        Err(AsmError::Fault(fault)) => refuse_model(alloc, fault),
-        Err(AsmError::Memory) => Err(AllocError),
+    match read_model(alloc, command, model) {
+        Ok(model) => tell_model(alloc, command, model, input),
+        Err(ModelError::Fault(fault)) => refuse_model(alloc, fault),
+        Err(ModelError::Memory) => Err(AllocError),
     }
 }
 
-/// Reads the whole input, does what the words asked for on the model that the bytes mean, and writes the answer in one
-/// go. `Unread` with `Device` where a read fails, with `TooMuch` where the model or the input is over 16,777,216 bytes
+// The whole input, where the command reads it.
+fn read_input<A: Allocator, S: Source>(
+    alloc: A,
+    command: Command,
+    input: &mut S,
+) -> Result<Vec<u8, A>, ReadFault>
+    ensures bytes { IfOk result (λ v. IfSome (input_of command (S.remaining input.old)) (λ xs. v.items ≡ xs)) }
+    ensures size { IfOk result (λ v. vec_len v ≤ 16777216) }
+    ensures too_much { IfErr result (λ e. e ≡ too_much → IfSome (input_of command (S.remaining input.old)) (λ xs. 16777216 < length xs)) }
+    ensures reads { S.reads input.new ≤ S.reads input.old + 16777217 }
+    ensures failed { MatchResult result (λ _. FailsBy None (S.has_failed input.old) (S.has_failed input.new)) (λ e. FailsBy (Some e) (S.has_failed input.old) (S.has_failed input.new)) }
+    ensures untouched { reads_input command ≡ false → input.new ≡ input.old }
+{
+    match command {
+        Command::Assemble | Command::CheckImage => Ok(Vec::new(alloc)),
+        Command::Run { .. } => read_all(alloc, input),
+    }
+}
+
+/// Reads the whole input, where the command reads it, does what the words asked for on the model that the bytes mean,
+/// and writes the answer in one go. `Unread` with `Device` where a read fails, with `TooMuch` where the model or the input is over 16,777,216 bytes
 /// or the input doesn't end, and with `Memory` where there is none, and then nothing is written; `Unwritten` where a
 /// write fails.
 pub fn run_tool<A: Allocator + Copy, S: Source, W: Sink>(
@@ -84,14 +127,15 @@ pub fn run_tool<A: Allocator + Copy, S: Source, W: Sink>(
     input: &mut S,
     output: &mut W,
 ) -> Outcome
-    ensures answers { IfSome (S.remaining input.old) (λ bytes. Answers result (run_output A (is_kept args.now.command) model.now bytes) (W.contents output.old) (W.contents output.new)) }
+    ensures answers { IfSome (input_of args.now.command (S.remaining input.old)) (λ bytes. Answers result (tool_output A args.now.command model.now bytes) (W.contents output.old) (W.contents output.new)) }
     ensures unread { KeepsUnread (reason_of result) (W.contents output.old) (W.contents output.new) }
     ensures written { WritesBy result (W.has_failed output.old) (W.has_failed output.new) }
     ensures reads { S.reads input.new ≤ S.reads input.old + 16777217 }
     ensures failed { FailsBy (reason_of result) (S.has_failed input.old) (S.has_failed input.new) }
-    ensures too_long { IsUnreadTooLong model.now (S.remaining input.old) (reason_of result) }
+    ensures too_long { IsUnreadTooLong model.now (input_of args.now.command (S.remaining input.old)) (reason_of result) }
+    ensures untouched { reads_input args.now.command ≡ false → input.new ≡ input.old }
 {
-    let bytes = match read_all(alloc, input) {
+    let bytes = match read_input(alloc, args.command, input) {
         Ok(bytes) => bytes,
         Err(reason) => return Outcome::Unread(reason),
     };

@@ -39,7 +39,7 @@ pub record IsWord (word : List ℕ) : Type 0 where
   pub some : (length word == 0) ≡ false
   pub plain : AllByRecursion IsPlain word
 
-goes_on : (b : ℕ) (bs : List ℕ) → is_mark b ≡ false → before_first is_mark (b ∷ bs) ≡ b ∷ before_first is_mark bs
+pub goes_on : (b : ℕ) (bs : List ℕ) → is_mark b ≡ false → before_first is_mark (b ∷ bs) ≡ b ∷ before_first is_mark bs
 goes_on b bs plain =
     let n = position_or_len is_mark bs in
     let one : 1 + n ≡ suc n = omega arith in

@@ -1,0 +1,324 @@
+//! Images: worked bytes, each proper prefix of an image, and each byte set to each other value.
+
+use crate::running::play;
+use acta_image::{ImageFault, LoadError, load, write_image};
+use acta_lang::assemble;
+use acta_models::Standard;
+use acta_tool::images_run_as_their_texts;
+use std::alloc::{AllocError, Global};
+use std::process::Abort;
+use std::test::Fail;
+
+// Images that are written, and images that are read, good and faulty. A command other than `run` reads no input.
+const IMAGES: &str = "\
+$ assemble @atomic
+| jump
+= 41435441 01 01 0004
+= 01 78 00 00000000
+= 01 6e 01 00000000
+= 01 6d 01 00000000
+= 01 73 02 00000000
+= 04 666c6174 01 00e0 00 00 0000 00 00 00 00
+status 0
+
+$ assemble @nested
+= 41435441 01 02 0004
+= 01 78 00 00000000
+= 01 6e 01 00000000
+= 01 6d 01 00000000
+= 01 73 02 00000000
+= 03 746f70 01 00e1 01 00 0000 00 00 00 00
+= 03 737562 02 00e1 01 00 0000 01 00 02 0000 0301 00
+status 0
+
+$ assemble @recoverable
+= 41435441 01 01 0004
+= 01 78 00 00000000
+= 01 6e 01 00000000
+= 01 6d 01 00000000
+= 01 73 02 00000000
+= 05 6c6f6f7365 01 00e0 00 01 0014 00 00 00 00
+status 0
+
+$ assemble a.model
+% object x register -2
+% object y counter 2147483647
+% class all
+% starts begin spawned split
+% may spawn split join delegate form operate commit abort
+% scope others
+% policy depend CD AD WD TD
+% commit keeps
+% delegation any
+% split started CMD starter
+% split starter CMD started
+% end
+= 41435441 01 01 0002
+= 01 78 00 fffffffe
+= 01 79 01 7fffffff
+= 03 616c6c 07 00ff 00 01 001d 00 01 00 02 0600 0601
+status 0
+
+$ assemble a.model
+% class a
+model line 1 fault 8
+status 1
+
+$ assemble a.image
+& 41435441 01 01 0001 01 78 00 00000000 04 666c6174 01 00e0 00 00 0000 00 00 00 00
+model line 1 fault 1
+status 1
+
+$ check-image a.image
+| jump
+& 41435441 01 01 0001 01 78 00 00000000 04 666c6174 01 00e0 00 00 0000 00 00 00 00
+object x register 0
+class flat
+starts begin
+may operate commit abort
+scope others
+policy refuse
+commit keeps
+delegation whole
+end
+status 0
+
+$ run a.image
+& 41435441 01 01 0001 01 78 00 00000000 04 666c6174 01 00e0 00 00 0000 00 00 00 00
+| begin 1 flat
+| do 1 x write 5
+| commit 1
+ok 1
+ok 2 done
+ok 3
+status 0
+
+$ check-image @atomic
+image fault 1
+status 1
+
+$ run a.image
+& 41435441 02
+image fault 2
+status 1
+
+$ check-image a.image
+image fault 3
+status 1
+
+$ check-image a.image
+& 4143
+image fault 3
+status 1
+
+$ check-image a.image
+& 4158
+image fault 1
+status 1
+
+$ check-image a.image
+& 41435441 01 00
+image fault 4 at 5
+status 1
+
+$ check-image a.image
+& 41435441 01 11
+image fault 4 at 5
+status 1
+
+$ check-image a.image
+& 41435441 01 01 0101
+image fault 4 at 6
+status 1
+
+$ check-image a.image
+& 41435441 01 01 0001 21
+image fault 4 at 8
+status 1
+
+$ check-image a.image
+& 41435441 01 01 0001 02 7821
+image fault 4 at 9
+status 1
+
+$ check-image a.image
+& 41435441 01 01 0001 02 21
+image fault 3
+status 1
+
+$ check-image a.image
+& 41435441 01 01 0001 01 78 03
+image fault 4 at 10
+status 1
+
+$ check-image a.image
+& 41435441 01 01 0001 01 78 02 00000001
+image fault 4 at 11
+status 1
+
+$ check-image a.image
+& 41435441 01 01 0000 04 666c6174 08
+image fault 4 at 13
+status 1
+
+$ check-image a.image
+& 41435441 01 01 0000 04 666c6174 01 0100
+image fault 4 at 14
+status 1
+
+$ check-image a.image
+& 41435441 01 01 0001 01 78 00 00000000 04 666c6174 01 00e0 02 00 0000 00 00 00 00
+image fault 4 at 23
+status 1
+
+$ check-image a.image
+& 41435441 01 01 0000 04 666c6174 01 00e0 00 02
+image fault 4 at 17
+status 1
+
+$ check-image a.image
+& 41435441 01 01 0000 04 666c6174 01 00e0 00 00 0001
+image fault 4 at 18
+status 1
+
+$ check-image a.image
+& 41435441 01 01 0000 04 666c6174 01 00e0 00 01 1000
+image fault 4 at 18
+status 1
+
+$ check-image a.image
+& 41435441 01 01 0000 04 666c6174 01 00e0 00 00 0000 02
+image fault 4 at 20
+status 1
+
+$ check-image a.image
+& 41435441 01 01 0000 04 666c6174 01 00e0 00 00 0000 00 02
+image fault 4 at 21
+status 1
+
+$ check-image a.image
+& 41435441 01 01 0000 04 666c6174 01 00e0 00 00 0000 00 00 19
+image fault 4 at 22
+status 1
+
+$ check-image a.image
+& 41435441 01 01 0000 04 666c6174 01 00e0 00 00 0000 00 00 02 0301 0300
+image fault 4 at 25
+status 1
+
+$ check-image a.image
+& 41435441 01 01 0000 04 666c6174 01 00e0 00 00 0000 00 00 02 0301 0301
+image fault 4 at 25
+status 1
+
+$ check-image nested.image
+& 41435441 01 02 0004 01 78 00 00000000 01 6e 01 00000000 01 6d 01 00000000 01 73 02 00000000
+& 03 746f70 01 00e1 01 00 0000 00 00 00 00
+& 03 737562 02 00e1 01 00 0000 01 00 02 0301 0000 00
+image fault 4 at 67
+status 1
+
+$ check-image nested.image
+& 41435441 01 02 0004 01 78 00 00000000 01 6e 01 00000000 01 6d 01 00000000 01 73 02 00000000
+& 03 746f70 01 00e1 01 00 0000 00 00 00 00
+& 03 737562 02 00e1 01 00 0000 01 00 02 0000 0301 00 00
+image fault 5 at 70
+status 1
+
+$ check-image a.image
+& 41435441 01 01 0000 04 666c6174 01 00e0 00 00 0000 00 00 01 0002
+image fault 4 at 23
+status 1
+
+$ check-image a.image
+& 41435441 01 01 0000 04 666c6174 01 00e0 00 00 0000 00 00 01 0c00
+image fault 4 at 23
+status 1
+
+$ check-image a.image
+& 41435441 01 01 0001 01 78 00 00000000 04 666c6174 01 00e0 00 00 0000 00 00 00 00 00
+image fault 5 at 31
+status 1
+
+$ check-image a.image
+& 41435441 01 01 0001 01 78 00 00000000 04 666c6174 01 00e0 00 00 0000 01 00 00 00
+image fault 6 model 7
+status 1
+
+$ run a.image
+& 41435441 01 01 0000 04 666c6174 01 00e0 00 00 0000 01 00 00 00 00
+image fault 5 at 24
+status 1
+
+$ check-image a.image
+& 41435441 01 01 0000 04 666c6174 01 00e0 00 01 0000 00 00 00 00
+image fault 6 model 8
+status 1
+
+$ run a.model
+% ACT
+model line 1 fault 2
+status 1
+
+$ assemble @nosuch
+status 2
+
+$ assemble --kept @atomic
+status 2
+
+$ check-image
+status 2
+";
+
+#[test]
+fn written_and_read(rt: HostRuntime) -> Result<(), Fail> {
+    play(&rt, IMAGES)
+}
+
+// The image of a standard model.
+fn image_of(alloc: Global, name: Standard) -> Result<Vec<u8>, Fail> {
+    let text = name.text().as_bytes();
+    let model = assemble(alloc, text)?;
+    images_run_as_their_texts(text, &model);
+    Ok(write_image(alloc, &model)?)
+}
+
+// Whether the bytes are refused, or are the image of what they are loaded as.
+fn is_spelled_so(alloc: Global, bytes: &[u8]) -> Result<bool, AllocError> {
+    match load(alloc, bytes) {
+        Ok(model) => Ok(write_image(alloc, &model)?.as_slice() == bytes),
+        Err(LoadError::Fault(_)) => Ok(true),
+        Err(LoadError::Memory) => Err(AllocError),
+    }
+}
+
+#[test]
+fn each_prefix_is_cut_short(rt: HostRuntime) -> Result<(), Fail> {
+    for name in Standard::ALL {
+        let image = image_of(rt.alloc(), name)?;
+        for len in 0..image.len() {
+            let read = load(rt.alloc(), &image[..len]);
+            assert!(rt;
+                matches!(read, Err(LoadError::Fault(ImageFault::Truncated))),
+                "at {len}"
+            );
+        }
+    }
+    Ok(())
+}
+
+#[test]
+fn each_byte_has_each_other_value(rt: HostRuntime) -> Result<(), Fail> {
+    for name in Standard::ALL {
+        let mut image = image_of(rt.alloc(), name)?;
+        for place in 0..image.len() {
+            let byte = image[place];
+            for _ in 0..255 {
+                image[place] = image[place].wrapping_add(1);
+                assert!(rt; is_spelled_so(rt.alloc(), image.as_slice())?, "at {place}");
+            }
+            image[place] = byte;
+        }
+    }
+    Ok(())
+}

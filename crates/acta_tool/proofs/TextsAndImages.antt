@@ -1,0 +1,39 @@
+-- A text that means a model doesn't begin as an image does, and an image is read as its model.
+use Rattle.std.proofs.Common.{◌≡◌, ℕ, Bool, true, false, List, ◌++◌, take, drop, Ok, refl, sym, ap, ◌∙◌, true≢false, arith}
+use Rattle.std.specs.Str.{bytes_eq}
+use Rattle.std.proofs.lemmas.List.{take-append-drop}
+use Rattle.std.proofs.lemmas.Slice.Eq.{bytes_eq-Decides}
+use Rattle.acta_table.specs.declared.model.Parts.{Parts}
+use Rattle.acta_table.specs.Typed.{AreOfModel}
+use Rattle.acta_image.specs.Codes.{magic}
+use Rattle.acta_image.specs.Reading.{loaded}
+use Rattle.acta_image.specs.Spelling.{image}
+use Rattle.acta_image.proofs.Images.{image-again}
+use Rattle.acta_lang.specs.Meaning.{meaning}
+use Rattle.acta_lang.proofs.OtherWords.{no_meaning}
+use Rattle.acta_tool.specs.Models.{is_image, of_either}
+
+same-true : (xs ys : List ℕ) → bytes_eq xs ys ≡ true → xs ≡ ys
+same-true xs ys e = grind (arith, bytes_eq-Decides xs ys)
+
+text_is_no_image : {A : Type 0} (text : List ℕ) (m : Parts A) → meaning text ≡ Ok m → is_image text ≡ false
+text_is_no_image {A} text m means = of_test (is_image text) refl
+  where
+    of_test : (b : Bool) → is_image text ≡ b → is_image text ≡ false
+    of_test false is = is
+    of_test true is =
+        let parts : text ≡ magic ++ drop 4 text = sym (take-append-drop 4 text) ∙ ap (λ (front : List ℕ). front ++ drop 4 text) (same-true (take 4 text) magic is) in
+        absurd (true≢false (no_meaning (drop 4 text) m (sym (ap (λ (bytes : List ℕ). meaning {A = A} bytes) parts) ∙ means)))
+
+image_is_image : {A : Type 0} (m : Parts A) → is_image (image m) ≡ true
+unfolding image
+image_is_image m = refl
+
+-- the model that is loaded from an image is the one that it is of
+pub loaded_is : {A : Type 0} (m n : Parts A) → AreOfModel m → loaded (image m) ≡ Ok n → n ≡ m
+loaded_is m n known is = let again : loaded (image m) ≡ Ok m = image-again m known in cc
+
+-- `run` finds the same model in an image as in a text of its model
+pub found_alike : {A : Type 0} (text : List ℕ) (m : Parts A) → meaning text ≡ Ok m → AreOfModel m → of_either {A = A} (image m) ≡ of_either text
+found_alike {A} text m means known =
+    rw (image_is_image m, text_is_no_image text m means, image-again m known, means) refl
