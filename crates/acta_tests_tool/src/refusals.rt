@@ -235,14 +235,18 @@ fn answers(rt: HostRuntime) -> Result<(), Fail> {
     refuse_told(&rt, &heap, 3, b"fault 33 65536 18446744073709551615")
 }
 
+// Two events, and a line that is faulty.
+const INPUT: &[u8] = b"begin 1 flat\ndo 1 x write 5\ncommit x\n";
+
 // Refuses each allocation of a command in turn, of which there are at least so many: one that is cut short writes
 // nothing.
 fn refuse_command(
     rt: &(impl Abort + AllocGlobal),
     command: Command,
     model: &[u8],
-    input: &[u8],
-    (least, due, want): (u64, Outcome, &[u8]),
+    least: u64,
+    due: Outcome,
+    want: &[u8],
 ) -> Result<(), Fail> {
     let heap = Refusing::new(rt.alloc());
     let args = Args {
@@ -250,7 +254,7 @@ fn refuse_command(
         model: ModelName::Standard(Standard::Atomic),
     };
     for nth in 1..MOST {
-        let mut reader = Metered::new(input);
+        let mut reader = Metered::new(INPUT);
         let mut output = Vec::new(rt.alloc());
         heap.refuse(nth);
         let status = run_tool(
@@ -275,36 +279,21 @@ fn refuse_command(
 }
 
 #[test]
-fn commands(rt: HostRuntime) -> Result<(), Fail> {
-    let input = b"begin 1 flat\ndo 1 x write 5\ncommit x\n".as_slice();
+fn runs(rt: HostRuntime) -> Result<(), Fail> {
+    let text = Standard::Atomic.text().as_bytes();
+    let (due, want) = (Outcome::Refused, b"ok 1\nok 2 done\nline 3 fault 4\n");
+    refuse_command(&rt, Command::Run { kept: false }, text, 20, due, want)?;
+    let want = b"begin 1 flat\ndo 1 x write 5 = done\nline 3 fault 4\n";
+    refuse_command(&rt, Command::Run { kept: true }, text, 20, due, want)
+}
+
+#[test]
+fn commands_for_images(rt: HostRuntime) -> Result<(), Fail> {
     let text = Standard::Atomic.text().as_bytes();
     let image = write_image(rt.alloc(), &assemble(rt.alloc(), text)?)?;
     let image = image.as_slice();
-    let (done, refused) = (Outcome::Done, Outcome::Refused);
-    for (command, model, said) in [
-        (
-            Command::Run { kept: false },
-            text,
-            (20, refused, b"ok 1\nok 2 done\nline 3 fault 4\n".as_slice()),
-        ),
-        (
-            Command::Run { kept: true },
-            image,
-            (
-                20,
-                refused,
-                b"begin 1 flat\ndo 1 x write 5 = done\nline 3 fault 4\n".as_slice(),
-            ),
-        ),
-        (Command::Assemble, text, (10, done, image)),
-        (Command::CheckImage, image, (10, done, text)),
-        (
-            Command::CheckImage,
-            text,
-            (0, refused, b"image fault 1\n".as_slice()),
-        ),
-    ] {
-        refuse_command(&rt, command, model, input, said)?;
-    }
-    Ok(())
+    refuse_command(&rt, Command::Assemble, text, 10, Outcome::Done, image)?;
+    refuse_command(&rt, Command::CheckImage, image, 10, Outcome::Done, text)?;
+    let (due, want) = (Outcome::Refused, b"image fault 1\n");
+    refuse_command(&rt, Command::CheckImage, text, 0, due, want)
 }

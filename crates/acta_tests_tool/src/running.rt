@@ -40,7 +40,8 @@ pub fn add_bytes(bytes: &mut Vec<u8>, line: &str) -> Result<(), AllocError> {
         match high {
             None => high = Some(digit),
             Some(first) => {
-                bytes.push((16 * first + digit) as u8)?;
+                let [byte, ..] = first.wrapping_mul(16).wrapping_add(digit).to_le_bytes();
+                bytes.push(byte)?;
                 high = None;
             }
         }

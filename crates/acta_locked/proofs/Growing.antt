@@ -1,0 +1,92 @@
+-- A book stays a run as it grows.
+use Rattle.std.proofs.Common.{◌≡◌, ℕ, zero, suc, ◌+◌, ◌<◌, List, [], ◌∷◌, ◌++◌, length, Option, Some, None, refl, ap, sym, ◌∙◌, arith, length-append, subst}
+use Rattle.std.proofs.lemmas.List.{map-append}
+use Rattle.std.specs.List.{range_with_len}
+use Rattle.acta_table.specs.declared.answer.Answer.{Answer}
+use Rattle.acta_table.specs.declared.event.Event.{Event}
+use Rattle.acta_machine.specs.Places.{FollowsPlaces}
+use Rattle.acta_table.specs.declared.answer.Refusal.{Refusal}
+use Rattle.acta_table.specs.declared.limits.TheConstants.{MOST_EVENTS}
+use Rattle.acta_machine.specs.Changes.{summary_of}
+use Rattle.acta_machine.specs.Rules.{lowest_broken}
+use Rattle.acta_machine.specs.Table.{State, fresh, answer_to, after, moved_on, answers_to, after_all}
+use Rattle.acta_locked.specs.declared.book.Entry.{Entry}
+use Rattle.acta_table.specs.declared.model.Parts.{Parts}
+use Rattle.acta_locked.specs.Books.{Entries, IsRun, events_of, entry_of, entered}
+use Rattle.acta_locked.specs.inside.Shown.{IsMachineOf}
+
+model-moved : {A : Type 0} (s : State A) (e : Event A) (r : Option Refusal) → (moved_on s e r).model ≡ s.model
+model-moved s e None = refl
+model-moved s e (Some r) = refl
+
+-- the model stays
+model-after : {A : Type 0} (s : State A) (e : Event A) → (after s e).model ≡ s.model
+unfolding after
+model-after s e = model-moved s e (lowest_broken s.model (summary_of s.model s.kept) e)
+
+after_all-more : {A : Type 0} (s : State A) (es : List (Event A)) (e : Event A) → after_all s (es ++ e ∷ []) ≡ after (after_all s es) e
+after_all-more s [] e = refl
+after_all-more s (x ∷ es) e = after_all-more (after s x) es e
+
+answers_to-more : {A : Type 0} (s : State A) (es : List (Event A)) (e : Event A) → answers_to s (es ++ e ∷ []) ≡ answers_to s es ++ answer_to (after_all s es) e ∷ []
+answers_to-more s [] e = refl
+answers_to-more s (x ∷ es) e = ap (λ (l : List Answer). answer_to s x ∷ l) (answers_to-more (after s x) es e)
+
+range-more : (n a : ℕ) → range_with_len a (n + 1) ≡ range_with_len a n ++ (a + n) ∷ []
+range-more zero a = grind arith
+range-more (suc n) a = grind (arith, range-more n (a + 1))
+
+-- a book with one more entry is a run
+run-grows : {A : Type 0} (b : Entries A) (seat : ℕ) (event : Event A) → IsRun b → length b.entries < MOST_EVENTS → IsRun (entered b (entry_of b seat event))
+run-grows {A} b seat event run room =
+    let es = b.entries in
+    let e = entry_of b seat event in
+    record {
+      numbered = map-append (λ (x : Entry A). x.number) es (e ∷ []) ∙ (ap (λ (l : List ℕ). l ++ (length es + 1) ∷ []) run.numbered ∙ (grind (arith, range-more (length es) 1, length-append es (e ∷ []))));
+      answered = map-append (λ (x : Entry A). x.answer) es (e ∷ []) ∙ (ap (λ (l : List Answer). l ++ e.answer ∷ []) run.answered ∙ (sym (answers_to-more (fresh b.model) (events_of es) event) ∙ ap (answers_to (fresh b.model)) (sym (map-append (λ (x : Entry A). x.event) es (e ∷ [])))));
+      within = omega (arith, length-append es (e ∷ []));
+    }
+
+-- and its machine is the next
+pub kept-grows : {A : Type 0} (s t : State A) (b : Entries A) (seat : ℕ) (event : Event A) → IsMachineOf s b → length b.entries < MOST_EVENTS → t ≡ after s event → FollowsPlaces t → IsMachineOf t (entered b (entry_of b seat event))
+kept-grows {A} s t b seat event kept room next follows = record {
+  run = run-grows b seat event kept.run room;
+  shows = next ∙ ap (λ (x : State A). after x event) kept.shows ∙ sym (ap (after_all (fresh b.model)) (map-append (λ (x : Entry A). x.event) b.entries (entry_of b seat event ∷ [])) ∙ after_all-more (fresh b.model) (events_of b.entries) event);
+  follows = follows;
+}
+
+-- a book that is opened is kept
+pub kept-opened : {A : Type 0} (m : Parts A) (s : State A) (es : List (Entry A)) → s ≡ fresh m → es ≡ [] → FollowsPlaces s → IsMachineOf s (record { model = s.model; entries = es })
+kept-opened {A} m s es is none follows =
+    let start : IsMachineOf (fresh m) (record { model = m; entries = [] }) = record {
+      run = record { numbered = refl; answered = refl; within = omega arith };
+      shows = refl;
+      follows = subst FollowsPlaces is follows;
+    } in
+    subst (λ (x : List (Entry A)). IsMachineOf s (record { model = s.model; entries = x })) (sym none)
+    (subst (λ (x : State A). IsMachineOf x (record { model = x.model; entries = [] })) (sym is) start)
+
+-- the entry that a call pushes
+abbrev pub pushed : {A : Type 0} → ℕ → ℕ → Event A → Answer → Entry A
+pushed made seat event answer = record { number = made + 1; seat = seat; event = event; answer = answer }
+
+module _ {A : Type 0} (s t : State A) (es grown : List (Entry A)) (made seat : ℕ) (event kept : Event A) (answer : Answer)
+    (counted : made ≡ length es) (copied : kept ≡ event) (answered : answer ≡ answer_to s event) (next : t ≡ after s event)
+    (push : grown ≡ es ++ pushed made seat kept answer ∷ []) where
+  model-same : t.model ≡ s.model
+  model-same = ap (λ (x : State A). x.model) next ∙ model-after s event
+
+  -- what a call leaves is kept
+  pub take-kept : IsMachineOf s (record { model = s.model; entries = es }) → length es < MOST_EVENTS → FollowsPlaces t → IsMachineOf t (record { model = t.model; entries = grown })
+  take-kept inside room follows =
+      let b : Entries A = record { model = s.model; entries = es } in
+      let entry : pushed made seat kept answer ≡ entry_of b seat event =
+      λ i. pushed (counted i) seat (copied i) ((answered ∙ ap (λ (x : State A). answer_to x event) inside.shows) i) in
+      subst (λ (x : Entries A). IsMachineOf t x) (sym (λ i. record { model = model-same i; entries = (push ∙ ap (λ (x : Entry A). es ++ x ∷ []) entry) i }))
+      (kept-grows s t b seat event inside room next follows)
+
+  -- and is the book with the entry that is answered
+  pub take-adds : (b : Entries A) → record { model = s.model; entries = es } ≡ b → record { model = t.model; entries = grown } ≡ entered b (pushed made seat event answer)
+  take-adds b view =
+      (λ i. record { model = model-same i; entries = (push ∙ ap (λ (x : Event A). es ++ pushed made seat x answer ∷ []) copied) i })
+      ∙ ap (λ (x : Entries A). entered x (pushed made seat event answer)) view

@@ -1,0 +1,3 @@
+pub mod Growing
+pub mod Settling
+pub mod Working

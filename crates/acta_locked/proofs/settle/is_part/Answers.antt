@@ -1,0 +1,27 @@
+use Rattle.std.proofs.Common.{rules, arith, ◌≡◌, ◌≤◌, ◌<◌, length, ap, ◌∙◌, subst, sym, take}
+use Rattle.acta_locked.proofs.Settling.{part-mine, part-other}
+use Rattle.acta_locked.proofs.settle.is_part.Goals.{then-entry-seat+else-next-report+else-not-is_same, else-entry-seat}
+use Rattle.acta_locked.proofs.settle.is_part.Goals as goal
+
+pub loop-entry-preserved : goal.loop-entry-preserved
+loop-entry-preserved g c =
+    let es = c.args.entries.now in
+    let report = c.args.report.now in
+    let i = c.loop-entry.entry-index in
+    let next = c.loop-entry.next in
+    let e = c.entry-item.result in
+    elim c.if-entry-seat.branch [
+      | then-entry-seat+else-next-report+else-not-is_same w ↦ (
+          let room : next < length report = search rules in
+          let same : e ≡ w.index-report-next.result = w.is_same.ensures.0 w.if-not-is_same.false in
+          record {
+            part = part-mine c.args.seat es report i next e w.index-report-next.result c.loop-entry-test.true c.entry-item.is w.if-entry-seat.true c.loop-entry.invariant.part room w.index-report-next.is same
+                ∙ ap (λ n. take n report) (sym w.next-is);
+            within = subst (λ n. n ≤ length report) (sym w.next-is) (omega (arith, room));
+          })
+      | else-entry-seat w ↦ record {
+        part = part-other c.args.seat es report i next e c.loop-entry-test.true c.entry-item.is w.if-entry-seat.false c.loop-entry.invariant.part
+            ∙ ap (λ n. take n report) (sym w.next-is);
+        within = subst (λ n. n ≤ length report) (sym w.next-is) c.loop-entry.invariant.within;
+      }
+    ]

@@ -1,0 +1,48 @@
+-- What a driven run of scripts leaves, and what bars one.
+use Rattle.std.specs.Prelude.{◌≡◌, ◌==◌, ℕ, suc, Bool, true, false, List, [], ◌∷◌, length, sum_by}
+use Rattle.std.specs.Prelude.{Option, Some, None, ⊤, nat_lt, if◌then◌else◌}
+use Rattle.acta_table.specs.declared.event.Event.{Event}
+use Rattle.acta_table.specs.declared.limits.TheConstants.{MOST_EVENTS}
+use Rattle.acta_table.specs.declared.model.Parts.{Parts}
+use Rattle.acta_locked.specs.declared.limits.TheConstants.{MOST_WORKERS}
+use Rattle.acta_locked.specs.declared.run.DriveError.{DriveError}
+use Rattle.acta_locked.specs.declared.run.DriveError.TheVariants.{NoWorker, TooManyWorkers, TooManyEvents}
+use Rattle.acta_locked.specs.declared.run.Driven.{Driven}
+use Rattle.acta_locked.specs.declared.worker.Report.{Report}
+use Rattle.acta_locked.specs.Books.{Entries, IsRun, events_of, seat_part}
+
+-- why scripts are not run: there is none, there are more than 16, or they have more than 65,536 events together
+abbrev pub scripts_fault : {A : Type 0} → List (List (Event A)) → Option DriveError
+scripts_fault scripts =
+    if length scripts == 0 then Some NoWorker
+    else if nat_lt MOST_WORKERS (length scripts) then Some TooManyWorkers
+    else if nat_lt MOST_EVENTS (sum_by length scripts) then Some TooManyEvents
+    else None
+
+-- whether the fault is one of the three
+abbrev pub is_of_scripts : DriveError → Bool
+is_of_scripts NoWorker = true
+is_of_scripts TooManyWorkers = true
+is_of_scripts TooManyEvents = true
+is_of_scripts _ = false
+
+-- the report of a seat is its part of the book, and the part's events are its script
+pub record IsPart {A : Type 0} (b : Entries A) (seat : ℕ) (script : List (Event A)) (r : Report A) : Type 0 where
+  pub seat_is : r.seat ≡ seat
+  pub entries_are : r.entries ≡ seat_part seat b.entries
+  pub events_are : events_of (seat_part seat b.entries) ≡ script
+
+-- the same of the seats from this one on: as many reports as scripts
+abbrev pub AreParts : {A : Type 0} → Entries A → ℕ → List (List (Event A)) → List (Report A) → Type 0
+AreParts b seat [] [] = ⊤
+AreParts b seat [] (r ∷ rs) = ⊥
+AreParts b seat (s ∷ ss) [] = ⊥
+AreParts b seat (s ∷ ss) (r ∷ rs) = IsPart b seat s r × AreParts b (suc seat) ss rs
+
+-- a driven run: its book is a run of the model, with as many entries as the workers made calls, and the report of
+-- each seat, from 1, is its part of the book and answers its script
+pub record IsDriven {A : Type 0} (m : Parts A) (scripts : List (List (Event A))) (d : Driven A) : Type 0 where
+  pub model : d.book.model ≡ m
+  pub run : IsRun d.book
+  pub counted : length d.book.entries ≡ sum_by length scripts
+  pub each : AreParts d.book 1 scripts d.reports

@@ -1,0 +1,4 @@
+pub mod Books
+pub mod Desks
+pub mod Drives
+pub mod inside

@@ -1,0 +1,153 @@
+//! The book.
+
+ghost use Rattle.std.specs.Prelude.{◌≡◌, Err, length, Decides, IfOk, OnErr};
+ghost use Rattle.acta_machine.specs.Places.{FollowsPlaces};
+ghost use Rattle.acta_locked.specs.Books.{IsRun, entered, entry_of, no_entries, state_of};
+ghost use Rattle.acta_locked.specs.declared.book.TakeError.TheVariants.{Memory};
+
+use acta_machine::Machine;
+use acta_table::{Answer, Event, MOST_EVENTS, Model};
+use std::alloc::{AllocError, AllocFailed, Allocator};
+
+/// What a call at a desk came to: its number in the book, from 1, the seat that made it, the event and the
+/// machine's answer (ours).
+#[derive(Drop)]
+pub struct Entry<A: Allocator> {
+    pub number: u32,
+    pub seat: u8,
+    pub event: Event<A>,
+    pub answer: Answer,
+}
+
+impl<A: Allocator> Entry<A> {
+    /// Whether the two are the same entry (ours).
+    pub fn is_same(&self, other: &Entry<A>) -> bool
+        ensures { Decides result (self.now ≡ other.now) }
+    {
+        self.number == other.number
+            && self.seat == other.seat
+            && self.event.is_same(&other.event)
+            && self.answer == other.answer
+    }
+}
+
+impl<A: Allocator + Copy> Entry<A> {
+    /// The same entry, in memory of its own (ours). `Err` where there is no memory.
+    pub fn copy(&self) -> Result<Entry<A>, AllocError>
+        ensures { IfOk result (λ entry. entry ≡ self.now) }
+    {
+        Ok(Entry {
+            number: self.number,
+            seat: self.seat,
+            event: self.event.copy()?,
+            answer: self.answer,
+        })
+    }
+}
+
+/// Why a call made no entry (ours).
+#[derive(Clone, Copy, PartialEq, Eq, Debug)]
+pub enum TakeError {
+    /// The book has 65,536 entries.
+    BookFull,
+    /// There is no memory.
+    Memory,
+}
+
+impl From<AllocError> for TakeError {
+    ghost from_gives = { λ _ e. e ≡ Memory };
+
+    fn from(_error: AllocError) -> TakeError {
+        TakeError::Memory
+    }
+}
+
+impl<T: Drop> From<AllocFailed<T>> for TakeError {
+    ghost from_gives = { λ _ e. e ≡ Memory };
+
+    fn from(_error: AllocFailed<T>) -> TakeError {
+        TakeError::Memory
+    }
+}
+
+/// A machine, and every call that was made of it, in order, with its answer (ours). Contracts see the model and
+/// the entries: the machine is what they leave.
+#[derive(Drop)]
+pub struct Book<A: Allocator> {
+    machine: Machine<A>,
+    entries: Vec<Entry<A>, A>,
+}
+
+impl<A: Allocator> std::marker::Model for Book<A> {
+    ghost use Rattle.acta_locked.specs.Books.{Entries};
+    ghost use Rattle.acta_locked.specs.inside.Shown.{IsMachineOf};
+
+    ghost Value = { Entries A };
+
+    ghost view = { λ b. record { model = b.machine.model; entries = b.entries.items } };
+
+    ghost invariant = { λ b. IsMachineOf b.machine (record { model = b.machine.model; entries = b.entries.items }) };
+}
+
+impl<A: Allocator + Copy> Book<A> {
+    /// A book on the model, with no entry (ours). `Err` where there is no memory.
+    pub fn new(alloc: A, model: Model<A>) -> Result<Book<A>, AllocError>
+        ensures { IfOk result (λ book. book ≡ no_entries model) }
+    {
+        Ok(Book {
+            machine: Machine::new(alloc, model)?,
+            entries: Vec::new(alloc),
+        })
+    }
+
+    /// Takes one event: the machine answers it, and the book has one more entry, which is answered (ours).
+    /// `BookFull` comes at 65,536 entries and only there. An error leaves the book as it was.
+    pub fn take(&mut self, seat: u8, event: Event<A>) -> Result<Entry<A>, TakeError>
+        ensures entry { IfOk result (λ entry. entry ≡ entry_of self.old seat event) }
+        ensures ok { IfOk result (λ entry. self.new ≡ entered self.old entry) }
+        ensures err { OnErr result (self.new ≡ self.old) }
+        ensures full { result ≡ Err TakeError.BookFull → length self.old.entries ≡ MOST_EVENTS }
+    {
+        let made = self.entries.len();
+        if made >= MOST_EVENTS {
+            return Err(TakeError::BookFull);
+        }
+        let kept = event.copy()?;
+        self.entries.reserve(1)?;
+        let answer = self.machine.take(&event)?;
+        let number = made as u32 + 1;
+        let Ok(()) = self.entries.push(Entry {
+            number,
+            seat,
+            event: kept,
+            answer,
+        })
+        else {
+            unreachable!()
+        };
+        Ok(Entry {
+            number,
+            seat,
+            event,
+            answer,
+        })
+    }
+}
+
+impl<A: Allocator> Book<A> {
+    /// The entries, in order; at most 65,536 (ours).
+    pub fn entries(&self) -> &[Entry<A>]
+        ensures entries { result.now ≡ self.now.entries }
+        ensures run { IsRun self.now }
+    {
+        self.entries.as_slice()
+    }
+
+    /// The machine as the entries leave it (ours).
+    pub fn machine(&self) -> &Machine<A>
+        ensures machine { result.now ≡ state_of self.now }
+        ensures follows { FollowsPlaces result.now }
+    {
+        &self.machine
+    }
+}

@@ -1,0 +1,19 @@
+//! The book of many workers: each event is taken under one lock, and the book is a run of its entries' events.
+//! The workers hand their scripts in at desks, and a driven run gives each its part of the book.
+#![tactic(auto)]
+
+mod book;
+mod desk;
+mod limits;
+mod run;
+mod settle;
+mod threads;
+mod vault;
+mod worker;
+
+pub use book::{Book, Entry, TakeError};
+pub use desk::{Desk, PlainDesk};
+pub use limits::MOST_WORKERS;
+pub use run::{DriveError, Driven, drive};
+pub use vault::{Job, LockedDesk, Vault};
+pub use worker::{Gate, OpenGate, Report, Script, WorkError, work};

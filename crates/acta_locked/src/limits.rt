@@ -1,0 +1,2 @@
+/// How many workers a driven run has at most.
+pub const MOST_WORKERS: usize = 16;

@@ -1,0 +1,197 @@
+//! A driven run: each script in a thread of its own, and one book.
+
+ghost use Rattle.std.specs.Prelude.{◌≡◌, ◌+◌, ◌<◌, ◌≤◌, Err, None, Some, false, true, length, sum_by, vec_len};
+ghost use Rattle.std.specs.Prelude.{Decides, IfErr, IfOk};
+ghost use Rattle.acta_locked.specs.Drives.{IsDriven, is_of_scripts, scripts_fault};
+ghost use Rattle.acta_locked.specs.declared.run.DriveError.TheVariants.{Memory};
+ghost use Rattle.acta_locked.specs.declared.run.DriveError.{DriveError};
+
+use crate::book::{Book, Entry};
+use crate::limits::MOST_WORKERS;
+use crate::settle::are_settled;
+use crate::threads::{Back, Done, in_scope};
+use crate::vault::{Job, Vault};
+use crate::worker::{Gate, Report, Script, WorkError};
+use acta_table::{Items, MOST_EVENTS, Model};
+use std::alloc::{AllocError, Allocator};
+use std::marker::Brand;
+use std::sync::ledger::{Blank, Share};
+use std::sync::{Mutex, Wait};
+use std::thread::Threads;
+
+/// What a driven run leaves: the book, and the reports in order of seats (ours).
+#[derive(Drop)]
+pub struct Driven<A: Allocator> {
+    pub book: Book<A>,
+    pub reports: Items<Report<A>, A>,
+}
+
+/// Why a driven run has no result (ours). The first three come before any thread starts, the lowest first. Of the
+/// others `Memory` may stand in place of any.
+#[derive(Clone, Copy, PartialEq, Eq, Debug)]
+pub enum DriveError {
+    /// There is no script.
+    NoWorker,
+    /// There are more than 16 scripts.
+    TooManyWorkers,
+    /// The scripts have more than 65,536 events together.
+    TooManyEvents,
+    /// There is no memory.
+    Memory,
+    /// A thread could not be started.
+    NoThread,
+    /// The gate said to give up at this seat.
+    GaveUp(u8),
+    /// A report is not its seat's part of the book, or does not answer its script.
+    Unsettled,
+}
+
+impl From<AllocError> for DriveError {
+    ghost from_gives = { λ _ e. e ≡ Memory };
+
+    fn from(_error: AllocError) -> DriveError {
+        DriveError::Memory
+    }
+}
+
+impl From<WorkError> for DriveError {
+    ghost from_gives = { λ _ e. is_of_scripts e ≡ false };
+
+    // A worker that met a full book has no report, and so differs from its script.
+    fn from(error: WorkError) -> DriveError {
+        match error {
+            WorkError::GaveUp(seat) => DriveError::GaveUp(seat),
+            WorkError::BookFull => DriveError::Unsettled,
+            WorkError::Memory => DriveError::Memory,
+        }
+    }
+}
+
+// Whether the scripts have more events together than a book has room for.
+fn are_too_long<A: Allocator>(scripts: &[Script<A>]) -> bool
+    ensures { Decides result (MOST_EVENTS < sum_by length scripts.now) }
+{
+    let mut room = MOST_EVENTS;
+    for script in scripts {
+        let calls = script.as_slice().len();
+        if calls > room {
+            return true;
+        }
+        room -= calls;
+    }
+    false
+}
+
+// Why the scripts are not run.
+fn fault_of<A: Allocator>(scripts: &[Script<A>]) -> Option<DriveError>
+    ensures fault { result ≡ scripts_fault scripts.now }
+    ensures few { result ≡ None → length scripts.now ≤ MOST_WORKERS }
+{
+    if scripts.is_empty() {
+        Some(DriveError::NoWorker)
+    } else if scripts.len() > MOST_WORKERS {
+        Some(DriveError::TooManyWorkers)
+    } else if are_too_long(scripts) {
+        Some(DriveError::TooManyEvents)
+    } else {
+        None
+    }
+}
+
+// All reports, in order of seats, and the whole ledger; or why the lowest seat that failed has none.
+fn gathered<A: Allocator, J: Job<A>>(
+    back: Back<A, J>,
+) -> Result<(Share<J>, Vec<Report<A>, A>), DriveError>
+    requires parts { J.parts ≡ vec_len back.done + 1 }
+    ensures parts { IfOk result (λ r. r.0.parts ≡ J.parts) }
+    ensures counted { IfOk result (λ r. r.0.amount ≡ sum_by (λ report. length report.entries) r.1.items) }
+    ensures late { IfErr result (λ e. is_of_scripts e ≡ false) }
+{
+    let Back {
+        rest: mut all,
+        done,
+        mut reports,
+    } = back;
+    for one in done {
+        let Done { share, outcome } = one;
+        all.merge(share);
+        let Ok(()) = reports.push(outcome?) else {
+            unreachable!()
+        };
+    }
+    Ok((all, reports))
+}
+
+// The book and the reports, where these are its parts and answer the scripts.
+fn closed<A: Allocator + Copy, J: Job<A>>(
+    vault: Vault<A, J>,
+    back: Back<A, J>,
+    scripts: &[Script<A>],
+) -> Result<Driven<A>, DriveError>
+    requires few { length scripts.now ≤ MOST_WORKERS }
+    requires parts { J.parts ≡ vec_len back.done + 1 }
+    ensures driven { IfOk result (IsDriven J.model scripts.now) }
+    ensures late { IfErr result (λ e. is_of_scripts e ≡ false) }
+{
+    let (mut all, reports) = gathered(back)?;
+    let book = vault.close(&mut all);
+    if !are_settled(&book, scripts, reports.as_slice()) {
+        return Err(DriveError::Unsettled);
+    }
+    Ok(Driven {
+        book,
+        reports: Items::of(reports),
+    })
+}
+
+// The run of scripts that nothing bars, with a ledger of one part for each worker and one more.
+fn run<
+    A: Allocator + Copy + Send + Sync,
+    J: Job<A> + Send + Sync,
+    R: Threads + Wait + Sync,
+    G: Gate<Entry<A>> + Sync,
+>(
+    rt: &R,
+    alloc: A,
+    blank: Blank,
+    model: Model<A>,
+    scripts: &[Script<A>],
+    gate: &G,
+) -> Result<Driven<A>, DriveError>
+    requires name { blank.name ≡ J.name }
+    requires cut { blank.parts ≡ J.parts }
+    requires one_more { blank.parts ≡ length scripts.now + 1 }
+    requires few { length scripts.now ≤ MOST_WORKERS }
+    requires of_model { model ≡ J.model }
+    ensures driven { IfOk result (IsDriven model scripts.now) }
+    ensures late { IfErr result (λ e. is_of_scripts e ≡ false) }
+{
+    let (calls, rest) = blank.open::<J>();
+    let vault = Mutex::new(Vault::new(Book::new(alloc, model)?, calls));
+    let back = in_scope(rt, alloc, &vault, rest, scripts, gate)?;
+    closed(vault.into_inner(), back, scripts)
+}
+
+/// Runs each script in a thread of its own, over one book of the model, with the gate round each call (ours). Where it
+/// answers `Ok`, the book has as many entries as the workers made calls, and each seat's report is its part of the
+/// book, whose events are its script, in order. It answers `NoWorker`, `TooManyWorkers` and `TooManyEvents`, the lowest
+/// first, exactly where they hold, before any thread starts. Later all threads that were started have ended, and the
+/// answer is `NoThread` where one could not be started, else the fault of the lowest seat that failed (`GaveUp` or
+/// `Memory`), else `Unsettled`. Not promised: which order of the threads the book gets, fairness, and that it returns.
+pub fn drive<A: Allocator + Copy + Send + Sync, R: Threads + Wait + Sync, G: Gate<Entry<A>> + Sync>(
+    rt: &R,
+    alloc: A,
+    model: Model<A>,
+    scripts: &[Script<A>],
+    gate: &G,
+) -> Result<Driven<A>, DriveError>
+    ensures driven { IfOk result (IsDriven model scripts.now) }
+    ensures barred { (e : DriveError) → scripts_fault scripts.now ≡ Some e → result ≡ Err e }
+    ensures only { IfErr result (λ e. is_of_scripts e ≡ true → scripts_fault scripts.now ≡ Some e) }
+{
+    if let Some(fault) = fault_of(scripts) {
+        return Err(fault);
+    }
+    let blank = Blank::new(scripts.len() as u64 + 1);
+    run::<A, Brand, R, G>(rt, alloc, blank, model, scripts, gate)
+}

@@ -1,0 +1,129 @@
+//! The book under its lock, with the ledger that counts its entries.
+
+ghost use Rattle.std.specs.Prelude.{◌≡◌, ◌+◌, ◌<◌, [], Err, length, IfOk, OnErr, OnOk};
+ghost use Rattle.acta_locked.specs.Books.{entered, entry_of};
+
+use crate::book::{Book, Entry, TakeError};
+use crate::desk::Desk;
+use acta_table::{Event, MOST_EVENTS};
+use std::alloc::Allocator;
+use std::marker::Brand;
+use std::sync::ledger::{Ledger, Share};
+use std::sync::{Mutex, Wait, ledger};
+
+/// Which ledger counts the entries of a run, and of which model the run is; A is the model's allocator (ours).
+pub trait Job<A>: Ledger {
+    ghost use Rattle.acta_table.specs.declared.model.Parts.{Parts};
+
+    ghost model: { Parts A };
+}
+
+impl<A> Job<A> for Brand {
+    ghost use Rattle.std.specs.Prelude.{[]};
+
+    ghost model = { record { objects = []; classes = [] } };
+}
+
+/// What lies under the lock (ours): a book of the run's model, and the ledger, whose total is the number of its
+/// entries.
+#[derive(Drop)]
+pub struct Vault<A: Allocator, J: Job<A>> {
+    book: Book<A>,
+    calls: ledger::Book<J>,
+    ghost counted: { length book.entries ≡ calls.total },
+    ghost of_model: { book.model ≡ J.model },
+}
+
+impl<A: Allocator + Copy, J: Job<A>> Vault<A, J> {
+    /// A book with no entry, and a ledger that has counted none (ours).
+    pub fn new(book: Book<A>, calls: ledger::Book<J>) -> Vault<A, J>
+        requires empty { book.entries ≡ [] }
+        requires none { calls.total ≡ 0 }
+        requires of_model { book.model ≡ J.model }
+    {
+        Vault { book, calls }
+    }
+
+    /// Takes one event as `Book::take` does; where it makes an entry, the share counts one more, and else it stays
+    /// (ours).
+    pub fn take(
+        &mut self,
+        seat: u8,
+        event: Event<A>,
+        mine: &mut Share<J>,
+    ) -> Result<Entry<A>, TakeError>
+        requires { 0 < mine.old.parts }
+        ensures entry { IfOk result (λ entry. entry ≡ entry_of self.old.book seat event) }
+        ensures ok { IfOk result (λ entry. self.new.book ≡ entered self.old.book entry) }
+        ensures counted { OnOk result (mine.new.amount ≡ mine.old.amount + 1) }
+        ensures err { OnErr result (self.new.book ≡ self.old.book) }
+        ensures same { OnErr result (mine.new.amount ≡ mine.old.amount) }
+        ensures parts { mine.new.parts ≡ mine.old.parts }
+        ensures full { result ≡ Err TakeError.BookFull → length self.old.book.entries ≡ MOST_EVENTS }
+    {
+        let Vault { book, calls } = self;
+        let entry = book.take(seat, event)?;
+        calls.add(mine, 1);
+        Ok(entry)
+    }
+
+    /// The book, once all shares are back (ours): it has as many entries as they counted.
+    pub fn close(self, all: &mut Share<J>) -> Book<A>
+        requires { all.old.parts ≡ J.parts }
+        ensures book { result ≡ self.book }
+        ensures of_model { result.model ≡ J.model }
+        ensures counted { length result.entries ≡ all.old.amount }
+    {
+        let Vault { book, mut calls } = self;
+        calls.audit(all);
+        book
+    }
+}
+
+/// A worker's desk at the shared book (ours): its seat, its share of the ledger, and the lock.
+pub struct LockedDesk<'a, A: Allocator, J: Job<A>, R: Wait> {
+    pub seat: u8,
+    pub share: Share<J>,
+    pub vault: &'a Mutex<Vault<A, J>>,
+    pub rt: &'a R,
+    pub ghost some: { 0 < share.parts },
+}
+
+impl<'a, A: Allocator + Copy, J: Job<A>, R: Wait> Desk<Event<A>, Entry<A>>
+    for LockedDesk<'a, A, J, R> {
+    ghost use Rattle.std.specs.Prelude.{◌≡◌, ◌∷◌, [], IfOk, OnErr};
+    ghost use Rattle.acta_locked.specs.Desks.{Counts};
+    ghost use Rattle.acta_locked.specs.inside.Growth.{count-nothing, count-further};
+
+    ghost seat_of = { λ d. d.seat };
+
+    ghost seat_in = { λ e. e.seat };
+
+    ghost event_in = { λ e. e.event };
+
+    ghost answered = { λ d es e. Counts d.share.parts d.share.amount es e.share.parts e.share.amount };
+
+    fn seat(&self) -> u8 {
+        self.seat
+    }
+
+    /// Takes the lock, and the event as `Vault::take` does: the desk's share grows by one with one more entry in the
+    /// locked book, and stays where there is none.
+    fn hand(&mut self, event: Event<A>) -> Result<Entry<A>, TakeError>
+        ensures same_seat { self.new.seat ≡ self.old.seat }
+        ensures seat { IfOk result (λ entry. entry.seat ≡ self.old.seat) }
+        ensures event { IfOk result (λ entry. entry.event ≡ event) }
+        ensures answered { IfOk result (λ entry.
+            Counts self.old.share.parts self.old.share.amount (entry ∷ []) self.new.share.parts self.new.share.amount) }
+        ensures none { OnErr result
+            (Counts {A = A} self.old.share.parts self.old.share.amount [] self.new.share.parts self.new.share.amount) }
+    {
+        let mut vault = self.vault.lock(self.rt);
+        vault.take(self.seat, event, &mut self.share)
+    }
+
+    ghost nothing = { λ d. count-nothing d.share.parts d.share.amount };
+
+    ghost further = { λ d e f xs ys one two. count-further d.share.parts d.share.amount e.share.parts e.share.amount
+        f.share.parts f.share.amount xs ys one two };
+}

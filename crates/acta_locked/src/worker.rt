@@ -1,0 +1,128 @@
+//! What a worker hands in, and what it gets.
+
+ghost use Rattle.std.specs.Prelude.{◌≡◌, ℕ, List, Err, IfOk, OnErr};
+ghost use Rattle.acta_locked.specs.declared.book.Entry.{Entry};
+ghost use Rattle.acta_locked.specs.Desks.{IsReport};
+
+use crate::book::{Entry, TakeError};
+use crate::desk::Desk;
+use acta_table::{Event, Items};
+use std::alloc::Allocator;
+
+/// What is called round each call of a worker, outside the lock, with the seat and which of the worker's calls it is,
+/// from 1; X is what the call is answered (ours). It may wait; false gives up.
+pub trait Gate<X> {
+    /// Called before the event is handed in.
+    fn before(&self, seat: u8, call: usize) -> bool;
+
+    /// Called with the entry that was answered.
+    fn after(&self, seat: u8, call: usize, entry: &X) -> bool;
+}
+
+/// A gate that is always true, and never waits (ours).
+#[derive(Clone, Copy)]
+pub struct OpenGate;
+
+impl<X> Gate<X> for OpenGate {
+    fn before(&self, _seat: u8, _call: usize) -> bool {
+        true
+    }
+
+    fn after(&self, _seat: u8, _call: usize, _entry: &X) -> bool {
+        true
+    }
+}
+
+/// The events that one worker hands in, in order (ours).
+#[derive(Drop)]
+pub struct Script<A: Allocator> {
+    events: Vec<Event<A>, A>,
+}
+
+impl<A: Allocator> std::marker::Model for Script<A> {
+    ghost use Rattle.std.specs.Prelude.{List};
+    ghost use Rattle.acta_table.specs.declared.event.Event.{Event};
+
+    ghost Value = { List (Event A) };
+
+    ghost view = { λ s. s.events.items };
+}
+
+impl<A: Allocator> Script<A> {
+    /// The script of these events. Takes no memory.
+    pub fn of(events: Vec<Event<A>, A>) -> Script<A>
+        ensures { result ≡ events.items }
+    {
+        Script { events }
+    }
+
+    /// The events, in order.
+    pub fn as_slice(&self) -> &[Event<A>]
+        ensures { result.now ≡ self.now }
+    {
+        self.events.as_slice()
+    }
+}
+
+/// What a worker has at the end: its seat, and the entries that its calls made, in order (ours).
+#[derive(Drop)]
+pub struct Report<A: Allocator> {
+    pub seat: u8,
+    pub entries: Items<Entry<A>, A>,
+}
+
+/// Why a worker has no report (ours).
+#[derive(Clone, Copy, PartialEq, Eq, Debug)]
+pub enum WorkError {
+    /// The gate said to give up at this seat.
+    GaveUp(u8),
+    /// The book had no room.
+    BookFull,
+    /// There is no memory.
+    Memory,
+}
+
+/// One worker: hands the script's events to the desk, in order, and reports the entries that it was answered (ours).
+/// After an error the desk keeps the entries that it answered before.
+pub fn work<A: Allocator + Copy, D: Desk<Event<A>, Entry<A>>, G: Gate<Entry<A>>>(
+    alloc: A,
+    desk: &mut D,
+    script: &Script<A>,
+    gate: &G,
+) -> Result<Report<A>, WorkError>
+    ensures same_seat { D.seat_of desk.new ≡ D.seat_of desk.old }
+    ensures report { IfOk result (λ report. IsReport D.seat_in D.event_in (D.seat_of desk.old) script.now report) }
+    ensures answered { IfOk result (λ report. D.answered desk.old report.entries desk.new) }
+    ensures gave_up { (seat : ℕ) → result ≡ Err (WorkError.GaveUp seat) → seat ≡ D.seat_of desk.old }
+    ensures before { OnErr result ((es : List (Entry A)) × D.answered desk.old es desk.new) }
+{
+    let seat = desk.seat();
+    let events = script.as_slice();
+    let mut entries = Vec::new(alloc);
+    if entries.reserve(events.len()).is_err() {
+        return Err(WorkError::Memory);
+    }
+    for k in 0..events.len() {
+        let Ok(event) = events[k].copy() else {
+            return Err(WorkError::Memory);
+        };
+        if !gate.before(seat, k + 1) {
+            return Err(WorkError::GaveUp(seat));
+        }
+        let entry = match desk.hand(event) {
+            Ok(entry) => entry,
+            Err(TakeError::BookFull) => return Err(WorkError::BookFull),
+            Err(TakeError::Memory) => return Err(WorkError::Memory),
+        };
+        if !gate.after(seat, k + 1, &entry) {
+            return Err(WorkError::GaveUp(seat));
+        }
+        if entries.push(entry).is_err() {
+            return Err(WorkError::Memory);
+        }
+    }
+    Ok(Report {
+        seat,
+        entries: Items::of(entries),
+    })
+}

@@ -1,0 +1,79 @@
+//! Why a drive has no result: the faults of its scripts, and a gate that gives up.
+
+use crate::gates::Stopping;
+use crate::scripts::{atomic, two_scripts};
+use acta_locked::{DriveError, Entry, Gate, OpenGate, Script, drive};
+use acta_table::{Event, TxnId};
+use std::alloc::{AllocError, Global};
+use std::process::Abort;
+use std::sync::Wait;
+use std::test::Fail;
+use std::thread::Threads;
+
+// The script that commits the first transaction so often.
+fn commits(alloc: Global, times: usize) -> Result<Script<Global>, AllocError> {
+    let mut events = Vec::with_capacity(alloc, times)?;
+    for _ in 0..times {
+        events.push(Event::Commit(TxnId(1)))?;
+    }
+    Ok(Script::of(events))
+}
+
+// Scripts of so many such commits each.
+fn all_commits(alloc: Global, calls: &[usize]) -> Result<Vec<Script<Global>>, AllocError> {
+    let mut scripts = Vec::new(alloc);
+    for times in calls {
+        scripts.push(commits(alloc, *times)?)?;
+    }
+    Ok(scripts)
+}
+
+// What the drive of the scripts fails with.
+fn fault<R: Threads + Wait + Sync, G: Gate<Entry<Global>> + Sync>(
+    rt: &R,
+    alloc: Global,
+    scripts: &[Script<Global>],
+    gate: &G,
+) -> Result<Option<DriveError>, Fail> {
+    let model = atomic(alloc)?;
+    Ok(drive(rt, alloc, model, scripts, gate).err())
+}
+
+// Scripts of so many commits each are not run, for this reason.
+fn are_barred<R: Threads + Wait + Sync + Abort>(
+    rt: &R,
+    alloc: Global,
+    calls: &[usize],
+    why: DriveError,
+) -> Result<(), Fail> {
+    let scripts = all_commits(alloc, calls)?;
+    let found = fault(rt, alloc, scripts.as_slice(), &OpenGate)?;
+    assert_eq!(rt; found, Some(why));
+    Ok(())
+}
+
+#[test]
+fn scripts_that_are_not_run(rt: HostRuntime) -> Result<(), Fail> {
+    let alloc = rt.alloc();
+    are_barred(&rt, alloc, &[], DriveError::NoWorker)?;
+    are_barred(&rt, alloc, &[1; 17], DriveError::TooManyWorkers)?;
+    are_barred(&rt, alloc, &[32_768, 32_769], DriveError::TooManyEvents)
+}
+
+// The second worker gives up before its first call.
+fn gives_up<R: Threads + Wait + Sync + Abort>(rt: &R, alloc: Global) -> Result<(), Fail> {
+    let scripts = two_scripts(
+        alloc,
+        "begin 1 flat\ndo 1 n add 5",
+        "begin 2 flat\ndo 2 m add 7",
+    )?;
+    let gate = Stopping { seat: 2, call: 1 };
+    let found = fault(rt, alloc, scripts.as_slice(), &gate)?;
+    assert_eq!(rt; found, Some(DriveError::GaveUp(2)));
+    Ok(())
+}
+
+#[test]
+fn a_gate_that_gives_up(rt: HostRuntime) -> Result<(), Fail> {
+    gives_up(&rt, rt.alloc())
+}

@@ -1,0 +1,35 @@
+//! A full book: it has 65,536 entries, of which none needs to be admitted, and takes no more.
+
+use crate::scripts::atomic;
+use acta_locked::{Book, TakeError};
+use acta_table::{Answer, Event, Rule, TxnId};
+use std::alloc::{Allocator, Global};
+use std::process::Abort;
+use std::test::Fail;
+
+// Commits a transaction that has not begun, and says whether it is refused for that, under this number.
+fn is_refused<A: Allocator + Copy>(book: &mut Book<A>, number: u32) -> Result<bool, TakeError> {
+    let entry = book.take(1, Event::Commit(TxnId(1)))?;
+    let answer = Answer::Refused {
+        rule: Rule::NotInProgress,
+        by: Some(1),
+    };
+    Ok(entry.number == number && entry.seat == 1 && entry.answer == answer)
+}
+
+fn fill(rt: &impl Abort, alloc: Global) -> Result<(), Fail> {
+    let mut book = Book::new(alloc, atomic(alloc)?)?;
+    for number in 1..65_537u32 {
+        assert!(rt; is_refused(&mut book, number)?, "call {number}");
+    }
+    let more = book.take(1, Event::Commit(TxnId(1)));
+    assert!(rt; matches!(more, Err(TakeError::BookFull)));
+    assert_eq!(rt; book.entries().len(), 65_536);
+    assert!(rt; book.machine().history().is_empty());
+    Ok(())
+}
+
+#[test]
+fn a_full_book_takes_no_more(rt: HostRuntime) -> Result<(), Fail> {
+    fill(&rt, rt.alloc())
+}

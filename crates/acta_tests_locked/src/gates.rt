@@ -1,0 +1,123 @@
+//! Gates of the tests: one at which two workers meet, and one that is false at one place.
+
+use acta_locked::{Entry, Gate};
+use std::alloc::Global;
+use std::sync::atomic::{AtomicU64, Ordering};
+use std::sync::{Mutex, Wait};
+use std::thread;
+
+// How often a worker looks for the other, before it gives up.
+const TURNS: u32 = 10_000_000;
+
+// Raises a flag, and waits for the other; false where it is not raised in time.
+fn meet(mine: &AtomicU64, other: &AtomicU64) -> bool {
+    mine.store(1, Ordering::SeqCst);
+    for _ in 0..TURNS {
+        if other.load(Ordering::SeqCst) == 1 {
+            return true;
+        }
+        thread::yield_now();
+    }
+    false
+}
+
+/// Where two workers meet.
+#[derive(Clone, Copy, PartialEq, Eq)]
+pub enum Place {
+    /// Before their second calls.
+    BeforeSecond,
+    /// After their first calls.
+    AfterFirst,
+}
+
+/// A gate at which seats 1 and 2 meet, and which keeps the entries that it is shown.
+#[derive(Drop)]
+pub struct Meeting<'a, R: Wait> {
+    rt: &'a R,
+    place: Place,
+    first: AtomicU64,
+    second: AtomicU64,
+    shown: Mutex<Vec<Entry<Global>>>,
+}
+
+impl<'a, R: Wait> Meeting<'a, R> {
+    /// A gate at which nobody has come yet.
+    pub fn new(rt: &'a R, alloc: Global, place: Place) -> Meeting<'a, R> {
+        Meeting {
+            rt,
+            place,
+            first: AtomicU64::new(0),
+            second: AtomicU64::new(0),
+            shown: Mutex::new(Vec::new(alloc)),
+        }
+    }
+
+    // Raises the flag of the seat, and waits for the other's.
+    fn meets(&self, seat: u8) -> bool {
+        if seat == 1 {
+            meet(&self.first, &self.second)
+        } else {
+            meet(&self.second, &self.first)
+        }
+    }
+
+    /// Whether the gate was shown these entries, each once, and no others.
+    pub fn has_shown(&self, entries: &[Entry<Global>]) -> bool {
+        let shown = self.shown.lock(self.rt);
+        if shown.len() != entries.len() {
+            return false;
+        }
+        for entry in entries {
+            if times(shown.as_slice(), entry) != 1 {
+                return false;
+            }
+        }
+        true
+    }
+}
+
+// How many of the entries are this one.
+fn times(shown: &[Entry<Global>], entry: &Entry<Global>) -> u64 {
+    let mut times = 0u64;
+    for told in shown {
+        if told.is_same(entry) {
+            times = times.wrapping_add(1);
+        }
+    }
+    times
+}
+
+impl<'a, R: Wait> Gate<Entry<Global>> for Meeting<'a, R> {
+    fn before(&self, seat: u8, call: usize) -> bool {
+        self.place != Place::BeforeSecond || call != 2 || self.meets(seat)
+    }
+
+    fn after(&self, seat: u8, call: usize, entry: &Entry<Global>) -> bool {
+        let Ok(kept) = entry.copy() else {
+            return false;
+        };
+        if self.shown.lock(self.rt).push(kept).is_err() {
+            return false;
+        }
+        self.place != Place::AfterFirst || call != 1 || self.meets(seat)
+    }
+}
+
+/// A gate that is false before one call of one seat, and open elsewhere.
+#[derive(Drop)]
+pub struct Stopping {
+    /// The seat that it stops.
+    pub seat: u8,
+    /// Before which of its calls.
+    pub call: usize,
+}
+
+impl<X> Gate<X> for Stopping {
+    fn before(&self, seat: u8, call: usize) -> bool {
+        seat != self.seat || call != self.call
+    }
+
+    fn after(&self, _seat: u8, _call: usize, _entry: &X) -> bool {
+        true
+    }
+}

@@ -1,0 +1,95 @@
+//! Each allocation refused in turn: a book stays as it was.
+
+use crate::scripts::{model_of, script};
+use acta_locked::{Book, TakeError};
+use acta_models::Standard;
+use acta_table::Event;
+use refusing::Refusing;
+use std::alloc::Allocator;
+use std::process::Abort;
+use std::test::Fail;
+
+// More allocations than any of these calls makes.
+const MOST: u64 = 400;
+
+fn too_many() -> Fail {
+    Fail::new("a call makes too many allocations")
+}
+
+// Whether the book has so many entries, of which so many were admitted.
+fn stands<A: Allocator>(book: &Book<A>, entries: usize, admitted: usize) -> bool {
+    book.entries().len() == entries && book.machine().history().len() == admitted
+}
+
+// Takes the event, its nth allocation refused; where it came, the answer is want of memory, and the book is as it was.
+fn take_refused<A: Allocator + Copy, B: Allocator>(
+    rt: &impl Abort,
+    heap: &Refusing<B>,
+    book: &mut Book<A>,
+    event: Event<A>,
+    nth: u64,
+) -> Result<bool, Fail> {
+    let (entries, admitted) = (book.entries().len(), book.machine().history().len());
+    heap.refuse(nth);
+    let taken = book.take(1, event);
+    let is_whole = heap.is_waiting();
+    heap.refuse(0);
+    if is_whole {
+        assert!(rt; taken.is_ok());
+    } else {
+        assert!(rt; matches!(taken, Err(TakeError::Memory)));
+        assert!(rt; stands(book, entries, admitted));
+    }
+    Ok(is_whole)
+}
+
+// Takes the event, its first allocation refused, then the second, and so on, until it succeeds. Says how many were
+// refused.
+fn take_each<A: Allocator + Copy, B: Allocator>(
+    rt: &impl Abort,
+    heap: &Refusing<B>,
+    book: &mut Book<A>,
+    event: &Event<A>,
+) -> Result<u64, Fail> {
+    for nth in 1..MOST {
+        if take_refused(rt, heap, book, event.copy()?, nth)? {
+            return Ok(nth.wrapping_sub(1));
+        }
+    }
+    Err(too_many())
+}
+
+// Calls with the growths that they make: of an event with a set the copy that is kept, of the list of entries, and the
+// machine's own.
+const CALLS: &str = "\
+begin 1 part
+begin 2 part
+begin 1 part
+do 1 x write 5
+do 1 s insert 3
+delegate 1 2 1,2
+do 1 n add 1
+split 1 4 part 3
+join 1 2
+commit 2";
+
+// Takes the calls, one after another. The book in the end has them all, and its machine all but the third.
+fn take_all<B: Allocator>(rt: &impl Abort, heap: &Refusing<B>) -> Result<u64, Fail> {
+    let model = model_of(heap, Standard::SplitJoin)?;
+    let calls = script(heap, &model, CALLS)?;
+    let mut book = Book::new(heap, model)?;
+    let mut refused = 0u64;
+    for event in calls.as_slice() {
+        refused = refused.wrapping_add(take_each(rt, heap, &mut book, event)?);
+    }
+    assert!(rt; stands(&book, 10, 9));
+    Ok(refused)
+}
+
+#[test]
+fn a_book_that_cannot_grow(rt: HostRuntime) -> Result<(), Fail> {
+    let heap = Refusing::new(rt.alloc());
+    let refused = take_all(&rt, &heap)?;
+    assert!(rt; refused > 10, "only {refused} growths");
+    Ok(())
+}
