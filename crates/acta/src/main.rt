@@ -9,15 +9,19 @@ ghost use Rattle.std.specs.Prelude.{◌≤◌, IfOk, vec_len};
 
 use acta_models::Standard;
 use acta_tool::{
-    Args, Metered, ModelName, Outcome, ReadFault, UsageFault, Watched, exit_status, parse,
-    read_all, run_tool,
+    Args, Command, Metered, ModelName, Outcome, ReadFault, UsageFault, Watched, drive_tool,
+    exit_status, parse, read_all, run_tool,
 };
 use std::alloc::AllocError;
+use std::env::Env;
+use std::fs::Files;
 use std::process::ExitCode;
+use std::sync::Wait;
+use std::thread::Threads;
 use std::{env, fs, io};
 
 // The words of the command line; the first is the program's name.
-fn words(rt: &HostRuntime) -> Result<Vec<String>, UsageFault> {
+fn words<R: Env + AllocGlobal>(rt: &R) -> Result<Vec<String>, UsageFault> {
     match env::args(rt) {
         Ok(words) => Ok(words.collect(rt.alloc())?),
         Err(e) => match e.kind() {
@@ -28,7 +32,7 @@ fn words(rt: &HostRuntime) -> Result<Vec<String>, UsageFault> {
 }
 
 // The bytes of a model file, at most 16,777,216.
-fn read_model(rt: &HostRuntime, path: &str) -> Result<Vec<u8>, ReadFault>
+fn read_model<R: Files + AllocGlobal>(rt: &R, path: &str) -> Result<Vec<u8>, ReadFault>
     ensures { IfOk result (λ bytes. vec_len bytes ≤ 16777216) }
 {
     match fs::open(rt, path) {
@@ -38,14 +42,23 @@ fn read_model(rt: &HostRuntime, path: &str) -> Result<Vec<u8>, ReadFault>
 }
 
 // Runs the tool on the bytes of a model, over the standard input and output.
-fn run_on(rt: &HostRuntime, args: &Args<'_>, model: &[u8]) -> Outcome {
+fn run_on<R: Input + Print + AllocGlobal + Threads + Wait + Sync>(
+    rt: &R,
+    args: &Args<'_>,
+    model: &[u8],
+) -> Outcome {
     let mut input = Metered::new(rt.reader());
     let mut output = Watched::new(io::writer(rt));
-    run_tool(rt.alloc(), args, model, &mut input, &mut output)
+    match args.command {
+        Command::Drive { .. } => drive_tool(rt, rt.alloc(), args, model, &mut input, &mut output),
+        _ => run_tool(rt.alloc(), args, model, &mut input, &mut output),
+    }
 }
 
 // Does what the words ask for.
-fn serve(rt: &HostRuntime) -> Result<Outcome, UsageFault> {
+fn serve<R: Env + Files + Input + Print + AllocGlobal + Threads + Wait + Sync>(
+    rt: &R,
+) -> Result<Outcome, UsageFault> {
     let words = words(rt)?;
     let args = parse(rt.alloc(), words.as_slice())?;
     Ok(match args.model {

@@ -1,11 +1,11 @@
 //! The fields of fixed length: each is read from the front of what is left of an image of a known size, and gives its
 //! value with the bytes behind it.
 
-ghost use Rattle.std.specs.Prelude.{◌≡◌, ◌-◌, ◌≤◌, length, IfOk};
+ghost use Rattle.std.specs.Prelude.{◌≡◌, ◌-◌, ◌≤◌, length, true, IfErr, IfOk};
 ghost use Rattle.acta_image.specs.declared.fault.ImageFault.TheVariants.{BadField};
 ghost use Rattle.acta_image.specs.declared.fault.LoadError.TheVariants as error;
 ghost use Rattle.acta_image.specs.Reading.{byte_in, commit_in, extent_in, field, kind_in, name_by, number_to, policy_in, scope_in, starts_in};
-ghost use Rattle.acta_image.specs.inside.Gives.{Gives, part_of, policy_by};
+ghost use Rattle.acta_image.specs.inside.Gives.{Gives, is_fault, part_of, policy_by};
 
 use crate::fault::{ImageFault, LoadError};
 use acta_table::{
@@ -15,7 +15,8 @@ use std::alloc::Allocator;
 
 /// The first bytes, and those behind them.
 pub fn part(bytes: &[u8], len: usize) -> Result<(&[u8], &[u8]), LoadError>
-    ensures { Gives (λ x. (x.0.now, x.1.now)) result (part_of len bytes.now) }
+    ensures field { Gives (λ x. (x.0.now, x.1.now)) result (part_of len bytes.now) }
+    ensures sure { IfErr result (λ e. is_fault e ≡ true) }
 {
     if bytes.len() < len {
         return Err(LoadError::Fault(ImageFault::Truncated));
@@ -32,7 +33,8 @@ pub fn bad(size: usize, bytes: &[u8]) -> LoadError
 
 /// A byte from least to most.
 pub fn byte(size: usize, least: u8, most: u8, bytes: &[u8]) -> Result<(u8, &[u8]), LoadError>
-    ensures { Gives (λ x. (x.0, x.1.now)) result (field size 1 (byte_in least most) bytes.now) }
+    ensures field { Gives (λ x. (x.0, x.1.now)) result (field size 1 (byte_in least most) bytes.now) }
+    ensures sure { IfErr result (λ e. is_fault e ≡ true) }
 {
     let (found, rest) = part(bytes, 1)?;
     if least <= found[0] && found[0] <= most {
@@ -44,7 +46,8 @@ pub fn byte(size: usize, least: u8, most: u8, bytes: &[u8]) -> Result<(u8, &[u8]
 
 /// A number of two bytes that is at most this.
 pub fn number(size: usize, most: u16, bytes: &[u8]) -> Result<(u16, &[u8]), LoadError>
-    ensures { Gives (λ x. (x.0, x.1.now)) result (field size 2 (number_to most) bytes.now) }
+    ensures field { Gives (λ x. (x.0, x.1.now)) result (field size 2 (number_to most) bytes.now) }
+    ensures sure { IfErr result (λ e. is_fault e ≡ true) }
 {
     let (found, rest) = part(bytes, 2)?;
     let number = u16::from_be_bytes([found[0], found[1]]);
@@ -74,7 +77,8 @@ pub fn name<A: Allocator>(
 
 /// The first value of an object whose kind has this code.
 pub fn kind(size: usize, code: u8, bytes: &[u8]) -> Result<(Kind, &[u8]), LoadError>
-    ensures { Gives (λ x. (x.0, x.1.now)) result (field size 4 (kind_in code) bytes.now) }
+    ensures field { Gives (λ x. (x.0, x.1.now)) result (field size 4 (kind_in code) bytes.now) }
+    ensures sure { IfErr result (λ e. is_fault e ≡ true) }
 {
     let (found, rest) = part(bytes, 4)?;
     let number = u32::from_be_bytes([found[0], found[1], found[2], found[3]]);
@@ -91,7 +95,8 @@ pub fn kind(size: usize, code: u8, bytes: &[u8]) -> Result<(Kind, &[u8]), LoadEr
 
 /// How transactions may start.
 pub fn starts(size: usize, bytes: &[u8]) -> Result<(Starts, &[u8]), LoadError>
-    ensures { Gives (λ x. (x.0, x.1.now)) result (field size 1 starts_in bytes.now) }
+    ensures field { Gives (λ x. (x.0, x.1.now)) result (field size 1 starts_in bytes.now) }
+    ensures sure { IfErr result (λ e. is_fault e ≡ true) }
 {
     let (bits, rest) = byte(size, 0, 7, bytes)?;
     let starts = Starts {
@@ -115,7 +120,8 @@ pub fn kinds_of(bits: u16) -> Kinds
 
 /// Whose operations count.
 pub fn scope(size: usize, bytes: &[u8]) -> Result<(Scope, &[u8]), LoadError>
-    ensures { Gives (λ x. (x.0, x.1.now)) result (field size 1 scope_in bytes.now) }
+    ensures field { Gives (λ x. (x.0, x.1.now)) result (field size 1 scope_in bytes.now) }
+    ensures sure { IfErr result (λ e. is_fault e ≡ true) }
 {
     let (code, rest) = byte(size, 0, 1, bytes)?;
     let scope = if code == 0 {
@@ -130,6 +136,8 @@ pub fn scope(size: usize, bytes: &[u8]) -> Result<(Scope, &[u8]), LoadError>
 pub fn policy_bits(size: usize, code: u8, bytes: &[u8]) -> Result<(u16, &[u8]), LoadError>
     ensures field { Gives (λ x. (policy_by code x.0, x.1.now)) result (field size 2 (policy_in code) bytes.now) }
     ensures small { IfOk result (λ x. x.0 ≤ 4095) }
+    ensures none { code ≡ 0 → IfOk result (λ x. x.0 ≡ 0) }
+    ensures sure { IfErr result (λ e. is_fault e ≡ true) }
 {
     number(size, if code == 0 { 0 } else { 4095 }, bytes)
 }
@@ -150,7 +158,8 @@ pub fn policy_of(code: u8, bits: u16) -> Policy
 
 /// What becomes of what is held at a commit.
 pub fn at_commit(size: usize, bytes: &[u8]) -> Result<(AtCommit, &[u8]), LoadError>
-    ensures { Gives (λ x. (x.0, x.1.now)) result (field size 1 commit_in bytes.now) }
+    ensures field { Gives (λ x. (x.0, x.1.now)) result (field size 1 commit_in bytes.now) }
+    ensures sure { IfErr result (λ e. is_fault e ≡ true) }
 {
     let (code, rest) = byte(size, 0, 1, bytes)?;
     let at_commit = if code == 0 {
@@ -163,7 +172,8 @@ pub fn at_commit(size: usize, bytes: &[u8]) -> Result<(AtCommit, &[u8]), LoadErr
 
 /// How much is handed over.
 pub fn extent(size: usize, bytes: &[u8]) -> Result<(Extent, &[u8]), LoadError>
-    ensures { Gives (λ x. (x.0, x.1.now)) result (field size 1 extent_in bytes.now) }
+    ensures field { Gives (λ x. (x.0, x.1.now)) result (field size 1 extent_in bytes.now) }
+    ensures sure { IfErr result (λ e. is_fault e ≡ true) }
 {
     let (code, rest) = byte(size, 0, 1, bytes)?;
     let extent = if code == 0 {

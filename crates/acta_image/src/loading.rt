@@ -1,13 +1,15 @@
 //! From an image to its model.
 
-ghost use Rattle.std.specs.Prelude.{◌≡◌, Ok, List, IfOk, IfErr, ℕ, length};
+ghost use Rattle.std.specs.Prelude.{◌≡◌, Err, Ok, List, IfOk, IfErr, ℕ, length, true};
 ghost use Rattle.acta_table.specs.declared.model.Parts.{Parts};
 ghost use Rattle.acta_table.specs.Typed.{AreOfModel};
 ghost use Rattle.acta_image.specs.Claims.{IsWhy};
+ghost use Rattle.acta_image.specs.declared.fault.ImageFault.{ImageFault};
 ghost use Rattle.acta_image.specs.declared.fault.ImageFault.TheVariants.{Version};
+ghost use Rattle.acta_image.specs.declared.fault.LoadError.TheVariants as error;
 ghost use Rattle.acta_image.specs.Reading.{byte_in, field_or, loaded, read_class, read_header, read_items, read_magic, read_object, read_parts};
 ghost use Rattle.acta_image.specs.Spelling.{image};
-ghost use Rattle.acta_image.specs.inside.Gives.{Gives};
+ghost use Rattle.acta_image.specs.inside.Gives.{Gives, is_fault};
 
 use crate::fault::{ImageFault, LoadError};
 use crate::fields::{
@@ -109,7 +111,8 @@ fn classes<A: Allocator + Copy>(
 // The magic: a byte that is there and differs comes before one that is not there.
 #[tactic(auto, unfolding(crate::specs::Reading::read_magic))]
 fn magic(bytes: &[u8]) -> Result<(&[u8], &[u8]), LoadError>
-    ensures { Gives (λ x. (x.0.now, x.1.now)) result (read_magic bytes.now) }
+    ensures field { Gives (λ x. (x.0.now, x.1.now)) result (read_magic bytes.now) }
+    ensures sure { IfErr result (λ e. is_fault e ≡ true) }
 {
     let magic = b"ACTA";
     if bytes[..bytes.len().min(4)] != magic[..bytes.len().min(4)] {
@@ -123,7 +126,8 @@ fn magic(bytes: &[u8]) -> Result<(&[u8], &[u8]), LoadError>
 
 // The version.
 fn version(bytes: &[u8]) -> Result<(u8, &[u8]), LoadError>
-    ensures { Gives (λ x. (x.0, x.1.now)) result (field_or Version 1 (byte_in 1 1) bytes.now) }
+    ensures field { Gives (λ x. (x.0, x.1.now)) result (field_or Version 1 (byte_in 1 1) bytes.now) }
+    ensures sure { IfErr result (λ e. is_fault e ≡ true) }
 {
     let (found, rest) = part(bytes, 1)?;
     if found[0] == 1 {
@@ -136,7 +140,8 @@ fn version(bytes: &[u8]) -> Result<(u8, &[u8]), LoadError>
 // How many classes there are and how many objects, behind the magic and the version.
 #[tactic(auto, unfolding(crate::specs::Reading::read_header))]
 fn header(size: usize, bytes: &[u8]) -> Result<((u8, u16), &[u8]), LoadError>
-    ensures { Gives (λ x. (x.0, x.1.now)) result (read_header size bytes.now) }
+    ensures field { Gives (λ x. (x.0, x.1.now)) result (read_header size bytes.now) }
+    ensures sure { IfErr result (λ e. is_fault e ≡ true) }
 {
     let (_, rest) = magic(bytes)?;
     let (_, rest) = version(rest)?;
@@ -148,7 +153,8 @@ fn header(size: usize, bytes: &[u8]) -> Result<((u8, u16), &[u8]), LoadError>
 // The objects and the classes.
 #[tactic(auto, unfolding(crate::specs::Reading::read_parts))]
 fn parts<A: Allocator + Copy>(alloc: A, bytes: &[u8]) -> Result<(Parts<A>, &[u8]), LoadError>
-    ensures { Gives (λ x. (x.0, x.1.now)) result (read_parts (length bytes.now) bytes.now) }
+    ensures parts { Gives (λ x. (x.0, x.1.now)) result (read_parts (length bytes.now) bytes.now) }
+    ensures early { (e : ImageFault) → read_header (length bytes.now) bytes.now ≡ Err e → result ≡ Err (error.Fault e) }
 {
     let size = bytes.len();
     let (counts, rest) = header(size, bytes)?;
@@ -164,11 +170,12 @@ fn read_alike<A: Allocator>(alloc: &A, bytes: &[u8])
 {}
 
 /// The model whose image the bytes are (the format is ours). `Fault` with the first fault of bytes that are no image;
-/// `Memory` where there is none.
+/// `Memory` where there is none, which is found out only behind the magic, the version and the counts.
 #[tactic(auto, unfolding(crate::specs::Reading::loaded))]
 pub fn load<A: Allocator + Copy>(alloc: A, bytes: &[u8]) -> Result<Model<A>, LoadError>
     ensures ok { IfOk result (λ model. loaded bytes.now ≡ Ok model) }
     ensures fault { IfErr result (IsWhy (loaded {A = A} bytes.now)) }
+    ensures early { (e : ImageFault) → read_header (length bytes.now) bytes.now ≡ Err e → result ≡ Err (error.Fault e) }
     ensures spelled { IfOk result (λ model. image model ≡ bytes.now) }
     ensures only { (m : Parts A) → AreOfModel m → image m ≡ bytes.now → loaded bytes.now ≡ Ok m }
 {

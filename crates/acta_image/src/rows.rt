@@ -1,9 +1,9 @@
 //! The start edges of a class: how many there are, and a row of two bytes for each, in their order.
 
-ghost use Rattle.std.specs.Prelude.{◌≡◌, slice_get};
+ghost use Rattle.std.specs.Prelude.{◌≡◌, slice_get, true, IfErr};
 ghost use Rattle.acta_table.specs.Dependencies.{all_kinds};
 ghost use Rattle.acta_image.specs.Reading.{dependent_in, edge_in, field, rank, read_edges, read_rows, row_in};
-ghost use Rattle.acta_image.specs.inside.Gives.{Gives};
+ghost use Rattle.acta_image.specs.inside.Gives.{Gives, is_fault};
 
 use crate::codes::dependent_code;
 use crate::fault::LoadError;
@@ -47,7 +47,8 @@ fn rank_of(edge: &StartEdge) -> u8
 
 // A row whose start edge has this rank at least.
 fn row(size: usize, least: u8, bytes: &[u8]) -> Result<(StartEdge, &[u8]), LoadError>
-    ensures { Gives (λ x. (x.0, x.1.now)) result (field size 2 (row_in least) bytes.now) }
+    ensures field { Gives (λ x. (x.0, x.1.now)) result (field size 2 (row_in least) bytes.now) }
+    ensures sure { IfErr result (λ e. is_fault e ≡ true) }
 {
     let (found, rest) = part(bytes, 2)?;
     let Some(edge) = edge_of(found[0], found[1]) else {

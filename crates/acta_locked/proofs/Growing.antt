@@ -1,5 +1,6 @@
 -- A book stays a run as it grows.
 use Rattle.std.proofs.Common.{◌≡◌, ℕ, zero, suc, ◌+◌, ◌<◌, List, [], ◌∷◌, ◌++◌, length, Option, Some, None, refl, ap, sym, ◌∙◌, arith, length-append, subst}
+use Rattle.std.specs.Prelude.{Result, Ok, Err, IfOk}
 use Rattle.std.proofs.lemmas.List.{map-append}
 use Rattle.std.specs.List.{range_with_len}
 use Rattle.acta_table.specs.declared.answer.Answer.{Answer}
@@ -13,6 +14,7 @@ use Rattle.acta_machine.specs.Table.{State, fresh, answer_to, after, moved_on, a
 use Rattle.acta_locked.specs.declared.book.Entry.{Entry}
 use Rattle.acta_table.specs.declared.model.Parts.{Parts}
 use Rattle.acta_locked.specs.Books.{Entries, IsRun, events_of, entry_of, entered}
+use Rattle.acta_locked.specs.Desks.{IsOfSomeRun}
 use Rattle.acta_locked.specs.inside.Shown.{IsMachineOf}
 
 model-moved : {A : Type 0} (s : State A) (e : Event A) (r : Option Refusal) → (moved_on s e r).model ≡ s.model
@@ -90,3 +92,8 @@ module _ {A : Type 0} (s t : State A) (es grown : List (Entry A)) (made seat : �
   take-adds b view =
       (λ i. record { model = model-same i; entries = (push ∙ ap (λ (x : Event A). es ++ pushed made seat x answer ∷ []) copied) i })
       ∙ ap (λ (x : Entries A). entered x (pushed made seat event answer)) view
+
+-- an entry that a book makes is that of a run
+pub of-some-run : {A E : Type 0} (r : Result (Entry A) E) (m : Parts A) (seat : ℕ) (event : Event A) (b grown : Entries A) → b.model ≡ m → IfOk r (λ e. e ≡ entry_of b seat event) → IfOk r (λ e. grown ≡ entered b e) → IsRun grown → IfOk r (IsOfSomeRun m seat event)
+of-some-run (Ok e) m seat event b grown of is more run = (b, of, is, subst IsRun more run)
+of-some-run (Err x) m seat event b grown of is more run = tt

@@ -6,9 +6,11 @@ use Rattle.acta_table.specs.declared.limits.TheConstants.{MOST_EVENTS}
 use Rattle.acta_table.specs.declared.model.Parts.{Parts}
 use Rattle.acta_locked.specs.declared.limits.TheConstants.{MOST_WORKERS}
 use Rattle.acta_locked.specs.declared.run.DriveError.{DriveError}
-use Rattle.acta_locked.specs.declared.run.DriveError.TheVariants.{NoWorker, TooManyWorkers, TooManyEvents}
+use Rattle.acta_locked.specs.declared.run.DriveError.TheVariants.{NoWorker, TooManyWorkers, TooManyEvents, Memory, GaveUp, Unsettled}
 use Rattle.acta_locked.specs.declared.run.Driven.{Driven}
 use Rattle.acta_locked.specs.declared.worker.Report.{Report}
+use Rattle.acta_locked.specs.declared.worker.WorkError.{WorkError}
+use Rattle.acta_locked.specs.declared.worker.WorkError.TheVariants as work
 use Rattle.acta_locked.specs.Books.{Entries, IsRun, events_of, seat_part}
 
 -- why scripts are not run: there is none, there are more than 16, or they have more than 65,536 events together
@@ -25,6 +27,13 @@ is_of_scripts NoWorker = true
 is_of_scripts TooManyWorkers = true
 is_of_scripts TooManyEvents = true
 is_of_scripts _ = false
+
+-- why a run has no result where a worker has no report for this reason; one that met a full book has none, and so
+-- differs from its script
+abbrev pub fault_by : WorkError → DriveError
+fault_by (work.GaveUp seat) = GaveUp seat
+fault_by work.BookFull = Unsettled
+fault_by work.Memory = Memory
 
 -- the report of a seat is its part of the book, and the part's events are its script
 pub record IsPart {A : Type 0} (b : Entries A) (seat : ℕ) (script : List (Event A)) (r : Report A) : Type 0 where

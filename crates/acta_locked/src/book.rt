@@ -107,6 +107,8 @@ impl<A: Allocator + Copy> Book<A> {
         ensures ok { IfOk result (λ entry. self.new ≡ entered self.old entry) }
         ensures err { OnErr result (self.new ≡ self.old) }
         ensures full { result ≡ Err TakeError.BookFull → length self.old.entries ≡ MOST_EVENTS }
+        ensures run { IsRun self.new }
+        ensures barred { length self.old.entries ≡ MOST_EVENTS → result ≡ Err TakeError.BookFull }
     {
         let made = self.entries.len();
         if made >= MOST_EVENTS {
@@ -146,6 +148,7 @@ impl<A: Allocator> Book<A> {
     /// The machine as the entries leave it (ours).
     pub fn machine(&self) -> &Machine<A>
         ensures machine { result.now ≡ state_of self.now }
+        ensures model { result.now.model ≡ self.now.model }
         ensures follows { FollowsPlaces result.now }
     {
         &self.machine

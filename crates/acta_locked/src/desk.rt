@@ -19,6 +19,9 @@ pub trait Desk<E, X> {
     // From the first state to the second the desk answered these entries, and no others.
     ghost answered: { Self → List X → Self → Type 0 };
 
+    // What is known of a desk that has no room for an entry; nothing, where it doesn't say.
+    ghost may_be_full: { Self → Type 0 } = { λ _. Unit {0} };
+
     /// The desk's seat, which no call changes.
     fn seat(&self) -> u8
         ensures { result ≡ seat_of self.now };
@@ -29,7 +32,8 @@ pub trait Desk<E, X> {
         ensures seat { IfOk result (λ entry. seat_in entry ≡ seat_of self.old) }
         ensures event { IfOk result (λ entry. event_in entry ≡ event) }
         ensures answered { IfOk result (λ entry. answered self.old (entry ∷ []) self.new) }
-        ensures none { OnErr result (answered self.old [] self.new) };
+        ensures none { OnErr result (answered self.old [] self.new) }
+        ensures no_room { result ≡ Err TakeError.BookFull → may_be_full self.new };
 
     // A desk that stays as it is has answered nothing, and what it answered in two stretches it answered in both.
     ghost nothing: { (d : Self) → answered d [] d };
@@ -58,6 +62,7 @@ impl<A: Allocator + Copy> PlainDesk<A> {
 }
 
 impl<A: Allocator + Copy> Desk<Event<A>, Entry<A>> for PlainDesk<A> {
+    ghost use Rattle.acta_table.specs.declared.limits.TheConstants.{MOST_EVENTS};
     ghost use Rattle.acta_locked.specs.inside.Growth.{book-nothing, book-further};
 
     ghost seat_of = { λ d. d.seat };
@@ -67,6 +72,8 @@ impl<A: Allocator + Copy> Desk<Event<A>, Entry<A>> for PlainDesk<A> {
     ghost event_in = { λ e. e.event };
 
     ghost answered = { λ d xs e. e.book ≡ with_entries d.book xs };
+
+    ghost may_be_full = { λ d. length d.book.entries ≡ MOST_EVENTS };
 
     fn seat(&self) -> u8 {
         self.seat
@@ -80,7 +87,9 @@ impl<A: Allocator + Copy> Desk<Event<A>, Entry<A>> for PlainDesk<A> {
         ensures entry { IfOk result (λ entry. entry ≡ entry_of self.old.book self.old.seat event) }
         ensures answered { IfOk result (λ entry. self.new.book ≡ entered self.old.book entry) }
         ensures none { OnErr result (self.new.book ≡ with_entries self.old.book []) }
+        ensures no_room { result ≡ Err TakeError.BookFull → length self.new.book.entries ≡ MOST_EVENTS }
         ensures full { result ≡ Err TakeError.BookFull → length self.old.book.entries ≡ MOST_EVENTS }
+        ensures barred { length self.old.book.entries ≡ MOST_EVENTS → result ≡ Err TakeError.BookFull }
     {
         self.book.take(self.seat, event)
     }

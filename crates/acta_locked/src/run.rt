@@ -2,7 +2,7 @@
 
 ghost use Rattle.std.specs.Prelude.{◌≡◌, ◌+◌, ◌<◌, ◌≤◌, Err, None, Some, false, true, length, sum_by, vec_len};
 ghost use Rattle.std.specs.Prelude.{Decides, IfErr, IfOk};
-ghost use Rattle.acta_locked.specs.Drives.{IsDriven, is_of_scripts, scripts_fault};
+ghost use Rattle.acta_locked.specs.Drives.{IsDriven, fault_by, is_of_scripts, scripts_fault};
 ghost use Rattle.acta_locked.specs.declared.run.DriveError.TheVariants.{Memory};
 ghost use Rattle.acta_locked.specs.declared.run.DriveError.{DriveError};
 
@@ -55,7 +55,7 @@ impl From<AllocError> for DriveError {
 }
 
 impl From<WorkError> for DriveError {
-    ghost from_gives = { λ _ e. is_of_scripts e ≡ false };
+    ghost from_gives = { λ w e. e ≡ fault_by w };
 
     // A worker that met a full book has no report, and so differs from its script.
     fn from(error: WorkError) -> DriveError {

@@ -1,7 +1,7 @@
 //! What is looked at once all workers are back: whether each report is its seat's part of the book, and answers its
 //! script.
 
-ghost use Rattle.std.specs.Prelude.{◌≡◌, ◌≤◌, length, IsTrue};
+ghost use Rattle.std.specs.Prelude.{◌≡◌, ◌≤◌, length, Decides};
 ghost use Rattle.acta_locked.specs.Books.{events_of, seat_part};
 ghost use Rattle.acta_locked.specs.Drives.{AreParts, IsPart};
 
@@ -13,7 +13,7 @@ use std::alloc::Allocator;
 
 // Whether the entries are of these events, in order.
 fn answers_script<A: Allocator>(entries: &[Entry<A>], script: &[Event<A>]) -> bool
-    ensures { IsTrue result → events_of entries.now ≡ script.now }
+    ensures { Decides result (events_of entries.now ≡ script.now) }
 {
     if entries.len() != script.len() {
         return false;
@@ -28,7 +28,7 @@ fn answers_script<A: Allocator>(entries: &[Entry<A>], script: &[Event<A>]) -> bo
 
 // Whether the report is the seat's part of the entries.
 fn is_part<A: Allocator>(entries: &[Entry<A>], seat: u8, report: &[Entry<A>]) -> bool
-    ensures { IsTrue result → report.now ≡ seat_part seat entries.now }
+    ensures { Decides result (report.now ≡ seat_part seat entries.now) }
 {
     let mut next = 0;
     for entry in entries {
@@ -49,7 +49,7 @@ fn is_settled<A: Allocator>(
     script: &Script<A>,
     report: &Report<A>,
 ) -> bool
-    ensures { IsTrue result → IsPart book.now seat script.now report.now }
+    ensures { Decides result (IsPart book.now seat script.now report.now) }
 {
     report.seat == seat
         && is_part(book.entries(), seat, report.entries.as_slice())
@@ -63,7 +63,7 @@ pub fn are_settled<A: Allocator>(
     reports: &[Report<A>],
 ) -> bool
     requires few { length scripts.now ≤ MOST_WORKERS }
-    ensures { IsTrue result → AreParts book.now 1 scripts.now reports.now }
+    ensures { Decides result (AreParts book.now 1 scripts.now reports.now) }
 {
     if reports.len() != scripts.len() {
         return false;

@@ -1,7 +1,7 @@
 //! The book under its lock, with the ledger that counts its entries.
 
 ghost use Rattle.std.specs.Prelude.{◌≡◌, ◌+◌, ◌<◌, [], Err, length, IfOk, OnErr, OnOk};
-ghost use Rattle.acta_locked.specs.Books.{entered, entry_of};
+ghost use Rattle.acta_locked.specs.Books.{IsRun, entered, entry_of};
 
 use crate::book::{Book, Entry, TakeError};
 use crate::desk::Desk;
@@ -40,6 +40,8 @@ impl<A: Allocator + Copy, J: Job<A>> Vault<A, J> {
         requires empty { book.entries ≡ [] }
         requires none { calls.total ≡ 0 }
         requires of_model { book.model ≡ J.model }
+        ensures book { result.book ≡ book }
+        ensures calls { result.calls ≡ calls }
     {
         Vault { book, calls }
     }
@@ -60,6 +62,8 @@ impl<A: Allocator + Copy, J: Job<A>> Vault<A, J> {
         ensures same { OnErr result (mine.new.amount ≡ mine.old.amount) }
         ensures parts { mine.new.parts ≡ mine.old.parts }
         ensures full { result ≡ Err TakeError.BookFull → length self.old.book.entries ≡ MOST_EVENTS }
+        ensures run { IsRun self.new.book }
+        ensures barred { length self.old.book.entries ≡ MOST_EVENTS → result ≡ Err TakeError.BookFull }
     {
         let Vault { book, calls } = self;
         let entry = book.take(seat, event)?;
@@ -73,6 +77,8 @@ impl<A: Allocator + Copy, J: Job<A>> Vault<A, J> {
         ensures book { result ≡ self.book }
         ensures of_model { result.model ≡ J.model }
         ensures counted { length result.entries ≡ all.old.amount }
+        ensures same { all.new.amount ≡ all.old.amount }
+        ensures parts { all.new.parts ≡ all.old.parts }
     {
         let Vault { book, mut calls } = self;
         calls.audit(all);
@@ -92,7 +98,7 @@ pub struct LockedDesk<'a, A: Allocator, J: Job<A>, R: Wait> {
 impl<'a, A: Allocator + Copy, J: Job<A>, R: Wait> Desk<Event<A>, Entry<A>>
     for LockedDesk<'a, A, J, R> {
     ghost use Rattle.std.specs.Prelude.{◌≡◌, ◌∷◌, [], IfOk, OnErr};
-    ghost use Rattle.acta_locked.specs.Desks.{Counts};
+    ghost use Rattle.acta_locked.specs.Desks.{Counts, IsOfSomeRun};
     ghost use Rattle.acta_locked.specs.inside.Growth.{count-nothing, count-further};
 
     ghost seat_of = { λ d. d.seat };
@@ -113,6 +119,7 @@ impl<'a, A: Allocator + Copy, J: Job<A>, R: Wait> Desk<Event<A>, Entry<A>>
         ensures same_seat { self.new.seat ≡ self.old.seat }
         ensures seat { IfOk result (λ entry. entry.seat ≡ self.old.seat) }
         ensures event { IfOk result (λ entry. entry.event ≡ event) }
+        ensures entry { IfOk result (IsOfSomeRun J.model self.old.seat event) }
         ensures answered { IfOk result (λ entry.
             Counts self.old.share.parts self.old.share.amount (entry ∷ []) self.new.share.parts self.new.share.amount) }
         ensures none { OnErr result

@@ -1,8 +1,8 @@
 //! What a worker hands in, and what it gets.
 
-ghost use Rattle.std.specs.Prelude.{◌≡◌, ℕ, List, Err, IfOk, OnErr};
+ghost use Rattle.std.specs.Prelude.{◌≡◌, ◌≤◌, ℕ, List, Err, false, length, IfOk, OnErr};
 ghost use Rattle.acta_locked.specs.declared.book.Entry.{Entry};
-ghost use Rattle.acta_locked.specs.Desks.{IsReport};
+ghost use Rattle.acta_locked.specs.Desks.{IsReport, IsStopped};
 
 use crate::book::{Entry, TakeError};
 use crate::desk::Desk;
@@ -12,11 +12,16 @@ use std::alloc::Allocator;
 /// What is called round each call of a worker, outside the lock, with the seat and which of the worker's calls it is,
 /// from 1; X is what the call is answered (ours). It may wait; false gives up.
 pub trait Gate<X> {
+    // At which calls of which seats the gate may give up; at any, where it doesn't say.
+    ghost may_stop: { Self → ℕ → ℕ → Type 0 } = { λ _ _ _. Unit {0} };
+
     /// Called before the event is handed in.
-    fn before(&self, seat: u8, call: usize) -> bool;
+    fn before(&self, seat: u8, call: usize) -> bool
+        ensures { result ≡ false → may_stop self.now seat call };
 
     /// Called with the entry that was answered.
-    fn after(&self, seat: u8, call: usize, entry: &X) -> bool;
+    fn after(&self, seat: u8, call: usize, entry: &X) -> bool
+        ensures { result ≡ false → may_stop self.now seat call };
 }
 
 /// A gate that is always true, and never waits (ours).
@@ -24,6 +29,8 @@ pub trait Gate<X> {
 pub struct OpenGate;
 
 impl<X> Gate<X> for OpenGate {
+    ghost may_stop = { λ _ _ _. ⊥ };
+
     fn before(&self, _seat: u8, _call: usize) -> bool {
         true
     }
@@ -83,7 +90,7 @@ pub enum WorkError {
 }
 
 /// One worker: hands the script's events to the desk, in order, and reports the entries that it was answered (ours).
-/// After an error the desk keeps the entries that it answered before.
+/// After an error the desk keeps the entries that it answered before, of the first events of the script.
 pub fn work<A: Allocator + Copy, D: Desk<Event<A>, Entry<A>>, G: Gate<Entry<A>>>(
     alloc: A,
     desk: &mut D,
@@ -94,7 +101,10 @@ pub fn work<A: Allocator + Copy, D: Desk<Event<A>, Entry<A>>, G: Gate<Entry<A>>>
     ensures report { IfOk result (λ report. IsReport D.seat_in D.event_in (D.seat_of desk.old) script.now report) }
     ensures answered { IfOk result (λ report. D.answered desk.old report.entries desk.new) }
     ensures gave_up { (seat : ℕ) → result ≡ Err (WorkError.GaveUp seat) → seat ≡ D.seat_of desk.old }
-    ensures before { OnErr result ((es : List (Entry A)) × D.answered desk.old es desk.new) }
+    ensures stopped { (seat : ℕ) → result ≡ Err (WorkError.GaveUp seat)
+        → (k : ℕ) × (1 ≤ k) × (k ≤ length script.now) × G.may_stop gate.now seat k }
+    ensures no_room { result ≡ Err WorkError.BookFull → D.may_be_full desk.new }
+    ensures before { OnErr result (IsStopped D.seat_in D.event_in (D.answered desk.old) (D.seat_of desk.old) script.now desk.new) }
 {
     let seat = desk.seat();
     let events = script.as_slice();

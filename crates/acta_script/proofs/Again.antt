@@ -33,7 +33,7 @@ use Rattle.acta_script.specs.declared.fault.LineFault.{LineFault}
 use Rattle.acta_script.specs.declared.fault.LineFault.TheVariants.{Number, Name}
 use Rattle.acta_script.specs.Laws.{IsInModel, IsReadAgain, IsKeptAgain}
 use Rattle.acta_script.specs.Ranges.{IsWithin, HasRanges, HasRange, integer_of}
-use Rattle.acta_script.specs.Reading.{◌>>=◌, txn_said, integer_said, class_said, object_said, kind_said, begin_said, spawn_said, split_said, join_said, delegate_said, form_said, do_said, commit_said, abort_said, event_said, return_named, return_said, is_equals, both_said, plain, kept_said, kept_of}
+use Rattle.acta_script.specs.Reading.{◌>>=◌, txn_said, integer_said, class_said, object_said, kind_said, begin_said, spawn_said, split_said, join_said, delegate_said, form_said, do_said, commit_said, abort_said, event_said, return_named, return_said, is_equals, both, with_return, plain, kept_said, kept_of}
 use Rattle.acta_script.specs.Writing.{txn_word, class_word, object_word, operation_words, event_words, event_line, return_word, kept_line}
 use Rattle.acta_script.proofs.Checked.{IsChecked, checked}
 use Rattle.acta_script.proofs.Named.{place, at-name}
@@ -251,7 +251,7 @@ module _ {A : Type 0} (m : Parts A) (e : Event A) (faultless : lowest_fault m �
   plain_again =
       ap (λ (ws : List (List ℕ)). kept_said m (words_of (line_of ws))) (append-nil words)
       ∙ ap (kept_said m) (words_again words (are_words words spelled))
-      ∙ ap (λ (t : Bool). cond t (both_said (event_said m (before_first is_equals words)) (return_said (after_first is_equals words))) (event_said m words >>= plain)) (lacks_sign words spelled)
+      ∙ ap (λ (t : Bool). cond t (both with_return (event_said m (before_first is_equals words)) (return_said (after_first is_equals words))) (event_said m words >>= plain)) (lacks_sign words spelled)
       ∙ ap (λ (r : Result (Event A) LineFault). r >>= plain) said_again
 
   with_return_again : (ret : Ret) → HasRange ret → kept_of m (kept_line m (record { event = e; ret = Some ret })) ≡ Ok (record { event = e; ret = Some ret })
@@ -260,10 +260,10 @@ module _ {A : Type 0} (m : Parts A) (e : Event A) (faultless : lowest_fault m �
       let behind = return_word ret ∷ [] in
       let all = words ++ codes "=" ∷ behind in
       ap (kept_said m) (words_again all (words_and words (codes "=" ∷ behind) (are_words words spelled) (sign_is_word, (is_word (return_word ret) (return-spelled ret range), tt))))
-      ∙ ap (λ (t : Bool). cond t (both_said (event_said m (before_first is_equals all)) (return_said (after_first is_equals all))) (event_said m all >>= plain)) (has_sign words behind)
-      ∙ ap (λ (n : ℕ). both_said (event_said m (take n all)) (return_said (drop (n + 1) all))) (sign_at words behind spelled)
-      ∙ (λ i. both_said (event_said m (take_at words (codes "=" ∷ behind) _ refl i)) (return_said (behind_sign words behind i)))
-      ∙ (λ i. both_said (said_again i) (return_again ret range i))
+      ∙ ap (λ (t : Bool). cond t (both with_return (event_said m (before_first is_equals all)) (return_said (after_first is_equals all))) (event_said m all >>= plain)) (has_sign words behind)
+      ∙ ap (λ (n : ℕ). both with_return (event_said m (take n all)) (return_said (drop (n + 1) all))) (sign_at words behind spelled)
+      ∙ (λ i. both with_return (event_said m (take_at words (codes "=" ∷ behind) _ refl i)) (return_said (behind_sign words behind i)))
+      ∙ (λ i. both with_return (said_again i) (return_again ret range i))
 
 kept_again : {A : Type 0} (m : Parts A) (e : Event A) (ret : Option Ret) → lowest_fault m ≡ None → IsInModel m e → HasRanges e → IfSome ret HasRange → IsKeptAgain m (record { event = e; ret = ret })
 kept_again m e None faultless inside ranges range = plain_again m e faultless inside ranges

@@ -2,11 +2,10 @@
 use Rattle.std.proofs.Common.{◌≡◌, Result, Ok, Err, refl, sym, subst, ap}
 use Rattle.std.specs.Option.{option_map_or}
 use Rattle.std.specs.Result.{IfErr, IsErrAnd, result_err}
-use Rattle.acta_table.specs.declared.event.Ret.{Ret}
 use Rattle.acta_script.specs.declared.fault.LineError.{LineError}
 use Rattle.acta_script.specs.declared.fault.LineError.TheVariants.{Memory, Fault}
 use Rattle.acta_script.specs.declared.fault.LineFault.{LineFault}
-use Rattle.acta_script.specs.Reading.{IsWhy, ◌>>=◌, lower, both_said}
+use Rattle.acta_script.specs.Reading.{IsWhy, ◌>>=◌, lower, both}
 
 pub told : {X Y : Type 0} (said : Result X LineFault) (r : Result Y LineError) (f : LineFault) → said ≡ Err f → IsErrAnd r (λ e. e ≡ Fault f) → IfErr r (IsWhy said)
 told said (Ok x) f is h = absurd h
@@ -22,6 +21,6 @@ told-on said then (Ok x) e why h = absurd h
 told-on said then (Err d) e why h = subst (IsWhy (said >>= then)) (sym h) (on said then e why)
 
 -- of two faults the lower is told
-pub both-fault : {A : Type 0} (f : LineFault) (ret : Result Ret LineFault) → both_said {A = A} (Err f) ret ≡ Err (option_map_or (lower f) (result_err ret) f)
-both-fault f (Ok r) = refl
-both-fault f (Err g) = refl
+pub both-fault : {X Y Z : Type 0} (make : X → Y → Z) (f : LineFault) (other : Result Y LineFault) → both make (Err f) other ≡ Err (option_map_or (lower f) (result_err other) f)
+both-fault make f (Ok y) = refl
+both-fault make f (Err g) = refl

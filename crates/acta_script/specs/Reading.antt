@@ -1,5 +1,5 @@
--- The event or the kept item that a line says, or its fault. In each form unknown words are looked for first, then
--- the number of words, then numbers, then names: so the fault is the lowest.
+-- The event, the kept item or the seated event that a line says, or its fault. In each form unknown words are looked
+-- for first, then the number of words, then numbers, then names: so the fault is the lowest.
 use Rattle.std.specs.Prelude.{◌≡◌, ℕ, Bool, true, false, ◌==◌, nat_le, List, [], ◌∷◌, if◌then◌else◌, codes, find, Option, Some, None, ok_or, option_map, Result, Ok, Err, ℤ, ⊤}
 use Rattle.std.specs.List.{list_any, slice_split, before_first, after_first, position_from}
 use Rattle.std.specs.Str.{bytes_eq}
@@ -24,6 +24,7 @@ use Rattle.acta_script.specs.declared.fault.LineError.{LineError}
 use Rattle.acta_script.specs.declared.fault.LineError.TheVariants as error
 use Rattle.acta_script.specs.declared.fault.LineFault.{LineFault}
 use Rattle.acta_script.specs.declared.fault.LineFault.TheVariants.{Empty, Word, Arity, Number, Name}
+use Rattle.acta_script.specs.declared.seated.Seated.{Seated}
 
 abbrev pub fault_number : LineFault → ℕ
 fault_number Empty = 1
@@ -200,6 +201,17 @@ event_said m (word ∷ words) =
 abbrev pub event_of : {A : Type 0} → Parts A → List ℕ → Result (Event A) LineFault
 event_of m line = event_said m (words_of line)
 
+-- the lower of two faults
+abbrev pub lower : LineFault → LineFault → LineFault
+lower f g = if nat_le (fault_number f) (fault_number g) then f else g
+
+-- what is made of both, if neither has a fault; of two faults the lower counts
+abbrev pub both : {X Y Z : Type 0} → (X → Y → Z) → Result X LineFault → Result Y LineFault → Result Z LineFault
+both make (Ok x) (Ok y) = Ok (make x y)
+both make (Ok x) (Err fault) = Err fault
+both make (Err fault) (Ok y) = Err fault
+both make (Err f) (Err g) = Err (lower f g)
+
 -- the return that a word says: a number has 64 bits
 abbrev pub return_named : List ℕ → Option Ret
 return_named word =
@@ -213,20 +225,13 @@ unfoldable pub return_said : List (List ℕ) → Result Ret LineFault
 return_said (word ∷ []) = ok_or (return_named word) Number
 return_said _ = Err Arity
 
--- the lower of two faults
-abbrev pub lower : LineFault → LineFault → LineFault
-lower f g = if nat_le (fault_number f) (fault_number g) then f else g
-
--- the event with its return; of two faults the lower counts
-abbrev pub both_said : {A : Type 0} → Result (Event A) LineFault → Result Ret LineFault → Result (Kept A) LineFault
-both_said (Ok event) (Ok ret) = Ok (record { event = event; ret = Some ret })
-both_said (Ok event) (Err fault) = Err fault
-both_said (Err fault) (Ok ret) = Err fault
-both_said (Err f) (Err g) = Err (lower f g)
-
 -- whether the word stands between an event and its return
 abbrev pub is_equals : List ℕ → Bool
 is_equals word = bytes_eq word (codes "=")
+
+-- an event with its return
+abbrev pub with_return : {A : Type 0} → Event A → Ret → Kept A
+with_return event ret = record { event = event; ret = Some ret }
 
 -- an event without a return
 abbrev pub plain : {A : Type 0} → Event A → Result (Kept A) LineFault
@@ -236,12 +241,36 @@ plain event = Ok (record { event = event; ret = None })
 unfoldable pub kept_said : {A : Type 0} → Parts A → List (List ℕ) → Result (Kept A) LineFault
 kept_said m words =
     if list_any is_equals words
-    then both_said (event_said m (before_first is_equals words)) (return_said (after_first is_equals words))
+    then both with_return (event_said m (before_first is_equals words)) (return_said (after_first is_equals words))
     else event_said m words >>= plain
 
 -- the kept item that a line says, or its lowest fault
 abbrev pub kept_of : {A : Type 0} → Parts A → List ℕ → Result (Kept A) LineFault
 kept_of m line = kept_said m (words_of line)
+
+-- SEAT: digits with a value from 1 to the number of seats
+abbrev pub seat_said : ℕ → List ℕ → Result ℕ LineFault
+seat_said seats word = do
+  seat ← ok_or (read_natural seats word) Number
+  if nat_le 1 seat then Ok seat else Err Number
+
+-- the event that the words behind a seat say: no word is too few
+abbrev pub event_behind : {A : Type 0} → Parts A → List (List ℕ) → Result (Event A) LineFault
+event_behind m [] = Err Arity
+event_behind m (word ∷ words) = event_said m (word ∷ words)
+
+-- an event at its seat
+abbrev pub at_seat : {A : Type 0} → Event A → ℕ → Seated A
+at_seat event seat = record { seat = seat; event = event }
+
+-- the seated event that words say: a seat, and behind it an event
+unfoldable pub seated_said : {A : Type 0} → Parts A → ℕ → List (List ℕ) → Result (Seated A) LineFault
+seated_said m seats [] = Err Empty
+seated_said m seats (seat ∷ words) = both at_seat (event_behind m words) (seat_said seats seat)
+
+-- the seated event that a line says, or its lowest fault
+abbrev pub seated_of : {A : Type 0} → Parts A → ℕ → List ℕ → Result (Seated A) LineFault
+seated_of m seats line = seated_said m seats (words_of line)
 
 -- an error says why the line gave nothing: its fault, or want of memory, which says nothing of the line
 abbrev pub IsWhy : {X : Type 0} → Result X LineFault → LineError → Type 0

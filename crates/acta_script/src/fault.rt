@@ -1,7 +1,8 @@
 //! Why a line says no event.
 
 ghost use Rattle.std.specs.Prelude.{◌≡◌};
-ghost use Rattle.acta_script.specs.Reading.{fault_number};
+ghost use Rattle.std.specs.Option.{option_map_or};
+ghost use Rattle.acta_script.specs.Reading.{fault_number, lower};
 ghost use Rattle.acta_script.specs.declared.fault.LineError.TheVariants.{Memory, Fault};
 
 use std::alloc::{AllocError, AllocFailed};
@@ -27,6 +28,16 @@ impl LineFault {
         ensures { result ≡ fault_number self }
     {
         self as u8
+    }
+}
+
+/// The lower of the fault and the other, if there is one.
+pub(crate) fn lowest(fault: LineFault, other: Option<LineFault>) -> LineFault
+    ensures { result ≡ option_map_or (lower fault) other fault }
+{
+    match other {
+        Some(other) if other.number() < fault.number() => other,
+        _ => fault,
     }
 }
 

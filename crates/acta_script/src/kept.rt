@@ -1,12 +1,11 @@
 //! Kept lines: an event and, behind a `=`, its return.
 
 ghost use Rattle.std.specs.Prelude.{◌≡◌, map, position, Ok, IfOk, IfErr};
-ghost use Rattle.std.specs.Option.{option_map_or};
 ghost use Rattle.acta_script.specs.Laws.{IsInModel};
-ghost use Rattle.acta_script.specs.Reading.{IsWhy, is_equals, lower, kept_said, kept_of};
+ghost use Rattle.acta_script.specs.Reading.{IsWhy, is_equals, kept_said, kept_of};
 ghost use Rattle.acta_script.specs.Writing.{kept_line};
 
-use crate::fault::{LineError, LineFault};
+use crate::fault::{LineError, lowest};
 use crate::laws::kept_again;
 use crate::reading::event_said;
 use crate::returns::{push_return, return_said};
@@ -20,16 +19,6 @@ fn sign_place(words: &[&[u8]]) -> Option<usize>
     ensures { result ≡ position (λ word. is_equals word.now) words.now }
 {
     words.iter().position(|word| *word == b"=".as_slice())
-}
-
-// The lower of the fault and the other, if there is one.
-fn lowest(fault: LineFault, other: Option<LineFault>) -> LineFault
-    ensures { result ≡ option_map_or (lower fault) other fault }
-{
-    match other {
-        Some(other) if other.number() < fault.number() => other,
-        _ => fault,
-    }
 }
 
 // The kept item that the words say.

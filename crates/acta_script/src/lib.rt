@@ -1,6 +1,6 @@
-//! Lines: the event or the kept item that a line says, and the lines of events, kept items, answers, debts and faults.
-//! Words stand apart by spaces or tabs, a `#` begins a comment, and what is written has one space between two words.
-//! A line of an event is one of
+//! Lines: the event, the kept item or the seated event that a line says, and the lines of events, kept items, answers,
+//! debts and faults. Words stand apart by spaces or tabs, a `#` begins a comment, and what is written has one space
+//! between two words. A line of an event is one of
 //!
 //! ```text
 //! begin T CLASS     spawn T C CLASS     split T U CLASS OPS
@@ -10,9 +10,10 @@
 //!
 //! where `OP` is `read`, `get`, `size`, or `write`, `add`, `insert`, `remove`, `has` with an `INT` behind it, and `OPS`
 //! is `-` or numbers joined by commas. A kept line is an event, and for a return behind it `=` and `done`, `yes`, `no`
-//! or a number. An answer is `ok PLACE [RETURN]` or `no RULE [by N]`, a debt is `owed EDGE TXN commit` or `.. abort`,
-//! and a fault in a history is `fault AXIOM PLACE BY`. No line that is written ends in a line feed. What is written of
-//! an event or a kept item is read again as this event or item: it is a clause of `write_event` and `write_kept`.
+//! or a number. A seated line is a seat, from 1, and an event behind it. An answer is `ok PLACE [RETURN]` or
+//! `no RULE [by N]`, a debt is `owed EDGE TXN commit` or `.. abort`, and a fault in a history is `fault AXIOM PLACE BY`.
+//! No line that is written ends in a line feed. What is written of an event or a kept item is read again as this event
+//! or item: it is a clause of `write_event` and `write_kept`.
 #![tactic(auto)]
 
 mod answers;
@@ -25,10 +26,12 @@ mod op_sets;
 mod operations;
 mod reading;
 mod returns;
+mod seated;
 mod writing;
 
 pub use answers::{answer_line, fault_line, owed_line};
 pub use fault::{LineError, LineFault};
 pub use kept::{read_kept, write_kept};
 pub use reading::read_event;
+pub use seated::{Seated, read_seated};
 pub use writing::write_event;

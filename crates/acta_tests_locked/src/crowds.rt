@@ -31,14 +31,22 @@ fn operation<A: Allocator>(t: TxnId, mix: u16) -> Event<A> {
     }
 }
 
+// An operation that conflicts with no other of these scripts.
+fn calm_operation<A: Allocator>(t: TxnId) -> Event<A> {
+    Event::Operate(t, ObjId(2), Op::Add(3))
+}
+
 // A step of a round. Each round has a transaction of its own, but the last, whose number is used again: it begins, in
 // every other round operates, tries to commit, and then to abort. What else it does is refused: it begins twice, and
-// commits and aborts where it has ended.
-fn step_of<A: Allocator>(seat: u16, round: u16, step: u16) -> Event<A> {
+// commits and aborts where it has ended. From the calm round on no operation conflicts with another's.
+fn step_of<A: Allocator>(seat: u16, round: u16, calm: u16, step: u16) -> Event<A> {
     let first = seat.wrapping_sub(1).wrapping_mul(255);
     let t = TxnId(first.wrapping_add(round % 255).wrapping_add(1));
     match step {
-        4 if round % 2 == 0 => operation(t, seat.wrapping_mul(7).wrapping_add(round)),
+        4 if round % 2 == 0 && round < calm => {
+            operation(t, seat.wrapping_mul(7).wrapping_add(round))
+        }
+        4 if round % 2 == 0 => calm_operation(t),
         8 | 10 | 12 | 14 => Event::Commit(t),
         9 | 11 | 13 | 15 => Event::Abort(t),
         _ => Event::Begin(t, ClassId(0)),
@@ -46,20 +54,20 @@ fn step_of<A: Allocator>(seat: u16, round: u16, step: u16) -> Event<A> {
 }
 
 // The script of a seat: 4,096 events.
-fn script_of(alloc: Global, seat: u16) -> Result<Script<Global>, AllocError> {
+fn script_of(alloc: Global, seat: u16, calm: u16) -> Result<Script<Global>, AllocError> {
     let mut events = Vec::new(alloc);
     for round in 0..ROUNDS {
         for step in 0..16u16 {
-            events.push(step_of(seat, round, step))?;
+            events.push(step_of(seat, round, calm, step))?;
         }
     }
     Ok(Script::of(events))
 }
 
-fn all_scripts(alloc: Global) -> Result<Vec<Script<Global>>, AllocError> {
+fn all_scripts(alloc: Global, calm: u16) -> Result<Vec<Script<Global>>, AllocError> {
     let mut scripts = Vec::new(alloc);
     for seat in 1..=WORKERS {
-        scripts.push(script_of(alloc, seat)?)?;
+        scripts.push(script_of(alloc, seat, calm)?)?;
     }
     Ok(scripts)
 }
@@ -91,8 +99,9 @@ fn crowd<R: Threads + Wait + Sync + Abort>(
     rt: &R,
     alloc: Global,
     name: Standard,
+    calm: u16,
 ) -> Result<(), Fail> {
-    let scripts = all_scripts(alloc)?;
+    let scripts = all_scripts(alloc, calm)?;
     let driven = driven_by(rt, alloc, name, scripts.as_slice())?;
     let entries = driven.book.entries();
     assert_eq!(rt; entries.len(), 65_536);
@@ -108,20 +117,27 @@ fn crowd<R: Threads + Wait + Sync + Abort>(
 
 #[test]
 fn sixteen_flat_workers(rt: HostRuntime) -> Result<(), Fail> {
-    crowd(&rt, rt.alloc(), Standard::Atomic)
+    crowd(&rt, rt.alloc(), Standard::Atomic, ROUNDS)
 }
 
 #[test]
 fn sixteen_nested_workers(rt: HostRuntime) -> Result<(), Fail> {
-    crowd(&rt, rt.alloc(), Standard::Nested)
+    crowd(&rt, rt.alloc(), Standard::Nested, ROUNDS)
 }
 
 #[test]
 fn sixteen_splitting_workers(rt: HostRuntime) -> Result<(), Fail> {
-    crowd(&rt, rt.alloc(), Standard::SplitJoin)
+    crowd(&rt, rt.alloc(), Standard::SplitJoin, ROUNDS)
 }
 
 #[test]
 fn sixteen_contingent_workers(rt: HostRuntime) -> Result<(), Fail> {
-    crowd(&rt, rt.alloc(), Standard::Contingent)
+    crowd(&rt, rt.alloc(), Standard::Contingent, ROUNDS)
+}
+
+// A conflict forms an edge between transactions that both go on, and each end goes over the edges in force: so all
+// rounds but the first two are calm.
+#[test]
+fn sixteen_recoverable_workers(rt: HostRuntime) -> Result<(), Fail> {
+    crowd(&rt, rt.alloc(), Standard::Recoverable, 2)
 }

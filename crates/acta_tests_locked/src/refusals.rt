@@ -1,13 +1,15 @@
-//! Each allocation refused in turn: a book stays as it was.
+//! Each allocation refused in turn: a book stays as it was, and a driven run says why it has no result.
 
-use crate::scripts::{model_of, script};
-use acta_locked::{Book, TakeError};
+use crate::scripts::{atomic, model_of, script, two_scripts};
+use acta_locked::{Book, DriveError, OpenGate, Script, TakeError, drive};
 use acta_models::Standard;
 use acta_table::Event;
 use refusing::Refusing;
 use std::alloc::Allocator;
 use std::process::Abort;
+use std::sync::Wait;
 use std::test::Fail;
+use std::thread::Threads;
 
 // More allocations than any of these calls makes.
 const MOST: u64 = 400;
@@ -91,5 +93,52 @@ fn a_book_that_cannot_grow(rt: HostRuntime) -> Result<(), Fail> {
     let heap = Refusing::new(rt.alloc());
     let refused = take_all(&rt, &heap)?;
     assert!(rt; refused > 10, "only {refused} growths");
+    Ok(())
+}
+
+// Drives the scripts, the nth allocation refused; where it came, the answer is want of memory, or that a thread could
+// not be started, and else the book has all calls. Says whether it came.
+fn drive_refused<'h, B: Allocator + Send + Sync, R: Threads + Wait + Sync + Abort>(
+    rt: &R,
+    heap: &'h Refusing<B>,
+    scripts: &[Script<&'h Refusing<B>>],
+    nth: u64,
+) -> Result<bool, Fail> {
+    let model = atomic(heap)?;
+    heap.refuse(nth);
+    let driven = drive(rt, heap, model, scripts, &OpenGate);
+    let is_whole = heap.is_waiting();
+    heap.refuse(0);
+    match driven {
+        Ok(driven) => assert!(rt; is_whole && driven.book.entries().len() == 4),
+        Err(DriveError::Memory | DriveError::NoThread) => assert!(rt; !is_whole),
+        Err(_) => return Err(Fail::new("a refused growth has another answer")),
+    }
+    Ok(!is_whole)
+}
+
+// Drives two scripts, the first allocation refused, then the second, and so on, until none is.
+fn drive_each<B: Allocator + Send + Sync, R: Threads + Wait + Sync + Abort>(
+    rt: &R,
+    heap: &Refusing<B>,
+) -> Result<u64, Fail> {
+    let scripts = two_scripts(
+        heap,
+        "begin 1 flat\ndo 1 n add 5",
+        "begin 2 flat\ndo 2 m add 7",
+    )?;
+    for nth in 1..MOST {
+        if !drive_refused(rt, heap, scripts.as_slice(), nth)? {
+            return Ok(nth.wrapping_sub(1));
+        }
+    }
+    Err(too_many())
+}
+
+#[test]
+fn a_driven_run_that_cannot_grow(rt: HostRuntime) -> Result<(), Fail> {
+    let heap = Refusing::new(rt.alloc());
+    let refused = drive_each(&rt, &heap)?;
+    assert!(rt; refused > 8, "only {refused} growths");
     Ok(())
 }

@@ -5,6 +5,8 @@
 #[cfg(test)]
 mod devices;
 #[cfg(test)]
+mod driving;
+#[cfg(test)]
 mod images;
 #[cfg(test)]
 mod lines;

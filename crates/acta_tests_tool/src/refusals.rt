@@ -1,18 +1,26 @@
 //! Each allocation of a call refused in turn: a call answers want of memory, or what is wanted where it can do without
 //! that one, and nothing else.
 
+ghost use Rattle.std.specs.Prelude.{◌≡◌, false};
+ghost use Rattle.acta_tool.specs.Outcome.{is_drive};
+
 use acta_image::{LoadError, load, write_image};
 use acta_lang::{AsmError, assemble, print_model};
+use acta_locked::DriveError;
 use acta_models::{Standard, load_all};
 use acta_script::{
     LineError, answer_line, fault_line, owed_line, read_event, read_kept, write_event, write_kept,
 };
 use acta_table::{Answer, EdgeNo, Missing, Model, Owed, Ret, Rule, TxnId};
-use acta_tool::{Args, Command, Metered, ModelName, Outcome, ReadFault, Watched, run_tool};
+use acta_tool::{
+    Args, Command, Metered, ModelName, Outcome, ReadFault, Watched, drive_tool, run_tool,
+};
 use refusing::Refusing;
-use std::alloc::{AllocError, Allocator};
+use std::alloc::{AllocError, Allocator, Global};
 use std::process::Abort;
+use std::sync::Wait;
 use std::test::Fail;
+use std::thread::Threads;
 
 // More allocations than any of these calls makes.
 const MOST: u64 = 400;
@@ -247,7 +255,9 @@ fn refuse_command(
     least: u64,
     due: Outcome,
     want: &[u8],
-) -> Result<(), Fail> {
+) -> Result<(), Fail>
+    requires { is_drive command ≡ false }
+{
     let heap = Refusing::new(rt.alloc());
     let args = Args {
         command,
@@ -276,6 +286,53 @@ fn refuse_command(
         }
     }
     Err(too_many())
+}
+
+// Lines of one seat.
+const DRIVEN: &[u8] = b"1 begin 1 flat\n1 do 1 x write 5\n1 commit 1\n";
+
+// Refuses each allocation of `drive` with one worker in turn: one that is cut short writes nothing.
+fn refuse_drive<B: Allocator + Send + Sync, R: Threads + Wait + Sync + Abort>(
+    rt: &R,
+    heap: &Refusing<B>,
+    alloc: Global,
+) -> Result<(), Fail> {
+    let args = Args {
+        command: Command::Drive { workers: 1 },
+        model: ModelName::Standard(Standard::Atomic),
+    };
+    let text = Standard::Atomic.text().as_bytes();
+    for nth in 1..MOST {
+        let mut reader = Metered::new(DRIVEN);
+        let mut output = Vec::new(alloc);
+        heap.refuse(nth);
+        let mut writer = Watched::new(&mut output);
+        let status = drive_tool(rt, heap, &args, text, &mut reader, &mut writer);
+        let is_whole = heap.is_waiting();
+        heap.refuse(0);
+        match status {
+            Outcome::Done => assert_eq!(rt;
+                output.as_slice(),
+                b"1 1 begin 1 flat : ok 1\n2 1 do 1 x write 5 : ok 2 done\n3 1 commit 1 : ok 3\n".as_slice()
+            ),
+            Outcome::Unread(ReadFault::Memory)
+            | Outcome::Undriven(DriveError::Memory | DriveError::NoThread) => {
+                assert!(rt; output.is_empty() && !is_whole)
+            }
+            _ => return Err(Fail::new("a refused growth has another answer")),
+        }
+        if is_whole {
+            assert!(rt; status == Outcome::Done && nth > 30);
+            return Ok(());
+        }
+    }
+    Err(too_many())
+}
+
+#[test]
+fn driven_runs(rt: HostRuntime) -> Result<(), Fail> {
+    let heap = Refusing::new(rt.alloc());
+    refuse_drive(&rt, &heap, rt.alloc())
 }
 
 #[test]

@@ -2,10 +2,14 @@
 //! before its bytes as pairs of digits, `|` before each line of its input, the lines that are wanted, or `=` before the
 //! bytes, and the exit status.
 
-use acta_tool::{Metered, ModelName, Outcome, Watched, exit_status, parse, run_tool};
+use acta_tool::{
+    Args, Command, Metered, ModelName, Outcome, Watched, drive_tool, exit_status, parse, run_tool,
+};
 use std::alloc::{AllocError, Global};
 use std::process::Abort;
+use std::sync::Wait;
 use std::test::Fail;
+use std::thread::Threads;
 
 // A case as far as it was read.
 #[derive(Drop)]
@@ -59,8 +63,30 @@ fn words(alloc: Global, line: &str) -> Result<Vec<String>, AllocError> {
     Ok(words)
 }
 
+/// Does what the words asked for on the bytes of a model and of an input.
+pub fn serve<R: Threads + Wait + Sync + AllocGlobal>(
+    rt: &R,
+    args: &Args<'_>,
+    model: &[u8],
+    input: &[u8],
+    output: &mut Vec<u8>,
+) -> Outcome {
+    let mut input = Metered::new(input);
+    let mut output = Watched::new(output);
+    match args.command {
+        Command::Drive { .. } => {
+            drive_tool(rt, rt.alloc(), args, model, &mut input, &mut output)
+        }
+        _ => run_tool(rt.alloc(), args, model, &mut input, &mut output),
+    }
+}
+
 // Runs a case, and compares what it writes and how it ends.
-fn run(rt: &(impl Abort + AllocGlobal), case: &Case, status: &str) -> Result<(), Fail> {
+fn run<R: Threads + Wait + Sync + Abort + AllocGlobal>(
+    rt: &R,
+    case: &Case,
+    status: &str,
+) -> Result<(), Fail> {
     let words = words(rt.alloc(), &case.command)?;
     let args = match parse(rt.alloc(), words.as_slice()) {
         Ok(args) => args,
@@ -74,15 +100,8 @@ fn run(rt: &(impl Abort + AllocGlobal), case: &Case, status: &str) -> Result<(),
         ModelName::Standard(name) => name.text().as_bytes(),
         ModelName::Path(_) => case.model.as_slice(),
     };
-    let mut input = Metered::new(case.input.as_slice());
     let mut output = Vec::new(rt.alloc());
-    let ended = run_tool(
-        rt.alloc(),
-        &args,
-        model,
-        &mut input,
-        &mut Watched::new(&mut output),
-    );
+    let ended = serve(rt, &args, model, case.input.as_slice(), &mut output);
     assert_eq!(rt;
         output.as_slice(),
         case.want.as_slice(),
@@ -99,7 +118,10 @@ fn run(rt: &(impl Abort + AllocGlobal), case: &Case, status: &str) -> Result<(),
 }
 
 /// Plays the cases of a text.
-pub fn play(rt: &(impl Abort + AllocGlobal), cases: &str) -> Result<(), Fail> {
+pub fn play<R: Threads + Wait + Sync + Abort + AllocGlobal>(
+    rt: &R,
+    cases: &str,
+) -> Result<(), Fail> {
     let mut case = Case::of(rt.alloc(), "")?;
     for line in cases.lines() {
         if let Some(command) = line.strip_prefix("$ ") {

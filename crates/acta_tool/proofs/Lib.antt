@@ -1,7 +1,12 @@
+pub mod BookLines
+pub mod EntryLines
 pub mod ImageLines
 pub mod KeptInModel
 pub mod Lines
 pub mod Named
 pub mod Outputs
+pub mod Seats
+pub mod SeatsInTurn
+pub mod Tasks
 pub mod Turns
 pub mod TextsAndImages

@@ -6,7 +6,7 @@ use Rattle.acta_table.specs.declared.event.Event.{Event}
 use Rattle.acta_table.specs.declared.model.Parts.{Parts}
 use Rattle.acta_machine.specs.Table.{State, run_answers, run_state}
 use Rattle.acta_words.specs.Text.{text_of}
-use Rattle.acta_tool.specs.declared.script.BadLine.{BadLine}
+use Rattle.acta_tool.specs.declared.input.BadLine.{BadLine}
 use Rattle.acta_tool.specs.Output.{Said, told, told_last, run_on}
 
 -- the events' answers, and what is told last

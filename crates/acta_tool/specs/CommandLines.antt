@@ -1,15 +1,18 @@
 -- What the words of a command line ask for, in the words of `clap`.
-use Rattle.std.specs.Prelude.{◌≡◌, ◌≢◌, ◌==◌, ⊤, Bool, true, false, ◌⊎◌, List, [], ◌∷◌, Option, Some, option_map, IsSomeAnd, slice_index, codes}
+use Rattle.std.specs.Prelude.{◌≡◌, ◌≢◌, ◌==◌, ◌<◌, ◌≤◌, ⊤, Bool, true, false, ◌⊎◌, ℕ, List, [], ◌∷◌, Option, Some, option_map, IsSomeAnd, slice_index, codes, pos}
 use Rattle.std.specs.Option.{option_and_then, option_map_or}
 use Rattle.std.specs.Str.{bytes_eq}
 use Rattle.clap.specs.Words.{App, Row, Rule, Text, IsAmong, Kinds, fault_of, first_of, kind_of, new_app, new_rule, subcommand_of, with_rule, with_subcommand}
 use Rattle.clap.specs.declared.builder.ArgAction.TheVariants.{Set, SetTrue}
+use Rattle.clap.specs.declared.builder.value_parser.ValueParser.TheVariants.{Signed}
 use Rattle.clap.specs.declared.error.ErrorKind.TheVariants.{MissingSubcommand}
 use Rattle.acta_models.specs.declared.texts.Standard.{Standard as StandardModel}
 use Rattle.acta_models.specs.Standards.{name_of_standard}
+use Rattle.acta_words.specs.Numerals.{read_natural}
+use Rattle.acta_locked.specs.declared.limits.TheConstants.{MOST_WORKERS}
 use Rattle.acta_tool.specs.declared.args.Args.{Args}
 use Rattle.acta_tool.specs.declared.args.Command.{Command}
-use Rattle.acta_tool.specs.declared.args.Command.TheVariants.{Assemble, CheckImage, Run}
+use Rattle.acta_tool.specs.declared.args.Command.TheVariants.{Assemble, CheckImage, Run, Drive}
 use Rattle.acta_tool.specs.declared.args.ModelName.{ModelName}
 use Rattle.acta_tool.specs.declared.args.ModelName.TheVariants.{Standard, Path}
 use Rattle.acta_tool.specs.declared.fault.UsageFault.{UsageFault}
@@ -23,6 +26,15 @@ model_rule = record (new_rule (codes "MODEL")) { required = true; action = Some 
 abbrev pub kept_rule : Rule
 kept_rule = record (new_rule (codes "kept")) { long = Some (codes "kept"); action = Some SetTrue }
 
+-- the option `--workers`, which has to be there, with a number from 1 to 16
+abbrev pub workers_rule : Rule
+workers_rule = record (new_rule (codes "workers")) {
+  long = Some (codes "workers");
+  required = true;
+  action = Some Set;
+  parser = Some (Signed (pos 1) (pos 16));
+}
+
 -- the commands
 abbrev pub assemble_app : App
 assemble_app = with_rule (new_app (codes "assemble")) model_rule
@@ -33,6 +45,9 @@ check_app = with_rule (new_app (codes "check-image")) model_rule
 abbrev pub run_app : App
 run_app = with_rule (with_rule (new_app (codes "run")) model_rule) kept_rule
 
+abbrev pub drive_app : App
+drive_app = with_rule (with_rule (new_app (codes "drive")) model_rule) workers_rule
+
 -- the program without its commands, of which one has to be there
 abbrev pub bare_app : App
 bare_app =
@@ -41,12 +56,16 @@ bare_app =
 
 -- the program
 abbrev pub tool_app : App
-tool_app = with_subcommand (with_subcommand (with_subcommand bare_app assemble_app.top) check_app.top) run_app.top
+tool_app =
+    with_subcommand (with_subcommand (with_subcommand (with_subcommand bare_app assemble_app.top) check_app.top)
+    run_app.top) drive_app.top
 
--- a command line as it is spelled: the command, whether the flag stands with it, and the model
+-- a command line as it is spelled: the command, whether the flag stands with it, the number of workers if one does,
+-- and the model
 pub record Named : Type 0 where
   pub command : Text
   pub is_kept : Bool
+  pub workers : Option Text
   pub model : Text
 
 -- whether a flag was set
@@ -56,7 +75,12 @@ is_set flag rows = option_map_or (bytes_eq (codes "true")) (first_of flag rows) 
 -- what was read of the words, by the command that stands in them
 abbrev pub named_in : Option (Text × List Row) → Option Named
 named_in = option_and_then (λ p.
-    option_map (λ model. record { command = p.0; is_kept = is_set (codes "kept") p.1; model = model }) (first_of (codes "MODEL") p.1))
+    option_map (λ model. record {
+      command = p.0;
+      is_kept = is_set (codes "kept") p.1;
+      workers = first_of (codes "workers") p.1;
+      model = model;
+    }) (first_of (codes "MODEL") p.1))
 
 -- what the words name
 unfoldable pub named_by : List Text → Option Named
@@ -74,15 +98,28 @@ begins_at model = slice_index model 0 == 64
 abbrev pub standard_text : StandardModel → Text
 standard_text name = 64 ∷ name_of_standard name
 
+-- the number of workers, if digits stand there
+abbrev pub workers_in : Named → Option ℕ
+workers_in line = option_and_then (read_natural 0xffff) line.workers
+
+-- a seat for each: from 1 to 16
+abbrev pub AreSeated : ℕ → Type 0
+AreSeated workers = (0 < workers) × (workers ≤ MOST_WORKERS)
+
 -- the command is this one
 abbrev pub IsCommand : Named → Command → Type 0
 IsCommand line Assemble = line.command ≡ codes "assemble"
 IsCommand line CheckImage = line.command ≡ codes "check-image"
 IsCommand line (Run kept) = (line.command ≡ codes "run") × (line.is_kept ≡ kept)
+IsCommand line (Drive workers) = (line.command ≡ codes "drive") × (workers_in line ≡ Some workers) × AreSeated workers
 
--- it is one of the three
+-- it is one of them
 abbrev pub IsKnown : Named → Type 0
-IsKnown line = (line.command ≡ codes "assemble") ⊎ ((line.command ≡ codes "check-image") ⊎ (line.command ≡ codes "run"))
+IsKnown line =
+    (line.command ≡ codes "assemble")
+    ⊎ ((line.command ≡ codes "check-image")
+    ⊎ ((line.command ≡ codes "run")
+    ⊎ ((line.command ≡ codes "drive") × IsSomeAnd (workers_in line) AreSeated)))
 
 -- the model is this one: a standard one, or a file
 abbrev pub IsModel : Text → ModelName → Type 0

@@ -1,4 +1,5 @@
 pub mod CommandLines
+pub mod Driving
 pub mod Models
 pub mod Outcome
 pub mod Output

@@ -2,11 +2,11 @@
 use Rattle.std.specs.Prelude.{◌≡◌, ◌<◌, ◌⊎◌, ℕ, List, [], Bool, true, false, if◌then◌else◌, Option, Some, None, Result, Ok, Err, IfSome, IsSome, length, ⊤}
 use Rattle.std.specs.Io.KnownBytes.{Appends, Keeps}
 use Rattle.acta_tool.specs.declared.args.Command.{Command}
-use Rattle.acta_tool.specs.declared.args.Command.TheVariants.{Assemble, CheckImage, Run}
+use Rattle.acta_tool.specs.declared.args.Command.TheVariants.{Assemble, CheckImage, Run, Drive}
 use Rattle.acta_tool.specs.declared.fault.UsageFault.{UsageFault}
 use Rattle.acta_tool.specs.declared.fault.UsageFault.TheVariants.{Usage, UnknownModel, NotText, Memory as no_memory}
 use Rattle.acta_tool.specs.declared.outcome.Outcome.{Outcome}
-use Rattle.acta_tool.specs.declared.outcome.Outcome.TheVariants.{Done, Refused, Unread, Unwritten}
+use Rattle.acta_tool.specs.declared.outcome.Outcome.TheVariants.{Done, Refused, Unread, Undriven, Unwritten}
 use Rattle.acta_tool.specs.declared.source.ReadFault.{ReadFault}
 use Rattle.acta_tool.specs.declared.source.ReadFault.TheVariants.{Device, TooMuch, Memory}
 use Rattle.acta_tool.specs.Output.{Output}
@@ -16,6 +16,7 @@ abbrev pub code_of : Outcome → ℕ
 code_of Done = 0
 code_of Refused = 1
 code_of (Unread reason) = 3
+code_of (Undriven e) = 3
 code_of Unwritten = 3
 
 -- the exit status of the program, by what came of its words and of its run
@@ -26,11 +27,17 @@ exit_status_of (Err UnknownModel) = 2
 exit_status_of (Err NotText) = 2
 exit_status_of (Err (no_memory e)) = 3
 
+-- whether the command is for threads
+abbrev pub is_drive : Command → Bool
+is_drive (Drive workers) = true
+is_drive _ = false
+
 -- whether the command reads the input
 abbrev pub reads_input : Command → Bool
 reads_input Assemble = false
 reads_input CheckImage = false
 reads_input (Run kept) = true
+reads_input (Drive workers) = true
 
 -- the input of a command, where this is left to be read: none, where it reads none
 abbrev pub input_of : Command → Option (List ℕ) → Option (List ℕ)
@@ -41,6 +48,7 @@ abbrev pub reason_of : Outcome → Option ReadFault
 reason_of (Unread reason) = Some reason
 reason_of Done = None
 reason_of Refused = None
+reason_of (Undriven e) = None
 reason_of Unwritten = None
 
 -- whether a read has failed, before and after: after, one has where the reason is the device, and else it is as before
@@ -56,17 +64,27 @@ WritesBy Unwritten old new = new ≡ true
 WritesBy Done old new = new ≡ old
 WritesBy Refused old new = new ≡ old
 WritesBy (Unread reason) old new = new ≡ old
+WritesBy (Undriven e) old new = new ≡ old
 
--- input that wasn't answered leaves what the writer held
-abbrev pub KeepsUnread : Option ReadFault → Option (List ℕ) → Option (List ℕ) → Type 0
-KeepsUnread None old new = ⊤
-KeepsUnread (Some reason) old new = Keeps old new
+-- where nothing was to be written, the writer holds what it held
+abbrev pub KeepsUnread : Outcome → Option (List ℕ) → Option (List ℕ) → Type 0
+KeepsUnread (Unread reason) old new = Keeps old new
+KeepsUnread (Undriven e) old new = Keeps old new
+KeepsUnread Done old new = ⊤
+KeepsUnread Refused old new = ⊤
+KeepsUnread Unwritten old new = ⊤
+
+-- whether a driven run had no result
+abbrev pub is_undriven : Outcome → Bool
+is_undriven (Undriven e) = true
+is_undriven _ = false
 
 -- where the input was answered, the writer got the output and nothing else, and the status says whether it was refused
 abbrev pub Answers : Outcome → Output → Option (List ℕ) → Option (List ℕ) → Type 0
 Answers Done out old new = (out.is_refused ≡ false) × Appends old new out.text
 Answers Refused out old new = (out.is_refused ≡ true) × Appends old new out.text
 Answers (Unread reason) out old new = ⊤
+Answers (Undriven e) out old new = ⊤
 Answers Unwritten out old new = ⊤
 
 -- a model, or an input that is read, of more than 16,777,216 bytes is not answered, and where that is the reason one of

@@ -17,10 +17,10 @@ use Rattle.acta_script.specs.Answers.{answer_line, owed_line}
 use Rattle.acta_script.specs.Reading.{fault_number, event_of}
 use Rattle.acta_script.specs.Writing.{kept_line}
 use Rattle.acta_tool.specs.declared.args.Command.{Command}
-use Rattle.acta_tool.specs.declared.args.Command.TheVariants.{Assemble, CheckImage, Run}
+use Rattle.acta_tool.specs.declared.args.Command.TheVariants.{Assemble, CheckImage, Run, Drive}
 use Rattle.acta_tool.specs.declared.models.NoModel.{NoModel}
 use Rattle.acta_tool.specs.declared.models.NoModel.TheVariants.{Text, Image}
-use Rattle.acta_tool.specs.declared.script.BadLine.{BadLine}
+use Rattle.acta_tool.specs.declared.input.BadLine.{BadLine}
 use Rattle.acta_tool.specs.Models.{model_by}
 use Rattle.acta_machine.specs.Table.{State, run_answers, run_state, debts_in}
 
@@ -102,11 +102,13 @@ run_on is_kept m s =
       text = text_of (told is_kept (run_answers m s.said) state ++ told_last is_kept state s.stop);
     }
 
--- the output of a command on a model: its image, its canonical text, or a run of the input's events
+-- the output of a command on a model: its image, its canonical text, or a run of the input's events; what `drive`
+-- writes hangs on its threads, and is told apart
 abbrev pub output_on : {A : Type 0} → Command → Parts A → List ℕ → Output
 output_on Assemble m input = record { is_refused = false; text = image m }
 output_on CheckImage m input = record { is_refused = false; text = canonical m }
 output_on (Run kept) m input = run_on kept m (said_in (event_of m) input)
+output_on (Drive workers) m input = record { is_refused = false; text = [] }
 
 -- the output for bytes that mean no model
 abbrev pub refused_model : NoModel → Output

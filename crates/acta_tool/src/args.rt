@@ -1,15 +1,18 @@
 //! What the words of a command line ask for.
 
-ghost use Rattle.std.specs.Prelude.{◌≡◌, ◌≢◌, [], map, option_map, string_bytes, codes, false, IfOk, IfErr, IfSome, IfNone};
+ghost use Rattle.std.specs.Prelude.{◌≡◌, ◌≢◌, Some, IsSomeAnd, [], map, option_map, string_bytes, codes, false, IfOk, IfErr, IfSome, IfNone};
 ghost use Rattle.std.specs.Option.{option_map_or};
 ghost use Rattle.std.specs.Str.{bytes_eq};
 ghost use Rattle.clap.specs.Words.{app_of, first_value, found_of, new_app, rule_of, subcommand_rows_of, with_rule, with_subcommand};
 ghost use Rattle.acta_models.specs.declared.texts.Standard.{Standard as StandardModel};
-ghost use Rattle.acta_tool.specs.CommandLines.{AsksFor, IsCommand, IsFaultOf, IsKnown, IsModel, IsUnknown, bare_app, begins_at, faults_of, kept_rule, model_rule, named_by, named_in, run_app, standard_text, tool_app};
+ghost use Rattle.acta_tool.specs.CommandLines.{AreSeated, AsksFor, IsCommand, IsFaultOf, IsKnown, IsModel, IsUnknown, bare_app, begins_at, drive_app, faults_of, kept_rule, model_rule, named_by, named_in, run_app, standard_text, tool_app, workers_in, workers_rule};
 ghost use Rattle.acta_tool.specs.inside.Spelling.{IsMissing, named_of};
 
 use crate::fault::UsageFault;
+use acta_locked::MOST_WORKERS;
 use acta_models::Standard;
+use acta_words::read_u16;
+use clap::builder::ValueParser;
 use clap::error::ErrorKind;
 use clap::{Arg, ArgAction, ArgMatches};
 use std::alloc::{AllocError, Global};
@@ -24,6 +27,8 @@ pub enum Command {
     /// Answers the event lines of the standard input; or, where `kept`, tells the events that were kept, with what
     /// they returned, and nothing else.
     Run { kept: bool },
+    /// Hands the event lines of the standard input in by this many threads, and tells the entries of the book.
+    Drive { workers: u8 },
 }
 
 /// Where the model is.
@@ -47,7 +52,21 @@ pub struct Args<'a> {
 struct Spelled<'a> {
     command: &'a str,
     is_kept: bool,
+    workers: Option<&'a str>,
     model: &'a str,
+}
+
+// The number of workers that is spelled so, if it is one from 1 to 16.
+fn workers_named(spelled: &Spelled<'_>) -> Option<u8>
+    ensures some { IfSome result (λ workers. (workers_in (named_of spelled.now) ≡ Some workers) × AreSeated workers) }
+    ensures none { IfNone result (¬ (IsSomeAnd (workers_in (named_of spelled.now)) AreSeated)) }
+{
+    let workers = read_u16(spelled.workers?.as_bytes())?;
+    if workers == 0 || usize::from(workers) > MOST_WORKERS {
+        None
+    } else {
+        Some(workers as u8)
+    }
 }
 
 // The command that is spelled so.
@@ -61,6 +80,10 @@ fn command_named(spelled: &Spelled<'_>) -> Option<Command>
         "run" => Some(Command::Run {
             kept: spelled.is_kept,
         }),
+        "drive" => {
+            let workers = workers_named(spelled)?;
+            Some(Command::Drive { workers })
+        }
         _ => None,
     }
 }
@@ -161,6 +184,33 @@ fn with_run<'a>(alloc: Global, program: clap::Command<'a>) -> Result<clap::Comma
     program.subcommand(run)
 }
 
+// How many threads hand the events in.
+fn workers_option<'a>(alloc: Global) -> Arg<'a>
+    ensures rule { rule_of result ≡ workers_rule }
+    ensures local { result.global ≡ false }
+{
+    Arg::new(alloc, "workers")
+        .long("workers")
+        .required(true)
+        .action(ArgAction::Set)
+        .value_parser(ValueParser::Signed(1, 16))
+        .help("How many threads hand in the events, from 1 to 16")
+}
+
+// The program with the command `drive` more.
+fn with_drive<'a>(
+    alloc: Global,
+    program: clap::Command<'a>,
+) -> Result<clap::Command<'a>, AllocError>
+    ensures { IfOk result (λ command. app_of command ≡ with_subcommand (app_of program.entry) drive_app.top) }
+{
+    let drive = clap::Command::new(alloc, "drive")
+        .about("Hands in the lines SEAT EVENT of the standard input by a thread for each seat")
+        .arg(model_argument(alloc))?
+        .arg(workers_option(alloc))?;
+    program.subcommand(drive)
+}
+
 // The command line that the program takes.
 fn surface<'a>(alloc: Global) -> Result<clap::Command<'a>, AllocError>
     ensures { IfOk result (λ command. app_of command ≡ tool_app) }
@@ -177,7 +227,7 @@ fn surface<'a>(alloc: Global) -> Result<clap::Command<'a>, AllocError>
         "check-image",
         "Writes the text of the model's image, or what is wrong with it",
     )?;
-    with_run(alloc, program)
+    with_drive(alloc, with_run(alloc, program)?)
 }
 
 // Whether the flag was set.
@@ -198,12 +248,14 @@ fn spelling<'a>(matches: &ArgMatches<'a>) -> Option<Spelled<'a>>
         return None;
     };
     let is_kept = is_set(inner, "kept");
+    let workers = inner.get_str("workers");
     let Some(model) = inner.get_str("MODEL") else {
         return None;
     };
     Some(Spelled {
         command,
         is_kept,
+        workers,
         model,
     })
 }

@@ -3,17 +3,19 @@
 #![tactic(auto)]
 
 mod args;
+mod drive;
 mod fault;
+mod input;
 mod laws;
 mod models;
 mod outcome;
 mod run;
-mod script;
 mod sink;
 mod source;
 mod telling;
 
 pub use args::{Args, Command, ModelName, parse};
+pub use drive::drive_tool;
 pub use fault::UsageFault;
 pub use laws::images_run_as_their_texts;
 pub use models::NoModel;

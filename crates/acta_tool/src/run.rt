@@ -1,18 +1,16 @@
 //! The run of the tool over any reader and writer.
 
-ghost use Rattle.std.specs.Prelude.{◌≡◌, ◌≤◌, ◌<◌, ◌+◌, false, length, vec_len, IfOk, IfErr, IfSome, MatchResult, None, Some};
+ghost use Rattle.std.specs.Prelude.{◌≡◌, ◌≤◌, ◌<◌, ◌+◌, ◌⊎◌, false, length, vec_len, IfOk, IfErr, IfSome, MatchResult, None, Some};
 ghost use Rattle.acta_script.specs.Reading.{event_of};
-ghost use Rattle.acta_image.specs.Spelling.{image};
-ghost use Rattle.acta_lang.specs.Canonical.{canonical};
-ghost use Rattle.acta_tool.specs.Outcome.{Answers, FailsBy, IsUnreadTooLong, KeepsUnread, WritesBy, input_of, reads_input, reason_of};
+ghost use Rattle.acta_tool.specs.Outcome.{Answers, FailsBy, IsUnreadTooLong, KeepsUnread, WritesBy, input_of, is_drive, is_undriven, reads_input, reason_of};
 ghost use Rattle.acta_tool.specs.Output.{output_on, refused_model, run_on, said_in, tool_output};
 ghost use Rattle.acta_tool.specs.declared.source.ReadFault.TheVariants.{TooMuch as too_much};
 ghost use Rattle.acta_tool.specs.inside.Reports.{output_of};
 
 use crate::args::{Args, Command};
+use crate::input::{EventLines, read_lines};
 use crate::models::{ModelError, NoModel, read_model};
 use crate::outcome::Outcome;
-use crate::script::read_script;
 use crate::sink::Sink;
 use crate::source::{MOST_BYTES, ReadFault, Source, read_all};
 use crate::telling::{tell_end, tell_events, tell_no_model};
@@ -22,11 +20,11 @@ use acta_machine::Machine;
 use acta_table::Model;
 use std::alloc::{AllocError, Allocator};
 
-// What is to be written, and whether the input was refused.
+/// What is to be written, and whether the input was refused.
 #[derive(Drop)]
-struct Report<A: Allocator> {
-    text: Vec<u8, A>,
-    is_refused: bool,
+pub struct Report<A: Allocator> {
+    pub text: Vec<u8, A>,
+    pub is_refused: bool,
 }
 
 // What a run of the events tells: the answers and what is owed, or the kept events alone.
@@ -38,14 +36,18 @@ fn run_model<A: Allocator + Copy>(
 ) -> Result<Report<A>, AllocError>
     ensures { IfOk result (λ report. output_of report ≡ run_on is_kept model (said_in (event_of model) input.now)) }
 {
-    let script = read_script(alloc, &model, input)?;
-    let run = Machine::run(alloc, model, script.events.as_slice())?;
+    let lines = EventLines {
+        alloc,
+        model: &model,
+    };
+    let read = read_lines(alloc, &lines, input)?;
+    let run = Machine::run(alloc, model, read.said.as_slice())?;
     let mut text = Vec::new(alloc);
     tell_events(alloc, is_kept, &run, &mut text)?;
-    tell_end(alloc, is_kept, &run.machine, script.stop, &mut text)?;
+    tell_end(alloc, is_kept, &run.machine, read.stop, &mut text)?;
     Ok(Report {
         text,
-        is_refused: script.stop.is_some(),
+        is_refused: read.stop.is_some(),
     })
 }
 
@@ -56,12 +58,14 @@ fn tell_model<A: Allocator + Copy>(
     model: Model<A>,
     input: &[u8],
 ) -> Result<Report<A>, AllocError>
+    requires { is_drive command ≡ false }
     ensures { IfOk result (λ report. output_of report ≡ output_on command model input.now) }
 {
     let text = match command {
         Command::Assemble => write_image(alloc, &model)?,
         Command::CheckImage => print_model(alloc, &model)?,
         Command::Run { kept } => return run_model(alloc, kept, model, input),
+        Command::Drive { .. } => unreachable!(),
     };
     Ok(Report {
         text,
@@ -69,8 +73,8 @@ fn tell_model<A: Allocator + Copy>(
     })
 }
 
-// What is told of bytes that mean no model.
-fn refuse_model<A: Allocator>(alloc: A, fault: NoModel) -> Result<Report<A>, AllocError>
+/// What is told of bytes that mean no model.
+pub fn refuse_model<A: Allocator>(alloc: A, fault: NoModel) -> Result<Report<A>, AllocError>
     ensures { IfOk result (λ report. output_of report ≡ refused_model fault) }
 {
     let mut text = Vec::new(alloc);
@@ -88,6 +92,7 @@ fn answer<A: Allocator + Copy>(
     model: &[u8],
     input: &[u8],
 ) -> Result<Report<A>, AllocError>
+    requires { is_drive command ≡ false }
     ensures { IfOk result (λ report. output_of report ≡ tool_output A command model.now input.now) }
 {
     match read_model(alloc, command, model) {
@@ -112,14 +117,50 @@ fn read_input<A: Allocator, S: Source>(
 {
     match command {
         Command::Assemble | Command::CheckImage => Ok(Vec::new(alloc)),
-        Command::Run { .. } => read_all(alloc, input),
+        Command::Run { .. } | Command::Drive { .. } => read_all(alloc, input),
+    }
+}
+
+/// The whole input, where the command reads it, and where neither it nor the model is too long.
+pub fn read_within<A: Allocator, S: Source>(
+    alloc: A,
+    command: Command,
+    model: &[u8],
+    input: &mut S,
+) -> Result<Vec<u8, A>, ReadFault>
+    ensures bytes { IfOk result (λ v. IfSome (input_of command (S.remaining input.old)) (λ xs. v.items ≡ xs)) }
+    ensures too_long { MatchResult result (λ _. IsUnreadTooLong model.now (input_of command (S.remaining input.old)) None) (λ e. IsUnreadTooLong model.now (input_of command (S.remaining input.old)) (Some e)) }
+    ensures reads { S.reads input.new ≤ S.reads input.old + 16777217 }
+    ensures failed { MatchResult result (λ _. FailsBy None (S.has_failed input.old) (S.has_failed input.new)) (λ e. FailsBy (Some e) (S.has_failed input.old) (S.has_failed input.new)) }
+    ensures untouched { reads_input command ≡ false → input.new ≡ input.old }
+{
+    let bytes = read_input(alloc, command, input)?;
+    if model.len() > MOST_BYTES {
+        return Err(ReadFault::TooMuch);
+    }
+    Ok(bytes)
+}
+
+/// Writes a report in one go.
+pub fn write_report<A: Allocator, W: Sink>(report: &Report<A>, output: &mut W) -> Outcome
+    ensures answers { Answers result (output_of report.now) (W.contents output.old) (W.contents output.new) }
+    ensures written { WritesBy result (W.has_failed output.old) (W.has_failed output.new) }
+    ensures read { reason_of result ≡ None }
+    ensures driven { is_undriven result ≡ false }
+{
+    if output.put(report.text.as_slice()).is_err() {
+        Outcome::Unwritten
+    } else if report.is_refused {
+        Outcome::Refused
+    } else {
+        Outcome::Done
     }
 }
 
 /// Reads the whole input, where the command reads it, does what the words asked for on the model that the bytes mean,
-/// and writes the answer in one go. `Unread` with `Device` where a read fails, with `TooMuch` where the model or the input is over 16,777,216 bytes
-/// or the input doesn't end, and with `Memory` where there is none, and then nothing is written; `Unwritten` where a
-/// write fails.
+/// and writes the answer in one go. `Unread` with `Device` where a read fails, with `TooMuch` where the model or the
+/// input is over 16,777,216 bytes or the input doesn't end, and with `Memory` where there is none, and then nothing is
+/// written; `Unwritten` where a write fails. It is not for `drive`, which `drive_tool` serves.
 pub fn run_tool<A: Allocator + Copy, S: Source, W: Sink>(
     alloc: A,
     args: &Args<'_>,
@@ -127,30 +168,22 @@ pub fn run_tool<A: Allocator + Copy, S: Source, W: Sink>(
     input: &mut S,
     output: &mut W,
 ) -> Outcome
+    requires { is_drive args.now.command ≡ false }
     ensures answers { IfSome (input_of args.now.command (S.remaining input.old)) (λ bytes. Answers result (tool_output A args.now.command model.now bytes) (W.contents output.old) (W.contents output.new)) }
-    ensures unread { KeepsUnread (reason_of result) (W.contents output.old) (W.contents output.new) }
+    ensures unread { KeepsUnread result (W.contents output.old) (W.contents output.new) }
     ensures written { WritesBy result (W.has_failed output.old) (W.has_failed output.new) }
     ensures reads { S.reads input.new ≤ S.reads input.old + 16777217 }
     ensures failed { FailsBy (reason_of result) (S.has_failed input.old) (S.has_failed input.new) }
     ensures too_long { IsUnreadTooLong model.now (input_of args.now.command (S.remaining input.old)) (reason_of result) }
     ensures untouched { reads_input args.now.command ≡ false → input.new ≡ input.old }
+    ensures undriven { is_undriven result ≡ false }
 {
-    let bytes = match read_input(alloc, args.command, input) {
+    let bytes = match read_within(alloc, args.command, model, input) {
         Ok(bytes) => bytes,
         Err(reason) => return Outcome::Unread(reason),
     };
-    if model.len() > MOST_BYTES {
-        return Outcome::Unread(ReadFault::TooMuch);
-    }
-    let Ok(report) = answer(alloc, args.command, model, bytes.as_slice()) else {
-        return Outcome::Unread(ReadFault::Memory);
-    };
-    if output.put(report.text.as_slice()).is_err() {
-        return Outcome::Unwritten;
-    }
-    if report.is_refused {
-        Outcome::Refused
-    } else {
-        Outcome::Done
+    match answer(alloc, args.command, model, bytes.as_slice()) {
+        Ok(report) => write_report(&report, output),
+        Err(_) => Outcome::Unread(ReadFault::Memory),
     }
 }

@@ -1,22 +1,26 @@
 //! What a run tells, line by line.
 
-ghost use Rattle.std.specs.Prelude.{◌≡◌, ◌++◌, ◌∷◌, [], decimal, flat_map, map, IfOk, OnOk};
+ghost use Rattle.std.specs.Prelude.{◌≡◌, ◌++◌, ◌∷◌, [], All, decimal, flat_map, map, OnOk};
 ghost use Rattle.acta_image.specs.Claims.{image_fault_number};
 ghost use Rattle.acta_lang.specs.declared.fault.AsmFault.{AsmFault};
 ghost use Rattle.acta_machine.specs.Table.{debts_in};
 ghost use Rattle.acta_script.specs.Answers.{answer_line, owed_line};
+ghost use Rattle.acta_script.specs.Laws.{IsInModel};
 ghost use Rattle.acta_script.specs.Writing.{kept_line};
 ghost use Rattle.acta_words.specs.Text.{line_of, text_of};
+ghost use Rattle.acta_tool.specs.Driving.{book_lines, entry_line};
 ghost use Rattle.acta_tool.specs.Output.{fault_number_words, fault_words, image_line, model_line, no_model_line, stop_line, told, told_last};
 
+use crate::input::BadLine;
 use crate::models::NoModel;
-use crate::script::BadLine;
 use acta_image::ImageFault;
 use acta_lang::AsmFault;
+use acta_locked::{Book, Entry};
 use acta_machine::{Machine, Run};
-use acta_script::{answer_line, owed_line, write_kept};
-use acta_table::Answer;
+use acta_script::{answer_line, owed_line, write_event, write_kept};
+use acta_table::{Answer, Model};
 use acta_words::{push_line, push_natural, push_word};
+use itoa::Buffer;
 use std::alloc::{AllocError, Allocator};
 
 // Tells the answers, a line each.
@@ -62,8 +66,8 @@ fn tell_debts<A: Allocator + Copy>(
     Ok(())
 }
 
-// Tells the line that says no event.
-fn tell_stop<A: Allocator>(text: &mut Vec<u8, A>, stop: BadLine) -> Result<(), AllocError>
+/// Tells the line that says nothing.
+pub fn tell_stop<A: Allocator>(text: &mut Vec<u8, A>, stop: BadLine) -> Result<(), AllocError>
     ensures { OnOk result (text.new.items ≡ text.old.items ++ text_of (stop_line stop ∷ [])) }
 {
     text.extend_from_slice(b"line")?;
@@ -127,6 +131,57 @@ fn tell_image_fault<A: Allocator>(
 {
     tell_number(text, fault)?;
     tell_rest(text, fault)?;
+    Ok(())
+}
+
+// Tells an entry: its number, its seat, its event and the answer.
+fn tell_entry<A: Allocator + Copy>(
+    alloc: A,
+    model: &Model<A>,
+    entry: &Entry<A>,
+    text: &mut Vec<u8, A>,
+) -> Result<(), AllocError>
+    requires { IsInModel model.now entry.now.event }
+    ensures { OnOk result (text.new.items ≡ text.old.items ++ text_of (entry_line model.now entry.now ∷ [])) }
+{
+    let mut digits = Buffer::new();
+    text.extend_from_slice(digits.format(entry.number).as_bytes())?;
+    push_natural(text, u64::from(entry.seat))?;
+    push_word(text, write_event(alloc, model, &entry.event)?.as_slice())?;
+    push_word(text, b":")?;
+    push_word(text, answer_line(alloc, &entry.answer)?.as_slice())?;
+    push_line(text, b"")?;
+    Ok(())
+}
+
+// Tells the entries, a line each.
+fn tell_entries<A: Allocator + Copy>(
+    alloc: A,
+    model: &Model<A>,
+    entries: &[Entry<A>],
+    text: &mut Vec<u8, A>,
+) -> Result<(), AllocError>
+    requires { All (λ e. IsInModel model.now e.event) entries.now }
+    ensures { OnOk result (text.new.items ≡ text.old.items ++ text_of (map (entry_line model.now) entries.now)) }
+{
+    for entry in entries {
+        tell_entry(alloc, model, entry, text)?;
+    }
+    Ok(())
+}
+
+/// Tells the entries of a book, and then what is owed.
+pub fn tell_book<A: Allocator + Copy>(
+    alloc: A,
+    book: &Book<A>,
+    text: &mut Vec<u8, A>,
+) -> Result<(), AllocError>
+    requires { All (λ e. IsInModel book.now.model e.event) book.now.entries }
+    ensures { OnOk result (text.new.items ≡ text.old.items ++ text_of (book_lines book.now)) }
+{
+    let machine = book.machine();
+    tell_entries(alloc, machine.model(), book.entries(), text)?;
+    tell_debts(alloc, machine, text)?;
     Ok(())
 }
 

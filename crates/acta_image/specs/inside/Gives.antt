@@ -1,10 +1,11 @@
 -- What a call that reads fields gives.
-use Rattle.std.specs.Prelude.{◌≡◌, ℕ, ◌<◌, List, length, get_or, take, drop, nat_lt, ◌==◌, Result, Ok, Err, if◌then◌else◌}
+use Rattle.std.specs.Prelude.{◌≡◌, ℕ, ◌<◌, List, length, get_or, take, drop, Bool, true, false, nat_lt, ◌==◌, Result, Ok, Err, if◌then◌else◌}
 use Rattle.acta_table.specs.declared.policy.Policy.{Policy}
 use Rattle.acta_table.specs.declared.policy.Policy.TheVariants.{Refuse, Depend}
 use Rattle.acta_image.specs.declared.fault.ImageFault.{ImageFault}
 use Rattle.acta_image.specs.declared.fault.ImageFault.TheVariants.{Truncated}
 use Rattle.acta_image.specs.declared.fault.LoadError.{LoadError}
+use Rattle.acta_image.specs.declared.fault.LoadError.TheVariants as error
 use Rattle.acta_image.specs.Claims.{IsWhy}
 use Rattle.acta_image.specs.Reading.{Reader}
 
@@ -24,3 +25,8 @@ policy_by code bits = if code == 0 then Refuse else Depend bits
 abbrev pub Gives : {X Y : Type 0} → (X → Y) → Result X LoadError → Result Y ImageFault → Type 0
 Gives view (Ok x) read = read ≡ Ok (view x)
 Gives view (Err e) read = IsWhy read e
+
+-- whether the error is a fault, and no want of memory
+abbrev pub is_fault : LoadError → Bool
+is_fault error.Memory = false
+is_fault (error.Fault fault) = true

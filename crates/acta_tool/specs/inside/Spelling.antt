@@ -1,5 +1,5 @@
 -- A command line as the program holds it, and the faults that it makes of it.
-use Rattle.std.specs.Prelude.{◌≡◌, ⊤}
+use Rattle.std.specs.Prelude.{◌≡◌, ⊤, option_map}
 use Rattle.clap.specs.Words.{kind_of}
 use Rattle.clap.specs.declared.error.ErrorKind.TheVariants.{MissingSubcommand}
 use Rattle.acta_tool.specs.declared.args.Spelled.{Spelled}
@@ -9,7 +9,12 @@ use Rattle.acta_tool.specs.CommandLines.{Named}
 
 -- the texts behind its references
 abbrev pub named_of : Spelled → Named
-named_of s = record { command = s.command.now; is_kept = s.is_kept; model = s.model.now }
+named_of s = record {
+  command = s.command.now;
+  is_kept = s.is_kept;
+  workers = option_map (λ w. w.now) s.workers;
+  model = s.model.now;
+}
 
 -- a fault that says that the command is missing, or want of memory
 abbrev pub IsMissing : UsageFault → Type 0

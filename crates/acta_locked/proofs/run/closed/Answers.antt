@@ -4,7 +4,7 @@ use Rattle.acta_locked.proofs.run.closed.Goals as goal
 
 pub returns-clause-driven : goal.returns-clause-driven
 returns-clause-driven g c =
-    let parts : AreParts c.close-book.result 1 c.args.scripts.now c.as_slice.result.now = c.are_settled.ensures c.if-not-are_settled.false in
+    let parts : AreParts c.close-book.result 1 c.args.scripts.now c.as_slice.result.now = c.are_settled.ensures.0 c.if-not-are_settled.false in
     is-driven g.J.Job.model c.args.scripts.now c.close-book.result _ c.in_ok-all.reports.items c.of.result c.in_ok-all.all.amount
     c.close-book.ensures.of_model c.book.invariant.run c.book.view_is c.close-book.ensures.counted c.in_ok-all.ensures.counted c.of.ensures
     (rw c.as_slice.ensures.value at parts)

@@ -2,7 +2,7 @@ use Rattle.std.proofs.Common.{map, take, Err, Option, sym, ap, subst, ◌∙◌}
 use Rattle.std.specs.Option.{option_map_or}
 use Rattle.acta_script.specs.declared.fault.LineError.{LineError}
 use Rattle.acta_script.specs.declared.fault.LineFault.{LineFault}
-use Rattle.acta_script.specs.Reading.{◌>>=◌, IsWhy, lower, both_said, event_said, plain, kept_said}
+use Rattle.acta_script.specs.Reading.{◌>>=◌, IsWhy, lower, both, with_return, event_said, plain, kept_said}
 use Rattle.acta_script.proofs.Signs.{kept-with_sign, kept-without_sign}
 use Rattle.acta_script.proofs.Told.{told, told-on, both-fault}
 use Rattle.acta_script.proofs.kept.kept_said.Goals as goal
@@ -20,13 +20,13 @@ returns-in_default-clause-ok g c =
 pub returns-in_err-ret-in-Ok-clause-fault : goal.returns-in_err-ret-in-Ok-clause-fault
 returns-in_err-ret-in-Ok-clause-fault g c =
     told _ _ c.in_err-ret-in-Ok.field-0.0
-    (kept-with_sign c.args.model.now (λ word. word.now) c.args.words.now c.in-Some.at (sym c.sign_place.ensures ∙ c.in-Some.is) ∙ (λ i. both_said (c.in-Ok.ensures.ok i) (sym c.in_err-ret-in-Ok.ensures i)))
+    (kept-with_sign c.args.model.now (λ word. word.now) c.args.words.now c.in-Some.at (sym c.sign_place.ensures ∙ c.in-Some.is) ∙ (λ i. both with_return (c.in-Ok.ensures.ok i) (sym c.in_err-ret-in-Ok.ensures i)))
     c.from_residual-in_err-ret-in-Ok.ensures.1
 
 pub returns-in_ok-ret-in-Ok-clause-ok : goal.returns-in_ok-ret-in-Ok-clause-ok
 returns-in_ok-ret-in-Ok-clause-ok g c =
     kept-with_sign c.args.model.now (λ word. word.now) c.args.words.now c.in-Some.at (sym c.sign_place.ensures ∙ c.in-Some.is)
-    ∙ (λ i. both_said (c.in-Ok.ensures.ok i) (sym c.in_ok-ret-in-Ok.ensures i))
+    ∙ (λ i. both with_return (c.in-Ok.ensures.ok i) (sym c.in_ok-ret-in-Ok.ensures i))
 
 pub returns-in-Err-Fault-clause-fault : goal.returns-in-Err-Fault-clause-fault
 returns-in-Err-Fault-clause-fault g c =
@@ -36,6 +36,6 @@ returns-in-Err-Fault-clause-fault g c =
     let lowest = c.lowest.ensures ∙ ap (λ (other : Option LineFault). option_map_or (lower f) other f) c.err.ensures.value in
     subst (λ (e : LineError). IsWhy said e) (sym c.into.ensures)
     (kept-with_sign c.args.model.now (λ word. word.now) c.args.words.now c.in-Some.at (sym c.sign_place.ensures ∙ c.in-Some.is)
-    ∙ (λ i. both_said (event i) (sym c.return_said-ret.ensures i))
-    ∙ both-fault f c.return_said-ret.result
+    ∙ (λ i. both with_return (event i) (sym c.return_said-ret.ensures i))
+    ∙ both-fault with_return f c.return_said-ret.result
     ∙ ap Err (sym lowest))

@@ -8,8 +8,8 @@ use Rattle.acta_tool.proofs.run.run_model.Goals as goal
 pub returns : goal.returns
 returns g c =
     (λ i. record { is_refused = c.is_some.ensures i; text = c.tell_end.new.text.items })
-    ∙ whole c.args.is_kept c.args.model _ c.in_ok-script.script.events.items c.in_ok-script.script.stop c.in_ok-run.run'.answers c.in_ok-run.run'.machine c.tell_events.new.text.items c.tell_end.new.text.items
-    c.in_ok-script.ensures
+    ∙ whole c.args.is_kept c.args.model _ c.in_ok-read.read.said.items c.in_ok-read.read.stop c.in_ok-run.run'.answers c.in_ok-run.run'.machine c.tell_events.new.text.items c.tell_end.new.text.items
+    c.in_ok-read.ensures.said
     (c.in_ok-run.ensures.answers ∙ ap (run_answers c.args.model) c.as_slice.ensures.value)
     (c.in_ok-run.ensures.machine ∙ ap (run_state c.args.model) c.as_slice.ensures.value)
     (c.in_ok-tell_events.ensures ∙ ap (λ (t : List ℕ). t ++ text_of (told c.args.is_kept c.in_ok-run.run'.answers c.in_ok-run.run'.machine)) c.new-text.ensures.items)

@@ -1,0 +1,87 @@
+//! Seated lines: a seat, and behind it an event.
+
+ghost use Rattle.std.specs.Prelude.{◌≡◌, map, Ok, IfOk, IfErr};
+ghost use Rattle.acta_script.specs.Laws.{IsInModel};
+ghost use Rattle.acta_script.specs.Reading.{IsWhy, seat_said, event_behind, seated_said, seated_of};
+
+use crate::fault::{LineError, LineFault, lowest};
+use crate::reading::event_said;
+use acta_table::{Event, Model};
+use acta_words::{read_u16, words_of};
+use std::alloc::Allocator;
+
+const FIRST_SEAT: u16 = 1;
+
+/// A seat, and the event that is handed in there (ours).
+#[derive(Drop)]
+pub struct Seated<A: Allocator> {
+    pub seat: u8,
+    pub event: Event<A>,
+}
+
+// The seat of a word of digits, one of this many.
+fn seat_said(seats: u8, word: &[u8]) -> Result<u8, LineFault>
+    ensures { result ≡ seat_said seats word.now }
+{
+    let seat = read_u16(word).ok_or(LineFault::Number)?;
+    if (FIRST_SEAT..=u16::from(seats)).contains(&seat) {
+        Ok(seat as u8)
+    } else {
+        Err(LineFault::Number)
+    }
+}
+
+// The event that the words behind a seat say.
+fn event_behind<A: Allocator + Copy>(
+    alloc: A,
+    model: &Model<A>,
+    words: &[&[u8]],
+) -> Result<Event<A>, LineError>
+    ensures ok { IfOk result (λ event. event_behind model.now (map (λ word. word.now) words.now) ≡ Ok event) }
+    ensures fault { IfErr result (IsWhy (event_behind model.now (map (λ word. word.now) words.now))) }
+    ensures in_model { IfOk result (λ event. IsInModel model.now event) }
+{
+    if words.is_empty() {
+        return Err(LineFault::Arity.into());
+    }
+    event_said(alloc, model, words)
+}
+
+// The seated event that the words say.
+#[tactic(auto, unfolding(crate::specs::Reading::seated_said))]
+fn seated_said<A: Allocator + Copy>(
+    alloc: A,
+    model: &Model<A>,
+    seats: u8,
+    words: &[&[u8]],
+) -> Result<Seated<A>, LineError>
+    ensures ok { IfOk result (λ seated. seated_said model.now seats (map (λ word. word.now) words.now) ≡ Ok seated) }
+    ensures fault { IfErr result (IsWhy (seated_said model.now seats (map (λ word. word.now) words.now))) }
+    ensures in_model { IfOk result (λ seated. IsInModel model.now seated.event) }
+{
+    let [seat, words @ ..] = words else {
+        return Err(LineFault::Empty.into());
+    };
+    let seat = seat_said(seats, seat);
+    match event_behind(alloc, model, words) {
+        Ok(event) => Ok(Seated { seat: seat?, event }),
+        Err(LineError::Fault(fault)) => Err(lowest(fault, seat.err()).into()),
+        Err(LineError::Memory) => Err(LineError::Memory),
+    }
+}
+
+/// The seated event that the line says: a seat from 1 to the number of seats, and behind it an event, as `read_event`
+/// reads it (ours). `Fault` has the lowest fault of both parts, and `Memory` comes where there is none.
+pub fn read_seated<A: Allocator + Copy>(
+    alloc: A,
+    model: &Model<A>,
+    seats: u8,
+    line: &[u8],
+) -> Result<Seated<A>, LineError>
+    ensures ok { IfOk result (λ seated. seated_of model.now seats line.now ≡ Ok seated) }
+    ensures fault { IfErr result (IsWhy (seated_of model.now seats line.now)) }
+    ensures in_model { IfOk result (λ seated. IsInModel model.now seated.event) }
+{
+    let words = words_of(alloc, line)?;
+    seated_said(alloc, model, seats, &words)
+}

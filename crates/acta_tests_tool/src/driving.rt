@@ -1,0 +1,256 @@
+//! Driven runs of the tool: those of one worker as text, and of several by what their lines say.
+
+use crate::running::{play, serve};
+use acta_models::Standard;
+use acta_tool::{Args, Command, ModelName, Outcome};
+use std::alloc::{AllocError, Global};
+use std::process::Abort;
+use std::sync::Wait;
+use std::test::Fail;
+use std::thread::Threads;
+
+const DRIVES: &str = "\
+$ drive --workers 1 @atomic
+| 1 begin 1 flat
+| 1 commit 1
+1 1 begin 1 flat : ok 1
+2 1 commit 1 : ok 2
+status 0
+
+$ drive --workers 1 @atomic
+status 0
+
+$ drive --workers=16 @atomic
+| # no line has a word
+status 0
+
+$ drive --workers 2 @atomic
+| 2 begin 7 flat
+|   2 do 7 x write -5 # a word
+| 2 do 7 x read
+| 2 begin 7 flat
+1 2 begin 7 flat : ok 1
+2 2 do 7 x write -5 : ok 2 done
+3 2 do 7 x read : ok 3 -5
+4 2 begin 7 flat : no 8 by 7
+status 0
+
+$ drive --workers 1 @split_join
+| 1 begin 1 part
+| 1 do 1 x write 5
+| 1 do 1 n add 2
+| 1 split 1 2 part 2,1,2
+| 1 delegate 2 1 -
+1 1 begin 1 part : ok 1
+2 1 do 1 x write 5 : ok 2 done
+3 1 do 1 n add 2 : ok 3 done
+4 1 split 1 2 part 1,2 : ok 4
+5 1 delegate 2 1 - : ok 5
+status 0
+
+$ drive --workers 3 @contingent
+| 3 form SCD 2 1
+| 3 begin 1 try
+| 3 begin 2 try
+| 3 commit 1
+1 3 form SCD 2 1 : ok 1
+2 3 begin 1 try : ok 2
+3 3 begin 2 try : ok 3
+4 3 commit 1 : ok 4
+owed 1 2 commit
+status 0
+
+$ drive --workers 1 a.model
+% object a register 3
+% class plain
+% starts begin
+% may operate commit
+% scope others
+% policy refuse
+% commit keeps
+% delegation whole
+% end
+| 1 begin 1 plain
+| 1 do 1 a read
+1 1 begin 1 plain : ok 1
+2 1 do 1 a read : ok 2 3
+status 0
+
+$ drive --workers 1 a.model
+% object a register
+| 1 frob
+model line 1 fault 2
+status 1
+
+$ drive --workers 1 @atomic
+| 1 begin 1 flat
+| # a comment
+| 2 begin 2 flat
+line 3 fault 4
+status 1
+
+$ drive --workers 1 @atomic
+| 0 begin 1 flat
+line 1 fault 4
+status 1
+
+$ drive --workers 2 @atomic
+| x commit 1
+line 1 fault 4
+status 1
+
+$ drive --workers 2 @atomic
+| 2
+line 1 fault 3
+status 1
+
+$ drive --workers 2 @atomic
+| 3
+line 1 fault 3
+status 1
+
+$ drive --workers 2 @atomic
+| 3 frob
+line 1 fault 2
+status 1
+
+$ drive --workers 2 @atomic
+| 2 commit
+line 1 fault 3
+status 1
+
+$ drive --workers 2 @atomic
+| 2 commit y
+line 1 fault 4
+status 1
+
+$ drive --workers 2 @atomic
+| 2 begin 1 nobody
+line 1 fault 5
+status 1
+
+$ drive --workers 2 @atomic
+| 3 begin 1 nobody
+line 1 fault 4
+status 1
+
+$ drive --workers 2 @atomic
+| commit 1
+line 1 fault 2
+status 1
+
+$ drive @atomic
+status 2
+
+$ drive --workers @atomic
+status 2
+
+$ drive --workers 1
+status 2
+
+$ drive --workers 0 @atomic
+status 2
+
+$ drive --workers 17 @atomic
+status 2
+
+$ drive --workers one @atomic
+status 2
+
+$ drive --workers 1 --kept @atomic
+status 2
+
+$ drive --workers 1 @nosuch
+status 2
+
+$ run --workers 1 @atomic
+status 2
+";
+
+#[test]
+fn drives(rt: HostRuntime) -> Result<(), Fail> {
+    play(&rt, DRIVES)
+}
+
+// What is told, and how it ends, where so many workers hand in these lines on the model of flat transactions.
+fn driven<R: Threads + Wait + Sync + AllocGlobal>(
+    rt: &R,
+    workers: u8,
+    input: &[u8],
+) -> (Outcome, Vec<u8>) {
+    let args = Args {
+        command: Command::Drive { workers },
+        model: ModelName::Standard(Standard::Atomic),
+    };
+    let model = Standard::Atomic.text().as_bytes();
+    let mut output = Vec::new(rt.alloc());
+    let ended = serve(rt, &args, model, input, &mut output);
+    (ended, output)
+}
+
+// So many lines, which are refused by the first rules.
+fn lines(alloc: Global, count: u32) -> Result<Vec<u8>, AllocError> {
+    let mut lines = Vec::new(alloc);
+    for _ in 0..count {
+        lines.extend_from_slice(b"1 commit 1\n")?;
+    }
+    Ok(lines)
+}
+
+#[test]
+fn more_lines_than_a_book_takes(rt: HostRuntime) -> Result<(), Fail> {
+    let input = lines(rt.alloc(), 65_537)?;
+    let (ended, output) = driven(&rt, 16, input.as_slice());
+    assert_eq!(rt; ended, Outcome::Refused);
+    assert_eq!(rt; output.as_slice(), b"drive fault 3\n".as_slice());
+    Ok(())
+}
+
+#[test]
+fn as_many_lines_as_a_book_takes(rt: HostRuntime) -> Result<(), Fail> {
+    let input = lines(rt.alloc(), 65_536)?;
+    let (ended, output) = driven(&rt, 1, input.as_slice());
+    assert_eq!(rt; ended, Outcome::Done);
+    assert!(rt; output.ends_with(b"\n65536 1 commit 1 : no 7 by 1\n"));
+    Ok(())
+}
+
+// What stands behind the first word of each line whose second word is the seat.
+fn of_seat(alloc: Global, output: &str, seat: &str) -> Result<String, AllocError> {
+    let mut lines = String::new(alloc);
+    for line in output.lines() {
+        if let Some((_, rest)) = line.split_once(' ') {
+            if rest.split(' ').next() == Some(seat) {
+                lines.push_str(rest)?;
+                lines.push_str("\n")?;
+            }
+        }
+    }
+    Ok(lines)
+}
+
+const THREE: &[u8] =
+    b"3 begin 3 flat\n1 begin 1 flat\n2 begin 2 flat\n1 do 1 n add 5\n3 abort 9\n2 do 2 m add 7\n";
+
+// Whichever worker comes first, each hands in its lines in order, and two of them add to what no other touches.
+#[test]
+fn three_workers(rt: HostRuntime) -> Result<(), Fail> {
+    let (ended, output) = driven(&rt, 3, THREE);
+    assert_eq!(rt; ended, Outcome::Done);
+    let output = str::from_utf8(output.as_slice())?;
+    assert_eq!(rt; output.lines().count(), 6);
+    for (seat, event) in [("1", "1 do 1 n add 5 : ok "), ("2", "2 do 2 m add 7 : ok ")] {
+        let told = of_seat(rt.alloc(), output, seat)?;
+        assert_eq!(rt; told.lines().count(), 2);
+        let Some(last) = told.lines().last() else {
+            return Err(Fail::new("a seat has no line"));
+        };
+        assert!(rt;
+            last.starts_with(event) && last.ends_with(" done"),
+            "at {last}"
+        );
+    }
+    let told = of_seat(rt.alloc(), output, "3")?;
+    assert!(rt; told.ends_with("3 abort 9 : no 7 by 9\n"), "at {told}");
+    Ok(())
+}

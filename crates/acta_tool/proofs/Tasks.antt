@@ -1,0 +1,79 @@
+-- What may come of a task, by what its driven run answers.
+use Rattle.std.proofs.Common.{◌≡◌, true, false, List, ℕ, refl, sym, ap, subst, ◌∙◌, true≢false}
+use Rattle.std.specs.Prelude.{◌≢◌, codes, if◌then◌else◌, Option, Some, None, Result, Ok, Err, IfOk, IfErr, IfSome}
+use Rattle.acta_words.specs.Text.{text_of}
+use Rattle.acta_locked.specs.declared.run.DriveError.{DriveError}
+use Rattle.acta_locked.specs.declared.run.DriveError.TheVariants.{NoWorker, TooManyWorkers, TooManyEvents, Memory, NoThread, GaveUp, Unsettled}
+use Rattle.acta_locked.specs.declared.run.Driven.{Driven}
+use Rattle.acta_locked.specs.Drives.{IsDriven, is_of_scripts, scripts_fault}
+use Rattle.acta_tool.specs.declared.args.Command.{Command}
+use Rattle.acta_tool.specs.declared.outcome.Outcome.{Outcome}
+use Rattle.acta_tool.specs.declared.outcome.Outcome.TheVariants.{Done, Refused, Unread, Undriven, Unwritten}
+use Rattle.acta_tool.specs.Outcome.{Answers, is_undriven}
+use Rattle.acta_tool.specs.Output.{Output}
+use Rattle.acta_tool.specs.Driving.{AnswersOne, MayCome, MayWrite, Task, book_lines, is_too_long, unless_too_long}
+use Rattle.acta_tool.specs.declared.run.Report.{Report}
+use Rattle.acta_tool.specs.inside.Reports.{MayComeOf, output_of}
+
+-- the task, by its fault
+abbrev by_fault : {A : Type 0} → Task A → Option DriveError → Result (Task A) (List ℕ)
+by_fault task fault = if is_too_long fault then Err (codes "drive fault 3") else Ok task
+
+free_kept : {A : Type 0} (task : Task A) (fault : Option DriveError) → scripts_fault task.scripts ≡ fault → ((e : DriveError) → scripts_fault task.scripts ≡ Some e → ⊥) → by_fault task fault ≡ Ok task
+free_kept task None is free = refl
+free_kept task (Some e) is free = absurd (free e is)
+
+none_of : {A : Type 0} (task : Task A) (fault : Option DriveError) → scripts_fault task.scripts ≡ fault → ((e : DriveError) → scripts_fault task.scripts ≡ Some e → ⊥) → fault ≡ None
+none_of task None is free = refl
+none_of task (Some e) is free = absurd (free e is)
+
+-- what has a result has no error, and an error is the one that it has
+never : {T E : Type 0} (x : T) (e : E) → Ok x ≡ Err e → ⊥
+never x e h = cc
+
+one_error : {T E : Type 0} (e f : E) → ◌≡◌ {A = Result T E} (Err e) (Err f) → f ≡ e
+one_error e f h = cc
+
+-- an error that no scripts have may always come
+pub other : {A : Type 0} (found : Result (Task A) (List ℕ)) (e : DriveError) → is_of_scripts e ≡ false → MayCome found (Err e)
+other (Ok task) e is = λ of_scripts. absurd (true≢false (sym of_scripts ∙ is))
+other (Err line) e is = is
+
+-- a run that has a result is told
+pub driven : {A : Type 0} (task : Task A) (d : Driven A) (r : Result (Report A) DriveError) → ((e : DriveError) → scripts_fault task.scripts ≡ Some e → Ok d ≡ Err e) → IsDriven task.model task.scripts d
+    → IfOk r (λ report. output_of report ≡ record { is_refused = false; text = text_of (book_lines d.book) }) → IfErr r (λ e. e ≡ Memory) → MayComeOf (unless_too_long task) r
+driven task d (Ok report) barred is told memory =
+    let free : (e : DriveError) → scripts_fault task.scripts ≡ Some e → ⊥ = λ e has. never d e (barred e has) in
+    subst (λ found. MayCome found (Ok (output_of report))) (sym (free_kept task (scripts_fault task.scripts) refl free))
+    (none_of task (scripts_fault task.scripts) refl free, d, is, told)
+driven task d (Err e) barred is told memory = other (unless_too_long task) e (ap is_of_scripts memory)
+
+undriven_by : {A : Type 0} (task : Task A) (e : DriveError) (fault : Option DriveError) → scripts_fault task.scripts ≡ fault → (is_of_scripts e ≡ true → scripts_fault task.scripts ≡ Some e)
+    → ((f : DriveError) → scripts_fault task.scripts ≡ Some f → ◌≡◌ {A = Result (Driven A) DriveError} (Err e) (Err f)) → e ≢ TooManyEvents → MayCome (by_fault task fault) (Err e)
+undriven_by task e None is only barred kept = only
+undriven_by task e (Some NoWorker) is only barred kept = only
+undriven_by task e (Some TooManyWorkers) is only barred kept = only
+undriven_by task e (Some TooManyEvents) is only barred kept = absurd (kept (sym (one_error e TooManyEvents (barred TooManyEvents is))))
+undriven_by task e (Some Memory) is only barred kept = only
+undriven_by task e (Some NoThread) is only barred kept = only
+undriven_by task e (Some (GaveUp seat)) is only barred kept = only
+undriven_by task e (Some Unsettled) is only barred kept = only
+
+-- and one that has none says why, unless there are too many events
+pub undriven : {A : Type 0} (task : Task A) (e : DriveError) → (is_of_scripts e ≡ true → scripts_fault task.scripts ≡ Some e) → ((f : DriveError) → scripts_fault task.scripts ≡ Some f → ◌≡◌ {A = Result (Driven A) DriveError} (Err e) (Err f))
+    → e ≢ TooManyEvents → MayCome (unless_too_long task) (Err e)
+undriven task e only barred kept = undriven_by task e (scripts_fault task.scripts) refl only barred kept
+
+-- a report that was written answers, for the bytes that were read
+answered : (result : Outcome) (May : Result Output DriveError → Type 0) (out : Output) (old new : Option (List ℕ)) → May (Ok out) → is_undriven result ≡ false → Answers result out old new → AnswersOne result May old new
+answered Done May out old new may is h = (out, may, h)
+answered Refused May out old new may is h = (out, may, h)
+answered (Undriven e) May out old new may is h = absurd (true≢false is)
+answered (Unread reason) May out old new may is h = tt
+answered Unwritten May out old new may is h = tt
+
+pub written : (A : Type 0) (command : Command) (model bytes : List ℕ) (left : Option (List ℕ)) (result : Outcome) (out : Output) (old new : Option (List ℕ)) → IfSome left (λ xs. bytes ≡ xs)
+    → MayWrite A command model bytes (Ok out) → is_undriven result ≡ false → Answers result out old new → IfSome left (λ xs. AnswersOne result (MayWrite A command model xs) old new)
+written A command model bytes None result out old new read may is h = tt
+written A command model bytes (Some xs) result out old new read may is h =
+    answered result (MayWrite A command model xs) out old new (subst (λ input. MayWrite A command model input (Ok out)) read may) is h

@@ -1,0 +1,11 @@
+use Rattle.std.proofs.Common.{◌≡◌, ◌≤◌, ◌+◌, ◌-◌, ◌++◌, map}
+use Rattle.std.specs.List.{range_with_len}
+use Rattle.acta_tool.specs.Driving.{script_of, scripts_of}
+use Rattle.acta_tool.proofs.drive.scripts_of.Given as goal
+
+-- the scripts so far, before those of the seats that are left
+abbrev pub invariant-loop-k : goal.invariant-loop-k
+invariant-loop-k g l = record {
+  made : l.scripts.items ++ map (script_of l.said) (range_with_len (l.k + 1) (l.workers - l.k)) ≡ scripts_of l.workers l.said;
+  within : l.k ≤ l.workers;
+}

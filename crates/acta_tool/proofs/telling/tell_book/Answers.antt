@@ -1,0 +1,14 @@
+use Rattle.std.proofs.Common.{◌∙◌, sym, subst₂}
+use Rattle.std.specs.Prelude.{All}
+use Rattle.acta_script.specs.Laws.{IsInModel}
+use Rattle.acta_tool.proofs.BookLines.{whole}
+use Rattle.acta_tool.proofs.telling.tell_book.Goals as goal
+
+pub tell_entries-requires : goal.tell_entries-requires
+tell_entries-requires g c =
+    subst₂ (λ m es. All (λ e. IsInModel m e.event) es) (sym (c.model.ensures ∙ c.machine-machine.ensures.model)) (sym c.entries.ensures.entries) c.requires
+
+pub returns : goal.returns
+returns g c =
+    whole c.args.book.now c.model.result.now c.entries.result.now c.machine-machine.result.now c.args.text.now.items c.tell_entries.new.text.items c.tell_debts.new.text.items
+    (c.model.ensures ∙ c.machine-machine.ensures.model) c.entries.ensures.entries c.machine-machine.ensures.machine c.in_ok-tell_entries.ensures c.in_ok-tell_debts.ensures

@@ -1,0 +1,208 @@
+//! The driven run of the tool: the lines of each seat in a thread of its own.
+
+ghost use Rattle.std.specs.Prelude.{◌≡◌, ◌≤◌, ◌+◌, ◌∷◌, [], All, codes, false, true, IfErr, IfOk, IfSome};
+ghost use Rattle.acta_script.specs.Laws.{IsInModel};
+ghost use Rattle.acta_script.specs.Reading.{seated_of};
+ghost use Rattle.acta_words.specs.Text.{text_of};
+ghost use Rattle.acta_locked.specs.declared.run.DriveError.TheVariants.{Memory};
+ghost use Rattle.acta_tool.specs.Driving.{AnswersOne, MayWrite, book_lines, script_of, scripts_of, task_of, task_on, unless_too_long};
+ghost use Rattle.acta_tool.specs.Models.{of_either};
+ghost use Rattle.acta_tool.specs.Outcome.{FailsBy, IsUnreadTooLong, KeepsUnread, WritesBy, is_drive, reason_of};
+ghost use Rattle.acta_tool.specs.Output.{said_in, stop_line};
+ghost use Rattle.acta_tool.specs.inside.Reports.{MayComeOf, output_of};
+
+use crate::args::{Args, Command};
+use crate::input::{BadLine, SeatedLines, read_lines};
+use crate::models::{ModelError, read_model};
+use crate::outcome::Outcome;
+use crate::run::{Report, read_within, refuse_model, write_report};
+use crate::sink::Sink;
+use crate::source::Source;
+use crate::telling::{tell_book, tell_stop};
+use acta_locked::{Book, DriveError, OpenGate, Script, drive};
+use acta_script::Seated;
+use acta_table::Model;
+use acta_words::push_line;
+use std::alloc::{AllocError, Allocator};
+use std::sync::Wait;
+use std::thread::Threads;
+
+// The events of a seat's lines, in order.
+fn script_of<A: Allocator + Copy>(
+    alloc: A,
+    said: &[Seated<A>],
+    seat: u8,
+) -> Result<Script<A>, AllocError>
+    ensures { IfOk result (λ script. script ≡ script_of said.now seat) }
+{
+    let mut events = Vec::new(alloc);
+    for one in said {
+        if one.seat != seat {
+            continue;
+        }
+        events.push(one.event.copy()?)?;
+    }
+    Ok(Script::of(events))
+}
+
+// The scripts of the seats, from 1.
+fn scripts_of<A: Allocator + Copy>(
+    alloc: A,
+    workers: u8,
+    said: &[Seated<A>],
+) -> Result<Vec<Script<A>, A>, AllocError>
+    ensures { IfOk result (λ scripts. scripts.items ≡ scripts_of workers said.now) }
+{
+    let mut scripts = Vec::new(alloc);
+    for k in 0..workers {
+        scripts.push(script_of(alloc, said, k + 1)?)?;
+    }
+    Ok(scripts)
+}
+
+// What is told where a line says nothing.
+fn refuse_line<A: Allocator>(alloc: A, stop: BadLine) -> Result<Report<A>, AllocError>
+    ensures { IfOk result (λ report. output_of report ≡ record { is_refused = true; text = text_of (stop_line stop ∷ []) }) }
+{
+    let mut text = Vec::new(alloc);
+    tell_stop(&mut text, stop)?;
+    Ok(Report {
+        text,
+        is_refused: true,
+    })
+}
+
+// What is told of too many events.
+fn refuse_scripts<A: Allocator>(alloc: A) -> Result<Report<A>, AllocError>
+    ensures { IfOk result (λ report. output_of report ≡ record { is_refused = true; text = text_of (codes "drive fault 3" ∷ []) }) }
+{
+    let mut text = Vec::new(alloc);
+    push_line(&mut text, b"drive fault 3")?;
+    Ok(Report {
+        text,
+        is_refused: true,
+    })
+}
+
+// What is told of the book that a driven run leaves.
+fn report_book<A: Allocator + Copy>(alloc: A, book: &Book<A>) -> Result<Report<A>, DriveError>
+    requires { All (λ e. IsInModel book.now.model e.event) book.now.entries }
+    ensures told { IfOk result (λ report. output_of report ≡ record { is_refused = false; text = text_of (book_lines book.now) }) }
+    ensures memory { IfErr result (λ e. e ≡ Memory) }
+{
+    let mut text = Vec::new(alloc);
+    tell_book(alloc, book, &mut text)?;
+    Ok(Report {
+        text,
+        is_refused: false,
+    })
+}
+
+// What is told of a driven run of the scripts.
+fn drive_scripts<A: Allocator + Copy + Send + Sync, R: Threads + Wait + Sync>(
+    rt: &R,
+    alloc: A,
+    model: Model<A>,
+    scripts: &[Script<A>],
+) -> Result<Report<A>, DriveError>
+    requires { All (All (IsInModel model)) scripts.now }
+    ensures { MayComeOf (unless_too_long (record { model = model; scripts = scripts.now })) result }
+{
+    match drive(rt, alloc, model, scripts, &OpenGate) {
+        Ok(driven) => report_book(alloc, &driven.book),
+        Err(e) => match e {
+            DriveError::TooManyEvents => Ok(refuse_scripts(alloc)?),
+            _ => Err(e),
+        },
+    }
+}
+
+// What is told of a driven run of what the lines say.
+fn drive_said<A: Allocator + Copy + Send + Sync, R: Threads + Wait + Sync>(
+    rt: &R,
+    alloc: A,
+    workers: u8,
+    model: Model<A>,
+    said: &[Seated<A>],
+) -> Result<Report<A>, DriveError>
+    requires { All (λ s. IsInModel model s.event) said.now }
+    ensures { MayComeOf (unless_too_long (record { model = model; scripts = scripts_of workers said.now })) result }
+{
+    match scripts_of(alloc, workers, said) {
+        Ok(scripts) => drive_scripts(rt, alloc, model, scripts.as_slice()),
+        Err(_) => Err(DriveError::Memory),
+    }
+}
+
+// What is told of the lines on a model.
+fn drive_lines<A: Allocator + Copy + Send + Sync, R: Threads + Wait + Sync>(
+    rt: &R,
+    alloc: A,
+    workers: u8,
+    model: Model<A>,
+    input: &[u8],
+) -> Result<Report<A>, DriveError>
+    ensures { MayComeOf (task_on workers model (said_in (seated_of model workers) input.now)) result }
+{
+    let lines = SeatedLines {
+        alloc,
+        model: &model,
+        seats: workers,
+    };
+    let read = read_lines(alloc, &lines, input)?;
+    match read.stop {
+        Some(stop) => Ok(refuse_line(alloc, stop)?),
+        None => drive_said(rt, alloc, workers, model, read.said.as_slice()),
+    }
+}
+
+// What is told for the bytes of a model and of an input.
+fn answer<A: Allocator + Copy + Send + Sync, R: Threads + Wait + Sync>(
+    rt: &R,
+    alloc: A,
+    workers: u8,
+    model: &[u8],
+    input: &[u8],
+) -> Result<Report<A>, DriveError>
+    ensures { MayComeOf (task_of {A = A} workers (of_either model.now) input.now) result }
+{
+    match read_model(alloc, Command::Drive { workers }, model) {
+        Ok(model) => drive_lines(rt, alloc, workers, model, input),
+        Err(ModelError::Fault(fault)) => Ok(refuse_model(alloc, fault)?),
+        Err(ModelError::Memory) => Err(DriveError::Memory),
+    }
+}
+
+/// Reads the whole input as lines `SEAT EVENT`, hands each seat's events in, in order, by a thread of its own, and
+/// writes in one go the entries of the book, and then what is owed. Where the model or a line is faulty, or there are
+/// more than 65,536 lines, that alone is written. `Unread` and `Unwritten` come as of `run_tool`, and `Undriven` where
+/// the threads have no result; then nothing is written. Not promised: which order of the threads' events the book has,
+/// and that the call returns.
+pub fn drive_tool<A: Allocator + Copy + Send + Sync, R: Threads + Wait + Sync, S: Source, W: Sink>(
+    rt: &R,
+    alloc: A,
+    args: &Args<'_>,
+    model: &[u8],
+    input: &mut S,
+    output: &mut W,
+) -> Outcome
+    requires { is_drive args.now.command ≡ true }
+    ensures answers { IfSome (S.remaining input.old) (λ bytes. AnswersOne result (MayWrite A args.now.command model.now bytes) (W.contents output.old) (W.contents output.new)) }
+    ensures unread { KeepsUnread result (W.contents output.old) (W.contents output.new) }
+    ensures written { WritesBy result (W.has_failed output.old) (W.has_failed output.new) }
+    ensures reads { S.reads input.new ≤ S.reads input.old + 16777217 }
+    ensures failed { FailsBy (reason_of result) (S.has_failed input.old) (S.has_failed input.new) }
+    ensures too_long { IsUnreadTooLong model.now (S.remaining input.old) (reason_of result) }
+{
+    let Command::Drive { workers } = args.command else {
+        unreachable!()
+    };
+    let bytes = match read_within(alloc, args.command, model, input) {
+        Ok(bytes) => bytes,
+        Err(reason) => return Outcome::Unread(reason),
+    };
+    match answer(rt, alloc, workers, model, bytes.as_slice()) {
+        Ok(report) => write_report(&report, output),
+        Err(e) => Outcome::Undriven(e),
+    }
+}

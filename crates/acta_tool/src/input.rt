@@ -1,0 +1,126 @@
+//! The lines of an input, read one by one, up to the first line that says nothing.
+
+ghost use Rattle.std.specs.Prelude.{◌≡◌, ◌==◌, ℕ, List, Result, Ok, false, length, option_map, All, IfOk, IfErr, IfSome};
+ghost use Rattle.acta_script.specs.declared.fault.LineFault.{LineFault};
+ghost use Rattle.acta_script.specs.Reading.{IsWhy};
+ghost use Rattle.acta_words.specs.Text.{words_of};
+ghost use Rattle.acta_tool.specs.Output.{said_by, said_in};
+
+use acta_script::{LineError, LineFault, Seated, read_event, read_seated};
+use acta_table::{Event, Model};
+use acta_words::{Lines, has_words};
+use std::alloc::{AllocError, Allocator};
+
+/// How a line is read, as an X.
+pub trait LineReader<X> {
+    // What a line says, and what holds of it.
+    ghost said: { Self → List ℕ → Result X LineFault };
+
+    ghost fits: { Self → X → Type 0 };
+
+    /// What the line says, its fault, or want of memory.
+    fn read(&self, line: &[u8]) -> Result<X, LineError>
+        ensures ok { IfOk result (λ x. said self.now line.now ≡ Ok x) }
+        ensures fault { IfErr result (IsWhy (said self.now line.now)) }
+        ensures fits { IfOk result (fits self.now) };
+}
+
+/// Reads lines as events.
+#[derive(Clone, Copy)]
+pub struct EventLines<'a, A: Allocator + Copy> {
+    pub alloc: A,
+    pub model: &'a Model<A>,
+}
+
+impl<'a, A: Allocator + Copy> LineReader<Event<A>> for EventLines<'a, A> {
+    ghost use Rattle.acta_script.specs.Laws.{IsInModel};
+    ghost use Rattle.acta_script.specs.Reading.{event_of};
+
+    ghost said = { λ r. event_of r.model.now };
+
+    ghost fits = { λ r event. IsInModel r.model.now event };
+
+    fn read(&self, line: &[u8]) -> Result<Event<A>, LineError> {
+        read_event(self.alloc, self.model, line)
+    }
+}
+
+/// Reads lines as a seat, of so many, and an event.
+#[derive(Clone, Copy)]
+pub struct SeatedLines<'a, A: Allocator + Copy> {
+    pub alloc: A,
+    pub model: &'a Model<A>,
+    pub seats: u8,
+}
+
+impl<'a, A: Allocator + Copy> LineReader<Seated<A>> for SeatedLines<'a, A> {
+    ghost use Rattle.acta_script.specs.Laws.{IsInModel};
+    ghost use Rattle.acta_script.specs.Reading.{seated_of};
+
+    ghost said = { λ r. seated_of r.model.now r.seats };
+
+    ghost fits = { λ r seated. IsInModel r.model.now seated.event };
+
+    fn read(&self, line: &[u8]) -> Result<Seated<A>, LineError> {
+        read_seated(self.alloc, self.model, self.seats, line)
+    }
+}
+
+/// A line that says nothing, by its number from 1.
+#[derive(Clone, Copy)]
+pub struct BadLine {
+    pub line: usize,
+    pub fault: LineFault,
+}
+
+/// What the lines of an input say, up to the first that is faulty, and that one.
+#[derive(Drop)]
+pub struct Input<X: Drop, A: Allocator> {
+    pub said: Vec<X, A>,
+    pub stop: Option<BadLine>,
+}
+
+// What the line says; nothing where it has no word.
+fn said_by<X, L: LineReader<X>>(reader: &L, line: &[u8]) -> Result<Option<X>, LineError>
+    ensures ok { IfOk result (λ x. said_by (L.said reader.now) line.now ≡ option_map Ok x) }
+    ensures words { IfErr result (λ _. (length (words_of line.now) == 0) ≡ false) }
+    ensures fault { IfErr result (IsWhy (L.said reader.now line.now)) }
+    ensures fits { IfOk result (λ x. IfSome x (L.fits reader.now)) }
+{
+    if has_words(line) {
+        Ok(Some(reader.read(line)?))
+    } else {
+        Ok(None)
+    }
+}
+
+/// What the lines of the input say, up to the first that is faulty; lines without a word are counted and passed over.
+/// `Err` where there is no memory.
+pub fn read_lines<X: Drop, A: Allocator, L: LineReader<X>>(
+    alloc: A,
+    reader: &L,
+    input: &[u8],
+) -> Result<Input<X, A>, AllocError>
+    ensures said { IfOk result (λ read. said_in (L.said reader.now) input.now ≡ record { said = read.said.items; stop = read.stop }) }
+    ensures fits { IfOk result (λ read. All (L.fits reader.now) read.said.items) }
+{
+    let mut said = Vec::new(alloc);
+    let mut lines = Lines::of(input);
+    let mut number = 0usize;
+    while let Some(line) = lines.next() {
+        number += 1;
+        match said_by(reader, line) {
+            Ok(Some(x)) => said.push(x)?,
+            Ok(None) => {}
+            Err(LineError::Fault(fault)) => {
+                let stop = Some(BadLine {
+                    line: number,
+                    fault,
+                });
+                return Ok(Input { said, stop });
+            }
+            Err(LineError::Memory) => return Err(AllocError),
+        }
+    }
+    Ok(Input { said, stop: None })
+}
