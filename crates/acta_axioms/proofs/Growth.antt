@@ -1,5 +1,5 @@
 -- What each notion becomes when one kept item is put at the end of a history.
-use Rattle.std.proofs.Common.{subst, ◌==◌, if◌then◌else◌, suc, ◌≡◌, ℕ, ◌+◌, ◌<◌, ◌≤◌, Bool, true, false, ◌||◌, cond, List, [], ◌∷◌, ◌++◌, length, map, drop, fold, Option, Some, None, option_map, refl, sym, ap, ◌∙◌, arith, is_some}
+use Rattle.std.proofs.Common.{subst, if◌then◌else◌, suc, ◌≡◌, ℕ, ◌+◌, ◌<◌, ◌≤◌, Bool, true, false, ◌||◌, cond, List, [], ◌∷◌, ◌++◌, length, map, drop, fold, Option, Some, None, option_map, refl, sym, ap, ◌∙◌, arith, is_some}
 use Rattle.std.specs.List.{find, filter_map, flat_map, cons_option, count_by, AllByRecursion}
 use Rattle.std.specs.Option.{option_or, option_and_then, option_map_or}
 use Rattle.std.proofs.lemmas.List.{append-nil, append_assoc, length_push, drop-append-le, drop_all, map-append}
@@ -64,11 +64,6 @@ option_map-cond : {X Y : Type 0} (f : X → Y) (b : Bool) (x : X) → option_map
 option_map-cond f true x = refl
 option_map-cond f false x = refl
 
-is_some-or : {X : Type 0} (o : Option X) (b : Bool) (x : X) → is_some (option_or o (cond b (Some x) None)) ≡ (is_some o || b)
-is_some-or None true x = refl
-is_some-or None false x = refl
-is_some-or (Some y) b x = refl
-
 pub first_place-push : {A : Type 0} (test : Event A → Bool) (h : List (Kept A)) (k : Kept A) → option_map number (first test (h ++ k ∷ [])) ≡ or_here h (option_map number (first test h)) (test k.event)
 first_place-push test h k =
     ap (option_map number) (first-push test h k) ∙ option_map-or number (first test h) (cond (test k.event) (Some (at_end h k)) None)
@@ -91,9 +86,6 @@ course-push h k t = λ i. record {
 -- whether the event ends t
 abbrev pub ends : {A : Type 0} → ℕ → Event A → Bool
 ends t e = commits t e || (aborts t e || joins t e)
-
-pub has_begun-push : {A : Type 0} (h : List (Kept A)) (k : Kept A) (t : ℕ) → has_begun (h ++ k ∷ []) t ≡ (has_begun h t || starts t k.event)
-has_begun-push h k t = ap is_some (first_place-push (starts t) h k) ∙ is_some-or (course h t).start (starts t k.event) (length h + 1)
 
 and_then-or : {X Y : Type 0} (f : X → Option Y) (o p : Option X) → option_and_then f (option_or o p) ≡ (if is_some o then option_and_then f o else option_and_then f p)
 and_then-or f None p = refl
@@ -215,11 +207,6 @@ shown-push show m h k =
     ∙ map-append (λ o. show o (standing m (h ++ k ∷ []) o)) (operations h) (added h k)
     ∙ (λ i. map-agree _ _ _ (λ o within. ap (show o) (standing-push m h k o within)) (operations h) (operations_within h) i ++ map-agree _ _ _ (λ o e. ap (show o) e) (added h k) (added-new m h k) i)
 
--- an operation that is there goes on, and a new one begins
-abbrev pub goes_on : {A : Type 0} → Parts A → List (Kept A) → Kept A → ℕ → Option Standing → Option Standing
-goes_on m h k o None = option_map (λ q. held_by q.invoker) (find (λ q. q.number == o) (added h k))
-goes_on m h k o (Some s) = Some (carried m o s (at_end h k))
-
 -- ancestors: parents start earlier, so the line of one that has begun stays
 
 -- what stands before a place is a front of the history
@@ -228,7 +215,7 @@ places_fronts {A} before [] = tt
 places_fronts {A} before (k ∷ ks) =
     ((k ∷ ks, refl), subst (λ g. AllByRecursion (λ (p : Place A). (rest : List (Kept A)) × (g ≡ p.before ++ rest)) (places_behind (before ++ k ∷ []) ks)) (append_assoc before (k ∷ []) ks) (places_fronts (before ++ k ∷ []) ks))
 
-first-append : {A : Type 0} (test : Event A → Bool) (xs ys : List (Kept A)) → first test (xs ++ ys) ≡ option_or (first test xs) (find (λ p. test p.kept.event) (places_behind xs ys))
+pub first-append : {A : Type 0} (test : Event A → Bool) (xs ys : List (Kept A)) → first test (xs ++ ys) ≡ option_or (first test xs) (find (λ p. test p.kept.event) (places_behind xs ys))
 first-append test xs ys = ap (find (λ p. test p.kept.event)) (places_behind-append [] xs ys) ∙ find-append (λ p. test p.kept.event) (places xs) (places_behind xs ys)
 
 -- t started at a place up to n

@@ -8,11 +8,11 @@ pub mod Statuses
 pub mod Numbers
 pub mod ValueGrowth
 pub mod ByOperations
-pub mod Prefixes
 pub mod Faultless
-mod Lineages
 mod Named
 mod Tables
-mod Tracing
-mod Turns
-mod Following
+mod Lineages
+mod Bringing
+mod FormedEdges
+pub mod Searches
+mod Walking

@@ -1,121 +1,139 @@
--- The heirs at the places of a history, found in a pass from the front.
-use Rattle.std.proofs.Common.{if◌then◌else◌, ◌≡◌, ℕ, zero, suc, ◌+◌, ◌<◌, Bool, true, false, ◌&&◌, ◌||◌, not, List, [], ◌∷◌, ◌++◌, length, map, take, get_or, Option, Some, None, option_map, is_some, refl, sym, ap, ◌∙◌, arith}
-use Rattle.std.specs.Option.{option_and_then, option_map_or}
-use Rattle.std.specs.Prelude.{slice_set, ◌==◌}
-use Rattle.std.specs.List.{All}
+-- The lineage of each transaction, one item further, and as it was at an earlier place.
+use Rattle.std.proofs.Common.{if◌then◌else◌, ◌≡◌, ℕ, ◌+◌, ◌<◌, ◌≤◌, Bool, true, false, ◌==◌, cond, leb, List, [], ◌∷◌, ◌++◌, length, take, drop, get_or, Option, Some, None, option_map, is_some, refl, sym, ap, ◌∙◌, arith}
+use Rattle.std.specs.List.{find, AllByRecursion}
+use Rattle.std.specs.Option.{option_or, option_and_then, option_map_or}
 use Rattle.std.proofs.Math.ListN.{replicate}
-use Rattle.std.proofs.lemmas.Bool.{true≢false, eqb-true, eq-eqb}
-use Rattle.std.proofs.lemmas.Grind.{get_or-set_at}
-use Rattle.std.proofs.lemmas.List.{append-nil, append_assoc, map-append, take_more, get_or-set_other}
+use Rattle.std.proofs.lemmas.Bool.{true≢false, le-leb, lt-leb, cond-true, cond-false}
+use Rattle.std.proofs.lemmas.List.{length_push, take_more, take-append-drop, length-take}
 use Rattle.acta_table.specs.declared.event.ClassId.{ClassId}
 use Rattle.acta_table.specs.declared.event.Event.{Event}
-use Rattle.acta_table.specs.declared.event.Event.TheVariants.{Spawn, Commit}
+use Rattle.acta_table.specs.declared.event.Event.TheVariants.{Begin, Spawn, Split, Join, Commit, Abort}
 use Rattle.acta_table.specs.declared.event.Kept.{Kept}
 use Rattle.acta_table.specs.declared.event.TxnId.{TxnId}
 use Rattle.acta_table.specs.declared.model.Class.{Class}
 use Rattle.acta_table.specs.declared.model.Parts.{Parts}
 use Rattle.acta_table.specs.Classes.{class_at, has_heir}
-use Rattle.acta_table.specs.Events.{named, started, class_named}
-use Rattle.acta_axioms.specs.declared.heirs.Lineage.{Lineage}
-use Rattle.acta_axioms.specs.History.{Place, number, places_behind, places, first, starts, has_begun, class_number, class_of, spawner, parent_of}
-use Rattle.acta_axioms.specs.inside.Index.{unbegun, class_id, lineage, begun_in, spawner_by, with_start, class_by, heir_of_line, heir_by, heir_in, heir_at, heirs_of}
-use Rattle.acta_axioms.proofs.Growth.{at_end, places-push, has_begun-push, class_number-push, parent_of-push}
-use Rattle.acta_axioms.proofs.Named.{named-started}
+use Rattle.acta_table.specs.Events.{class_named}
+use Rattle.acta_axioms.specs.declared.lineage.Lineage.{Lineage}
+use Rattle.acta_axioms.specs.History.{Place, number, places, places_behind, first, starts, commits, aborts, joins, has_begun, class_number, class_of, spawner, parent_of, course}
+use Rattle.acta_axioms.specs.Operations.{heir}
+use Rattle.acta_axioms.specs.inside.Lineages.{unbegun, class_id, lineage, begun_in, or_at, started, further, class_by, heir_of_line, heir_by, heir_in, before_place, heir_before}
+use Rattle.acta_axioms.proofs.Growth.{found-passes, first-append, places_within, course-push, class_number-push, parent_of-push}
 use Rattle.acta_axioms.proofs.Tables.{get_or-blank}
 
 -- one that has not begun has no class and no parent
-class-unbegun : {A : Type 0} (h : List (Kept A)) (t : ℕ) → has_begun h t ≡ false → class_number h t ≡ None
+class-unbegun : {A : Type 0} (h : List (Kept A)) (t : ℕ) → is_some (course h t).start ≡ false → class_number h t ≡ None
 class-unbegun {A} h t not_begun = of_first (first (starts t) h) not_begun
   where
     of_first : (o : Option (Place A)) → is_some (option_map number o) ≡ false → option_and_then (λ p. class_named p.kept.event) o ≡ None
     of_first None is = refl
     of_first (Some p) is = absurd (true≢false is)
 
-parent-unbegun : {A : Type 0} (h : List (Kept A)) (t : ℕ) → has_begun h t ≡ false → parent_of h t ≡ None
+parent-unbegun : {A : Type 0} (h : List (Kept A)) (t : ℕ) → is_some (course h t).start ≡ false → parent_of h t ≡ None
 parent-unbegun {A} h t not_begun = of_first (first (starts t) h) not_begun
   where
     of_first : (o : Option (Place A)) → is_some (option_map number o) ≡ false → option_and_then (λ p. spawner p.before p.kept.event) o ≡ None
     of_first None is = refl
     of_first (Some p) is = absurd (true≢false is)
 
--- the parent of the one that an event starts, by those who have begun
-spawner-begun : {A : Type 0} (h : List (Kept A)) (e : Event A) → spawner h e ≡ spawner_by (has_begun h) e
-spawner-begun h (Spawn t c class) = refl
-spawner-begun h _ = refl
+-- a lineage by its parts
+abbrev made_of : Option ℕ → Option ℕ → Option ℕ → Option ℕ → Option ℕ → Option TxnId → Lineage
+made_of s c a j class parent = record { course = record { start = s; commit = c; abort = a; join = j }; class = class_id class; parent = parent }
 
--- the first start gives whether it has begun, its class and its parent
-pub lineage-push : {A : Type 0} (h : List (Kept A)) (k : Kept A) (t : ℕ) → lineage (h ++ k ∷ []) t ≡ with_start (has_begun h) k.event t (lineage h t)
-lineage-push h k t =
-    (λ i. record { is_begun = has_begun-push h k t i; class = class_id (class_number-push h k t i); parent = parent_of-push h k t i })
-    ∙ of_tests (has_begun h t) (starts t k.event) refl
+-- what was there, or else this place where the test is true
+abbrev here : ℕ → Option ℕ → Bool → Option ℕ
+here n o b = option_or o (cond b (Some n) None)
+
+or_nothing : (n : ℕ) (o : Option ℕ) → here n o false ≡ o
+or_nothing n None = refl
+or_nothing n (Some m) = refl
+
+or_this : (n : ℕ) (o : Option ℕ) → here n o true ≡ or_at n o
+or_this n None = refl
+or_this n (Some m) = refl
+
+-- what one that has begun has, or else what its start gives it
+abbrev given : {X : Type 0} → Option ℕ → Bool → Option X → Option X → Option X
+given s b new old = if is_some s then old else if b then new else None
+
+given-nothing : {X : Type 0} (s : Option ℕ) (new old : Option X) → (is_some s ≡ false → old ≡ None) → given s false new old ≡ old
+given-nothing None new old none = sym (none refl)
+given-nothing (Some i) new old none = refl
+
+-- an event that starts one, where the test is true
+start_line : (n : ℕ) (b : Bool) (s c a j class : Option ℕ) (parent : Option TxnId) (new : ClassId) (by : Option TxnId) → (is_some s ≡ false → class ≡ None) → (is_some s ≡ false → parent ≡ None) →
+    made_of (here n s b) (here n c false) (here n a false) (here n j false) (given s b (Some new.0) class) (given s b by parent)
+    ≡ (if b then started n new by (made_of s c a j class parent) else made_of s c a j class parent)
+start_line n true None c a j class parent new by no_class no_parent = λ i. made_of (Some n) (or_nothing n c i) (or_nothing n a i) (or_nothing n j i) (Some new.0) by
+start_line n true (Some m) c a j class parent new by no_class no_parent = λ i. made_of (Some m) (or_nothing n c i) (or_nothing n a i) (or_nothing n j i) class parent
+start_line n false s c a j class parent new by no_class no_parent = λ i.
+    made_of (or_nothing n s i) (or_nothing n c i) (or_nothing n a i) (or_nothing n j i) (given-nothing s (Some new.0) class no_class i) (given-nothing s by parent no_parent i)
+
+-- and one that ends one
+join_line : (n : ℕ) (b : Bool) (s c a j class : Option ℕ) (parent : Option TxnId) → (is_some s ≡ false → class ≡ None) → (is_some s ≡ false → parent ≡ None) →
+    made_of (here n s false) (here n c false) (here n a false) (here n j b) (given s false None class) (given s false None parent)
+    ≡ (if b then made_of s c a (or_at n j) class parent else made_of s c a j class parent)
+join_line n true s c a j class parent no_class no_parent = λ i.
+    made_of (or_nothing n s i) (or_nothing n c i) (or_nothing n a i) (or_this n j i) (given-nothing s None class no_class i) (given-nothing s None parent no_parent i)
+join_line n false s c a j class parent no_class no_parent = λ i.
+    made_of (or_nothing n s i) (or_nothing n c i) (or_nothing n a i) (or_nothing n j i) (given-nothing s None class no_class i) (given-nothing s None parent no_parent i)
+
+commit_line : (n : ℕ) (b : Bool) (s c a j class : Option ℕ) (parent : Option TxnId) → (is_some s ≡ false → class ≡ None) → (is_some s ≡ false → parent ≡ None) →
+    made_of (here n s false) (here n c b) (here n a false) (here n j false) (given s false None class) (given s false None parent)
+    ≡ (if b then made_of s (or_at n c) a j class parent else made_of s c a j class parent)
+commit_line n true s c a j class parent no_class no_parent = λ i.
+    made_of (or_nothing n s i) (or_this n c i) (or_nothing n a i) (or_nothing n j i) (given-nothing s None class no_class i) (given-nothing s None parent no_parent i)
+commit_line n false s c a j class parent no_class no_parent = join_line n false s c a j class parent no_class no_parent
+
+abort_line : (n : ℕ) (b : Bool) (s c a j class : Option ℕ) (parent : Option TxnId) → (is_some s ≡ false → class ≡ None) → (is_some s ≡ false → parent ≡ None) →
+    made_of (here n s false) (here n c false) (here n a b) (here n j false) (given s false None class) (given s false None parent)
+    ≡ (if b then made_of s c (or_at n a) j class parent else made_of s c a j class parent)
+abort_line n true s c a j class parent no_class no_parent = λ i.
+    made_of (or_nothing n s i) (or_nothing n c i) (or_this n a i) (or_nothing n j i) (given-nothing s None class no_class i) (given-nothing s None parent no_parent i)
+abort_line n false s c a j class parent no_class no_parent = join_line n false s c a j class parent no_class no_parent
+
+-- the lineage of one more item
+lineage-push : {A : Type 0} (h : List (Kept A)) (k : Kept A) (t : ℕ) → lineage (h ++ k ∷ []) t ≡ further (length h + 1) (has_begun h) k.event t (lineage h t)
+lineage-push {A} h k t = (λ i. record { course = course-push h k t i; class = class_id (class_number-push h k t i); parent = parent_of-push h k t i }) ∙ of_event k.event
   where
-    of_tests : (a b : Bool) → has_begun h t ≡ a →
-        (let l : Lineage = record { is_begun = a || b; class = class_id (if a then class_number h t else if b then class_named k.event else None); parent = if a then parent_of h t else if b then spawner h k.event else None } in l)
-        ≡ (let l : Lineage = record { is_begun = a; class = class_id (class_number h t); parent = parent_of h t } in if not a && b then record { is_begun = true; class = class_id (class_named k.event); parent = spawner_by (has_begun h) k.event } else l)
-    of_tests true b is = refl
-    of_tests false true is = λ i. record { is_begun = true; class = class_id (class_named k.event); parent = spawner-begun h k.event i }
-    of_tests false false is = λ i. let l : Lineage = record { is_begun = false; class = class_id (sym (class-unbegun h t is) i); parent = sym (parent-unbegun h t is) i } in l
+    n : ℕ
+    n = length h + 1
 
--- a class is the one of its number
-class-of_number : (class : Option ClassId) (number : Option ℕ) → option_map (λ c. c.0) class ≡ number → class ≡ class_id number
-class-of_number class number is = itself class ∙ ap class_id is
-  where
-    itself : (class : Option ClassId) → class ≡ class_id (option_map (λ c. c.0) class)
-    itself None = refl
-    itself (Some class) = refl
+    s : Option ℕ
+    s = (course h t).start
 
--- a table in which the lineage of the one that an event starts is put
-pub started-more : {A : Type 0} (lines : List Lineage) (e : Event A) (s : TxnId) (line : Lineage) (class : Option ClassId) (parent : Option TxnId) → All (λ t. t < length lines) (named e) → started e ≡ Some s.0 →
-    line ≡ get_or lines s.0 unbegun → not line.is_begun ≡ true → option_map (λ c. c.0) class ≡ class_named e → parent ≡ spawner_by (begun_in lines) e → (t : ℕ) →
-    get_or (slice_set lines s.0 (record { is_begun = true; class = class; parent = parent })) t unbegun ≡ with_start (begun_in lines) e t (get_or lines t unbegun)
-started-more {A} lines e s line class parent named_within is line_is fresh class_is parent_is t = of_test (s.0 == t) refl
-  where
-    here : starts t e ≡ (s.0 == t)
-    here = ap (λ o. option_map_or (λ u. u == t) o false) is
+    c : Option ℕ
+    c = (course h t).commit
 
-    kept_line : (b : Bool) (x y : Lineage) → x ≡ (if not b && false then y else x)
-    kept_line true x y = refl
-    kept_line false x y = refl
+    a : Option ℕ
+    a = (course h t).abort
 
-    of_test : (b : Bool) → (s.0 == t) ≡ b →
-        get_or (slice_set lines s.0 (record { is_begun = true; class = class; parent = parent })) t unbegun ≡ with_start (begun_in lines) e t (get_or lines t unbegun)
-    of_test true same =
-        let at : s.0 ≡ t = eqb-true s.0 t same in
-        get_or-set_at lines s.0 t (record { is_begun = true; class = class; parent = parent }) unbegun (sym at) (named-started e s.0 (length lines) named_within is)
-        ∙ (λ i. let l : Lineage = record { is_begun = true; class = class-of_number class (class_named e) class_is i; parent = parent_is i } in l)
-        ∙ (λ i. if sym (ap (λ (l : Lineage). not l.is_begun) (sym (line_is ∙ ap (λ u. get_or lines u unbegun) at)) ∙ fresh) i && sym (here ∙ same) i then (record { is_begun = true; class = class_id (class_named e); parent = spawner_by (begun_in lines) e }) else get_or lines t unbegun)
-    of_test false same =
-        get_or-set_other lines s.0 t (record { is_begun = true; class = class; parent = parent }) unbegun (λ at. true≢false (sym (eq-eqb s.0 t (sym at)) ∙ same))
-        ∙ kept_line (get_or lines t unbegun).is_begun (get_or lines t unbegun) (record { is_begun = true; class = class_id (class_named e); parent = spawner_by (begun_in lines) e })
-        ∙ (λ i. if not (get_or lines t unbegun).is_begun && sym (here ∙ same) i then (record { is_begun = true; class = class_id (class_named e); parent = spawner_by (begun_in lines) e }) else get_or lines t unbegun)
+    j : Option ℕ
+    j = (course h t).join
 
--- a blank table says of the empty history what there is to say
+    of_event : (e : Event A) →
+        made_of (here n s (starts t e)) (here n c (commits t e)) (here n a (aborts t e)) (here n j (joins t e)) (given s (starts t e) (class_named e) (class_number h t)) (given s (starts t e) (spawner h e) (parent_of h t))
+        ≡ further n (has_begun h) e t (made_of s c a j (class_number h t) (parent_of h t))
+    of_event (Begin u class) = start_line n (u.0 == t) s c a j (class_number h t) (parent_of h t) class None (class-unbegun h t) (parent-unbegun h t)
+    of_event (Spawn v u class) = start_line n (u.0 == t) s c a j (class_number h t) (parent_of h t) class (spawner h (Spawn v u class)) (class-unbegun h t) (parent-unbegun h t)
+    of_event (Split v u class ops) = start_line n (u.0 == t) s c a j (class_number h t) (parent_of h t) class None (class-unbegun h t) (parent-unbegun h t)
+    of_event (Join u v) = join_line n (u.0 == t) s c a j (class_number h t) (parent_of h t) (class-unbegun h t) (parent-unbegun h t)
+    of_event (Commit u) = commit_line n (u.0 == t) s c a j (class_number h t) (parent_of h t) (class-unbegun h t) (parent-unbegun h t)
+    of_event (Abort u) = abort_line n (u.0 == t) s c a j (class_number h t) (parent_of h t) (class-unbegun h t) (parent-unbegun h t)
+    of_event _ = join_line n false s c a j (class_number h t) (parent_of h t) (class-unbegun h t) (parent-unbegun h t)
+
+-- a blank table says of no item what there is to say
 pub lines-blank : {A : Type 0} (h : List (Kept A)) (lines : List Lineage) (n t : ℕ) → lines ≡ replicate n unbegun → get_or lines t unbegun ≡ lineage (take 0 h) t
 lines-blank h lines n t blank = ap (λ xs. get_or xs t unbegun) blank ∙ get_or-blank n t unbegun
 
--- the heirs at places
-
-heir_behind : {A : Type 0} (m : Parts A) (before ks : List (Kept A)) (i : ℕ) (d : Kept A) → i < length ks → get_or (map (heir_at m) (places_behind before ks)) i None ≡ heir_by m (before ++ take i ks) (get_or ks i d).event
-heir_behind m before [] i d within = absurd (omega arith)
-heir_behind m before (k ∷ ks) zero d within = ap (λ b. heir_by m b k.event) (sym (append-nil before))
-heir_behind m before (k ∷ ks) (suc i) d within =
-    heir_behind m (before ++ k ∷ []) ks i d (omega arith) ∙ ap (λ b. heir_by m b (get_or ks i d).event) (append_assoc before (k ∷ []) (take i ks))
-
--- the heir at the place of number i + 1
-pub heir-there : {A : Type 0} (m : Parts A) (h : List (Kept A)) (i : ℕ) (d : Kept A) → i < length h → get_or (heirs_of m h) i None ≡ heir_by m (take i h) (get_or h i d).event
-heir-there m h i d within = heir_behind m [] h i d within
-
-heirs-push : {A : Type 0} (m : Parts A) (h : List (Kept A)) (k : Kept A) → heirs_of m (h ++ k ∷ []) ≡ heirs_of m h ++ heir_by m h k.event ∷ []
-heirs-push m h k = ap (map (heir_at m)) (places-push h k) ∙ map-append (heir_at m) (places h) (at_end h k ∷ [])
-
--- one item more, in a pass from the front
-
-pub lines-more : {A : Type 0} (h : List (Kept A)) (n : ℕ) (d k : Kept A) (old new : List Lineage) → n < length h → k ≡ get_or h n d →
-    ((t : ℕ) → get_or old t unbegun ≡ lineage (take n h) t) → ((t : ℕ) → get_or new t unbegun ≡ with_start (begun_in old) k.event t (get_or old t unbegun)) →
+-- one item more, in a table
+pub lines-more : {A : Type 0} (h : List (Kept A)) (n : ℕ) (d : Kept A) (old new : List Lineage) → n < length h →
+    ((t : ℕ) → get_or old t unbegun ≡ lineage (take n h) t) → ((t : ℕ) → get_or new t unbegun ≡ further (n + 1) (begun_in old) (get_or h n d).event t (get_or old t unbegun)) →
     (t : ℕ) → get_or new t unbegun ≡ lineage (take (n + 1) h) t
-lines-more h n d k old new within is old_are step t =
+lines-more h n d old new within old_are step t =
+    let long : length (take n h) ≡ n = length-take n h ∙ omega arith in
     step t
-    ∙ (λ x. with_start (λ u. (old_are u x).is_begun) (is x).event t (old_are t x))
+    ∙ (λ x. further (sym long x + 1) (λ u. is_some (old_are u x).course.start) (get_or h n d).event t (old_are t x))
     ∙ sym (lineage-push (take n h) (get_or h n d) t)
     ∙ sym (ap (λ g. lineage g t) (take_more h n d within))
 
@@ -127,15 +145,60 @@ class-lined {A} m h t = of_number (class_number h t)
     of_number None = refl
     of_number (Some n) = refl
 
+-- the heir by the class and the parent
+heir-lined : {A : Type 0} (m : Parts A) (h : List (Kept A)) (t : ℕ) → heir_of_line m (lineage h t) ≡ heir m h t
+heir-lined m h t = ap (λ k. if option_map_or (λ (c : Class _). has_heir c.at_commit) k false then parent_of h t else None) (class-lined m h t)
+
 pub heir-tabled : {A : Type 0} (m : Parts A) (h : List (Kept A)) (lines : List Lineage) (e : Event A) → ((t : ℕ) → get_or lines t unbegun ≡ lineage h t) → heir_in m lines e ≡ heir_by m h e
-heir-tabled m h lines (Commit t) are =
-    ap (heir_of_line m) (are t.0) ∙ ap (λ k. if option_map_or (λ (c : Class _). has_heir c.at_commit) k false then parent_of h t.0 else None) (class-lined m h t.0)
+heir-tabled m h lines (Commit t) are = ap (heir_of_line m) (are t.0) ∙ heir-lined m h t.0
 heir-tabled m h lines _ are = refl
 
-pub heirs-more : {A : Type 0} (m : Parts A) (h : List (Kept A)) (n : ℕ) (d k : Kept A) (lines : List Lineage) (old new : List (Option TxnId)) (x : Option TxnId) → n < length h → k ≡ get_or h n d →
-    ((t : ℕ) → get_or lines t unbegun ≡ lineage (take n h) t) → x ≡ heir_in m lines k.event → new ≡ old ++ x ∷ [] → old ≡ heirs_of m (take n h) → new ≡ heirs_of m (take (n + 1) h)
-heirs-more m h n d k lines old new x within is lines_are step put old_are =
-    put
-    ∙ (λ i. old_are i ++ (step ∙ heir-tabled m (take n h) lines k.event lines_are ∙ ap (λ (q : Kept _). heir_by m (take n h) q.event) is) i ∷ [])
-    ∙ sym (heirs-push m (take n h) (get_or h n d))
-    ∙ sym (ap (heirs_of m) (take_more h n d within))
+-- at an earlier place
+
+-- behind some items each place has a greater number than they have
+places_past : {A : Type 0} (n : ℕ) (before h : List (Kept A)) → n ≤ length before → AllByRecursion (λ p. n < number p) (places_behind before h)
+places_past n before [] past = tt
+places_past n before (k ∷ ks) past = (omega arith, places_past n (before ++ k ∷ []) ks (let grown = length_push before k in omega arith))
+
+-- the heir by the first start: as it is, and where it is among the first n places
+abbrev heir_from : {A : Type 0} → Parts A → Option (Place A) → Option TxnId
+heir_from m o =
+    if option_map_or (λ (c : Class _). has_heir c.at_commit) (option_and_then (λ (class : ClassId). class_at m class.0) (class_id (option_and_then (λ (p : Place _). class_named p.kept.event) o))) false
+    then option_and_then (λ (p : Place _). spawner p.before p.kept.event) o
+    else None
+
+abbrev heir_up_to : {A : Type 0} → Parts A → ℕ → Option (Place A) → Option TxnId
+heir_up_to m n o = if option_map_or (λ start. leb start n) (option_map number o) false then heir_from m o else None
+
+up_to : {A : Type 0} (m : Parts A) (n : ℕ) (o p : Option (Place A)) → ((q : Place A) → o ≡ Some q → number q ≤ n) → ((q : Place A) → p ≡ Some q → n < number q) → heir_up_to m n (option_or o p) ≡ heir_from m o
+up_to m n (Some q) p low high = cond-true _ _ _ (le-leb (number q) n (low q refl))
+up_to m n None None low high = refl
+up_to m n None (Some q) low high = cond-false _ _ _ (lt-leb (number q) n (high q refl))
+
+-- the heir behind the first n places, by the lineage behind all
+heir-earlier : {A : Type 0} (m : Parts A) (h : List (Kept A)) (n t : ℕ) → n ≤ length h → heir_of_line m (before_place n (lineage h t)) ≡ heir m (take n h) t
+heir-earlier {A} m h n t within =
+    in_test (option_map_or (λ start. leb start n) (course h t).start false)
+    ∙ ap (heir_up_to m n) parted
+    ∙ up_to m n (first (starts t) (take n h)) (find (λ p. starts t p.kept.event) (places_behind (take n h) (drop n h))) among behind
+    ∙ heir-lined m (take n h) t
+  where
+    long : length (take n h) ≡ n
+    long = length-take n h ∙ omega arith
+
+    in_test : (b : Bool) → heir_of_line m (if b then lineage h t else unbegun) ≡ (if b then heir_of_line m (lineage h t) else None)
+    in_test true = refl
+    in_test false = refl
+
+    parted : first (starts t) h ≡ option_or (first (starts t) (take n h)) (find (λ p. starts t p.kept.event) (places_behind (take n h) (drop n h)))
+    parted = ap (first (starts t)) (sym (take-append-drop n h)) ∙ first-append (starts t) (take n h) (drop n h)
+
+    among : (q : Place A) → first (starts t) (take n h) ≡ Some q → number q ≤ n
+    among q is = let low = (found-passes (λ p. starts t p.kept.event) (λ p. number p ≤ length (take n h)) (places (take n h)) q (places_within (length (take n h)) [] (take n h) (omega arith)) is).1 in omega (arith, low, long)
+
+    behind : (q : Place A) → find (λ p. starts t p.kept.event) (places_behind (take n h) (drop n h)) ≡ Some q → n < number q
+    behind q is = (found-passes (λ p. starts t p.kept.event) (λ p. n < number p) (places_behind (take n h) (drop n h)) q (places_past n (take n h) (drop n h) (omega (arith, long))) is).1
+
+pub heir-before : {A : Type 0} (m : Parts A) (h : List (Kept A)) (lines : List Lineage) (n : ℕ) (e : Event A) → n ≤ length h → ((t : ℕ) → get_or lines t unbegun ≡ lineage h t) → heir_before m n lines e ≡ heir_by m (take n h) e
+heir-before m h lines n (Commit t) within are = ap (λ line. heir_of_line m (before_place n line)) (are t.0) ∙ heir-earlier m h n t.0 within
+heir-before m h lines n _ within are = refl

@@ -4,7 +4,8 @@ use Rattle.acta_table.specs.declared.dep.Dep.{Dep}
 use Rattle.acta_table.specs.declared.dep.Dep.TheVariants.{Cd, Scd, Ad, Wd, Td, Ed, Cmd, Bd, Sd, Bcd, Bad, Wcd}
 use Rattle.acta_table.specs.declared.dep.Missing.{Missing}
 use Rattle.acta_table.specs.declared.dep.Missing.TheVariants.{Commit, Abort}
-use Rattle.acta_axioms.specs.History.{Course, least, end}
+use Rattle.acta_axioms.specs.declared.course.Course.{Course}
+use Rattle.acta_axioms.specs.History.{least, end}
 
 -- whether both places are there, and the first is the smaller
 abbrev pub is_before : Option ℕ → Option ℕ → Bool

@@ -12,6 +12,7 @@ use Rattle.acta_table.specs.declared.model.Parts.{Parts}
 use Rattle.acta_table.specs.Ancestors.{ancestors_from}
 use Rattle.acta_table.specs.Events.{started, class_named}
 use Rattle.acta_table.specs.Classes.{class_at}
+use Rattle.acta_axioms.specs.declared.course.Course.{Course}
 
 -- a place of a history: the item that stands there, and all that stands before it
 pub record Place (A : Type 0) : Type 0 where
@@ -54,13 +55,6 @@ aborts t _ = false
 abbrev pub joins : {A : Type 0} → ℕ → Event A → Bool
 joins t (Join u v) = u.0 == t
 joins t _ = false
-
--- the first places of a transaction's start, commit and abort, and of its joining another
-pub record Course : Type 0 where
-  pub start : Option ℕ
-  pub commit : Option ℕ
-  pub abort : Option ℕ
-  pub join : Option ℕ
 
 -- the course of t in a history
 abbrev pub course : {A : Type 0} → List (Kept A) → ℕ → Course

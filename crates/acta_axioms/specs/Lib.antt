@@ -6,4 +6,5 @@ pub mod Formulas
 pub mod Legal
 pub mod Faults
 pub mod Claims
+pub mod Walks
 pub mod inside

@@ -1,5 +1,5 @@
 -- Words of the code's own contracts, and what is proved of words: nothing here is needed to read a promise.
-pub mod Behind
-pub mod Index
-pub mod Shown
+pub mod Holding
+pub mod Lineages
+pub mod Walking
 pub mod Within

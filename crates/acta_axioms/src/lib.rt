@@ -1,17 +1,23 @@
 //! The meaning of a history, by its places alone: what ACTA says of any list of kept items, legal or
-//! not, with no running state. The definitions stand in `specs/`: where transactions start and end, who
-//! holds each operation and what became of it, the values by replay, the edges and what is owed by them,
-//! and which axiom each place breaks. `Places` answers questions about a history by them, from an index
-//! that it makes once.
+//! not. The definitions stand in `specs/`: where transactions start and end, who holds each operation and
+//! what became of it, the values by replay, the edges and what is owed by them, and which axiom each place
+//! breaks. A `Walk` goes through a history from its front, one item at a time, and answers what stands
+//! before the place that it has reached; `Places` answers questions about a whole history.
 #![tactic(auto)]
 
-mod behind;
-mod edges;
+mod course;
 mod fault;
-mod follow;
-mod heirs;
-mod index;
+mod forming;
+mod holding;
+mod lineage;
 mod places;
+mod seeking;
+mod trail;
+mod values;
+mod walk;
 
+pub use course::Course;
 pub use fault::{Axiom, Fault};
 pub use places::Places;
+pub use values::value_after;
+pub use walk::Walk;

@@ -1,94 +1,195 @@
-//! Measures the index of a history by its places: `acta_bench N` makes a history of N operations, asks
-//! for the holder and the fate of each, prints what the answers add up to, and tells on standard error
-//! how long the index and the questions took.
+//! Measures a walk through a history: `acta_bench SHAPE N` makes a history of N items of that shape, walks through it, prints
+//! how many operations and edges there are in the end, and tells on standard error how long the walk took.
 #![tactic(auto)]
 
-use acta_axioms::Places;
-use acta_table::{
-    AtCommit, Class, Event, EventKind, Extent, Fate, Items, Kept, Kind, Kinds, Model, ObjId,
-    Object, Op, OpNo, Parts, Policy, Ret, Scope, StartEdges, Starts, TxnId,
-};
-use anyhow::{Context, Result, anyhow, ensure};
-use std::alloc::Global;
+ghost use Rattle.std.specs.Prelude.{◌≤◌, length};
+
+use acta_axioms::Walk;
+use acta_lang::assemble;
+use acta_models::Standard;
+use acta_table::{ClassId, Event, Kept, Model, ObjId, Op, OpNo, OpSet, TxnId};
+use anyhow::{Result, anyhow, bail, ensure};
+use std::alloc::{AllocError, Global};
 use std::env;
 use std::time::Instant;
 
-// The model of one counter and one class.
-fn counting(alloc: Global) -> Result<Model<Global>> {
-    let object = Object {
-        name: Items::of(Vec::from_slice(alloc, b"n")?),
-        kind: Kind::Counter(0),
-    };
-    let class = Class {
-        name: Items::of(Vec::from_slice(alloc, b"flat")?),
-        starts: Starts {
-            begin: true,
-            spawned: false,
-            split: false,
-        },
-        may: Kinds::of(EventKind::Operate).union(Kinds::of(EventKind::Commit)),
-        scope: Scope::Others,
-        policy: Policy::Refuse,
-        at_commit: AtCommit::Keeps,
-        extent: Extent::Whole,
-        spawn_edges: StartEdges::new(alloc),
-        split_edges: StartEdges::new(alloc),
-    };
-    let parts = Parts {
-        objects: Items::of(vec![in alloc; object]?),
-        classes: Items::of(vec![in alloc; class]?),
-    };
-    Model::check(parts).map_err(|_| anyhow!("the model has a fault"))
+// The shapes of histories.
+#[derive(Clone, Copy)]
+enum Shape {
+    // One transaction that adds to a counter.
+    Writing,
+    // One transaction after another begins, adds once and commits.
+    Committing,
+    // One child after another is spawned, adds once and commits to its parent.
+    Nested,
+    // Two transactions that hand the first's sixteen operations to and fro.
+    Delegating,
+    // Sixteen transactions that write in turn, each depending on the others.
+    Depending,
+    // One transaction after another begins and writes, depending on all before it.
+    Crowding,
 }
 
-// A history of additions by 4,000 transactions in turn, none of which has begun.
-fn additions(alloc: Global, count: u32) -> Result<Vec<Kept<Global>>> {
+// The shape of this name.
+fn shape_of(word: &str) -> Option<Shape> {
+    match word {
+        "writing" => Some(Shape::Writing),
+        "committing" => Some(Shape::Committing),
+        "nested" => Some(Shape::Nested),
+        "delegating" => Some(Shape::Delegating),
+        "depending" => Some(Shape::Depending),
+        "crowding" => Some(Shape::Crowding),
+        _ => None,
+    }
+}
+
+// A standard model in which histories of the shape are at home.
+fn model_of(shape: Shape) -> Standard {
+    match shape {
+        Shape::Writing | Shape::Committing | Shape::Delegating => Standard::Atomic,
+        Shape::Nested => Standard::Nested,
+        Shape::Depending | Shape::Crowding => Standard::Recoverable,
+    }
+}
+
+// The objects `x` and `n`, and the first two classes.
+const X: ObjId = ObjId(0);
+
+const N: ObjId = ObjId(1);
+
+const FIRST: ClassId = ClassId(0);
+
+const SECOND: ClassId = ClassId(1);
+
+// The transaction of this number, from 1.
+fn txn(number: u32) -> TxnId {
+    TxnId((number % 65_535) as u16 + 1)
+}
+
+// Begins, adds and commits, one transaction after another.
+fn committing(i: u32) -> Event<Global> {
+    let t = txn(i / 3);
+    match i % 3 {
+        0 => Event::Begin(t, FIRST),
+        1 => Event::Operate(t, N, Op::Add(1)),
+        _ => Event::Commit(t),
+    }
+}
+
+// The first begins; then one child after another is spawned, adds and commits.
+fn nested(i: u32) -> Event<Global> {
+    if i == 0 {
+        return Event::Begin(txn(0), FIRST);
+    }
+    let child = txn(1 + i / 3);
+    match i % 3 {
+        1 => Event::Operate(child, N, Op::Add(1)),
+        2 => Event::Commit(child),
+        _ => Event::Spawn(txn(0), child, SECOND),
+    }
+}
+
+// Sixteen operations of the first, and then all of them to and fro.
+fn delegating(alloc: Global, i: u32) -> Result<Event<Global>, AllocError> {
+    if i < 16 {
+        return Ok(Event::Operate(txn(0), N, Op::Add(1)));
+    }
+    let mut ops = Vec::new(alloc);
+    for number in 1..17 {
+        ops.push(OpNo(number))?;
+    }
+    let ops = OpSet::of(alloc, ops.as_slice())?;
+    Ok(Event::Delegate(txn(i % 2), txn(1 - i % 2), ops))
+}
+
+// Sixteen begin, and then write in turn.
+fn depending(i: u32) -> Event<Global> {
+    let t = txn(i % 16);
+    if i < 16 {
+        Event::Begin(t, FIRST)
+    } else {
+        Event::Operate(t, X, Op::Write((i % 30_000) as i32))
+    }
+}
+
+// One after another begins and writes.
+fn crowding(i: u32) -> Event<Global> {
+    let t = txn(i / 2);
+    if i % 2 == 0 {
+        Event::Begin(t, FIRST)
+    } else {
+        Event::Operate(t, X, Op::Write((i % 30_000) as i32))
+    }
+}
+
+// The event at the place i, from 0, of a history of the shape.
+fn event_at(alloc: Global, shape: Shape, i: u32) -> Result<Event<Global>, AllocError> {
+    match shape {
+        Shape::Writing => Ok(Event::Operate(txn(0), N, Op::Add(1))),
+        Shape::Committing => Ok(committing(i)),
+        Shape::Nested => Ok(nested(i)),
+        Shape::Delegating => delegating(alloc, i),
+        Shape::Depending => Ok(depending(i)),
+        Shape::Crowding => Ok(crowding(i)),
+    }
+}
+
+// A history of so many items.
+fn history(alloc: Global, shape: Shape, count: u32) -> Result<Vec<Kept<Global>>, AllocError> {
     let mut kept = Vec::new(alloc);
     for i in 0..count {
-        let t = TxnId((i % 4000) as u16 + 1);
         kept.push(Kept {
-            event: Event::Operate(t, ObjId(0), Op::Add(1)),
-            ret: Some(Ret::Done),
+            event: event_at(alloc, shape, i)?,
+            ret: None,
         })?;
     }
     Ok(kept)
 }
 
-// Asks for the holder and the fate of each operation at the end, and adds the holders of those that
-// are in progress.
-fn ask_all(places: &Places<'_, Global>, count: u32) -> u64 {
-    let mut sum = 0u64;
-    for number in 1..=count {
-        let op = OpNo(number);
-        if places.fate(op, count) == Some(Fate::InProgress) {
-            let holder = places.holder(op, count).map_or(0, |t| u64::from(t.0));
-            sum = sum.saturating_add(holder);
-        }
+// How many operations and edges a walk through the items has in the end.
+fn walked(
+    alloc: Global,
+    model: &Model<Global>,
+    kept: &[Kept<Global>],
+) -> Result<(usize, usize), AllocError>
+    requires { length kept.now ≤ 65536 }
+{
+    let mut walk = Walk::of(alloc, model, kept)?;
+    for _ in kept {
+        walk.step()?;
     }
-    sum
+    Ok((walk.operations().len(), walk.edges().len()))
+}
+
+// The shape and the number of items that two words ask for.
+fn asked(shape: Option<String>, count: Option<String>) -> Result<(Shape, u32)> {
+    let (Some(shape), Some(count)) = (shape, count) else {
+        bail!("a shape and a number of items are wanted");
+    };
+    let count = count.parse::<u32>()?;
+    ensure!(count <= 65_536, "at most 65536 items");
+    match shape_of(shape.as_str()) {
+        Some(shape) => Ok((shape, count)),
+        None => bail!("no shape has this name"),
+    }
+}
+
+// A standard model in which histories of the shape are at home.
+fn model(alloc: Global, shape: Shape) -> Result<Model<Global>> {
+    let text = model_of(shape).text();
+    assemble(alloc, text.as_bytes()).map_err(|_| anyhow!("the model has a fault"))
 }
 
 fn main(rt: HostRuntime) -> Result<()> {
     let mut words = env::args(&rt)?;
     let _ = words.next();
-    let count = match words.next() {
-        Some(word) => word.parse::<u32>().context("how many operations")?,
-        None => 4096,
-    };
-    ensure!(count <= 65_536, "at most 65536 operations");
-    let model = counting(rt.alloc())?;
-    let kept = additions(rt.alloc(), count)?;
-    ensure!(kept.len() <= 65_536, "at most 65536 operations");
+    let (shape, count) = asked(words.next(), words.next())?;
+    let model = model(rt.alloc(), shape)?;
+    let kept = history(rt.alloc(), shape, count)?;
+    ensure!(kept.len() <= 65_536, "at most 65536 items");
     let start = Instant::now(&rt)?;
-    let places = Places::of(rt.alloc(), &model, kept.as_slice())?;
-    let indexed = start.elapsed(&rt)?;
-    let sum = ask_all(&places, count);
-    let asked = start.elapsed(&rt)?;
-    eprintln!(rt;
-        "index {} us, index and questions {} us",
-        indexed.as_micros(),
-        asked.as_micros()
-    )?;
-    println!(rt; "{count} operations, holders {sum}")?;
+    let (operations, edges) = walked(rt.alloc(), &model, kept.as_slice())?;
+    eprintln!(rt; "{} us", start.elapsed(&rt)?.as_micros())?;
+    println!(rt; "{operations} operations, {edges} edges")?;
     Ok(())
 }

@@ -72,26 +72,33 @@ kept-opened {A} m s es is none follows =
 abbrev pub pushed : {A : Type 0} → ℕ → ℕ → Event A → Answer → Entry A
 pushed made seat event answer = record { number = made + 1; seat = seat; event = event; answer = answer }
 
-module _ {A : Type 0} (s t : State A) (es grown : List (Entry A)) (made seat : ℕ) (event kept : Event A) (answer : Answer)
+module _ {A : Type 0} (s t : State A) (es roomy grown : List (Entry A)) (made seat : ℕ) (event kept : Event A) (answer : Answer)
     (counted : made ≡ length es) (copied : kept ≡ event) (answered : answer ≡ answer_to s event) (next : t ≡ after s event)
-    (push : grown ≡ es ++ pushed made seat kept answer ∷ []) where
+    (reserved : roomy ≡ es) (push-more : grown ≡ roomy ++ pushed made seat kept answer ∷ []) where
+  push : grown ≡ es ++ pushed made seat kept answer ∷ []
+  push = push-more ∙ ap (λ (l : List (Entry A)). l ++ pushed made seat kept answer ∷ []) reserved
+
   model-same : t.model ≡ s.model
   model-same = ap (λ (x : State A). x.model) next ∙ model-after s event
 
-  -- what a call leaves is kept
-  pub take-kept : IsMachineOf s (record { model = s.model; entries = es }) → length es < MOST_EVENTS → FollowsPlaces t → IsMachineOf t (record { model = t.model; entries = grown })
-  take-kept inside room follows =
-      let b : Entries A = record { model = s.model; entries = es } in
-      let entry : pushed made seat kept answer ≡ entry_of b seat event =
-      λ i. pushed (counted i) seat (copied i) ((answered ∙ ap (λ (x : State A). answer_to x event) inside.shows) i) in
-      subst (λ (x : Entries A). IsMachineOf t x) (sym (λ i. record { model = model-same i; entries = (push ∙ ap (λ (x : Entry A). es ++ x ∷ []) entry) i }))
-      (kept-grows s t b seat event inside room next follows)
+  abbrev pub before : Entries A
+  before = record { model = s.model; entries = es }
 
-  -- and is the book with the entry that is answered
-  pub take-adds : (b : Entries A) → record { model = s.model; entries = es } ≡ b → record { model = t.model; entries = grown } ≡ entered b (pushed made seat event answer)
-  take-adds b view =
-      (λ i. record { model = model-same i; entries = (push ∙ ap (λ (x : Event A). es ++ pushed made seat x answer ∷ []) copied) i })
-      ∙ ap (λ (x : Entries A). entered x (pushed made seat event answer)) view
+  grown-book : IsMachineOf s before → record { model = t.model; entries = grown } ≡ entered before (entry_of before seat event)
+  grown-book inside =
+      let entry : pushed made seat kept answer ≡ entry_of before seat event =
+      λ i. pushed (counted i) seat (copied i) ((answered ∙ ap (λ (x : State A). answer_to x event) inside.shows) i) in
+      λ i. record { model = model-same i; entries = (push ∙ ap (λ (x : Entry A). es ++ x ∷ []) entry) i }
+
+  -- what a call leaves is kept
+  pub take-kept : IsMachineOf s before → (b : Entries A) → before ≡ b → length b.entries < MOST_EVENTS → FollowsPlaces t → IsMachineOf t (record { model = t.model; entries = grown })
+  take-kept inside b view room follows =
+      let free : length es < MOST_EVENTS = subst (λ (x : Entries A). length x.entries < MOST_EVENTS) (sym view) room in
+      subst (λ (x : Entries A). IsMachineOf t x) (sym (grown-book inside)) (kept-grows s t before seat event inside free next follows)
+
+  -- and is the book with the entry that is due
+  pub take-adds : IsMachineOf s before → (b : Entries A) → before ≡ b → record { model = t.model; entries = grown } ≡ entered b (entry_of b seat event)
+  take-adds inside b view = grown-book inside ∙ ap (λ (x : Entries A). entered x (entry_of x seat event)) view
 
 -- an entry that a book makes is that of a run
 pub of-some-run : {A E : Type 0} (r : Result (Entry A) E) (m : Parts A) (seat : ℕ) (event : Event A) (b grown : Entries A) → b.model ≡ m → IfOk r (λ e. e ≡ entry_of b seat event) → IfOk r (λ e. grown ≡ entered b e) → IsRun grown → IfOk r (IsOfSomeRun m seat event)

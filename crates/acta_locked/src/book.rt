@@ -1,6 +1,6 @@
 //! The book.
 
-ghost use Rattle.std.specs.Prelude.{◌≡◌, Err, length, Decides, IfOk, OnErr};
+ghost use Rattle.std.specs.Prelude.{◌≡◌, ◌<◌, Err, length, true, false, Decides, IfOk, OnErr, OnOk};
 ghost use Rattle.acta_machine.specs.Places.{FollowsPlaces};
 ghost use Rattle.acta_locked.specs.Books.{IsRun, entered, entry_of, no_entries, state_of};
 ghost use Rattle.acta_locked.specs.declared.book.TakeError.TheVariants.{Memory};
@@ -110,14 +110,41 @@ impl<A: Allocator + Copy> Book<A> {
         ensures run { IsRun self.new }
         ensures barred { length self.old.entries ≡ MOST_EVENTS → result ≡ Err TakeError.BookFull }
     {
-        let made = self.entries.len();
-        if made >= MOST_EVENTS {
+        let (number, answer) = self.enter(seat, &event)?;
+        Ok(Entry {
+            number,
+            seat,
+            event,
+            answer,
+        })
+    }
+
+    // Whether there is no room for an entry.
+    fn is_full(&self) -> bool
+        ensures full { result ≡ true → length self.now.entries ≡ MOST_EVENTS }
+        ensures room { result ≡ false → length self.now.entries < MOST_EVENTS }
+    {
+        self.entries.len() >= MOST_EVENTS
+    }
+
+    // Has the machine answer the event, and enters it: the number and the answer of the entry. The room is made first,
+    // so that an error leaves the book as it was.
+    fn enter(&mut self, seat: u8, event: &Event<A>) -> Result<(u32, Answer), TakeError>
+        ensures entry { IfOk result (λ r.
+            record { number = r.0; seat = seat; event = event.now; answer = r.1 } ≡ entry_of self.old seat event.now) }
+        ensures ok { OnOk result (self.new ≡ entered self.old (entry_of self.old seat event.now)) }
+        ensures err { OnErr result (self.new ≡ self.old) }
+        ensures full { result ≡ Err TakeError.BookFull → length self.old.entries ≡ MOST_EVENTS }
+        ensures run { IsRun self.new }
+        ensures barred { length self.old.entries ≡ MOST_EVENTS → result ≡ Err TakeError.BookFull }
+    {
+        if self.is_full() {
             return Err(TakeError::BookFull);
         }
-        let kept = event.copy()?;
         self.entries.reserve(1)?;
-        let answer = self.machine.take(&event)?;
-        let number = made as u32 + 1;
+        let kept = event.copy()?;
+        let answer = self.machine.take(event)?;
+        let number = self.entries.len() as u32 + 1;
         let Ok(()) = self.entries.push(Entry {
             number,
             seat,
@@ -127,12 +154,7 @@ impl<A: Allocator + Copy> Book<A> {
         else {
             unreachable!()
         };
-        Ok(Entry {
-            number,
-            seat,
-            event,
-            answer,
-        })
+        Ok((number, answer))
     }
 }
 

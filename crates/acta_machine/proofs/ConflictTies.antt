@@ -23,7 +23,8 @@ use Rattle.acta_table.specs.Faults.{lowest_fault, fault_if}
 use Rattle.acta_table.specs.Numbered.{ascending}
 use Rattle.acta_table.specs.Policies.{refuses, forms, is_policy_kind, forms_other, is_bad_policy, edges_upon}
 use Rattle.acta_table.specs.Fates.{is_open}
-use Rattle.acta_axioms.specs.History.{Course, end}
+use Rattle.acta_axioms.specs.declared.course.Course.{Course}
+use Rattle.acta_axioms.specs.History.{end}
 use Rattle.acta_axioms.specs.Operations.{Operation, operations, standing}
 use Rattle.acta_axioms.specs.Values.{do_conflict}
 use Rattle.acta_axioms.specs.Edges.{holders_against, formed_by}
@@ -37,7 +38,7 @@ use Rattle.acta_machine.specs.Summary.{Summary}
 use Rattle.acta_machine.specs.Changes.{summary_of}
 use Rattle.acta_machine.specs.Conflicts.{stands_against, opponents, conflict_edges}
 use Rattle.acta_machine.specs.Families.{class_of, spared}
-use Rattle.acta_machine.specs.Places.{ShowsPlaces, held_op_of, is_held_well, AreHeldWell}
+use Rattle.acta_machine.specs.Places.{ShowsPlaces, held_op, is_held_well, AreHeldWell}
 use Rattle.acta_machine.proofs.Broken.{or_none}
 use Rattle.acta_machine.proofs.EdgeSteps.{formed-other}
 use Rattle.acta_machine.proofs.FamilyTies.{class_of-places}
@@ -50,7 +51,7 @@ and_assoc false b c = refl
 
 -- what stands against an operation by the table conflicts with it by places
 pub against-places : {A : Type 0} (m : Parts A) (h : List (Kept A)) → ShowsPlaces m h (summary_of m h) → (t : ℕ) (ob : ObjId) (op : Op) (o : Operation) →
-    stands_against m (summary_of m h) t ob op (held_op_of o (standing m h o)) ≡ (Rattle.acta_axioms.specs.Operations.is_of_others m h t (standing m h o) && ((o.object == ob.0) && do_conflict m ob.0 o.op op))
+    stands_against m (summary_of m h) t ob op (held_op o (standing m h o)) ≡ (Rattle.acta_axioms.specs.Operations.is_of_others m h t (standing m h o) && ((o.object == ob.0) && do_conflict m ob.0 o.op op))
 against-places m h shows t ob op o =
     (λ i. others-places m h shows t o i && (o.object == ob.0) && sym (do_conflict-on m ob.0 o.op op) i)
     ∙ and_assoc (Rattle.acta_axioms.specs.Operations.is_of_others m h t (standing m h o)) (o.object == ob.0) (do_conflict m ob.0 o.op op)
@@ -59,7 +60,7 @@ against-places m h shows t ob op o =
 pub opponents-places : {A : Type 0} (m : Parts A) (h : List (Kept A)) → ShowsPlaces m h (summary_of m h) → (t : ℕ) (ob : ObjId) (op : Op) → opponents m (summary_of m h) t ob op ≡ holders_against m h t ob.0 op
 opponents-places m h shows t ob op =
     ap (λ items. ascending (map (λ (i : HeldOp). i.holder.0) (filter (stands_against m (summary_of m h) t ob op) items))) shows.operations
-    ∙ sym (ap ascending (holders-shown m h t ob.0 op (λ o. held_op_of o (standing m h o)) (stands_against m (summary_of m h) t ob op) (λ i. i.holder.0) (against-places m h shows t ob op) (λ o. refl)))
+    ∙ sym (ap ascending (holders-shown m h t ob.0 op (λ o. held_op o (standing m h o)) (stands_against m (summary_of m h) t ob op) (λ i. i.holder.0) (against-places m h shows t ob op) (λ o. refl)))
 
 -- and so are the edges
 pub conflict_edges-places : {A : Type 0} (m : Parts A) (h : List (Kept A)) → ShowsPlaces m h (summary_of m h) → (t : TxnId) (ob : ObjId) (op : Op) → conflict_edges m (summary_of m h) t ob op ≡ formed_by m h (Operate t ob op)

@@ -4,7 +4,7 @@ use Rattle.std.specs.List.{list_any}
 use Rattle.acta_table.specs.declared.dep.Edge.{Edge}
 use Rattle.acta_table.specs.declared.dep.Missing.{Missing}
 use Rattle.acta_table.specs.Dependencies.{is_commit, is_abort}
-use Rattle.acta_axioms.specs.History.{Course}
+use Rattle.acta_axioms.specs.declared.course.Course.{Course}
 use Rattle.acta_axioms.specs.Formulas.{debt, is_broken}
 
 -- what is owed by an edge, and whether its formula is false and not owed, where the courses are these

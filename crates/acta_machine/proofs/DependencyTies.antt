@@ -22,7 +22,8 @@ use Rattle.acta_table.specs.Refusals.{broken_by}
 use Rattle.acta_deps.specs.Statuses.{with_status, has_committed, has_aborted}
 use Rattle.acta_deps.specs.Debts.{missing_if, debt_by as debt_in, debt_of, owes_abort, owed_at, owed_from, owed_in, clashes_by as clashes_in}
 use Rattle.acta_deps.specs.Dependencies.{awaits_begin, awaits_end, awaits_commit, awaits_abort, ends_after, committed_first, began_first, cannot_pay_commit, cannot_pay_abort, begin_dep, serial_dep, begin_on_commit, begin_on_abort, termination_dep, owing_abort, owing_commit, commit_order, weak_begin, unpayable_commit, unpayable_abort, clash, start_refusal, commit_refusal, abort_refusal, join_refusal}
-use Rattle.acta_axioms.specs.History.{Course, end}
+use Rattle.acta_axioms.specs.declared.course.Course.{Course}
+use Rattle.acta_axioms.specs.History.{end}
 use Rattle.acta_axioms.specs.Formulas.{is_false, is_broken, payment}
 use Rattle.acta_axioms.specs.Claims.{course_status, is_orderly, is_apart}
 use Rattle.acta_axioms.specs.Legal.{owed_on}

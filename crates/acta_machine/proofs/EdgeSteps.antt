@@ -10,7 +10,8 @@ use Rattle.acta_table.specs.declared.dep.Missing.TheVariants.{Abort}
 use Rattle.acta_table.specs.Dependencies.{is_begin_kind, is_commit, is_abort}
 use Rattle.acta_deps.specs.Debts.{debt_by}
 use Rattle.acta_deps.specs.Dependencies.{awaits_begin, awaits_end, awaits_commit, awaits_abort, ends_after, committed_first, began_first, cannot_pay_commit, cannot_pay_abort}
-use Rattle.acta_axioms.specs.History.{Course, end}
+use Rattle.acta_axioms.specs.declared.course.Course.{Course}
+use Rattle.acta_axioms.specs.History.{end}
 use Rattle.acta_axioms.specs.Formulas.{is_before, is_false, is_broken, debt}
 use Rattle.acta_axioms.specs.Claims.{course_status, is_orderly}
 use Rattle.acta_axioms.specs.inside.Within.{IsWithin}

@@ -25,7 +25,8 @@ use Rattle.acta_table.specs.Edges.{is_among, formed}
 use Rattle.acta_table.specs.Faults.{lowest_fault}
 use Rattle.acta_table.specs.Numbered.{smallest}
 use Rattle.acta_table.specs.Refusals.{broken_by}
-use Rattle.acta_axioms.specs.History.{Course, course, end, has_ended}
+use Rattle.acta_axioms.specs.declared.course.Course.{Course}
+use Rattle.acta_axioms.specs.History.{course, end, has_ended}
 use Rattle.acta_axioms.specs.Edges.{edges}
 use Rattle.acta_axioms.specs.Formulas.{is_false}
 use Rattle.acta_axioms.specs.Legal.{is_legal, is_broken_in, has_clash, owed}

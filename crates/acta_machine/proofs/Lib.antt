@@ -9,7 +9,6 @@ pub mod Idle
 pub mod Handing
 pub mod Histories
 pub mod HolderGrowth
-pub mod Lines
 pub mod OperationGrowth
 pub mod SetTies
 pub mod Opponents

@@ -26,7 +26,7 @@ use Rattle.acta_axioms.specs.Operations.{Operation, Standing, held_by, ended_by,
 use Rattle.acta_axioms.proofs.Growth.{at_end, shown-push, number_after-push}
 use Rattle.acta_sets.specs.declared.held_op.HeldOp.{HeldOp}
 use Rattle.acta_sets.specs.Operations.{is_held, handed_op, handed, ended_op, ended, moved_from, moved, added}
-use Rattle.acta_machine.specs.Places.{held_op_of, held_ops_at}
+use Rattle.acta_machine.specs.Places.{held_op, held_ops}
 use Rattle.acta_machine.proofs.Handing.{holds}
 
 map-same : {X Y : Type 0} (f g : X → Y) → ((x : X) → f x ≡ g x) → (xs : List X) → map f xs ≡ map g xs
@@ -40,34 +40,34 @@ idle Committed t = refl
 idle Aborted t = refl
 
 -- a start changes no operation
-pub operations-begin : {A : Type 0} (m : Parts A) (h : List (Kept A)) (ret : Option Ret) (t : TxnId) (class : ClassId) → held_ops_at m (h ++ (record { event = Begin t class; ret = ret }) ∷ []) ≡ held_ops_at m h
+pub operations-begin : {A : Type 0} (m : Parts A) (h : List (Kept A)) (ret : Option Ret) (t : TxnId) (class : ClassId) → held_ops m (h ++ (record { event = Begin t class; ret = ret }) ∷ []) ≡ held_ops m h
 operations-begin {A} m h ret t class =
     let k : Kept A = record { event = Begin t class; ret = ret } in
-    shown-push held_op_of m h k
-    ∙ append-nil (map (λ o. held_op_of o (carried m o.number (standing m h o) (at_end h k))) (operations h))
-    ∙ map-same _ _ (λ o. ap (held_op_of o) (idle (standing m h o).fate (standing m h o).holder)) (operations h)
+    shown-push held_op m h k
+    ∙ append-nil (map (λ o. held_op o (carried m o.number (standing m h o) (at_end h k))) (operations h))
+    ∙ map-same _ _ (λ o. ap (held_op o) (idle (standing m h o).fate (standing m h o).holder)) (operations h)
 
-pub operations-spawn : {A : Type 0} (m : Parts A) (h : List (Kept A)) (ret : Option Ret) (t c : TxnId) (class : ClassId) → held_ops_at m (h ++ (record { event = Spawn t c class; ret = ret }) ∷ []) ≡ held_ops_at m h
+pub operations-spawn : {A : Type 0} (m : Parts A) (h : List (Kept A)) (ret : Option Ret) (t c : TxnId) (class : ClassId) → held_ops m (h ++ (record { event = Spawn t c class; ret = ret }) ∷ []) ≡ held_ops m h
 operations-spawn {A} m h ret t c class =
     let k : Kept A = record { event = Spawn t c class; ret = ret } in
-    shown-push held_op_of m h k
-    ∙ append-nil (map (λ o. held_op_of o (carried m o.number (standing m h o) (at_end h k))) (operations h))
-    ∙ map-same _ _ (λ o. ap (held_op_of o) (idle (standing m h o).fate (standing m h o).holder)) (operations h)
+    shown-push held_op m h k
+    ∙ append-nil (map (λ o. held_op o (carried m o.number (standing m h o) (at_end h k))) (operations h))
+    ∙ map-same _ _ (λ o. ap (held_op o) (idle (standing m h o).fate (standing m h o).holder)) (operations h)
 
 -- nor does an edge that is formed
-pub operations-form : {A : Type 0} (m : Parts A) (h : List (Kept A)) (ret : Option Ret) (kind : Dep) (j i : TxnId) → held_ops_at m (h ++ (record { event = Form kind j i; ret = ret }) ∷ []) ≡ held_ops_at m h
+pub operations-form : {A : Type 0} (m : Parts A) (h : List (Kept A)) (ret : Option Ret) (kind : Dep) (j i : TxnId) → held_ops m (h ++ (record { event = Form kind j i; ret = ret }) ∷ []) ≡ held_ops m h
 operations-form {A} m h ret kind j i =
     let k : Kept A = record { event = Form kind j i; ret = ret } in
-    shown-push held_op_of m h k
-    ∙ append-nil (map (λ o. held_op_of o (carried m o.number (standing m h o) (at_end h k))) (operations h))
-    ∙ map-same _ _ (λ o. ap (held_op_of o) (idle (standing m h o).fate (standing m h o).holder)) (operations h)
+    shown-push held_op m h k
+    ∙ append-nil (map (λ o. held_op o (carried m o.number (standing m h o) (at_end h k))) (operations h))
+    ∙ map-same _ _ (λ o. ap (held_op o) (idle (standing m h o).fate (standing m h o).holder)) (operations h)
 
 -- an operation comes to the others, in progress and held by its invoker
-pub operations-operate : {A : Type 0} (m : Parts A) (h : List (Kept A)) (ret : Option Ret) (t : TxnId) (ob : ObjId) (op : Op) → held_ops_at m (h ++ (record { event = Operate t ob op; ret = ret }) ∷ []) ≡ added (held_ops_at m h) t ob op
+pub operations-operate : {A : Type 0} (m : Parts A) (h : List (Kept A)) (ret : Option Ret) (t : TxnId) (ob : ObjId) (op : Op) → held_ops m (h ++ (record { event = Operate t ob op; ret = ret }) ∷ []) ≡ added (held_ops m h) t ob op
 operations-operate {A} m h ret t ob op =
     let k : Kept A = record { event = Operate t ob op; ret = ret } in
-    shown-push held_op_of m h k
-    ∙ ap (λ items. items ++ (record { ob = ob; op = op; holder = t; fate = InProgress }) ∷ []) (map-same _ _ (λ o. ap (held_op_of o) (idle (standing m h o).fate (standing m h o).holder)) (operations h))
+    shown-push held_op m h k
+    ∙ ap (λ items. items ++ (record { ob = ob; op = op; holder = t; fate = InProgress }) ∷ []) (map-same _ _ (λ o. ap (held_op o) (idle (standing m h o).fate (standing m h o).holder)) (operations h))
 
 and_true : (b : Bool) → (b && true) ≡ b
 and_true true = refl
@@ -79,18 +79,18 @@ and_false false = refl
 
 -- what is handed over, by the table and by places
 gives : (t : ℕ) (u : TxnId) (b : Bool) (o : Operation) (holder : ℕ) (fate : Fate) → (b ≡ true → ((holder == t) && is_open fate) ≡ true) →
-    held_op_of o (if is_open fate then (if (t == holder) && b then held_by u.0 else held_by holder) else record { holder = holder; fate = fate })
-    ≡ (if b then record (held_op_of o (record { holder = holder; fate = fate })) { holder = u } else held_op_of o (record { holder = holder; fate = fate }))
+    held_op o (if is_open fate then (if (t == holder) && b then held_by u.0 else held_by holder) else record { holder = holder; fate = fate })
+    ≡ (if b then record (held_op o (record { holder = holder; fate = fate })) { holder = u } else held_op o (record { holder = holder; fate = fate }))
 gives t u false o holder InProgress held = kept (t == holder)
   where
-    kept : (b : Bool) → held_op_of o (if b && false then held_by u.0 else held_by holder) ≡ held_op_of o (held_by holder)
+    kept : (b : Bool) → held_op o (if b && false then held_by u.0 else held_by holder) ≡ held_op o (held_by holder)
     kept true = refl
     kept false = refl
 gives t u false o holder Committed held = refl
 gives t u false o holder Aborted held = refl
 gives t u true o holder InProgress held =
     let same = eqb-true holder t (sym (and_true (holder == t)) ∙ held refl) in
-    ap (λ b. held_op_of o (if b && true then held_by u.0 else held_by holder)) (eq-eqb t holder (sym same))
+    ap (λ b. held_op o (if b && true then held_by u.0 else held_by holder)) (eq-eqb t holder (sym same))
 gives t u true o holder Committed held = absurd (true≢false (sym (held refl) ∙ and_false (holder == t)))
 gives t u true o holder Aborted held = absurd (true≢false (sym (held refl) ∙ and_false (holder == t)))
 
@@ -119,30 +119,30 @@ named-handed {A} show over holding ops u one before (k ∷ ks) held =
 
 -- what t hands over, all of which it holds, u holds
 pub operations-delegate : {A : Type 0} (m : Parts A) (h : List (Kept A)) (ret : Option Ret) (t u : TxnId) (ops : List OpNo) →
-    ((n : ℕ) → is_named ops n ≡ true → holds (held_ops_at m h) t.0 n ≡ true) → held_ops_at m (h ++ (record { event = Delegate t u ops; ret = ret }) ∷ []) ≡ moved ops u (held_ops_at m h)
+    ((n : ℕ) → is_named ops n ≡ true → holds (held_ops m h) t.0 n ≡ true) → held_ops m (h ++ (record { event = Delegate t u ops; ret = ret }) ∷ []) ≡ moved ops u (held_ops m h)
 operations-delegate {A} m h ret t u ops held =
     let k : Kept A = record { event = Delegate t u ops; ret = ret } in
-    shown-push held_op_of m h k
-    ∙ append-nil (map (λ o. held_op_of o (carried m o.number (standing m h o) (at_end h k))) (operations h))
-    ∙ named-handed (λ o. held_op_of o (standing m h o)) (λ o. held_op_of o (carried m o.number (standing m h o) (at_end h k))) (is_held t.0) ops u
+    shown-push held_op m h k
+    ∙ append-nil (map (λ o. held_op o (carried m o.number (standing m h o) (at_end h k))) (operations h))
+    ∙ named-handed (λ o. held_op o (standing m h o)) (λ o. held_op o (carried m o.number (standing m h o) (at_end h k))) (is_held t.0) ops u
     (λ o named. gives t.0 u (is_named ops o.number) o (standing m h o).holder (standing m h o).fate named)
     [] h (λ i named. let same : 1 + i ≡ suc i = omega arith in held (suc i) (sym (ap (is_named ops) same) ∙ named))
 
 -- so does the one that t splits off
 pub operations-split : {A : Type 0} (m : Parts A) (h : List (Kept A)) (ret : Option Ret) (t u : TxnId) (class : ClassId) (ops : List OpNo) →
-    ((n : ℕ) → is_named ops n ≡ true → holds (held_ops_at m h) t.0 n ≡ true) → held_ops_at m (h ++ (record { event = Split t u class ops; ret = ret }) ∷ []) ≡ moved ops u (held_ops_at m h)
+    ((n : ℕ) → is_named ops n ≡ true → holds (held_ops m h) t.0 n ≡ true) → held_ops m (h ++ (record { event = Split t u class ops; ret = ret }) ∷ []) ≡ moved ops u (held_ops m h)
 operations-split {A} m h ret t u class ops held =
     let k : Kept A = record { event = Split t u class ops; ret = ret } in
-    shown-push held_op_of m h k
-    ∙ append-nil (map (λ o. held_op_of o (carried m o.number (standing m h o) (at_end h k))) (operations h))
-    ∙ named-handed (λ o. held_op_of o (standing m h o)) (λ o. held_op_of o (carried m o.number (standing m h o) (at_end h k))) (is_held t.0) ops u
+    shown-push held_op m h k
+    ∙ append-nil (map (λ o. held_op o (carried m o.number (standing m h o) (at_end h k))) (operations h))
+    ∙ named-handed (λ o. held_op o (standing m h o)) (λ o. held_op o (carried m o.number (standing m h o) (at_end h k))) (is_held t.0) ops u
     (λ o named. gives t.0 u (is_named ops o.number) o (standing m h o).holder (standing m h o).fate named)
     [] h (λ i named. let same : 1 + i ≡ suc i = omega arith in held (suc i) (sym (ap (is_named ops) same) ∙ named))
 
 -- what t held when it joins u, by the table and by places
 hands : (t v : ℕ) (u : TxnId) (o : Operation) (old : Fate) →
-    held_op_of o (if is_open old then (if t == v then held_by u.0 else held_by v) else record { holder = v; fate = old })
-    ≡ handed_op t u (held_op_of o (record { holder = v; fate = old }))
+    held_op o (if is_open old then (if t == v then held_by u.0 else held_by v) else record { holder = v; fate = old })
+    ≡ handed_op t u (held_op o (record { holder = v; fate = old }))
 hands t v u o Committed = elim (cases_eq v t) [ inl e ↦ rw (eq-eqb v t e) refl | inr ne ↦ rw (ne_eqb v t ne) refl ]
 hands t v u o Aborted = elim (cases_eq v t) [ inl e ↦ rw (eq-eqb v t e) refl | inr ne ↦ rw (ne_eqb v t ne) refl ]
 hands t v u o InProgress =
@@ -151,18 +151,18 @@ hands t v u o InProgress =
       | inr ne ↦ let en : t ≡ v → ⊥ = λ e. ne (sym e) in rw (ne_eqb v t ne, ne_eqb t v en) refl
     ]
 
-pub operations-join : {A : Type 0} (m : Parts A) (h : List (Kept A)) (ret : Option Ret) (t u : TxnId) → held_ops_at m (h ++ (record { event = Join t u; ret = ret }) ∷ []) ≡ handed t.0 u (held_ops_at m h)
+pub operations-join : {A : Type 0} (m : Parts A) (h : List (Kept A)) (ret : Option Ret) (t u : TxnId) → held_ops m (h ++ (record { event = Join t u; ret = ret }) ∷ []) ≡ handed t.0 u (held_ops m h)
 operations-join {A} m h ret t u =
     let k : Kept A = record { event = Join t u; ret = ret } in
-    shown-push held_op_of m h k
-    ∙ append-nil (map (λ o. held_op_of o (carried m o.number (standing m h o) (at_end h k))) (operations h))
+    shown-push held_op m h k
+    ∙ append-nil (map (λ o. held_op o (carried m o.number (standing m h o) (at_end h k))) (operations h))
     ∙ map-same _ _ (λ o. hands t.0 (standing m h o).holder u o (standing m h o).fate) (operations h)
-    ∙ sym (map-map (handed_op t.0 u) (λ o. held_op_of o (standing m h o)) (operations h))
+    ∙ sym (map-map (handed_op t.0 u) (λ o. held_op o (standing m h o)) (operations h))
 
 -- the end of t, by the table and by places
 ends : (t u : ℕ) (o : Operation) (fate old : Fate) →
-    held_op_of o (if is_open old then (if t == u then ended_by u fate else held_by u) else record { holder = u; fate = old })
-    ≡ ended_op t fate (held_op_of o (record { holder = u; fate = old }))
+    held_op o (if is_open old then (if t == u then ended_by u fate else held_by u) else record { holder = u; fate = old })
+    ≡ ended_op t fate (held_op o (record { holder = u; fate = old }))
 ends t u o fate Committed = elim (cases_eq u t) [ inl e ↦ rw (eq-eqb u t e) refl | inr ne ↦ rw (ne_eqb u t ne) refl ]
 ends t u o fate Aborted = elim (cases_eq u t) [ inl e ↦ rw (eq-eqb u t e) refl | inr ne ↦ rw (ne_eqb u t ne) refl ]
 ends t u o fate InProgress =
@@ -179,45 +179,45 @@ settled_by heirs t v old =
     else record { holder = v; fate = old }
 
 -- one without an heir ends
-settles : (heirs : ℕ → Option TxnId) (t v : ℕ) (o : Operation) (old : Fate) → heirs t ≡ None → held_op_of o (settled_by heirs t v old) ≡ ended_op t Committed (held_op_of o (record { holder = v; fate = old }))
+settles : (heirs : ℕ → Option TxnId) (t v : ℕ) (o : Operation) (old : Fate) → heirs t ≡ None → held_op o (settled_by heirs t v old) ≡ ended_op t Committed (held_op o (record { holder = v; fate = old }))
 settles heirs t v o Committed none = elim (cases_eq v t) [ inl e ↦ rw (eq-eqb v t e) refl | inr ne ↦ rw (ne_eqb v t ne) refl ]
 settles heirs t v o Aborted none = elim (cases_eq v t) [ inl e ↦ rw (eq-eqb v t e) refl | inr ne ↦ rw (ne_eqb v t ne) refl ]
 settles heirs t v o InProgress none =
     elim (cases_eq v t) [
-      | inl e ↦ rw (eq-eqb v t e, eq-eqb t v (sym e)) (ap (λ u. held_op_of o (option_map_or (λ w. held_by w.0) u (ended_by v Committed))) (ap heirs e ∙ none))
+      | inl e ↦ rw (eq-eqb v t e, eq-eqb t v (sym e)) (ap (λ u. held_op o (option_map_or (λ w. held_by w.0) u (ended_by v Committed))) (ap heirs e ∙ none))
       | inr ne ↦ let en : t ≡ v → ⊥ = λ e. ne (sym e) in rw (ne_eqb v t ne, ne_eqb t v en) refl
     ]
 
-pub operations-commit : {A : Type 0} (m : Parts A) (h : List (Kept A)) (ret : Option Ret) (t : TxnId) → heir m h t.0 ≡ None → held_ops_at m (h ++ (record { event = Commit t; ret = ret }) ∷ []) ≡ ended t.0 Committed (held_ops_at m h)
+pub operations-commit : {A : Type 0} (m : Parts A) (h : List (Kept A)) (ret : Option Ret) (t : TxnId) → heir m h t.0 ≡ None → held_ops m (h ++ (record { event = Commit t; ret = ret }) ∷ []) ≡ ended t.0 Committed (held_ops m h)
 operations-commit {A} m h ret t none =
     let k : Kept A = record { event = Commit t; ret = ret } in
-    shown-push held_op_of m h k
-    ∙ append-nil (map (λ o. held_op_of o (carried m o.number (standing m h o) (at_end h k))) (operations h))
+    shown-push held_op m h k
+    ∙ append-nil (map (λ o. held_op o (carried m o.number (standing m h o) (at_end h k))) (operations h))
     ∙ map-same _ _ (λ o. settles (heir m h) t.0 (standing m h o).holder o (standing m h o).fate none) (operations h)
-    ∙ sym (map-map (ended_op t.0 Committed) (λ o. held_op_of o (standing m h o)) (operations h))
+    ∙ sym (map-map (ended_op t.0 Committed) (λ o. held_op o (standing m h o)) (operations h))
 
 -- one with an heir leaves all to it
-leaves : (heirs : ℕ → Option TxnId) (t v : ℕ) (u : TxnId) (o : Operation) (old : Fate) → heirs t ≡ Some u → held_op_of o (settled_by heirs t v old) ≡ handed_op t u (held_op_of o (record { holder = v; fate = old }))
+leaves : (heirs : ℕ → Option TxnId) (t v : ℕ) (u : TxnId) (o : Operation) (old : Fate) → heirs t ≡ Some u → held_op o (settled_by heirs t v old) ≡ handed_op t u (held_op o (record { holder = v; fate = old }))
 leaves heirs t v u o Committed is = elim (cases_eq v t) [ inl e ↦ rw (eq-eqb v t e) refl | inr ne ↦ rw (ne_eqb v t ne) refl ]
 leaves heirs t v u o Aborted is = elim (cases_eq v t) [ inl e ↦ rw (eq-eqb v t e) refl | inr ne ↦ rw (ne_eqb v t ne) refl ]
 leaves heirs t v u o InProgress is =
     elim (cases_eq v t) [
-      | inl e ↦ rw (eq-eqb v t e, eq-eqb t v (sym e)) (ap (λ x. held_op_of o (option_map_or (λ w. held_by w.0) x (ended_by v Committed))) (ap heirs e ∙ is))
+      | inl e ↦ rw (eq-eqb v t e, eq-eqb t v (sym e)) (ap (λ x. held_op o (option_map_or (λ w. held_by w.0) x (ended_by v Committed))) (ap heirs e ∙ is))
       | inr ne ↦ let en : t ≡ v → ⊥ = λ e. ne (sym e) in rw (ne_eqb v t ne, ne_eqb t v en) refl
     ]
 
-pub operations-inherited : {A : Type 0} (m : Parts A) (h : List (Kept A)) (ret : Option Ret) (t u : TxnId) → heir m h t.0 ≡ Some u → held_ops_at m (h ++ (record { event = Commit t; ret = ret }) ∷ []) ≡ handed t.0 u (held_ops_at m h)
+pub operations-inherited : {A : Type 0} (m : Parts A) (h : List (Kept A)) (ret : Option Ret) (t u : TxnId) → heir m h t.0 ≡ Some u → held_ops m (h ++ (record { event = Commit t; ret = ret }) ∷ []) ≡ handed t.0 u (held_ops m h)
 operations-inherited {A} m h ret t u is =
     let k : Kept A = record { event = Commit t; ret = ret } in
-    shown-push held_op_of m h k
-    ∙ append-nil (map (λ o. held_op_of o (carried m o.number (standing m h o) (at_end h k))) (operations h))
+    shown-push held_op m h k
+    ∙ append-nil (map (λ o. held_op o (carried m o.number (standing m h o) (at_end h k))) (operations h))
     ∙ map-same _ _ (λ o. leaves (heir m h) t.0 (standing m h o).holder u o (standing m h o).fate is) (operations h)
-    ∙ sym (map-map (handed_op t.0 u) (λ o. held_op_of o (standing m h o)) (operations h))
+    ∙ sym (map-map (handed_op t.0 u) (λ o. held_op o (standing m h o)) (operations h))
 
-pub operations-abort : {A : Type 0} (m : Parts A) (h : List (Kept A)) (ret : Option Ret) (t : TxnId) → held_ops_at m (h ++ (record { event = Abort t; ret = ret }) ∷ []) ≡ ended t.0 Aborted (held_ops_at m h)
+pub operations-abort : {A : Type 0} (m : Parts A) (h : List (Kept A)) (ret : Option Ret) (t : TxnId) → held_ops m (h ++ (record { event = Abort t; ret = ret }) ∷ []) ≡ ended t.0 Aborted (held_ops m h)
 operations-abort {A} m h ret t =
     let k : Kept A = record { event = Abort t; ret = ret } in
-    shown-push held_op_of m h k
-    ∙ append-nil (map (λ o. held_op_of o (carried m o.number (standing m h o) (at_end h k))) (operations h))
+    shown-push held_op m h k
+    ∙ append-nil (map (λ o. held_op o (carried m o.number (standing m h o) (at_end h k))) (operations h))
     ∙ map-same _ _ (λ o. ends t.0 (standing m h o).holder o Aborted (standing m h o).fate) (operations h)
-    ∙ sym (map-map (ended_op t.0 Aborted) (λ o. held_op_of o (standing m h o)) (operations h))
+    ∙ sym (map-map (ended_op t.0 Aborted) (λ o. held_op o (standing m h o)) (operations h))

@@ -1,5 +1,5 @@
--- Who is spared, by number, and the edges of a class that refuses.
-use Rattle.std.proofs.Common.{◌≡◌, ℕ, true, ◌||◌, ◌==◌, List, [], ◌∷◌, map, refl, ap, ◌∙◌}
+-- Who is spared, by number.
+use Rattle.std.proofs.Common.{◌≡◌, ℕ, ◌||◌, ◌==◌, List, [], ◌∷◌, map, refl, ap, ◌∙◌}
 use Rattle.std.specs.List.{list_any}
 use Rattle.std.specs.Ordering.{nat_cmp}
 use Rattle.std.specs.BTreeMap.{is_at}
@@ -9,9 +9,6 @@ use Rattle.acta_sets.specs.Operations.{is_among}
 use Rattle.acta_machine.specs.Summary.{Summary}
 use Rattle.acta_machine.specs.Families.{spared, spared_numbers}
 use Rattle.acta_table.specs.declared.event.TxnId.{TxnId}
-use Rattle.acta_table.specs.declared.policy.Policy.{Policy}
-use Rattle.acta_table.specs.declared.policy.Policy.TheVariants.{Refuse, Depend}
-use Rattle.acta_table.specs.Policies.{refuses, edges_upon}
 
 by-number : (ts : List TxnId) (u : TxnId) → list_any (λ n. n == u.0) (map (λ t. t.0) ts) ≡ is_among ts u
 by-number [] u = refl
@@ -20,9 +17,3 @@ by-number (t ∷ ts) u = ap (λ b. (t.0 == u.0) || b) (by-number ts u)
 -- one is in the set where it is spared
 pub in_spared : {A : Type 0} (m : Parts A) (s : Summary) (t : ℕ) (u : TxnId) → list_any (is_at (nat_cmp u.0)) (spared_numbers m s t) ≡ is_among (spared m s t) u
 in_spared m s t u = in-ascending u.0 (map (λ x. x.0) (spared m s t)) ∙ by-number (spared m s t) u
-
--- where a class refuses no edge is formed
-pub upon-refuses : (policy : Policy) (t : TxnId) (us : List ℕ) → refuses policy ≡ true → edges_upon policy t us ≡ []
-upon-refuses Refuse t [] is = refl
-upon-refuses Refuse t (u ∷ us) is = upon-refuses Refuse t us is
-upon-refuses (Depend kinds) t us is = cc

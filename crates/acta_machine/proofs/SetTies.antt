@@ -18,21 +18,22 @@ use Rattle.acta_machine.specs.Values.{live_ops}
 use Rattle.acta_machine.specs.Changes.{summary_of}
 use Rattle.acta_machine.specs.Families.{spared}
 use Rattle.acta_machine.specs.Table.{State, value_in, access_set_in, conflict_set_in, view_set_in}
-use Rattle.acta_machine.specs.Places.{held_op_of, held_ops_at, op_numbers, value_at, FollowsPlaces}
-use Rattle.acta_machine.proofs.ValueTies.{value-places, others-places}
+use Rattle.acta_machine.specs.Places.{held_op, held_ops, op_numbers, value_at, FollowsPlaces}
+use Rattle.acta_axioms.proofs.Searches.{value-found}
+use Rattle.acta_machine.proofs.ValueTies.{others-places}
 
 pub filter-same : {X : Type 0} (f g : X → Bool) → ((x : X) → f x ≡ g x) → (xs : List X) → filter f xs ≡ filter g xs
 filter-same f g same [] = refl
 filter-same f g same (x ∷ xs) = λ i. if same x i then x ∷ filter-same f g same xs i else filter-same f g same xs i
 
 -- the operations that pass a test in the table are those that pass it by places
-where-places : {A : Type 0} (m : Parts A) (h : List (Kept A)) (items : List HeldOp) (test : HeldOp → Bool) (by : Operation → Bool) → items ≡ held_ops_at m h → ((o : Operation) → test (held_op_of o (standing m h o)) ≡ by o)
+where-places : {A : Type 0} (m : Parts A) (h : List (Kept A)) (items : List HeldOp) (test : HeldOp → Bool) (by : Operation → Bool) → items ≡ held_ops m h → ((o : Operation) → test (held_op o (standing m h o)) ≡ by o)
     → operations_where test items ≡ op_numbers (filter by (operations h))
 where-places m h items test by same alike =
     ap (operations_where test) same
-    ∙ ap (map (λ n. record { 0 = n })) (sym (numbers-shown (λ o. held_op_of o (standing m h o)) test h))
-    ∙ map-map (λ n. record { 0 = n }) (λ (o : Operation). o.number) (filter (λ o. test (held_op_of o (standing m h o))) (operations h))
-    ∙ ap op_numbers (filter-same (λ o. test (held_op_of o (standing m h o))) by alike (operations h))
+    ∙ ap (map (λ n. record { 0 = n })) (sym (numbers-shown (λ o. held_op o (standing m h o)) test h))
+    ∙ map-map (λ n. record { 0 = n }) (λ (o : Operation). o.number) (filter (λ o. test (held_op o (standing m h o))) (operations h))
+    ∙ ap op_numbers (filter-same (λ o. test (held_op o (standing m h o))) by alike (operations h))
 
 and_swap : (a b : Bool) → (a && b) ≡ (b && a)
 and_swap true true = refl
@@ -41,10 +42,10 @@ and_swap false true = refl
 and_swap false false = refl
 
 -- the numbers of t's access set by places, by the table
-pub held-places : {A : Type 0} (m : Parts A) (h : List (Kept A)) (items : List HeldOp) (t : ℕ) → items ≡ held_ops_at m h → map (λ o. o.number) (by_places.access_set m h t) ≡ numbers_where (is_held t) items
+pub held-places : {A : Type 0} (m : Parts A) (h : List (Kept A)) (items : List HeldOp) (t : ℕ) → items ≡ held_ops m h → map (λ o. o.number) (by_places.access_set m h t) ≡ numbers_where (is_held t) items
 held-places m h items t same =
-    ap (map (λ (o : Operation). o.number)) (sym (filter-same (λ o. is_held t (held_op_of o (standing m h o))) (λ o. by_places.is_held_by t (standing m h o)) (λ o. let s = standing m h o in and_swap (s.holder == t) (is_open s.fate)) (operations h)))
-    ∙ numbers-shown (λ o. held_op_of o (standing m h o)) (is_held t) h
+    ap (map (λ (o : Operation). o.number)) (sym (filter-same (λ o. is_held t (held_op o (standing m h o))) (λ o. by_places.is_held_by t (standing m h o)) (λ o. let s = standing m h o in and_swap (s.holder == t) (is_open s.fate)) (operations h)))
+    ∙ numbers-shown (λ o. held_op o (standing m h o)) (is_held t) h
     ∙ ap (numbers_where (is_held t)) (sym same)
 
 pub access-places : {A : Type 0} (state : State A) (t : ℕ) → FollowsPlaces state → access_set_in state t ≡ op_numbers (by_places.access_set state.model state.kept t)
@@ -68,4 +69,4 @@ values-places {A} state object follows = of (kind_at state.model object)
     of : (k : Option Kind) → option_map (λ kind. state_after {A = A} (first_state kind) (live_ops kind (summary_of state.model state.kept).operations object)) k
         ≡ option_map (Rattle.acta_axioms.specs.Values.value state.model state.kept object) k
     of None = refl
-    of (Some kind) = ap Some (value-places state.model state.kept _ object kind follows.shows.operations)
+    of (Some kind) = ap Some (value-found state.model state.kept _ object kind follows.shows.operations)

@@ -23,7 +23,8 @@ use Rattle.acta_table.specs.Faults.{lowest_fault, has_begin_edge, has_begin_kind
 use Rattle.acta_table.specs.Policies.{is_bad_policy}
 use Rattle.acta_table.specs.Starts.{directed, edges_between}
 use Rattle.acta_deps.specs.Statuses.{with_status}
-use Rattle.acta_axioms.specs.History.{Course, end}
+use Rattle.acta_axioms.specs.declared.course.Course.{Course}
+use Rattle.acta_axioms.specs.History.{end}
 use Rattle.acta_axioms.specs.Formulas.{is_false}
 use Rattle.acta_machine.proofs.Broken.{or_none}
 use Rattle.acta_machine.proofs.DependencyTies.{is_neutral, neutral-edge}

@@ -59,7 +59,7 @@ use Rattle.acta_machine.specs.Values.{return_due}
 use Rattle.acta_machine.specs.Rules.{not_in_progress, already_begun, not_in_model, partner_not_in_progress, not_responsible, wants_whole, partial_delegation, bad_set, refuses_conflicts, first_against, conflict, form_too_late, fails, too_late, lost_heir, no_heir, lowest_broken, earlier_broken, dependency, txn_may, class_may, forms_none}
 use Rattle.acta_machine.specs.Table.{State, kept_as, answered, answer_to}
 use Rattle.acta_machine.specs.Exactness.{RefusesIllegal, is_dependency_rule, is_refused_by_dependency}
-use Rattle.acta_machine.specs.Places.{held_ops_at, HasParent, is_held_well, AreHeldWell, ShowsPlaces, FollowsPlaces}
+use Rattle.acta_machine.specs.Places.{held_ops, HasParent, is_held_well, AreHeldWell, ShowsPlaces, FollowsPlaces}
 use Rattle.acta_machine.proofs.Broken.{by_none, not_broken, in_progress, not_begun}
 use Rattle.acta_machine.proofs.Unbroken.{Unbroken, unbroken, none-earlier, none-dependency, none-heirless}
 use Rattle.acta_machine.proofs.ConflictTies.{conflict_edges-places}
@@ -394,7 +394,7 @@ module _ {A : Type 0} (m : Parts A) (h : List (Kept A)) (shows : ShowsPlaces m h
       }
 
   -- what becomes of operations at a commit
-  settled-operations : (t : TxnId) (ret : Option Ret) (o : Option TxnId) → heir m h t.0 ≡ o → (settled s t o).operations ≡ held_ops_at m (h ++ (record { event = Commit t; ret = ret }) ∷ [])
+  settled-operations : (t : TxnId) (ret : Option Ret) (o : Option TxnId) → heir m h t.0 ≡ o → (settled s t o).operations ≡ held_ops m (h ++ (record { event = Commit t; ret = ret }) ∷ [])
   unfolding inherited fated
   settled-operations t ret None none = ap (ended t.0 Committed) shows.operations ∙ sym (operations-commit m h ret t none)
   settled-operations t ret (Some v) is = ap (handed t.0 v) shows.operations ∙ sym (operations-inherited m h ret t v is)

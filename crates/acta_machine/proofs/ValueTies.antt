@@ -19,34 +19,18 @@ use Rattle.acta_axioms.specs.Operations.{Operation, Standing, standing, operatio
 use Rattle.acta_axioms.specs.Operations as by_places
 use Rattle.acta_axioms.specs.Values.{asked_of, is_well_formed, do_conflict, conflicting}
 use Rattle.acta_axioms.specs.Values as by_places_value
-use Rattle.acta_axioms.proofs.ByOperations.{value-shown}
+use Rattle.acta_axioms.proofs.Searches.{value-found}
 use Rattle.acta_sets.specs.declared.held_op.HeldOp.{HeldOp}
 use Rattle.acta_sets.specs.Operations.{is_of_others}
 use Rattle.acta_machine.specs.Values.{live_on, live_ops}
 use Rattle.acta_machine.specs.Conflicts.{stands_against}
 use Rattle.acta_machine.specs.Changes.{summary_of}
 use Rattle.acta_machine.specs.Families.{spared}
-use Rattle.acta_machine.specs.Places.{held_op_of, held_ops_at, ShowsPlaces}
+use Rattle.acta_machine.specs.Places.{held_op, held_ops, ShowsPlaces}
 use Rattle.acta_machine.proofs.FamilyTies.{spared-places}
 
-pick_live : (here : Bool) (fate : Fate) (fits : Bool) (op : Op) →
-    (if here && not (is_aborted fate) && fits then Some op else None)
-    ≡ (if not (is_aborted fate) then (if here && fits then Some op else None) else None)
-pick_live true InProgress fits op = refl
-pick_live true Committed fits op = refl
-pick_live true Aborted fits op = refl
-pick_live false InProgress fits op = refl
-pick_live false Committed fits op = refl
-pick_live false Aborted fits op = refl
-
--- the value of an object
-pub value-places : {A : Type 0} (m : Parts A) (h : List (Kept A)) (items : List HeldOp) (object : ℕ) (kind : Kind) → items ≡ held_ops_at m h → state_after {A = A} (first_state kind) (live_ops kind items object) ≡ by_places_value.value m h object kind
-value-places {A} m h items object kind same =
-    ap (λ xs. state_after {A = A} (first_state kind) (live_ops kind xs object)) same
-    ∙ sym (value-shown m h object kind (λ o. held_op_of o (standing m h o)) (live_on kind object) (λ o. pick_live (o.object == object) (standing m h o).fate (suits kind o.op) o.op))
-
 -- the return that is due
-pub return-places : {A : Type 0} (m : Parts A) (h : List (Kept A)) (items : List HeldOp) (object : ℕ) (op : Op) → items ≡ held_ops_at m h →
+pub return-places : {A : Type 0} (m : Parts A) (h : List (Kept A)) (items : List HeldOp) (object : ℕ) (op : Op) → items ≡ held_ops m h →
     option_map (λ value. returned value op) (option_map (λ kind. state_after {A = A} (first_state kind) (live_ops kind items object)) (kind_at m object))
     ≡ by_places_value.return_due m h object op
 return-places {A} m h items object op same = of (kind_at m object)
@@ -54,7 +38,7 @@ return-places {A} m h items object op same = of (kind_at m object)
     of : (k : Option Kind) → option_map (λ value. returned value op) (option_map (λ kind. state_after {A = A} (first_state kind) (live_ops kind items object)) k)
         ≡ option_map (λ kind. returned (by_places_value.value m h object kind) op) k
     of None = refl
-    of (Some kind) = ap (λ value. Some (returned value op)) (value-places m h items object kind same)
+    of (Some kind) = ap (λ value. Some (returned value op)) (value-found m h items object kind same)
 
 -- where no item passes, none of a part of them does
 none_passes : {X Y : Type 0} (test : Y → Bool) (g : X → Y) (keeps passes : X → Bool) → ((x : X) → keeps x ≡ true → passes x ≡ true → test (g x) ≡ true) → (n : ℕ) (xs : List X) → position_from test n (map g xs) ≡ None → filter passes (filter keeps xs) ≡ []
@@ -75,7 +59,7 @@ both true b e = (refl, e)
 both false b e = absurd (true≢false (sym e))
 
 -- the operations of others by the table are those by places
-pub others-places : {A : Type 0} (m : Parts A) (h : List (Kept A)) → ShowsPlaces m h (summary_of m h) → (t : ℕ) (o : Operation) → is_of_others t (spared m (summary_of m h) t) (held_op_of o (standing m h o)) ≡ by_places.is_of_others m h t (standing m h o)
+pub others-places : {A : Type 0} (m : Parts A) (h : List (Kept A)) → ShowsPlaces m h (summary_of m h) → (t : ℕ) (o : Operation) → is_of_others t (spared m (summary_of m h) t) (held_op o (standing m h o)) ≡ by_places.is_of_others m h t (standing m h o)
 others-places m h shows t o =
     let s = standing m h o in
     ap (λ b. is_open s.fate && not (s.holder == t) && not b) (sym (spared-places m h shows t (record { 0 = s.holder })))
@@ -83,7 +67,7 @@ others-places m h shows t o =
 -- where nothing in the table stands against an operation, nothing conflicts by places
 pub conflicting-none : {A : Type 0} (m : Parts A) (h : List (Kept A)) (t : ℕ) (ob : ObjId) (op : Op) → ShowsPlaces m h (summary_of m h) → first_number (stands_against m (summary_of m h) t ob op) (summary_of m h).operations ≡ None → conflicting m h t ob.0 op ≡ []
 conflicting-none m h t ob op shows none =
-    none_passes (stands_against m (summary_of m h) t ob op) (λ o. held_op_of o (standing m h o)) (λ o. by_places.is_of_others m h t (standing m h o)) (λ o. (o.object == ob.0) && do_conflict m ob.0 o.op op)
+    none_passes (stands_against m (summary_of m h) t ob op) (λ o. held_op o (standing m h o)) (λ o. by_places.is_of_others m h t (standing m h o)) (λ o. (o.object == ob.0) && do_conflict m ob.0 o.op op)
     (λ o others conflicts.
     let on = both (o.object == ob.0) (do_conflict m ob.0 o.op op) conflicts in
     let formed = both (is_well_formed m ob.0 o.op) (is_well_formed m ob.0 op && conflict_on m ob.0 o.op op) on.1 in

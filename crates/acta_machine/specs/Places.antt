@@ -3,15 +3,14 @@ use Rattle.std.specs.Prelude.{◌≡◌, ℕ, Bool, true, ◌||◌, not, List, O
 use Rattle.std.specs.List.{list_all}
 use Rattle.acta_table.specs.declared.event.Event.{Event}
 use Rattle.acta_table.specs.declared.event.Kept.{Kept}
-use Rattle.acta_table.specs.declared.event.OpNo.{OpNo}
 use Rattle.acta_table.specs.declared.model.Parts.{Parts}
 use Rattle.acta_table.specs.declared.answer.Status.{Status}
 use Rattle.acta_table.specs.Classes.{kind_at, has_heir}
 use Rattle.acta_table.specs.Fates.{is_open}
 use Rattle.acta_objects.specs.declared.state.ObjectState.{ObjectState}
 use Rattle.acta_axioms.specs.History.{class_number, has_class, parent_of}
-use Rattle.acta_axioms.specs.Operations.{Operation, Standing, operations, standing}
 use Rattle.acta_axioms.specs.Values.{value}
+pub use Rattle.acta_axioms.specs.Walks.{held_op, held_ops, op_numbers}
 use Rattle.acta_axioms.specs.Edges.{edges}
 use Rattle.acta_axioms.specs.Claims.{MeetsAxioms, IsOrderly, status_at}
 use Rattle.acta_deps.specs.Statuses.{is_in_progress}
@@ -21,20 +20,12 @@ use Rattle.acta_machine.specs.Changes.{summary_of}
 use Rattle.acta_machine.specs.Exactness.{RefusesIllegal, RefusesByEdge, RefusesByDebts}
 use Rattle.acta_machine.specs.Table.{State}
 
--- an operation that stands so
-abbrev pub held_op_of : Operation → Standing → HeldOp
-held_op_of o s = record { ob = record { 0 = o.object }; op = o.op; holder = record { 0 = s.holder }; fate = s.fate }
-
--- the operations of a history, with holders and fates by places
-abbrev pub held_ops_at : {A : Type 0} → Parts A → List (Kept A) → List HeldOp
-held_ops_at m h = map (λ o. held_op_of o (standing m h o)) (operations h)
-
 -- the statuses, classes, parents, holders, fates and edges of a summary are those by places
 pub record ShowsPlaces {A : Type 0} (m : Parts A) (h : List (Kept A)) (s : Summary) : Type 0 where
   pub status : (t : ℕ) → s.status t ≡ status_at h t
   pub class : (t : ℕ) → option_map (λ c. c.0) (s.class t) ≡ class_number h t
   pub parent : (t : ℕ) → s.parent t ≡ parent_of h t
-  pub operations : s.operations ≡ held_ops_at m h
+  pub operations : s.operations ≡ held_ops m h
   pub edges : s.edges ≡ edges m h
 
 -- one whose class commits to its parent has a parent
@@ -63,10 +54,6 @@ pub record FollowsPlaces {A : Type 0} (state : State A) : Type 0 where
   pub exact : (event : Event A) → RefusesIllegal state event
   pub edges_exact : (event : Event A) → RefusesByEdge state event
   pub clashes_exact : (event : Event A) → RefusesByDebts state event
-
--- the numbers of operations
-abbrev pub op_numbers : List Operation → List OpNo
-op_numbers os = map (λ o. record { 0 = o.number }) os
 
 -- the value of an object, by places
 abbrev pub value_at : {A : Type 0} → State A → ℕ → Option (ObjectState A)

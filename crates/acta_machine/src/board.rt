@@ -15,7 +15,7 @@ ghost use Rattle.acta_machine.specs.Values.{value_of, return_due};
 ghost use Rattle.acta_machine.specs.inside.Shown.{shown, origin_in};
 ghost use Rattle.acta_machine.specs.Rules.{lowest_broken};
 
-use crate::values::value_after;
+use acta_axioms::value_after;
 use acta_deps::Deps;
 use acta_objects::ObjectState;
 use acta_sets::OpTable;

@@ -5,7 +5,6 @@ ghost use Rattle.std.specs.BTreeSet.{insert_key};
 ghost use Rattle.std.specs.Ordering.{nat_cmp};
 ghost use Rattle.acta_table.specs.Faults.{lowest_fault};
 ghost use Rattle.acta_table.specs.Numbered.{first_number, ascending};
-ghost use Rattle.acta_table.specs.Starts.{edges_between};
 ghost use Rattle.acta_machine.specs.Changes.{edges_due};
 ghost use Rattle.acta_machine.specs.Conflicts.{stands_against, conflict_edges};
 ghost use Rattle.acta_machine.specs.Families.{spared, spared_numbers};
@@ -15,25 +14,9 @@ ghost use Rattle.acta_machine.specs.inside.Shown.{shown};
 use crate::board::Board;
 use acta_objects::ObjectState;
 use acta_sets::HeldOp;
-use acta_table::{Edge, Event, ObjId, Op, StartEdge, TxnId};
+use acta_table::{Edge, Event, ObjId, Op, TxnId};
 use std::alloc::{AllocError, Allocator};
 use std::collections::BTreeSet;
-
-// The edges that these start edges mean between the one that starts and the one that is started.
-fn edges_between<A: Allocator>(
-    alloc: A,
-    starter: TxnId,
-    started: TxnId,
-    edges: &[StartEdge],
-) -> Result<Vec<Edge, A>, AllocError>
-    ensures { IfOk result (λ between. between.items ≡ edges_between starter started edges.now) }
-{
-    let mut between = Vec::new(alloc);
-    for edge in edges {
-        between.push(edge.between(starter, started))?;
-    }
-    Ok(between)
-}
 
 impl<A: Allocator + Copy> Board<A> {
     // Whether u is among those whom t spares.
@@ -155,11 +138,11 @@ impl<A: Allocator + Copy> Board<A> {
         let classes = self.model.classes();
         match event {
             Event::Spawn(t, c, class) => match classes.get(class.0 as usize) {
-                Some(class) => edges_between(alloc, *t, *c, class.spawn_edges.as_slice()),
+                Some(class) => class.spawn_edges.between(alloc, *t, *c),
                 None => Ok(Vec::new(alloc)),
             },
             Event::Split(t, u, class, _) => match classes.get(class.0 as usize) {
-                Some(class) => edges_between(alloc, *t, *u, class.split_edges.as_slice()),
+                Some(class) => class.split_edges.between(alloc, *t, *u),
                 None => Ok(Vec::new(alloc)),
             },
             Event::Form(kind, j, i) => {

@@ -8,6 +8,5 @@ mod changes;
 mod conflicts;
 mod machine;
 mod rules;
-mod values;
 
 pub use machine::{Machine, Run};

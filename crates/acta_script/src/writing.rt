@@ -1,16 +1,18 @@
 //! The line of an event.
 
-ghost use Rattle.std.specs.Prelude.{◌≡◌, ◌++◌, ◌∷◌, Ok, IfOk, OnOk};
+ghost use Rattle.std.specs.Prelude.{◌≡◌, ◌<◌, ◌++◌, ◌∷◌, Ok, IfOk, OnOk, codes, length};
+ghost use Rattle.acta_table.specs.Dependencies.{word_of};
+ghost use Rattle.acta_words.specs.Text.{line_of};
 ghost use Rattle.acta_script.specs.Laws.{IsInModel};
 ghost use Rattle.acta_script.specs.Reading.{event_of};
-ghost use Rattle.acta_script.specs.Writing.{txn_word, event_line};
+ghost use Rattle.acta_script.specs.Writing.{txn_word, class_word, object_word, operation_words, event_line};
 
 use crate::laws::event_again;
 use crate::names::{class_name, object_name};
 use crate::numbers::push_txn;
 use crate::op_sets::push_operations;
 use crate::operations::push_operation;
-use acta_table::{Event, Model, TxnId};
+use acta_table::{ClassId, Dep, Event, Model, ObjId, Op, TxnId};
 use acta_words::push_word;
 use std::alloc::{AllocError, Allocator};
 
@@ -26,6 +28,84 @@ fn push_start<A: Allocator>(
     push_txn(line, txn)
 }
 
+// The same, and a second transaction.
+fn push_two<A: Allocator>(
+    line: &mut Vec<u8, A>,
+    word: &[u8],
+    t: TxnId,
+    u: TxnId,
+) -> Result<(), AllocError>
+    ensures { OnOk result (line.new.items ≡ line.old.items ++ word.now ++ 32 ∷ txn_word t ++ 32 ∷ txn_word u) }
+{
+    push_start(line, word, t)?;
+    push_txn(line, u)
+}
+
+// The same, and the class that the second starts with.
+fn push_started<A: Allocator>(
+    line: &mut Vec<u8, A>,
+    model: &Model<A>,
+    word: &[u8],
+    t: TxnId,
+    u: TxnId,
+    class: ClassId,
+) -> Result<(), AllocError>
+    requires { class.0 < length model.now.classes }
+    ensures { OnOk result (line.new.items ≡
+        line.old.items ++ word.now ++ 32 ∷ txn_word t ++ 32 ∷ txn_word u ++ 32 ∷ class_word model.now class) }
+{
+    push_two(line, word, t, u)?;
+    push_word(line, class_name(model, class))
+}
+
+// begin T CLASS
+fn push_begin<A: Allocator>(
+    line: &mut Vec<u8, A>,
+    model: &Model<A>,
+    t: TxnId,
+    class: ClassId,
+) -> Result<(), AllocError>
+    requires { class.0 < length model.now.classes }
+    ensures { OnOk result (line.new.items ≡
+        line.old.items ++ codes "begin" ++ 32 ∷ txn_word t ++ 32 ∷ class_word model.now class) }
+{
+    push_start(line, b"begin", t)?;
+    push_word(line, class_name(model, class))
+}
+
+// form KIND J I
+fn push_form<A: Allocator>(
+    line: &mut Vec<u8, A>,
+    kind: Dep,
+    j: TxnId,
+    i: TxnId,
+) -> Result<(), AllocError>
+    ensures { OnOk result (line.new.items ≡
+        line.old.items ++ codes "form" ++ 32 ∷ word_of kind ++ 32 ∷ txn_word j ++ 32 ∷ txn_word i) }
+{
+    line.extend_from_slice(b"form")?;
+    push_word(line, kind.word().as_bytes())?;
+    push_txn(line, j)?;
+    push_txn(line, i)
+}
+
+// do T OBJECT OP
+fn push_do<A: Allocator>(
+    line: &mut Vec<u8, A>,
+    model: &Model<A>,
+    t: TxnId,
+    object: ObjId,
+    op: Op,
+) -> Result<(), AllocError>
+    requires { object.0 < length model.now.objects }
+    ensures { OnOk result (line.new.items ≡ line.old.items
+        ++ codes "do" ++ 32 ∷ txn_word t ++ 32 ∷ object_word model.now object ++ 32 ∷ line_of (operation_words op)) }
+{
+    push_start(line, b"do", t)?;
+    push_word(line, object_name(model, object))?;
+    push_operation(line, op)
+}
+
 /// Writes the line of the event behind what the line has. `Err` where there is no memory.
 #[tactic(auto, unfolding(crate::specs::Writing::event_line))]
 pub(crate) fn push_event<A: Allocator>(
@@ -37,41 +117,19 @@ pub(crate) fn push_event<A: Allocator>(
     ensures { OnOk result (line.new.items ≡ line.old.items ++ event_line model.now event.now) }
 {
     match event {
-        Event::Begin(t, class) => {
-            push_start(line, b"begin", *t)?;
-            push_word(line, class_name(model, *class))
-        }
-        Event::Spawn(t, c, class) => {
-            push_start(line, b"spawn", *t)?;
-            push_txn(line, *c)?;
-            push_word(line, class_name(model, *class))
-        }
+        Event::Begin(t, class) => push_begin(line, model, *t, *class),
+        Event::Spawn(t, c, class) => push_started(line, model, b"spawn", *t, *c, *class),
         Event::Split(t, u, class, ops) => {
-            push_start(line, b"split", *t)?;
-            push_txn(line, *u)?;
-            push_word(line, class_name(model, *class))?;
+            push_started(line, model, b"split", *t, *u, *class)?;
             push_operations(line, ops)
         }
-        Event::Join(t, u) => {
-            push_start(line, b"join", *t)?;
-            push_txn(line, *u)
-        }
+        Event::Join(t, u) => push_two(line, b"join", *t, *u),
         Event::Delegate(t, u, ops) => {
-            push_start(line, b"delegate", *t)?;
-            push_txn(line, *u)?;
+            push_two(line, b"delegate", *t, *u)?;
             push_operations(line, ops)
         }
-        Event::Form(kind, j, i) => {
-            line.extend_from_slice(b"form")?;
-            push_word(line, kind.word().as_bytes())?;
-            push_txn(line, *j)?;
-            push_txn(line, *i)
-        }
-        Event::Operate(t, object, op) => {
-            push_start(line, b"do", *t)?;
-            push_word(line, object_name(model, *object))?;
-            push_operation(line, *op)
-        }
+        Event::Form(kind, j, i) => push_form(line, *kind, *j, *i),
+        Event::Operate(t, object, op) => push_do(line, model, *t, *object, *op),
         Event::Commit(t) => push_start(line, b"commit", *t),
         Event::Abort(t) => push_start(line, b"abort", *t),
     }

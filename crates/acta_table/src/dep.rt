@@ -4,10 +4,10 @@ ghost use Rattle.acta_table.specs.Dependencies.{code_of, word_of, is_begin_kind,
 ghost use Rattle.acta_table.specs.Edges.{same_edge, is_among};
 
 use crate::event::TxnId;
-use bitflags::{Flag, Flags, bitflag_items};
+use bitflags::{Flag, Flags};
 
 /// The kinds of dependency, by code from 0 on (ACTA's). A transaction t_j depends on a t_i.
-#[derive(Clone, Copy, PartialEq, Eq, Debug)]
+#[derive(Clone, Copy, PartialEq, Eq, PartialOrd, Ord, Hash, Debug)]
 pub enum Dep {
     /// Commit: if both commit, t_i commits first.
     Cd,
@@ -104,21 +104,46 @@ impl Dep {
 #[derive(Clone, Copy, PartialEq, Eq, Debug)]
 struct DepBits(u16);
 
-bitflag_items! {
-    impl DepBits: u16 {
-        const CD = 1;
-        const SCD = 2;
-        const AD = 4;
-        const WD = 8;
-        const TD = 16;
-        const ED = 32;
-        const CMD = 64;
-        const BD = 128;
-        const SD = 256;
-        const BCD = 512;
-        const BAD = 1024;
-        const WCD = 2048;
-    }
+impl DepBits {
+    const CD: DepBits = DepBits(1);
+
+    const SCD: DepBits = DepBits(2);
+
+    const AD: DepBits = DepBits(4);
+
+    const WD: DepBits = DepBits(8);
+
+    const TD: DepBits = DepBits(16);
+
+    const ED: DepBits = DepBits(32);
+
+    const CMD: DepBits = DepBits(64);
+
+    const BD: DepBits = DepBits(128);
+
+    const SD: DepBits = DepBits(256);
+
+    const BCD: DepBits = DepBits(512);
+
+    const BAD: DepBits = DepBits(1024);
+
+    const WCD: DepBits = DepBits(2048);
+
+    #[rattlefmt::skip]
+    const FLAGS: &'static [Flag<DepBits>] = &[
+        Flag { name: "CD", value: DepBits::CD },
+        Flag { name: "SCD", value: DepBits::SCD },
+        Flag { name: "AD", value: DepBits::AD },
+        Flag { name: "WD", value: DepBits::WD },
+        Flag { name: "TD", value: DepBits::TD },
+        Flag { name: "ED", value: DepBits::ED },
+        Flag { name: "CMD", value: DepBits::CMD },
+        Flag { name: "BD", value: DepBits::BD },
+        Flag { name: "SD", value: DepBits::SD },
+        Flag { name: "BCD", value: DepBits::BCD },
+        Flag { name: "BAD", value: DepBits::BAD },
+        Flag { name: "WCD", value: DepBits::WCD },
+    ];
 }
 
 impl Flags for DepBits {
@@ -248,7 +273,7 @@ impl DepKinds {
 }
 
 /// An edge: the transaction `j` depends on the transaction `i` (ACTA's dependency in force).
-#[derive(Clone, Copy, PartialEq, Eq, Debug)]
+#[derive(Clone, Copy, PartialEq, Eq, Hash, Debug)]
 pub struct Edge {
     pub kind: Dep,
     pub j: TxnId,

@@ -6,7 +6,7 @@ use crate::op_set::OpSet;
 use std::alloc::{AllocError, Allocator};
 
 /// The number of a transaction: from 1 to `LAST_TXN` where it is one of a history.
-#[derive(Clone, Copy, PartialEq, Eq, Debug)]
+#[derive(Clone, Copy, PartialEq, Eq, Hash, Debug)]
 pub struct TxnId(pub u16);
 
 /// The position of a class in its model's list, from 0.
@@ -135,32 +135,105 @@ impl<A: Allocator> Event<A> {
     }
 }
 
+// Whether an event is this one, for each kind of event.
 impl<A: Allocator> Event<A> {
+    fn is_begin(&self, t: TxnId, class: ClassId) -> bool
+        ensures { Decides result (Event.Begin t class ≡ self.now) }
+    {
+        match self {
+            Event::Begin(u, named) => t.0 == u.0 && class.0 == named.0,
+            _ => false,
+        }
+    }
+
+    fn is_spawn(&self, t: TxnId, c: TxnId, class: ClassId) -> bool
+        ensures { Decides result (Event.Spawn t c class ≡ self.now) }
+    {
+        match self {
+            Event::Spawn(u, d, named) => t.0 == u.0 && c.0 == d.0 && class.0 == named.0,
+            _ => false,
+        }
+    }
+
+    fn is_split(&self, t: TxnId, v: TxnId, class: ClassId, ops: &OpSet<A>) -> bool
+        ensures { Decides result (Event.Split t v class ops.now ≡ self.now) }
+    {
+        match self {
+            Event::Split(u, w, named, others) => {
+                t.0 == u.0 && v.0 == w.0 && class.0 == named.0 && ops.is_same(others)
+            }
+            _ => false,
+        }
+    }
+
+    fn is_join(&self, t: TxnId, v: TxnId) -> bool
+        ensures { Decides result (Event.Join t v ≡ self.now) }
+    {
+        match self {
+            Event::Join(u, w) => t.0 == u.0 && v.0 == w.0,
+            _ => false,
+        }
+    }
+
+    fn is_delegate(&self, t: TxnId, v: TxnId, ops: &OpSet<A>) -> bool
+        ensures { Decides result (Event.Delegate t v ops.now ≡ self.now) }
+    {
+        match self {
+            Event::Delegate(u, w, others) => t.0 == u.0 && v.0 == w.0 && ops.is_same(others),
+            _ => false,
+        }
+    }
+
+    fn is_form(&self, kind: Dep, j: TxnId, i: TxnId) -> bool
+        ensures { Decides result (Event.Form kind j i ≡ self.now) }
+    {
+        match self {
+            Event::Form(other, l, k) => kind == *other && j.0 == l.0 && i.0 == k.0,
+            _ => false,
+        }
+    }
+
+    fn is_operate(&self, t: TxnId, ob: ObjId, op: Op) -> bool
+        ensures { Decides result (Event.Operate t ob op ≡ self.now) }
+    {
+        match self {
+            Event::Operate(u, on, other) => t.0 == u.0 && ob.0 == on.0 && op == *other,
+            _ => false,
+        }
+    }
+
+    fn is_commit(&self, t: TxnId) -> bool
+        ensures { Decides result (Event.Commit t ≡ self.now) }
+    {
+        match self {
+            Event::Commit(u) => t.0 == u.0,
+            _ => false,
+        }
+    }
+
+    fn is_abort(&self, t: TxnId) -> bool
+        ensures { Decides result (Event.Abort t ≡ self.now) }
+    {
+        match self {
+            Event::Abort(u) => t.0 == u.0,
+            _ => false,
+        }
+    }
+
     /// Whether the two are the same event (ours).
     pub fn is_same(&self, other: &Event<A>) -> bool
         ensures { Decides result (self.now ≡ other.now) }
     {
-        match (self, other) {
-            (Event::Begin(t, class), Event::Begin(u, named)) => t == u && class == named,
-            (Event::Spawn(t, c, class), Event::Spawn(u, d, named)) => {
-                t == u && c == d && class == named
-            }
-            (Event::Split(t, v, class, ops), Event::Split(u, w, named, others)) => {
-                t == u && v == w && class == named && ops.is_same(others)
-            }
-            (Event::Join(t, v), Event::Join(u, w)) => t == u && v == w,
-            (Event::Delegate(t, v, ops), Event::Delegate(u, w, others)) => {
-                t == u && v == w && ops.is_same(others)
-            }
-            (Event::Form(kind, j, i), Event::Form(other, l, k)) => kind == other
-                && j == l
-                && i == k,
-            (Event::Operate(t, ob, op), Event::Operate(u, on, other)) => {
-                t == u && ob == on && op == other
-            }
-            (Event::Commit(t), Event::Commit(u)) => t == u,
-            (Event::Abort(t), Event::Abort(u)) => t == u,
-            _ => false,
+        match self {
+            Event::Begin(t, class) => other.is_begin(*t, *class),
+            Event::Spawn(t, c, class) => other.is_spawn(*t, *c, *class),
+            Event::Split(t, v, class, ops) => other.is_split(*t, *v, *class, ops),
+            Event::Join(t, v) => other.is_join(*t, *v),
+            Event::Delegate(t, v, ops) => other.is_delegate(*t, *v, ops),
+            Event::Form(kind, j, i) => other.is_form(*kind, *j, *i),
+            Event::Operate(t, ob, op) => other.is_operate(*t, *ob, *op),
+            Event::Commit(t) => other.is_commit(*t),
+            Event::Abort(t) => other.is_abort(*t),
         }
     }
 }

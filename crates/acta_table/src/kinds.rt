@@ -3,23 +3,40 @@ ghost use Rattle.acta_table.specs.declared.event.EventKind.{EventKind};
 ghost use Rattle.acta_table.specs.Kinds.{has_kind, kind_code, only_kind};
 
 use crate::event::EventKind;
-use bitflags::{Flag, Flags, bitflag_items};
+use bitflags::{Flag, Flags};
 
 // The bits of a set of kinds. A value of `Kinds` has no other bit.
 #[derive(Clone, Copy, PartialEq, Eq, Debug)]
 struct KindBits(u16);
 
-bitflag_items! {
-    impl KindBits: u16 {
-        const SPAWN = 1;
-        const SPLIT = 2;
-        const JOIN = 4;
-        const DELEGATE = 8;
-        const FORM = 16;
-        const OPERATE = 32;
-        const COMMIT = 64;
-        const ABORT = 128;
-    }
+impl KindBits {
+    const SPAWN: KindBits = KindBits(1);
+
+    const SPLIT: KindBits = KindBits(2);
+
+    const JOIN: KindBits = KindBits(4);
+
+    const DELEGATE: KindBits = KindBits(8);
+
+    const FORM: KindBits = KindBits(16);
+
+    const OPERATE: KindBits = KindBits(32);
+
+    const COMMIT: KindBits = KindBits(64);
+
+    const ABORT: KindBits = KindBits(128);
+
+    #[rattlefmt::skip]
+    const FLAGS: &'static [Flag<KindBits>] = &[
+        Flag { name: "SPAWN", value: KindBits::SPAWN },
+        Flag { name: "SPLIT", value: KindBits::SPLIT },
+        Flag { name: "JOIN", value: KindBits::JOIN },
+        Flag { name: "DELEGATE", value: KindBits::DELEGATE },
+        Flag { name: "FORM", value: KindBits::FORM },
+        Flag { name: "OPERATE", value: KindBits::OPERATE },
+        Flag { name: "COMMIT", value: KindBits::COMMIT },
+        Flag { name: "ABORT", value: KindBits::ABORT },
+    ];
 }
 
 impl Flags for KindBits {

@@ -1,7 +1,7 @@
 ghost use Rattle.std.specs.Prelude.{◌≡◌, ◌↔◌, ◌++◌, [], filter, IfOk, IfSome, IsSome, IsTrue};
 ghost use Rattle.std.specs.Ordering.{is_lt};
 ghost use Rattle.std.specs.List.Sorted.{IsStrictlySortedBy};
-ghost use Rattle.acta_table.specs.Starts.{rank_of, same_start_edge, start_edge_cmp, both_of, is_listed, each_start_edge_once, edge_between};
+ghost use Rattle.acta_table.specs.Starts.{rank_of, same_start_edge, start_edge_cmp, both_of, is_listed, each_start_edge_once, edge_between, edges_between};
 
 use crate::dep::{Dep, Edge};
 use crate::event::TxnId;
@@ -181,6 +181,23 @@ impl<A: Allocator> StartEdges<A> {
 }
 
 impl<A: Allocator + Copy> StartEdges<A> {
+    /// The edges that they mean between the one that starts and the one that is started, in order. `Err` where there
+    /// is no memory.
+    pub fn between(
+        &self,
+        alloc: A,
+        starter: TxnId,
+        started: TxnId,
+    ) -> Result<Vec<Edge, A>, AllocError>
+        ensures { IfOk result (λ between. between.items ≡ edges_between starter started self.now) }
+    {
+        let mut between = Vec::new(alloc);
+        for edge in self.as_slice() {
+            between.push(edge.between(starter, started))?;
+        }
+        Ok(between)
+    }
+
     /// The same set, in memory of its own. `Err` where there is no memory.
     pub fn copy(&self) -> Result<StartEdges<A>, AllocError>
         ensures { IfOk result (λ set. set ≡ self.now) }

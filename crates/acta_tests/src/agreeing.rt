@@ -2,14 +2,14 @@
 //! conflict set, the view, the edges, who holds each operation and what became of it, and what is owed.
 
 use crate::formulas::{course_of, is_false, payment};
-use acta_axioms::Places;
+use crate::walking::follows_machine;
+use acta_axioms::{Course, Places};
 use acta_machine::Machine;
 use acta_table::{
     ClassId, Edge, EdgeNo, Event, Fate, Kept, Model, OpNo, Owed, Scope, Status, TxnId,
 };
 use std::alloc::{AllocError, Allocator};
 use std::process::Abort;
-use std::test::Fail;
 
 // A place past the last of each history.
 const END: u32 = 20;
@@ -20,8 +20,8 @@ const TXNS: u16 = 7;
 // One more than the largest number of an operation in these histories.
 const OPS: u32 = 8;
 
-// The transaction that spawned another, by the events that were kept.
-fn parent_in<A: Allocator>(history: &[Kept<A>], child: TxnId) -> Option<TxnId> {
+/// The transaction that spawned another, by the events that were kept.
+pub fn parent_in<A: Allocator>(history: &[Kept<A>], child: TxnId) -> Option<TxnId> {
     for kept in history {
         match &kept.event {
             Event::Spawn(t, c, _) if *c == child => return Some(*t),
@@ -43,8 +43,8 @@ fn is_ancestor<A: Allocator>(history: &[Kept<A>], u: TxnId, t: TxnId) -> bool {
     false
 }
 
-// The class that the start of a transaction names.
-fn class_in<A: Allocator>(history: &[Kept<A>], t: TxnId) -> Option<ClassId> {
+/// The class that the start of a transaction names.
+pub fn class_in<A: Allocator>(history: &[Kept<A>], t: TxnId) -> Option<ClassId> {
     for kept in history {
         match &kept.event {
             Event::Begin(u, class) if *u == t => return Some(*class),
@@ -94,19 +94,32 @@ fn shows_sets<A: Allocator + Copy>(
     Ok(shows)
 }
 
-// How a transaction stands, by its first places.
-fn status_by<A: Allocator>(places: &Places<'_, A>, t: TxnId) -> Status {
-    if places.commit(t).is_some() {
+/// How a transaction stands, by its first places.
+pub fn status_by(course: Course) -> Status {
+    if course.commit.is_some() {
         Status::Committed
-    } else if places.abort(t).is_some() {
+    } else if course.abort.is_some() {
         Status::Aborted
-    } else if places.join(t).is_some() {
+    } else if course.join.is_some() {
         Status::Joined
-    } else if places.start(t).is_some() {
+    } else if course.start.is_some() {
         Status::InProgress
     } else {
         Status::NotBegun
     }
+}
+
+// The machine shows how a transaction stands, and its sets.
+fn shows_txn<A: Allocator + Copy>(
+    model: &Model<A>,
+    machine: &Machine<A>,
+    places: &Places<'_, A>,
+    t: TxnId,
+) -> Result<bool, AllocError> {
+    Ok(
+        machine.status(t) == status_by(course_of(places, t))
+            && shows_sets(model, machine, places, t)?,
+    )
 }
 
 // The machine shows how each transaction stands, and its sets.
@@ -115,13 +128,12 @@ fn shows_txns<A: Allocator + Copy>(
     machine: &Machine<A>,
     places: &Places<'_, A>,
 ) -> Result<bool, AllocError> {
-    let mut shows = true;
     for number in 1..TXNS {
-        let t = TxnId(number);
-        shows &= machine.status(t) == status_by(places, t);
-        shows &= shows_sets(model, machine, places, t)?;
+        if !shows_txn(model, machine, places, TxnId(number))? {
+            return Ok(false);
+        }
     }
-    Ok(shows)
+    Ok(true)
 }
 
 // The machine shows the view, which with the access sets says what became of each operation.
@@ -144,8 +156,7 @@ fn shows_view<A: Allocator + Copy>(
 fn debt_by<A: Allocator>(places: &Places<'_, A>, edge: &Edge, number: u64) -> Option<Owed> {
     let missing = payment(edge.kind)?;
     let (j, i) = (course_of(places, edge.j), course_of(places, edge.i));
-    let has_ended = j.commit.is_some() || j.abort.is_some() || places.join(edge.j).is_some();
-    if has_ended || !is_false(edge.kind, j, i) {
+    if j.has_ended() || !is_false(edge.kind, j, i) {
         return None;
     }
     Some(Owed {
@@ -172,6 +183,38 @@ fn shows_edges<A: Allocator + Copy>(
     Ok(machine.edges() == places.edges() && machine.owed()?.as_slice() == due.as_slice())
 }
 
+// What the machine shows that isn't what the places of its history say.
+fn differing<A: Allocator + Copy>(
+    alloc: A,
+    model: &Model<A>,
+    machine: &Machine<A>,
+    places: &Places<'_, A>,
+) -> Result<&'static str, AllocError> {
+    if !shows_txns(model, machine, places)? {
+        return Ok("transactions");
+    }
+    if !shows_view(machine, places)? {
+        return Ok("the view");
+    }
+    if !shows_edges(alloc, machine, places)? {
+        return Ok("edges");
+    }
+    Ok("nothing")
+}
+
+// The same, by the places of the machine's history.
+fn differing_on<A: Allocator + Copy>(
+    alloc: A,
+    model: &Model<A>,
+    machine: &Machine<A>,
+) -> Result<&'static str, AllocError> {
+    if !follows_machine(alloc, machine)? {
+        return Ok("a walk");
+    }
+    let places = Places::of(alloc, model, machine.history())?;
+    differing(alloc, model, machine, &places)
+}
+
 /// The machine shows what the places of its history say. The line is told where it doesn't.
 pub fn agrees<A: Allocator + Copy>(
     rt: &impl Abort,
@@ -179,13 +222,11 @@ pub fn agrees<A: Allocator + Copy>(
     model: &Model<A>,
     machine: &Machine<A>,
     line: &str,
-) -> Result<(), Fail> {
-    let places = Places::of(alloc, model, machine.history())?;
-    assert!(rt;
-        shows_txns(model, machine, &places)?,
-        "transactions after {line}"
+) -> Result<(), AllocError> {
+    assert_eq!(rt;
+        differing_on(alloc, model, machine)?,
+        "nothing",
+        "after {line}"
     );
-    assert!(rt; shows_view(machine, &places)?, "the view after {line}");
-    assert!(rt; shows_edges(alloc, machine, &places)?, "edges after {line}");
     Ok(())
 }

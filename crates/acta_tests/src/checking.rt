@@ -3,7 +3,7 @@
 
 use acta_lang::assemble;
 use acta_models::Standard;
-use acta_script::read_event;
+use acta_script::{LineError, read_event};
 use acta_table::{
     Class, ClassId, Dep, DepKinds, Dependent, Event, EventKind, Items, Kind, Kinds, Model,
     ModelFault, Object, OpNo, OpSet, Parts, Policy, Rule, StartEdge, StartEdges, TxnId,
@@ -117,22 +117,36 @@ fn on_starter<A: Allocator + Copy>(alloc: A, kind: Dep) -> Result<StartEdges<A>,
     StartEdges::of(alloc, &[StartEdge { kind, dependent }])
 }
 
+// The fault of a model of one class, whose splits form an edge of this kind.
+fn fault_at_split<A: Allocator + Copy>(alloc: A, kind: Dep) -> Result<Option<ModelFault>, Fail> {
+    let edges = on_starter(alloc, kind)?;
+    let mut part = class_of(alloc, Standard::SplitJoin.text())?;
+    part.split_edges = edges;
+    Ok(fault_of_class(alloc, &part)?)
+}
+
+// The same of spawns.
+fn fault_at_spawn<A: Allocator + Copy>(alloc: A, kind: Dep) -> Result<Option<ModelFault>, Fail> {
+    let edges = on_starter(alloc, kind)?;
+    let mut sub = class_of(alloc, Standard::Nested.text())?;
+    sub.spawn_edges = edges;
+    Ok(fault_of_class(alloc, &sub)?)
+}
+
 // An edge of a begin kind at a split or at a spawn is a fault, and none of another kind is.
 #[test]
 fn begin_kinds_at_a_start(rt: HostRuntime) -> Result<(), Fail> {
-    let alloc = rt.alloc();
     for kind in Dep::ALL {
-        let fault = if kind.is_begin_kind() {
+        let due = if kind.is_begin_kind() {
             Some(ModelFault::BeginKindAtStart)
         } else {
             None
         };
-        let mut part = class_of(alloc, Standard::SplitJoin.text())?;
-        part.split_edges = on_starter(alloc, kind)?;
-        assert_eq!(rt; fault_of_class(alloc, &part)?, fault, "with {kind:?}");
-        let mut sub = class_of(alloc, Standard::Nested.text())?;
-        sub.spawn_edges = on_starter(alloc, kind)?;
-        assert_eq!(rt; fault_of_class(alloc, &sub)?, fault, "with {kind:?}");
+        let found = (
+            fault_at_split(rt.alloc(), kind)?,
+            fault_at_spawn(rt.alloc(), kind)?,
+        );
+        assert_eq!(rt; found, (due, due), "with {kind:?}");
     }
     Ok(())
 }
@@ -155,6 +169,16 @@ fn heirs_without_a_spawn(rt: HostRuntime) -> Result<(), Fail> {
     Ok(())
 }
 
+// The fault of a model of this class with the policy.
+fn fault_with<A: Allocator + Copy>(
+    alloc: A,
+    class: &mut Class<A>,
+    policy: Policy,
+) -> Result<Option<ModelFault>, AllocError> {
+    class.policy = policy;
+    fault_of_class(alloc, class)
+}
+
 // A class depends by CD, AD, WD and TD, and by at least one of them.
 #[test]
 fn policies(rt: HostRuntime) -> Result<(), Fail> {
@@ -164,13 +188,26 @@ fn policies(rt: HostRuntime) -> Result<(), Fail> {
     for kind in Dep::ALL {
         let is_good = matches!(kind, Dep::Cd | Dep::Ad | Dep::Wd | Dep::Td);
         let due = if is_good { None } else { fault };
-        loose.policy = Policy::Depend(DepKinds::of(Dep::Ad).union(DepKinds::of(kind)));
-        assert_eq!(rt; fault_of_class(alloc, &loose)?, due, "at {kind:?}");
+        let kinds = DepKinds::of(Dep::Ad).union(DepKinds::of(kind));
+        let found = fault_with(alloc, &mut loose, Policy::Depend(kinds))?;
+        assert_eq!(rt; found, due, "at {kind:?}");
     }
-    loose.policy = Policy::Depend(DepKinds::none());
-    assert_eq!(rt; fault_of_class(alloc, &loose)?, fault);
-    loose.policy = Policy::Refuse;
-    assert_eq!(rt; fault_of_class(alloc, &loose)?, None);
+    Ok(())
+}
+
+#[test]
+fn policies_of_no_kind(rt: HostRuntime) -> Result<(), Fail> {
+    let alloc = rt.alloc();
+    let mut loose = class_of(alloc, Standard::Recoverable.text())?;
+    for (policy, due) in [
+        (
+            Policy::Depend(DepKinds::none()),
+            Some(ModelFault::BadPolicyKind),
+        ),
+        (Policy::Refuse, None),
+    ] {
+        assert_eq!(rt; fault_with(alloc, &mut loose, policy)?, due);
+    }
     Ok(())
 }
 
@@ -205,15 +242,19 @@ fn too_many(rt: HostRuntime) -> Result<(), Fail> {
     Ok(())
 }
 
+// Whether it is the class of flat transactions.
+fn is_flat<A: Allocator>(class: &Class<A>) -> bool {
+    class.name.as_slice() == b"flat".as_slice()
+        && class.may.has(EventKind::Commit)
+        && !class.may.has(EventKind::Split)
+        && !class.may.has(EventKind::Begin)
+}
+
 // The model shows the parts of the standard model of flat transactions.
 fn shows_flat<A: Allocator>(rt: &impl Abort, model: &Model<A>) {
-    assert_eq!(rt; model.objects().len(), 4);
-    assert_eq!(rt; model.classes().len(), 1);
+    assert_eq!(rt; (model.objects().len(), model.classes().len()), (4, 1));
     for class in model.classes() {
-        assert_eq!(rt; class.name.as_slice(), b"flat".as_slice());
-        assert!(rt; class.may.has(EventKind::Commit));
-        assert!(rt; !class.may.has(EventKind::Split));
-        assert!(rt; !class.may.has(EventKind::Begin));
+        assert!(rt; is_flat(class));
     }
 }
 
@@ -251,12 +292,21 @@ fn sets_of_kinds(rt: HostRuntime) {
 }
 
 #[test]
-fn numbers_and_kinds(rt: HostRuntime) {
-    assert_eq!(rt; Rule::Full.number(), 1);
-    assert_eq!(rt; Rule::Conflict.number(), 14);
-    assert_eq!(rt; Rule::NoHeir.number(), 28);
-    assert_eq!(rt; ModelFault::NoClass.number(), 1);
-    assert_eq!(rt; ModelFault::BadPolicyKind.number(), 8);
+fn numbers_of_rules(rt: HostRuntime) {
+    for (rule, number) in [(Rule::Full, 1), (Rule::Conflict, 14), (Rule::NoHeir, 28)] {
+        assert_eq!(rt; rule.number(), number);
+    }
+}
+
+#[test]
+fn numbers_of_faults(rt: HostRuntime) {
+    for (fault, number) in [(ModelFault::NoClass, 1), (ModelFault::BadPolicyKind, 8)] {
+        assert_eq!(rt; fault.number(), number);
+    }
+}
+
+#[test]
+fn kind_of_an_event(rt: HostRuntime) {
     let begin: Event<Global> = Event::Begin(TxnId(1), ClassId(0));
     assert_eq!(rt; begin.kind(), EventKind::Begin);
 }
@@ -277,35 +327,67 @@ fn sets(rt: HostRuntime) -> Result<(), AllocError> {
     has_ops(&rt, &set, &[])
 }
 
-// Of the events that the lines say, each is the same as itself alone.
-#[test]
-fn events_that_are_the_same(rt: HostRuntime) -> Result<(), Fail> {
-    let text = "begin 1 part
-        begin 2 part
-        spawn 1 2 part
-        split 1 2 part 1
-        split 1 2 part 1,2
-        join 1 2
-        join 2 1
-        delegate 1 2 -
-        delegate 1 2 3
-        delegate 1 2 4
-        form CD 1 2
-        form WD 1 2
-        do 1 x read
-        do 1 x write 5
-        do 1 n read
-        commit 1
-        abort 1";
-    let model = assemble(rt.alloc(), Standard::SplitJoin.text().as_bytes())?;
-    for (i, line) in text.lines().enumerate() {
-        let event = read_event(rt.alloc(), &model, line.as_bytes())?;
-        for (j, line) in text.lines().enumerate() {
-            let other = read_event(rt.alloc(), &model, line.as_bytes())?;
-            assert_eq!(rt; event.is_same(&other), i == j, "at {line}");
-        }
+// Events, each a line.
+const EVENTS: &str = "\
+begin 1 part
+begin 2 part
+spawn 1 2 part
+split 1 2 part 1
+split 1 2 part 1,2
+join 1 2
+join 2 1
+delegate 1 2 -
+delegate 1 2 3
+delegate 1 2 4
+form CD 1 2
+form WD 1 2
+do 1 x read
+do 1 x write 5
+do 1 n read
+commit 1
+abort 1";
+
+// Whether the event is that of the line.
+fn is_said<A: Allocator + Copy>(
+    alloc: A,
+    model: &Model<A>,
+    event: &Event<A>,
+    line: &str,
+) -> Result<bool, LineError> {
+    Ok(event.is_same(&read_event(alloc, model, line.as_bytes())?))
+}
+
+// Of the lines, the event is that of the one at this place alone.
+fn is_said_once<A: Allocator + Copy>(
+    rt: &impl Abort,
+    alloc: A,
+    model: &Model<A>,
+    event: &Event<A>,
+    at: usize,
+) -> Result<(), LineError> {
+    for (i, line) in EVENTS.lines().enumerate() {
+        assert_eq!(rt; is_said(alloc, model, event, line)?, i == at, "at {line}");
     }
     Ok(())
+}
+
+// The event of each line is that of this line alone.
+fn are_said_once<A: Allocator + Copy>(
+    rt: &impl Abort,
+    alloc: A,
+    model: &Model<A>,
+) -> Result<(), LineError> {
+    for (at, line) in EVENTS.lines().enumerate() {
+        let event = read_event(alloc, model, line.as_bytes())?;
+        is_said_once(rt, alloc, model, &event, at)?;
+    }
+    Ok(())
+}
+
+#[test]
+fn events_that_are_the_same(rt: HostRuntime) -> Result<(), Fail> {
+    let model = assemble(rt.alloc(), Standard::SplitJoin.text().as_bytes())?;
+    Ok(are_said_once(&rt, rt.alloc(), &model)?)
 }
 
 // `Model::check` takes no memory: it answers while the next allocation would be refused.

@@ -1,23 +1,16 @@
 //! The formulas of the kinds of dependency over first places, written out once more by hand.
 
-use acta_axioms::Places;
+use acta_axioms::{Course, Places};
 use acta_table::{Dep, Missing, TxnId};
 use std::alloc::Allocator;
 
 /// The first places of a transaction.
-#[derive(Clone, Copy)]
-pub struct Course {
-    pub start: Option<u32>,
-    pub commit: Option<u32>,
-    pub abort: Option<u32>,
-}
-
-/// Where a transaction starts, commits and aborts.
 pub fn course_of<A: Allocator>(places: &Places<'_, A>, t: TxnId) -> Course {
     Course {
         start: places.start(t),
         commit: places.commit(t),
         abort: places.abort(t),
+        join: places.join(t),
     }
 }
 

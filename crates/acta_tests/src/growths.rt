@@ -331,7 +331,7 @@ const CALLS: [(Call, u64, usize); 16] = [
     (Call::Run, 25, 9),
     (Call::ModelCopy, 9, 2),
     (Call::NewMachine, 11, 0),
-    (Call::FirstStart, 11, 1),
+    (Call::FirstStart, 9, 1),
     (Call::Element, 2, 1),
     (Call::Replay, 2, 2),
     (Call::OpSet, 3, 3),
@@ -388,6 +388,17 @@ fn grow<A: Allocator + Copy, B: Allocator>(
     assert_eq!(rt; answered.ok(), Some(due), "{call:?}");
 }
 
+// The growths of each call.
+fn grow_all<A: Allocator + Copy, B: Allocator>(
+    rt: &impl Abort,
+    heap: &Refusing<B>,
+    on: &Called<'_, A>,
+) {
+    for call in CALLS {
+        grow(rt, heap, on, call);
+    }
+}
+
 // The growths of each call on this model, after these events.
 fn grow_on<A: Allocator + Copy, B: Allocator>(
     rt: &impl Abort,
@@ -404,10 +415,19 @@ fn grow_on<A: Allocator + Copy, B: Allocator>(
         events,
         machine,
     };
-    for call in CALLS {
-        grow(rt, heap, &on, call);
-    }
+    grow_all(rt, heap, &on);
     Ok(())
+}
+
+// The growths of each call on this model, after the events that are read.
+fn grow_read<A: Allocator + Copy, B: Allocator>(
+    rt: &impl Abort,
+    heap: &Refusing<B>,
+    alloc: A,
+    model: &Model<A>,
+) -> Result<(), Fail> {
+    let events = events(alloc, model, READ)?;
+    Ok(grow_on(rt, heap, alloc, model, &events)?)
 }
 
 // The growths of each call on the model of nested transactions.
@@ -417,8 +437,7 @@ fn grow_calls<A: Allocator + Copy, B: Allocator>(
     alloc: A,
 ) -> Result<(), Fail> {
     let model = assemble(alloc, Standard::Nested.text().as_bytes())?;
-    let events = events(alloc, &model, READ)?;
-    Ok(grow_on(rt, heap, alloc, &model, &events)?)
+    grow_read(rt, heap, alloc, &model)
 }
 
 #[test]

@@ -32,3 +32,7 @@ mod sets;
 mod showing;
 #[cfg(test)]
 mod standards;
+#[cfg(test)]
+mod stepping;
+#[cfg(test)]
+mod walking;

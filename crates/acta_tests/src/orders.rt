@@ -130,6 +130,15 @@ fn agrees<A: Allocator + Copy>(
     }
 }
 
+// Whether a fresh machine admits that an edge of this kind is formed, of the second transaction on the first.
+fn forms<A: Allocator + Copy>(machine: &mut Machine<A>, kind: Dep) -> Result<bool, AllocError> {
+    let formed = Answer::Admitted {
+        place: 1,
+        ret: None,
+    };
+    Ok(machine.take(&Event::Form(kind, TWO, ONE))? == formed)
+}
+
 // A machine on a copy of the model, with one edge of this kind, of the second transaction on the first.
 fn with_edge<A: Allocator + Copy>(
     rt: &impl Abort,
@@ -138,12 +147,27 @@ fn with_edge<A: Allocator + Copy>(
     kind: Dep,
 ) -> Result<Machine<A>, AllocError> {
     let mut machine = Machine::new(alloc, model.copy()?)?;
-    let formed = Answer::Admitted {
-        place: 1,
-        ret: None,
-    };
-    assert_eq!(rt; machine.take(&Event::Form(kind, TWO, ONE))?, formed);
+    assert!(rt; forms(&mut machine, kind)?);
     Ok(machine)
+}
+
+// The machine agrees along these events. Gives whether it refused an event by a rule on dependencies, and whether there
+// was a debt.
+fn along_on<A: Allocator + Copy>(
+    rt: &impl Abort,
+    alloc: A,
+    model: &Model<A>,
+    machine: &mut Machine<A>,
+    kind: Dep,
+    events: &[Event<A>],
+) -> Result<(bool, bool), AllocError> {
+    let (mut refused, mut owed) = (false, false);
+    for event in events {
+        let said = agrees(rt, alloc, model, machine, kind, event)?;
+        refused |= said.0;
+        owed |= said.1;
+    }
+    Ok((refused, owed))
 }
 
 // A machine with one edge agrees along one order. Gives whether it refused an event by a rule on dependencies, and
@@ -155,19 +179,14 @@ fn along<A: Allocator + Copy>(
     kind: Dep,
     events: &[Event<A>],
 ) -> Result<(bool, bool), AllocError> {
-    let (mut refused, mut owed) = (false, false);
     let mut machine = with_edge(rt, alloc, model, kind)?;
-    for event in events {
-        let said = agrees(rt, alloc, model, &mut machine, kind, event)?;
-        refused |= said.0;
-        owed |= said.1;
-    }
+    let said = along_on(rt, alloc, model, &mut machine, kind, events)?;
     let (j, i) = (TWO, ONE);
     assert!(rt;
         machine.edges() == [Edge { kind, j, i }].as_slice(),
         "under {kind:?}"
     );
-    Ok((refused, owed))
+    Ok(said)
 }
 
 // The orders of the starts and ends of two transactions.

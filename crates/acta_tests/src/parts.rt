@@ -116,14 +116,20 @@ fn spawning<A: Allocator + Copy>(alloc: A, name: &str) -> Result<Class<A>, Alloc
     Ok(class)
 }
 
-/// Nested transactions: those of `top` begin, and those of `sub` are spawned, and commit to their parents.
-pub fn nested<A: Allocator + Copy>(alloc: A) -> Result<Model<A>, Fail> {
+// The class of those that are spawned.
+fn sub<A: Allocator + Copy>(alloc: A) -> Result<Class<A>, AllocError> {
+    let spawn_edges = StartEdges::of(alloc, &AT_SPAWN)?;
     let mut sub = spawning(alloc, "sub")?;
     sub.starts.begin = false;
     sub.starts.spawned = true;
     sub.at_commit = AtCommit::ToParent;
-    sub.spawn_edges = StartEdges::of(alloc, &AT_SPAWN)?;
+    sub.spawn_edges = spawn_edges;
+    Ok(sub)
+}
+
+/// Nested transactions: those of `top` begin, and those of `sub` are spawned, and commit to their parents.
+pub fn nested<A: Allocator + Copy>(alloc: A) -> Result<Model<A>, Fail> {
     let mut classes = one(alloc, spawning(alloc, "top")?)?;
-    classes.push(sub)?;
+    classes.push(sub(alloc)?)?;
     model_of(alloc, classes)
 }

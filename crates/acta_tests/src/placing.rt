@@ -10,12 +10,15 @@
 //! ? edges : CD 1 2 AD 2 1
 //! ```
 
+ghost use Rattle.std.specs.Prelude.{◌≤◌, length};
+
 use crate::models::{FOLLOWING, LENDING, Models, ORDERED};
 use crate::showing::{push_edges, txn};
+use crate::walking::follows_places;
 use acta_axioms::Places;
 use acta_models::Standard;
 use acta_script::read_event;
-use acta_table::{Event, Fate, Kept, MOST_EVENTS, OpNo, Ret};
+use acta_table::{Event, Fate, Kept, MOST_EVENTS, OpNo, Ret, TxnId};
 use acta_words::{push_natural, push_word, read_u32};
 use std::alloc::{AllocError, Allocator};
 use std::process::Abort;
@@ -45,45 +48,81 @@ fn fate_word(fate: Fate) -> &'static str {
     }
 }
 
+// The operation and the place that are asked of by `OP at N`.
+fn asked_at(asked: &str) -> Result<(OpNo, u32), Fail> {
+    let (op, n) = asked
+        .split_once(" at ")
+        .ok_or("an operation is asked of at a place")?;
+    let op = read_u32(op.as_bytes()).ok_or("a word is no operation")?;
+    let n = read_u32(n.as_bytes()).ok_or("a word is no place")?;
+    Ok((OpNo(op), n))
+}
+
+// Writes who holds an operation, and what became of it.
+fn push_fate<A: Allocator>(
+    line: &mut Vec<u8, A>,
+    holder: TxnId,
+    fate: Fate,
+) -> Result<(), AllocError> {
+    push_natural(line, u64::from(holder.0))?;
+    push_word(line, fate_word(fate).as_bytes())
+}
+
 // Writes who holds an operation after so many places, and what became of it: `OP at N` asks for it.
 fn push_standing<A: Allocator>(
     line: &mut Vec<u8, A>,
     places: &Places<'_, A>,
     asked: &str,
 ) -> Result<(), Fail> {
-    let (op, n) = asked
-        .split_once(" at ")
-        .ok_or("an operation is asked of at a place")?;
-    let op = OpNo(read_u32(op.as_bytes()).ok_or("a word is no operation")?);
-    let n = read_u32(n.as_bytes()).ok_or("a word is no place")?;
+    let (op, n) = asked_at(asked)?;
     match (places.holder(op, n), places.fate(op, n)) {
-        (Some(t), Some(fate)) => {
-            push_natural(line, u64::from(t.0))?;
-            push_word(line, fate_word(fate).as_bytes())?;
-        }
-        (None, None) => push_word(line, b"none")?,
+        (Some(holder), Some(fate)) => Ok(push_fate(line, holder, fate)?),
+        (None, None) => Ok(push_word(line, b"none")?),
         _ => Err("an operation has a holder and a fate, or neither")?,
     }
-    Ok(())
 }
 
-// What the places say of what is asked.
-fn said<A: Allocator + Copy>(
-    alloc: A,
+// The first place of the event of a transaction that the word names.
+fn place_of<A: Allocator>(
     places: &Places<'_, A>,
-    asked: &str,
-) -> Result<Vec<u8, A>, Fail> {
-    let mut line = Vec::new(alloc);
-    let (word, rest) = asked.split_once(' ').unwrap_or((asked, ""));
+    word: &str,
+    t: TxnId,
+) -> Result<Option<u32>, Fail> {
     match word {
-        "start" => push_place(&mut line, places.start(txn(rest)?))?,
-        "commit" => push_place(&mut line, places.commit(txn(rest)?))?,
-        "abort" => push_place(&mut line, places.abort(txn(rest)?))?,
-        "join" => push_place(&mut line, places.join(txn(rest)?))?,
-        "op" => push_standing(&mut line, places, rest)?,
-        "edges" => push_edges(&mut line, places.edges())?,
+        "start" => Ok(places.start(t)),
+        "commit" => Ok(places.commit(t)),
+        "abort" => Ok(places.abort(t)),
+        "join" => Ok(places.join(t)),
         _ => Err("a line asks nothing")?,
     }
+}
+
+// Writes what the places say of what is asked.
+fn push_said<A: Allocator>(
+    line: &mut Vec<u8, A>,
+    places: &Places<'_, A>,
+    asked: &str,
+) -> Result<(), Fail> {
+    let (word, rest) = asked.split_once(' ').unwrap_or((asked, ""));
+    match word {
+        "op" => push_standing(line, places, rest),
+        "edges" => Ok(push_edges(line, places.edges())?),
+        _ => Ok(push_place(line, place_of(places, word, txn(rest)?)?)?),
+    }
+}
+
+// What the places of the items say of what is asked.
+fn said<A: Allocator + Copy>(
+    alloc: A,
+    models: &Models<A>,
+    items: &[Kept<A>],
+    asked: &str,
+) -> Result<Vec<u8, A>, Fail>
+    requires { length items.now ≤ MOST_EVENTS }
+{
+    let places = Places::of(alloc, &models.model, items)?;
+    let mut line = Vec::new(alloc);
+    push_said(&mut line, &places, asked)?;
     Ok(line)
 }
 
@@ -97,8 +136,7 @@ fn ask<A: Allocator + Copy>(
 ) -> Result<(), Fail> {
     let (asked, due) = line.split_once(" :").ok_or("a question has no answer")?;
     assert!(rt; items.len() <= MOST_EVENTS);
-    let places = Places::of(alloc, &models.model, items)?;
-    let told = said(alloc, &places, asked)?;
+    let told = said(alloc, models, items, asked)?;
     assert_eq!(rt; told.as_slice(), due.as_bytes(), "at {line}");
     Ok(())
 }
@@ -119,7 +157,13 @@ fn follow<A: Allocator + Copy>(
         Some(asked) => ask(rt, alloc, models, items, asked),
         None => {
             let event = read_event(alloc, &models.wider, line.as_bytes())?;
-            Ok(items.push(kept(event))?)
+            items.push(kept(event))?;
+            assert!(rt; items.len() <= MOST_EVENTS);
+            assert!(rt;
+                follows_places(alloc, &models.model, items.as_slice())?,
+                "a walk at {line}"
+            );
+            Ok(())
         }
     }
 }

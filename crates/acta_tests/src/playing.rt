@@ -13,7 +13,7 @@
 use crate::agreeing::agrees;
 use crate::models::Models;
 use crate::showing::shown;
-use acta_machine::Machine;
+use acta_machine::{Machine, Run};
 use acta_script::{answer_line, read_event};
 use acta_table::{Answer, Event, Model};
 use std::alloc::{AllocError, Allocator};
@@ -26,6 +26,19 @@ struct Played<A: Allocator> {
     machine: Machine<A>,
     events: Vec<Event<A>, A>,
     answers: Vec<Answer, A>,
+}
+
+// The machine shows what is due where it is asked.
+fn shows<A: Allocator + Copy>(
+    rt: &impl Abort,
+    alloc: A,
+    models: &Models<A>,
+    machine: &Machine<A>,
+    (asked, due): (&str, &str),
+) -> Result<(), Fail> {
+    let told = shown(alloc, models, machine, asked)?;
+    assert_eq!(rt; told.as_slice(), due.as_bytes(), "at {asked}");
+    Ok(())
 }
 
 impl<A: Allocator + Copy> Played<A> {
@@ -46,6 +59,12 @@ impl<A: Allocator + Copy> Played<A> {
         answer_line(alloc, &answer)
     }
 
+    // What the machine answers the event that is said.
+    fn told(&mut self, alloc: A, models: &Models<A>, said: &str) -> Result<Vec<u8, A>, Fail> {
+        let event = read_event(alloc, &models.wider, said.as_bytes())?;
+        Ok(self.answer(alloc, event)?)
+    }
+
     // The machine answers the event of the line as it says, and shows what the places of its history say.
     fn take(
         &mut self,
@@ -55,29 +74,70 @@ impl<A: Allocator + Copy> Played<A> {
         line: &str,
     ) -> Result<(), Fail> {
         let (said, due) = line.split_once(" : ").ok_or("a line has no answer")?;
-        let event = read_event(alloc, &models.wider, said.as_bytes())?;
-        let told = self.answer(alloc, event)?;
+        let told = self.told(alloc, models, said)?;
         assert_eq!(rt; told.as_slice(), due.as_bytes(), "at {line}");
-        agrees(rt, alloc, &models.model, &self.machine, line)
+        Ok(agrees(rt, alloc, &models.model, &self.machine, line)?)
     }
 
     // The machine, and a copy of it, show what the line says.
     fn ask(&self, rt: &impl Abort, alloc: A, models: &Models<A>, line: &str) -> Result<(), Fail> {
         let (asked, due) = line.split_once(" :").ok_or("a line has no answer")?;
-        let told = shown(alloc, models, &self.machine, asked)?;
-        assert_eq!(rt; told.as_slice(), due.as_bytes(), "at {line}");
-        let copied = shown(alloc, models, &self.machine.copy()?, asked)?;
-        assert_eq!(rt; copied.as_slice(), due.as_bytes(), "of a copy at {line}");
-        Ok(())
+        shows(rt, alloc, models, &self.machine, (asked, due))?;
+        shows(rt, alloc, models, &self.machine.copy()?, (asked, due))
+    }
+
+    // Whether the run answered the same, and has the same edges.
+    fn is_as(&self, run: &Run<A>) -> bool {
+        run.answers.as_slice() == self.answers.as_slice()
+            && run.machine.edges() == self.machine.edges()
     }
 
     // A machine that runs the events at once answers the same.
-    fn end(&self, rt: &impl Abort, alloc: A, model: &Model<A>) -> Result<(), Fail> {
+    fn end(&self, rt: &impl Abort, alloc: A, model: &Model<A>) -> Result<(), AllocError> {
         let run = Machine::run(alloc, model.copy()?, &self.events)?;
-        assert_eq!(rt; run.answers.as_slice(), self.answers.as_slice());
-        assert_eq!(rt; run.machine.edges(), self.machine.edges());
+        assert!(rt; self.is_as(&run));
         Ok(())
     }
+}
+
+impl<A: Allocator + Copy> Played<A> {
+    // Nothing of a new history.
+    fn start(&mut self, alloc: A, model: &Model<A>) -> Result<(), AllocError> {
+        *self = Played::new(alloc, model)?;
+        Ok(())
+    }
+
+    // A line begins a history, asks what the machine shows, or has an event.
+    fn follow(
+        &mut self,
+        rt: &impl Abort,
+        alloc: A,
+        models: &Models<A>,
+        line: &str,
+    ) -> Result<(), Fail> {
+        if line.starts_with("# ") {
+            self.end(rt, alloc, &models.model)?;
+            return Ok(self.start(alloc, &models.model)?);
+        }
+        match line.strip_prefix("? ") {
+            Some(asked) => self.ask(rt, alloc, models, asked),
+            None => self.take(rt, alloc, models, line),
+        }
+    }
+}
+
+// Plays the histories on these models.
+fn play_on<A: Allocator + Copy>(
+    rt: &impl Abort,
+    alloc: A,
+    models: &Models<A>,
+    histories: &str,
+) -> Result<(), Fail> {
+    let mut played = Played::new(alloc, &models.model)?;
+    for line in histories.lines() {
+        played.follow(rt, alloc, models, line)?;
+    }
+    Ok(played.end(rt, alloc, &models.model)?)
 }
 
 /// Plays the histories of the model that the text means.
@@ -88,16 +148,5 @@ pub fn play<A: Allocator + Copy>(
     histories: &str,
 ) -> Result<(), Fail> {
     let models = Models::of(alloc, model)?;
-    let mut played = Played::new(alloc, &models.model)?;
-    for line in histories.lines() {
-        if line.starts_with("# ") {
-            played.end(rt, alloc, &models.model)?;
-            played = Played::new(alloc, &models.model)?;
-        } else if let Some(asked) = line.strip_prefix("? ") {
-            played.ask(rt, alloc, &models, asked)?;
-        } else {
-            played.take(rt, alloc, &models, line)?;
-        }
-    }
-    played.end(rt, alloc, &models.model)
+    play_on(rt, alloc, &models, histories)
 }

@@ -4,7 +4,7 @@ use crate::models::Models;
 use acta_machine::Machine;
 use acta_objects::ObjectState;
 use acta_script::owed_line;
-use acta_table::{Edge, OpNo, Status, TxnId};
+use acta_table::{Edge, ObjId, OpNo, Status, TxnId};
 use acta_words::{push_integer, push_natural, push_word, read_u16};
 use std::alloc::{AllocError, Allocator};
 use std::test::Fail;
@@ -70,6 +70,48 @@ pub fn txn(word: &str) -> Result<TxnId, Fail> {
     Ok(TxnId(read_u16(word.as_bytes()).ok_or("a word is no transaction")?))
 }
 
+// Writes what the machine shows of a transaction.
+fn push_of_txn<A: Allocator + Copy>(
+    line: &mut Vec<u8, A>,
+    machine: &Machine<A>,
+    word: &str,
+    t: TxnId,
+) -> Result<(), Fail> {
+    match word {
+        "status" => Ok(push_word(line, status_word(machine.status(t)).as_bytes())?),
+        "access" => Ok(push_ops(line, &machine.access_set(t)?)?),
+        "conflict" => Ok(push_ops(line, &machine.conflict_set(t)?)?),
+        _ => Err("a line asks nothing")?,
+    }
+}
+
+// Writes the value of an object.
+fn push_object<A: Allocator + Copy>(
+    line: &mut Vec<u8, A>,
+    machine: &Machine<A>,
+    object: ObjId,
+) -> Result<(), AllocError> {
+    push_value(line, machine.value(object)?.as_ref())
+}
+
+// Writes what the machine shows of what is asked.
+fn push_shown<A: Allocator + Copy>(
+    alloc: A,
+    line: &mut Vec<u8, A>,
+    models: &Models<A>,
+    machine: &Machine<A>,
+    asked: &str,
+) -> Result<(), Fail> {
+    let (word, rest) = asked.split_once(' ').unwrap_or((asked, ""));
+    match word {
+        "view" => Ok(push_ops(line, &machine.view_set()?)?),
+        "value" => Ok(push_object(line, machine, models.object(rest)?)?),
+        "edges" => Ok(push_edges(line, machine.edges())?),
+        "owed" => Ok(push_debts(alloc, line, machine)?),
+        _ => push_of_txn(line, machine, word, txn(rest)?),
+    }
+}
+
 /// What the machine shows of what is asked: `status T`, `access T`, `conflict T`, `view`, `value OBJECT`, `edges`,
 /// `owed`.
 pub fn shown<A: Allocator + Copy>(
@@ -79,19 +121,6 @@ pub fn shown<A: Allocator + Copy>(
     asked: &str,
 ) -> Result<Vec<u8, A>, Fail> {
     let mut line = Vec::new(alloc);
-    let (word, rest) = asked.split_once(' ').unwrap_or((asked, ""));
-    match word {
-        "status" => push_word(
-            &mut line,
-            status_word(machine.status(txn(rest)?)).as_bytes(),
-        )?,
-        "access" => push_ops(&mut line, &machine.access_set(txn(rest)?)?)?,
-        "conflict" => push_ops(&mut line, &machine.conflict_set(txn(rest)?)?)?,
-        "view" => push_ops(&mut line, &machine.view_set()?)?,
-        "value" => push_value(&mut line, machine.value(models.object(rest)?)?.as_ref())?,
-        "edges" => push_edges(&mut line, machine.edges())?,
-        "owed" => push_debts(alloc, &mut line, machine)?,
-        _ => Err("a line asks nothing")?,
-    }
+    push_shown(alloc, &mut line, models, machine, asked)?;
     Ok(line)
 }

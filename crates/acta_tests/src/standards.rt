@@ -8,26 +8,28 @@ use std::alloc::Allocator;
 use std::process::Abort;
 use std::test::Fail;
 
-// The parts are those that the text means.
-fn is_meant<A: Allocator + Copy>(
-    rt: &impl Abort,
-    alloc: A,
-    parts: &Model<A>,
-    name: Standard,
-) -> Result<(), Fail> {
-    assert_eq!(rt;
-        print_model(alloc, parts)?.as_slice(),
-        name.text().as_bytes()
-    );
-    Ok(())
+// The model of this name, by its parts.
+fn model_named<A: Allocator + Copy>(alloc: A, name: Standard) -> Result<Model<A>, Fail> {
+    match name {
+        Standard::Atomic => atomic(alloc),
+        Standard::Nested => nested(alloc),
+        Standard::SplitJoin => split_join(alloc),
+        Standard::Recoverable => recoverable(alloc),
+        Standard::Contingent => contingent(alloc),
+    }
+}
+
+// Its canonical text.
+fn text_of<A: Allocator + Copy>(alloc: A, name: Standard) -> Result<Vec<u8, A>, Fail> {
+    let model = model_named(alloc, name)?;
+    Ok(print_model(alloc, &model)?)
 }
 
 fn are_meant<A: Allocator + Copy>(rt: &impl Abort, alloc: A) -> Result<(), Fail> {
-    is_meant(rt, alloc, &atomic(alloc)?, Standard::Atomic)?;
-    is_meant(rt, alloc, &nested(alloc)?, Standard::Nested)?;
-    is_meant(rt, alloc, &split_join(alloc)?, Standard::SplitJoin)?;
-    is_meant(rt, alloc, &recoverable(alloc)?, Standard::Recoverable)?;
-    is_meant(rt, alloc, &contingent(alloc)?, Standard::Contingent)
+    for name in Standard::ALL {
+        assert_eq!(rt; text_of(alloc, name)?.as_slice(), name.text().as_bytes());
+    }
+    Ok(())
 }
 
 #[test]

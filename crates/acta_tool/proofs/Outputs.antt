@@ -10,13 +10,13 @@ use Rattle.acta_tool.specs.declared.input.BadLine.{BadLine}
 use Rattle.acta_tool.specs.Output.{Said, told, told_last, run_on}
 
 -- the events' answers, and what is told last
-pub whole : {A : Type 0} (is_kept : Bool) (m : Parts A) (s : Said (Event A)) (events : List (Event A)) (stop : Option BadLine) (answers : List Answer) (state : State A) (first all : List ℕ)
+pub whole : {A : Type 0} (is_kept : Bool) (m : Parts A) (s : Said (Event A)) (events : List (Event A)) (stop : Option BadLine) (answers : List Answer) (state : State A) (all : List ℕ)
     → s ≡ record { said = events; stop = stop } → answers ≡ run_answers m events → state ≡ run_state m events
-    → first ≡ [] ++ text_of (told is_kept answers state) → all ≡ first ++ text_of (told_last is_kept state stop)
+    → all ≡ text_of (told is_kept answers state) ++ text_of (told_last is_kept state stop)
     → (record { is_refused = is_some stop; text = all }) ≡ run_on is_kept m s
 unfolding run_on
-whole is_kept m s events stop answers state first all said answered stands one two =
-    let texts : all ≡ text_of (told is_kept answers state ++ told_last is_kept state stop) = two ∙ ap (λ t. t ++ text_of (told_last is_kept state stop)) one ∙ sym (flat_map-append _ (told is_kept answers state) (told_last is_kept state stop)) in
+whole is_kept m s events stop answers state all said answered stands tells =
+    let texts : all ≡ text_of (told is_kept answers state ++ told_last is_kept state stop) = tells ∙ sym (flat_map-append _ (told is_kept answers state) (told_last is_kept state stop)) in
     (λ i. record { is_refused = is_some stop; text = texts i })
     ∙ (λ i. record { is_refused = is_some stop; text = text_of (told is_kept (answered i) (stands i) ++ told_last is_kept (stands i) stop) })
     ∙ sym (ap (run_on is_kept m) said)

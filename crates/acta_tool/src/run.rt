@@ -1,14 +1,15 @@
 //! The run of the tool over any reader and writer.
 
-ghost use Rattle.std.specs.Prelude.{◌≡◌, ◌≤◌, ◌<◌, ◌+◌, ◌⊎◌, false, length, vec_len, IfOk, IfErr, IfSome, MatchResult, None, Some};
+ghost use Rattle.std.specs.Prelude.{◌≡◌, ◌≤◌, ◌<◌, ◌+◌, ◌++◌, ◌⊎◌, false, length, vec_len, IfOk, IfErr, IfSome, MatchResult, None, Some};
 ghost use Rattle.acta_script.specs.Reading.{event_of};
 ghost use Rattle.acta_tool.specs.Outcome.{Answers, FailsBy, IsUnreadTooLong, KeepsUnread, WritesBy, input_of, is_drive, is_undriven, reads_input, reason_of};
-ghost use Rattle.acta_tool.specs.Output.{output_on, refused_model, run_on, said_in, tool_output};
+ghost use Rattle.acta_tool.specs.Output.{output_on, refused_model, run_on, said_in, told, told_last, tool_output};
+ghost use Rattle.acta_words.specs.Text.{text_of};
 ghost use Rattle.acta_tool.specs.declared.source.ReadFault.TheVariants.{TooMuch as too_much};
 ghost use Rattle.acta_tool.specs.inside.Reports.{output_of};
 
 use crate::args::{Args, Command};
-use crate::input::{EventLines, read_lines};
+use crate::input::{BadLine, EventLines, read_lines};
 use crate::models::{ModelError, NoModel, read_model};
 use crate::outcome::Outcome;
 use crate::sink::Sink;
@@ -16,7 +17,7 @@ use crate::source::{MOST_BYTES, ReadFault, Source, read_all};
 use crate::telling::{tell_end, tell_events, tell_no_model};
 use acta_image::write_image;
 use acta_lang::print_model;
-use acta_machine::Machine;
+use acta_machine::{Machine, Run};
 use acta_table::Model;
 use std::alloc::{AllocError, Allocator};
 
@@ -27,7 +28,23 @@ pub struct Report<A: Allocator> {
     pub is_refused: bool,
 }
 
-// What a run of the events tells: the answers and what is owed, or the kept events alone.
+// What is told of a run that this line stopped, if one did: the answers and what is owed, or the kept events alone.
+fn tell_run<A: Allocator + Copy>(
+    alloc: A,
+    is_kept: bool,
+    run: &Run<A>,
+    stop: Option<BadLine>,
+) -> Result<Vec<u8, A>, AllocError>
+    ensures { IfOk result (λ text. text.items ≡
+        text_of (told is_kept run.now.answers run.now.machine) ++ text_of (told_last is_kept run.now.machine stop)) }
+{
+    let mut text = Vec::new(alloc);
+    tell_events(alloc, is_kept, run, &mut text)?;
+    tell_end(alloc, is_kept, &run.machine, stop, &mut text)?;
+    Ok(text)
+}
+
+// What a run of the events of the input tells.
 fn run_model<A: Allocator + Copy>(
     alloc: A,
     is_kept: bool,
@@ -42,9 +59,7 @@ fn run_model<A: Allocator + Copy>(
     };
     let read = read_lines(alloc, &lines, input)?;
     let run = Machine::run(alloc, model, read.said.as_slice())?;
-    let mut text = Vec::new(alloc);
-    tell_events(alloc, is_kept, &run, &mut text)?;
-    tell_end(alloc, is_kept, &run.machine, read.stop, &mut text)?;
+    let text = tell_run(alloc, is_kept, &run, read.stop)?;
     Ok(Report {
         text,
         is_refused: read.stop.is_some(),

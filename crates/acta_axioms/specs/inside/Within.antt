@@ -1,6 +1,6 @@
 -- That the places of a course are among the first n.
 use Rattle.std.specs.Prelude.{ℕ, ◌≤◌, Option, Some, None, ⊤}
-use Rattle.acta_axioms.specs.History.{Course}
+use Rattle.acta_axioms.specs.declared.course.Course.{Course}
 
 -- the place is at most n, if there is one
 abbrev pub within : ℕ → Option ℕ → Type 0

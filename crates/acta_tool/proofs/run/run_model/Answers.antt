@@ -1,16 +1,13 @@
-use Rattle.std.proofs.Common.{ℕ, List, ◌++◌, ◌∙◌, ap}
+use Rattle.std.proofs.Common.{◌∙◌, ap}
 use Rattle.acta_machine.specs.Table.{run_answers, run_state}
-use Rattle.acta_tool.specs.Output.{told}
-use Rattle.acta_words.specs.Text.{text_of}
 use Rattle.acta_tool.proofs.Outputs.{whole}
 use Rattle.acta_tool.proofs.run.run_model.Goals as goal
 
 pub returns : goal.returns
 returns g c =
-    (λ i. record { is_refused = c.is_some.ensures i; text = c.tell_end.new.text.items })
-    ∙ whole c.args.is_kept c.args.model _ c.in_ok-read.read.said.items c.in_ok-read.read.stop c.in_ok-run.run'.answers c.in_ok-run.run'.machine c.tell_events.new.text.items c.tell_end.new.text.items
+    (λ i. record { is_refused = c.is_some.ensures i; text = c.in_ok-text.text.items })
+    ∙ whole c.args.is_kept c.args.model _ c.in_ok-read.read.said.items c.in_ok-read.read.stop c.in_ok-run.run'.answers c.in_ok-run.run'.machine c.in_ok-text.text.items
     c.in_ok-read.ensures.said
     (c.in_ok-run.ensures.answers ∙ ap (run_answers c.args.model) c.as_slice.ensures.value)
     (c.in_ok-run.ensures.machine ∙ ap (run_state c.args.model) c.as_slice.ensures.value)
-    (c.in_ok-tell_events.ensures ∙ ap (λ (t : List ℕ). t ++ text_of (told c.args.is_kept c.in_ok-run.run'.answers c.in_ok-run.run'.machine)) c.new-text.ensures.items)
-    c.in_ok-tell_end.ensures
+    c.in_ok-text.ensures

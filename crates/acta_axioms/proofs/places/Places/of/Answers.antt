@@ -1,5 +1,8 @@
-use Rattle.acta_axioms.proofs.Tracing.{index-made}
+use Rattle.std.proofs.Common.{◌<◌, length, arith, ◌∙◌}
+use Rattle.acta_axioms.proofs.Walking.{goes-on}
 use Rattle.acta_axioms.proofs.places.Places.of.Goals as goal
 
-pub invariant_of-result : goal.invariant_of-result
-invariant_of-result g c = index-made _ _ _ _ _ _ _ c.in_ok-firsts.ensures.courses c.in_ok-firsts.ensures.traced c.in_ok-firsts.ensures.heirs c.in_ok-firsts.ensures.onward c.in_ok-in_force.ensures
+pub loop-preserved : goal.loop-preserved
+loop-preserved g c =
+    let within : c.loop.counter < length c.args.kept.now = omega (arith, c.loop-test.true) in
+    c.in_ok-step.ensures.ok ∙ goes-on c.args.model.now c.args.kept.now c.loop.counter c.loop.walk within c.loop.invariant

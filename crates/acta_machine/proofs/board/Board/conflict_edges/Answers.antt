@@ -4,7 +4,7 @@ use Rattle.acta_table.specs.declared.model.Class.{Class}
 use Rattle.acta_table.specs.Policies.{edges_upon}
 use Rattle.acta_machine.specs.Conflicts.{opponents}
 use Rattle.acta_machine.specs.inside.Shown.{shown}
-use Rattle.acta_machine.proofs.Opponents.{upon-refuses}
+use Rattle.acta_axioms.proofs.Searches.{upon-refuses}
 use Rattle.acta_machine.proofs.board.Board.conflict_edges.Goals as goal
 
 -- a class that refuses forms none

@@ -2,7 +2,7 @@ use Rattle.std.proofs.Common.{◌<◌, arith, ◌++◌, ◌+◌, ◌-◌, ◌∷
 use Rattle.std.proofs.lemmas.List.{append_assoc}
 use Rattle.acta_table.specs.Ancestors.{ancestors_from}
 use Rattle.acta_machine.specs.inside.Shown.{shown}
-use Rattle.acta_machine.proofs.Lines.{line-next}
+use Rattle.acta_axioms.proofs.Searches.{line-next}
 use Rattle.acta_machine.proofs.board.Board.spared.Goals as goal
 
 pub loop-preserved : goal.loop-preserved

@@ -1,0 +1,126 @@
+-- What is found among the operations that a walk keeps is what the definitions name.
+use Rattle.std.proofs.Common.{if◌then◌else◌, ◌≡◌, ℕ, suc, ◌+◌, ◌-◌, ◌<◌, ◌==◌, Bool, true, false, ◌&&◌, ◌||◌, not, List, [], ◌∷◌, map, filter, Option, Some, None, refl, sym, ap, ◌∙◌, arith}
+use Rattle.std.specs.List.{list_any}
+use Rattle.std.specs.Ordering.{nat_cmp}
+use Rattle.std.specs.BTreeMap.{is_at}
+use Rattle.std.specs.Option.{option_map_or}
+use Rattle.std.proofs.lemmas.Bool.{false≢true}
+use Rattle.std.proofs.lemmas.List.Elements.{filter_agree}
+use Rattle.std.proofs.lemmas.Simd.{map-map}
+use Rattle.acta_table.specs.declared.event.Event.TheVariants.{Operate}
+use Rattle.acta_table.specs.declared.event.Kept.{Kept}
+use Rattle.acta_table.specs.declared.event.ObjId.{ObjId}
+use Rattle.acta_table.specs.declared.event.Op.{Op}
+use Rattle.acta_table.specs.declared.event.OpNo.{OpNo}
+use Rattle.acta_table.specs.declared.event.TxnId.{TxnId}
+use Rattle.acta_table.specs.declared.model.Class.{Class}
+use Rattle.acta_table.specs.declared.model.Kind.{Kind}
+use Rattle.acta_table.specs.declared.model.Parts.{Parts}
+use Rattle.acta_table.specs.declared.policy.Policy.{Policy}
+use Rattle.acta_table.specs.declared.policy.Policy.TheVariants.{Refuse, Depend}
+use Rattle.acta_table.specs.declared.dep.Edge.{Edge}
+use Rattle.acta_table.specs.declared.answer.Fate.{Fate}
+use Rattle.acta_table.specs.declared.answer.Fate.TheVariants.{InProgress, Committed, Aborted}
+use Rattle.acta_table.specs.Ancestors.{ancestors_from}
+use Rattle.acta_table.specs.Classes.{spares}
+use Rattle.acta_table.specs.Fates.{is_aborted}
+use Rattle.acta_table.specs.Numbered.{ascending}
+use Rattle.acta_table.specs.Policies.{refuses, edges_upon}
+use Rattle.acta_table.proofs.AscendingSets.{in-ascending}
+use Rattle.acta_objects.specs.Objects.{suits, first_state, state_after}
+use Rattle.acta_sets.specs.declared.held_op.HeldOp.{HeldOp}
+use Rattle.acta_axioms.specs.declared.seeking.Sought.TheVariants.{Held, Others, Against}
+use Rattle.acta_axioms.specs.History.{has_class, class_of, ancestors}
+use Rattle.acta_axioms.specs.Operations.{Operation, Standing, standing, operations, is_spared, is_of_others, access_set, conflict_set}
+use Rattle.acta_axioms.specs.Values.{do_conflict, conflicting, value}
+use Rattle.acta_axioms.specs.Edges.{holders_against, formed_by}
+use Rattle.acta_axioms.specs.Walks.{held_op, held_ops, op_numbers, live_on, live_ops}
+use Rattle.acta_axioms.specs.inside.Walking.{spared, spared_numbers, is_against, is_sought, numbers_of}
+use Rattle.acta_axioms.proofs.ByOperations.{holders-shown, value-shown}
+use Rattle.acta_axioms.proofs.Conflicts.{do_conflict-on}
+use Rattle.acta_axioms.proofs.Numbers.{numbers-shown}
+use Rattle.acta_axioms.proofs.ValueGrowth.{filter-both}
+
+-- the line of ancestors, walked one by one: what is left of it is the next of it, and what is left behind that one
+pub line-next : (n i : ℕ) (parent : ℕ → Option TxnId) (p : TxnId) (here next : Option TxnId) → i < n → here ≡ Some p → next ≡ parent p.0 → ancestors_from (n - i) parent here ≡ p ∷ ancestors_from (n - (i + 1)) parent next
+line-next n i parent p here next within is follows =
+    let more : n - i ≡ suc (n - (i + 1)) = omega (arith, within) in
+    (λ x. ancestors_from (more x) parent (is x)) ∙ ap (λ o. p ∷ ancestors_from (n - (i + 1)) parent o) (sym follows)
+
+-- one is in the set where it is spared
+by-number : (ts : List TxnId) (u : ℕ) → list_any (λ n. n == u) (map (λ t. t.0) ts) ≡ list_any (λ t. t.0 == u) ts
+by-number [] u = refl
+by-number (t ∷ ts) u = ap (λ b. (t.0 == u) || b) (by-number ts u)
+
+pub in-spared : {A : Type 0} (m : Parts A) (h : List (Kept A)) (t u : ℕ) → list_any (is_at (nat_cmp u)) (spared_numbers m h t) ≡ is_spared m h t u
+in-spared m h t u = in-ascending u (map (λ x. x.0) (spared m h t)) ∙ by-number (spared m h t) u ∙ of_test (has_class (λ k. spares k.scope) m h t)
+  where
+    of_test : (b : Bool) → list_any (λ a. a.0 == u) (if b then ancestors h t else []) ≡ (b && list_any (λ a. a.0 == u) (ancestors h t))
+    of_test true = refl
+    of_test false = refl
+
+-- an operation conflicts as it is kept where it does by the definitions
+against-tells : {A : Type 0} (m : Parts A) (h : List (Kept A)) (t object : ℕ) (op : Op) (o : Operation) (s : Standing) →
+    is_against m h t object op (held_op o s) ≡ (is_of_others m h t s && ((o.object == object) && do_conflict m object o.op op))
+against-tells m h t object op o s =
+    ap (λ b. (o.object == object) && (is_of_others m h t s && b)) (sym (do_conflict-on m object o.op op)) ∙ turned (o.object == object) (is_of_others m h t s) (do_conflict m object o.op op)
+  where
+    turned : (a b c : Bool) → (a && (b && c)) ≡ (b && (a && c))
+    turned true true c = refl
+    turned true false c = refl
+    turned false true c = refl
+    turned false false c = refl
+
+-- who holds those that conflict
+pub holders-found : {A : Type 0} (m : Parts A) (h : List (Kept A)) (t object : ℕ) (op : Op) → ascending (map (λ x. x.holder.0) (filter (is_against m h t object op) (held_ops m h))) ≡ holders_against m h t object op
+holders-found m h t object op =
+    ap ascending (sym (holders-shown m h t object op (λ o. held_op o (standing m h o)) (is_against m h t object op) (λ x. x.holder.0) (λ o. against-tells m h t object op o (standing m h o)) (λ o. refl)))
+
+-- the numbers of those that pass a test
+found : {A : Type 0} (m : Parts A) (h : List (Kept A)) (test : HeldOp → Bool) → numbers_of test (held_ops m h) ≡ op_numbers (filter (λ o. test (held_op o (standing m h o))) (operations h))
+found m h test =
+    let made : ℕ → OpNo = λ n. record { 0 = n } in
+    sym (ap (map made) (numbers-shown (λ o. held_op o (standing m h o)) test h)) ∙ map-map made (λ (o : Operation). o.number) (filter (λ o. test (held_op o (standing m h o))) (operations h))
+
+pub held-found : {A : Type 0} (m : Parts A) (h : List (Kept A)) (t : ℕ) → numbers_of (is_sought m h t Held) (held_ops m h) ≡ op_numbers (access_set m h t)
+held-found m h t = found m h (is_sought m h t Held)
+
+pub others-found : {A : Type 0} (m : Parts A) (h : List (Kept A)) (t : ℕ) → numbers_of (is_sought m h t Others) (held_ops m h) ≡ op_numbers (conflict_set m h t)
+others-found m h t = found m h (is_sought m h t Others)
+
+pub against-found : {A : Type 0} (m : Parts A) (h : List (Kept A)) (t : ℕ) (object : ObjId) (op : Op) → numbers_of (is_sought m h t (Against object op)) (held_ops m h) ≡ op_numbers (conflicting m h t object.0 op)
+against-found m h t object op =
+    found m h (is_sought m h t (Against object op))
+    ∙ ap op_numbers
+    (filter_agree (λ o. is_against m h t object.0 op (held_op o (standing m h o))) (λ o. is_of_others m h t (standing m h o) && ((o.object == object.0) && do_conflict m object.0 o.op op)) (λ o. against-tells m h t object.0 op o (standing m h o)) (operations h)
+    ∙ filter-both (λ o. is_of_others m h t (standing m h o)) (λ o. (o.object == object.0) && do_conflict m object.0 o.op op) (operations h))
+
+-- the value of an object
+pick_live : (here : Bool) (fate : Fate) (fits : Bool) (op : Op) →
+    (if here && not (is_aborted fate) && fits then Some op else None)
+    ≡ (if not (is_aborted fate) then (if here && fits then Some op else None) else None)
+pick_live true InProgress fits op = refl
+pick_live true Committed fits op = refl
+pick_live true Aborted fits op = refl
+pick_live false InProgress fits op = refl
+pick_live false Committed fits op = refl
+pick_live false Aborted fits op = refl
+
+pub value-found : {A : Type 0} (m : Parts A) (h : List (Kept A)) (items : List HeldOp) (object : ℕ) (kind : Kind) → items ≡ held_ops m h → state_after {A = A} (first_state kind) (live_ops kind items object) ≡ value m h object kind
+value-found {A} m h items object kind same =
+    ap (λ xs. state_after {A = A} (first_state kind) (live_ops kind xs object)) same
+    ∙ sym (value-shown m h object kind (λ o. held_op o (standing m h o)) (live_on kind object) (λ o. pick_live (o.object == object) (standing m h o).fate (suits kind o.op) o.op))
+
+-- edges of operations: where the class refuses none is formed
+pub upon-refuses : (policy : Policy) (t : TxnId) (us : List ℕ) → refuses policy ≡ true → edges_upon policy t us ≡ []
+upon-refuses Refuse t [] is = refl
+upon-refuses Refuse t (u ∷ us) is = upon-refuses Refuse t us is
+upon-refuses (Depend kinds) t us is = absurd (false≢true is)
+
+-- what an operation forms by the class of its transaction
+abbrev formed_under : {A : Type 0} → Parts A → List (Kept A) → TxnId → ObjId → Op → Option (Class A) → List Edge
+formed_under m h t object op class = option_map_or (λ k. edges_upon k.policy t (holders_against m h t.0 object.0 op)) class []
+
+pub upon-class : {A : Type 0} (m : Parts A) (h : List (Kept A)) (t : TxnId) (object : ObjId) (op : Op) (class : Option (Class A)) (es : List Edge) → class ≡ class_of m h t.0 →
+    es ≡ formed_under m h t object op class → es ≡ formed_by m h (Operate t object op)
+upon-class m h t object op class es is made = made ∙ ap (formed_under m h t object op) is

@@ -1,0 +1,81 @@
+-- What a walk keeps, one item further.
+use Rattle.std.proofs.Common.{subst, ◌≡◌, ℕ, zero, suc, ◌+◌, ◌<◌, List, [], ◌∷◌, ◌++◌, length, take, drop, get_or, Option, Some, refl, sym, ap, ◌∙◌, arith}
+use Rattle.std.specs.Prelude.{slice_get, option_to_list}
+use Rattle.std.specs.List.{All}
+use Rattle.std.proofs.lemmas.List.{take_more, length-drop}
+use Rattle.std.proofs.lemmas.Option.{none-some, same_Some}
+use Rattle.acta_table.specs.declared.dep.Edge.{Edge}
+use Rattle.acta_table.specs.declared.event.Kept.{Kept}
+use Rattle.acta_table.specs.declared.event.TxnId.{TxnId}
+use Rattle.acta_table.specs.declared.model.Parts.{Parts}
+use Rattle.acta_table.specs.Edges.{formed}
+use Rattle.acta_table.specs.Events.{named}
+use Rattle.acta_sets.specs.declared.held_op.HeldOp.{HeldOp}
+use Rattle.acta_axioms.specs.declared.lineage.Lineage.{Lineage}
+use Rattle.acta_axioms.specs.Edges.{formed_by, edges}
+use Rattle.acta_axioms.specs.Walks.{Walked, stepped, with_next, held_ops}
+use Rattle.acta_axioms.specs.inside.Holding.{brought_from, op_done}
+use Rattle.acta_axioms.specs.inside.Lineages.{unbegun, begun_in, further, heir_in}
+use Rattle.acta_axioms.specs.inside.Walking.{IsKept}
+use Rattle.acta_axioms.proofs.Bringing.{held_ops-push}
+use Rattle.acta_axioms.proofs.EdgeGrowth.{edges-push}
+use Rattle.acta_axioms.proofs.Lineages.{lines-more, heir-tabled}
+
+-- the item at the place that is reached
+pub record IsNext {A : Type 0} (h : List (Kept A)) (n : ℕ) (k : Kept A) : Type 0 where
+  pub within : n < length h
+  pub here : k ≡ get_or h n k
+  pub ahead : drop n h ≡ k ∷ drop (n + 1) h
+
+pub next-item : {A : Type 0} (h : List (Kept A)) (n : ℕ) (k : Kept A) → slice_get (drop n h) 0 ≡ Some k → IsNext h n k
+next-item [] zero k is = absurd (none-some k is)
+next-item [] (suc n) k is = absurd (none-some k is)
+next-item (x ∷ xs) zero k is =
+    let same = same_Some x k is in
+    record { within = omega arith; here = sym same; ahead = ap (λ q. q ∷ xs) same }
+next-item (x ∷ xs) (suc n) k is =
+    let later = next-item xs n k is in
+    let low : n < length xs = later.within in
+    let past : suc (n + 1) ≡ suc n + 1 = omega arith in
+    record { within = omega arith; here = later.here; ahead = later.ahead ∙ ap (λ j. k ∷ drop j (x ∷ xs)) past }
+
+-- the front with it
+pub front-more : {A : Type 0} (h : List (Kept A)) (n : ℕ) (k : Kept A) → IsNext h n k → take n h ++ k ∷ [] ≡ take (n + 1) h
+front-more h n k next = ap (λ q. take n h ++ q ∷ []) next.here ∙ sym (take_more h n k next.within)
+
+-- what is shown
+pub shown-more : {A : Type 0} (m : Parts A) (h : List (Kept A)) (n : ℕ) (k : Kept A) (w : Walked A) → IsNext h n k → (let v : Walked A = record { model = m; front = take n h; ahead = drop n h } in v) ≡ w →
+    (let v : Walked A = record { model = m; front = take (n + 1) h; ahead = drop (n + 1) h } in v) ≡ stepped w
+shown-more {A} m h n k w next is =
+    (λ i. let v : Walked A = record { model = m; front = sym (front-more h n k next) i; ahead = drop (n + 1) h } in v)
+    ∙ (λ i. with_next (record { model = m; front = take n h; ahead = drop n h }) (sym next.ahead i))
+    ∙ ap stepped is
+
+-- what is kept
+pub kept-more : {A : Type 0} (m : Parts A) (h : List (Kept A)) (n : ℕ) (k : Kept A) (lines new_lines : List Lineage) (items new_items : List HeldOp) (es new_es : List Edge) (left : Option TxnId) → IsNext h n k →
+    IsKept m h n lines items es → new_es ≡ formed es (formed_by m (take n h) k.event) → left ≡ heir_in m lines k.event → new_items ≡ brought_from left k.event 1 items ++ option_to_list (op_done k.event) →
+    length new_lines ≡ length lines → ((t : ℕ) → get_or new_lines t unbegun ≡ further (n + 1) (begun_in lines) k.event t (get_or lines t unbegun)) → IsKept m h (n + 1) new_lines new_items new_es
+kept-more m h n k lines new_lines items new_items es new_es left next kept formed_are left_is brought_are long noted =
+    let within : n < length h = next.within in
+    let front = front-more h n k next in
+    record {
+      within = omega arith;
+      few = kept.few;
+      wide = subst (λ c. All (λ q. All (λ t. t < c) (named q.event)) h) (sym long) kept.wide;
+      lines_are = lines-more h n k lines new_lines within kept.lines_are (λ t. noted t ∙ ap (λ (q : Kept _). further (n + 1) (begun_in lines) q.event t (get_or lines t unbegun)) next.here);
+      items_are =
+          brought_are
+          ∙ (λ i. brought_from ((left_is ∙ heir-tabled m (take n h) lines k.event kept.lines_are) i) k.event 1 (kept.items_are i) ++ option_to_list (op_done k.event))
+          ∙ held_ops-push m (take n h) k
+          ∙ ap (held_ops m) front;
+      edges_are = formed_are ∙ ap (λ fs. formed fs (formed_by m (take n h) k.event)) kept.edges_are ∙ sym (edges-push m (take n h) k) ∙ ap (edges m) front;
+    }
+
+-- a walk that goes on behind the first n items
+pub goes-on : {A : Type 0} (m : Parts A) (h : List (Kept A)) (n : ℕ) (w : Walked A) → n < length h → w ≡ record { model = m; front = take n h; ahead = drop n h } →
+    stepped w ≡ record { model = m; front = take (n + 1) h; ahead = drop (n + 1) h }
+goes-on {A} m h n w within is = of_ahead (drop n h) refl
+  where
+    of_ahead : (ks : List (Kept A)) → drop n h ≡ ks → stepped w ≡ record { model = m; front = take (n + 1) h; ahead = drop (n + 1) h }
+    of_ahead [] none = let long = length-drop n h in let some = ap length none in absurd (omega (arith, within, long, some))
+    of_ahead (k ∷ ks) some = sym (shown-more m h n k w (next-item h n k (ap (λ xs. slice_get xs 0) some)) (sym is))

@@ -1,0 +1,7 @@
+use Rattle.std.proofs.Common.{◌∙◌}
+use Rattle.std.proofs.lemmas.Result.{IfOk-weaker}
+use Rattle.acta_axioms.proofs.Searches.{against-found}
+use Rattle.acta_axioms.proofs.walk.Walk.conflicting.Goals as goal
+
+pub returns : goal.returns
+returns g c = IfOk-weaker c.seek.result _ _ (λ _ seen. seen ∙ against-found c.args.self.now.model c.args.self.now.front c.args.t.0 c.args.object c.args.op.now) c.seek.ensures

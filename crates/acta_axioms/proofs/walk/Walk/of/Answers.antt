@@ -1,0 +1,22 @@
+use Rattle.std.proofs.Common.{◌≡◌, ◌+◌, length, ap, arith, ◌∙◌}
+use Rattle.std.proofs.Math.ListN.{replicate}
+use Rattle.std.proofs.lemmas.List.{length-replicate}
+use Rattle.acta_axioms.specs.inside.Lineages.{unbegun}
+use Rattle.acta_axioms.proofs.Lineages.{lines-blank}
+use Rattle.acta_axioms.proofs.Named.{named-below}
+use Rattle.acta_axioms.proofs.walk.Walk.of.Goals as goal
+
+pub invariant_of-result : goal.invariant_of-result
+invariant_of-result g c =
+    let h = c.args.kept.now in
+    let lines = c.in_ok-lines.lines.items in
+    let blank : lines ≡ replicate (c.largest_named.result + 1) unbegun = c.in_ok-lines.ensures.items_if_clones_equal (λ y same. same) in
+    let long = ap length blank ∙ length-replicate (c.largest_named.result + 1) unbegun in
+    record {
+      within = omega arith;
+      few = c.requires;
+      wide = named-below h c.largest_named.result (length lines) (omega (arith, long)) c.largest_named.ensures;
+      lines_are = λ t. lines-blank h lines (c.largest_named.result + 1) t blank;
+      items_are = c.new.ensures.items;
+      edges_are = c.new-2.ensures.empty;
+    }

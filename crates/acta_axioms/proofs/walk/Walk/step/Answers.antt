@@ -1,0 +1,51 @@
+use Rattle.std.proofs.Common.{subst, ◌≡◌, ◌<◌, ◌+◌, ◌++◌, length, get_or, sym, ap, arith, ◌∙◌}
+use Rattle.std.specs.Prelude.{slice_get, option_to_list}
+use Rattle.std.specs.List.{All}
+use Rattle.std.specs.Option.{option_copied}
+use Rattle.acta_table.specs.Edges.{formed}
+use Rattle.acta_table.specs.Events.{named}
+use Rattle.acta_axioms.specs.Edges.{formed_by}
+use Rattle.acta_axioms.specs.inside.Holding.{brought_from, op_done}
+use Rattle.acta_axioms.specs.inside.Lineages.{unbegun, begun_in, further, heir_in}
+use Rattle.acta_axioms.proofs.Tables.{written_back}
+use Rattle.acta_axioms.proofs.Walking.{IsNext, next-item, shown-more, kept-more}
+use Rattle.acta_axioms.proofs.walk.Walk.step.Goals as goal
+
+pub note-requires : goal.note-requires
+note-requires g c =
+    let h = c.self.inside.kept.now in
+    let n = c.self.inside.taken in
+    let k = c.in-Some.item.now in
+    let next : IsNext h n k = next-item h n k (ap (λ w. slice_get w.ahead 0) c.self.view_is ∙ sym c.next.ensures ∙ ap option_copied c.in-Some.is) in
+    let here : All (λ t. t < length c.self.inside.lines.items) (named k.event) =
+    subst (λ q. All (λ t. t < length c.self.inside.lines.items) (named q.event)) (sym next.here) (c.self.invariant.wide n k next.within) in
+    subst (λ rows. All (λ t. t < length rows) (named k.event)) (sym c.as_mut_slice.ensures.value) here
+
+pub invariant_of-self-2 : goal.invariant_of-self-2
+invariant_of-self-2 g c =
+    let m = c.self.inside.model.now in
+    let h = c.self.inside.kept.now in
+    let n = c.self.inside.taken in
+    let k = c.in-Some.item.now in
+    let lines = c.self.inside.lines.items in
+    let items = c.self.inside.operations.items in
+    let es = c.self.inside.edges.keys in
+    let next : IsNext h n k = next-item h n k (ap (λ w. slice_get w.ahead 0) c.self.view_is ∙ sym c.next.ensures ∙ ap option_copied c.in-Some.is) in
+    let lent = c.as_mut_slice.ensures.value in
+    let long : length c.note.new.lines ≡ length lines = c.note.ensures.long ∙ ap length lent in
+    let back = written_back c.self.inside.lines.len c.note.new.lines lines long (omega (arith, c.self.inside.lines.ok.0)) in
+    let due = c.in_ok-due.ensures ∙ sym (ap (λ w. formed_by w.model w.front k.event) c.self.view_is) in
+    kept-more m h n k lines _ items c.follow.new.items.items es c.form_all.new.edges.keys c.heir_of-heir.result next c.self.invariant
+    (c.in_ok-form_all.ensures.formed ∙ ap (formed es) (c.as_slice.ensures.value ∙ due))
+    (c.heir_of-heir.ensures ∙ ap (λ rows. heir_in m rows k.event) c.as_slice-2.ensures.value)
+    (c.follow.ensures ∙ ap (λ xs. brought_from c.heir_of-heir.result k.event 1 xs ++ option_to_list (op_done k.event)) c.in_ok-reserve.ensures.items)
+    (ap length back ∙ long)
+    (λ t. ap (λ rows. get_or rows t unbegun) back ∙ c.note.ensures.further t ∙ ap (λ rows. further (n + 1) (begun_in rows) k.event t (get_or rows t unbegun)) lent)
+
+pub returns-clause-ok : goal.returns-clause-ok
+returns-clause-ok g c =
+    let h = c.self.inside.kept.now in
+    let n = c.self.inside.taken in
+    let k = c.in-Some.item.now in
+    let next : IsNext h n k = next-item h n k (ap (λ w. slice_get w.ahead 0) c.self.view_is ∙ sym c.next.ensures ∙ ap option_copied c.in-Some.is) in
+    shown-more c.self.inside.model.now h n k c.args.self.now next c.self.view_is

@@ -1,0 +1,56 @@
+-- What a walk through a history is seen as: the items that it has taken, and those ahead.
+use Rattle.std.specs.Prelude.{ℕ, ◌&&◌, ◌==◌, List, [], ◌∷◌, ◌++◌, map, filter_map, if◌then◌else◌, Option, Some, None}
+use Rattle.acta_table.specs.declared.event.Kept.{Kept}
+use Rattle.acta_table.specs.declared.event.Op.{Op}
+use Rattle.acta_table.specs.declared.event.OpNo.{OpNo}
+use Rattle.acta_table.specs.declared.model.Kind.{Kind}
+use Rattle.acta_table.specs.declared.model.Parts.{Parts}
+use Rattle.acta_objects.specs.Objects.{suits}
+use Rattle.acta_sets.specs.declared.held_op.HeldOp.{HeldOp}
+use Rattle.acta_sets.specs.Operations.{is_live}
+use Rattle.acta_axioms.specs.Operations.{Operation, Standing, standing, operations}
+
+-- a model, the items in front of the place that is reached, and those from it on
+pub record Walked (A : Type 0) : Type 0 where
+  pub model : Parts A
+  pub front : List (Kept A)
+  pub ahead : List (Kept A)
+
+-- the same, where these are ahead and one of them, if there is one, is taken
+abbrev pub with_next : {A : Type 0} → Walked A → List (Kept A) → Walked A
+with_next w [] = w
+with_next w (k ∷ ks) = record { model = w.model; front = w.front ++ k ∷ []; ahead = ks }
+
+-- one item further; at the end of the history it stays
+abbrev pub stepped : {A : Type 0} → Walked A → Walked A
+stepped w = with_next w w.ahead
+
+-- an operation that stands so
+abbrev pub held_op : Operation → Standing → HeldOp
+held_op o s = record {
+  ob = record { 0 = o.object };
+  op = o.op;
+  holder = record { 0 = s.holder };
+  fate = s.fate;
+}
+
+-- the operations of a history, with holders and fates
+abbrev pub held_ops : {A : Type 0} → Parts A → List (Kept A) → List HeldOp
+held_ops m h = map (λ o. held_op o (standing m h o)) (operations h)
+
+-- the operation, if it is on this object, of its kind, and not aborted
+abbrev pub live_on : Kind → ℕ → HeldOp → Option Op
+live_on kind object i = if (i.ob.0 == object) && is_live i && suits kind i.op then Some i.op else None
+
+-- the operations on an object of this kind that count for its value
+abbrev pub live_ops : Kind → List HeldOp → ℕ → List Op
+live_ops kind items object = filter_map (live_on kind object) items
+
+-- the numbers of operations
+abbrev pub op_numbers : List Operation → List OpNo
+op_numbers os = map (λ o. record { 0 = o.number }) os
+
+-- a model and a history
+pub record ModelAndHistory (A : Type 0) : Type 0 where
+  pub model : Parts A
+  pub history : List (Kept A)

@@ -1,0 +1,61 @@
+-- What a walk keeps, and what it looks for in it: the words of the code's own contracts.
+use Rattle.std.specs.Prelude.{ℕ, ◌≡◌, ◌≤◌, ◌<◌, Bool, ◌&&◌, ◌==◌, List, length, map, take, get_or, if◌then◌else◌, []}
+use Rattle.std.specs.List.{All}
+use Rattle.acta_table.specs.declared.dep.Edge.{Edge}
+use Rattle.acta_table.specs.declared.event.Kept.{Kept}
+use Rattle.acta_table.specs.declared.event.Op.{Op}
+use Rattle.acta_table.specs.declared.event.OpNo.{OpNo}
+use Rattle.acta_table.specs.declared.event.TxnId.{TxnId}
+use Rattle.acta_table.specs.declared.limits.TheConstants.{MOST_EVENTS}
+use Rattle.acta_table.specs.declared.model.Parts.{Parts}
+use Rattle.acta_table.specs.Classes.{spares}
+use Rattle.acta_table.specs.Events.{named}
+use Rattle.acta_table.specs.Numbered.{numbers_where, ascending}
+use Rattle.acta_objects.specs.Conflicts.{conflict_on}
+use Rattle.acta_sets.specs.declared.held_op.HeldOp.{HeldOp}
+use Rattle.acta_axioms.specs.declared.lineage.Lineage.{Lineage}
+use Rattle.acta_axioms.specs.declared.seeking.Sought.{Sought}
+use Rattle.acta_axioms.specs.declared.seeking.Sought.TheVariants.{Held, Others, Against}
+use Rattle.acta_axioms.specs.History.{has_class, ancestors}
+use Rattle.acta_axioms.specs.Operations.{Standing, is_held_by, is_of_others}
+use Rattle.acta_axioms.specs.Edges.{edges}
+use Rattle.acta_axioms.specs.Walks.{held_ops}
+use Rattle.acta_axioms.specs.inside.Lineages.{unbegun, lineage}
+
+-- what is kept is what the definitions give behind the first n items: the lineage of each transaction, the
+-- operations, and the edges
+pub record IsKept {A : Type 0} (m : Parts A) (h : List (Kept A)) (n : ℕ)
+    (lines : List Lineage) (items : List HeldOp) (formed : List Edge) : Type 0 where
+  pub within : n ≤ length h
+  pub few : length h ≤ MOST_EVENTS
+  pub wide : All (λ k. All (λ t. t < length lines) (named k.event)) h
+  pub lines_are : (t : ℕ) → get_or lines t unbegun ≡ lineage (take n h) t
+  pub items_are : items ≡ held_ops m (take n h)
+  pub edges_are : formed ≡ edges m (take n h)
+
+-- how the operation stands
+abbrev pub standing_in : HeldOp → Standing
+standing_in x = record { holder = x.holder.0; fate = x.fate }
+
+-- the ancestors of t that its class leaves out of its conflict set
+abbrev pub spared : {A : Type 0} → Parts A → List (Kept A) → ℕ → List TxnId
+spared m h t = if has_class (λ k. spares k.scope) m h t then ancestors h t else []
+
+-- the same by number, ascending, each once
+abbrev pub spared_numbers : {A : Type 0} → Parts A → List (Kept A) → ℕ → List ℕ
+spared_numbers m h t = ascending (map (λ u. u.0) (spared m h t))
+
+-- whether the operation is on this object and of t's conflict set, and conflicts with one of t
+abbrev pub is_against : {A : Type 0} → Parts A → List (Kept A) → ℕ → ℕ → Op → HeldOp → Bool
+is_against m h t object op x =
+    (x.ob.0 == object) && (is_of_others m h t (standing_in x) && conflict_on m object x.op op)
+
+-- whether the operation is one of those that are looked for
+abbrev pub is_sought : {A : Type 0} → Parts A → List (Kept A) → ℕ → Sought → HeldOp → Bool
+is_sought m h t Held x = is_held_by t (standing_in x)
+is_sought m h t Others x = is_of_others m h t (standing_in x)
+is_sought m h t (Against object op) x = is_against m h t object.0 op x
+
+-- the numbers of the operations that pass
+abbrev pub numbers_of : (HeldOp → Bool) → List HeldOp → List OpNo
+numbers_of test items = map (λ n. record { 0 = n }) (numbers_where test items)

@@ -1,0 +1,55 @@
+ghost use Rattle.std.specs.Prelude.{◌≡◌, ◌&&◌, not, is_some};
+ghost use Rattle.acta_axioms.specs.History.{least, end};
+
+/// The first places of a transaction's start, of its commit, its abort and its join, from 1 on: ACTA's
+/// initiation and terminations, begun or not. `None` where there is no such place.
+#[derive(Clone, Copy, PartialEq, Eq, Debug)]
+pub struct Course {
+    pub start: Option<u32>,
+    pub commit: Option<u32>,
+    pub abort: Option<u32>,
+    pub join: Option<u32>,
+}
+
+// The smaller of two places, of those that are there.
+fn least(m: Option<u32>, n: Option<u32>) -> Option<u32>
+    ensures { result ≡ least m n }
+{
+    match m {
+        Some(m) => match n {
+            Some(n) => Some(m.min(n)),
+            None => Some(m),
+        },
+        None => n,
+    }
+}
+
+impl Course {
+    /// Where the transaction first ended, in any way.
+    pub fn end(self) -> Option<u32>
+        ensures { result ≡ end self }
+    {
+        least(self.commit, least(self.abort, self.join))
+    }
+
+    /// Whether the transaction has started.
+    pub fn has_begun(self) -> bool
+        ensures { result ≡ is_some self.start }
+    {
+        self.start.is_some()
+    }
+
+    /// Whether the transaction has ended, also where it never started.
+    pub fn has_ended(self) -> bool
+        ensures { result ≡ is_some (end self) }
+    {
+        self.end().is_some()
+    }
+
+    /// Whether the transaction has started and not ended.
+    pub fn is_in_progress(self) -> bool
+        ensures { result ≡ (is_some self.start && not (is_some (end self))) }
+    {
+        self.has_begun() && !self.has_ended()
+    }
+}

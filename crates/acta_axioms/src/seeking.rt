@@ -1,0 +1,166 @@
+ghost use Rattle.std.specs.Prelude.{◌≡◌, map, IfOk};
+ghost use Rattle.acta_table.specs.Numbered.{ascending};
+ghost use Rattle.acta_table.specs.Classes.{spares};
+ghost use Rattle.acta_objects.specs.Conflicts.{conflict_on};
+ghost use Rattle.acta_axioms.specs.History.{has_class, ancestors};
+ghost use Rattle.acta_axioms.specs.Edges.{holders_against};
+ghost use Rattle.acta_axioms.specs.Walks.{held_ops};
+ghost use Rattle.acta_axioms.specs.Operations.{is_spared, is_of_others};
+ghost use Rattle.acta_axioms.specs.inside.Walking.{standing_in, spared_numbers, is_against, is_sought, numbers_of};
+
+use crate::walk::Walk;
+use acta_objects::ObjectState;
+use acta_sets::HeldOp;
+use acta_table::{Fate, ObjId, Op, OpNo, Scope, TxnId};
+use std::alloc::{AllocError, Allocator};
+use std::collections::BTreeSet;
+
+/// What is looked for among the operations, for a transaction.
+#[derive(Clone, Copy)]
+pub enum Sought {
+    /// Those that it holds in progress: ACTA's access set.
+    Held,
+    /// Those in progress that others hold: ACTA's conflict set.
+    Others,
+    /// Those of its conflict set that conflict with this operation on this object.
+    Against(ObjId, Op),
+}
+
+impl<'a, A: Allocator + Copy> Walk<'a, A> {
+    // The allocator of the lists.
+    pub(crate) fn allocator(&self) -> A {
+        *self.operations.allocator()
+    }
+
+    // The ancestors of the transaction. `Err` where there is no memory.
+    fn ancestors(&self, t: TxnId) -> Result<BTreeSet<u16, A>, AllocError>
+        ensures { IfOk result (λ numbers. numbers.keys ≡ ascending (map (λ u. u.0) (ancestors self.now.front t.0))) }
+    {
+        let mut numbers = BTreeSet::new(self.allocator());
+        let mut next = self.parent(t);
+        for _ in 0..self.front().len() {
+            let Some(parent) = next else {
+                break;
+            };
+            numbers.insert(parent.0)?;
+            next = self.parent(parent);
+        }
+        Ok(numbers)
+    }
+
+    // Whether the transaction's class leaves its ancestors out of its conflict set.
+    fn spares_ancestors(&self, t: TxnId) -> bool
+        ensures { result ≡ has_class (λ k. spares k.scope) self.now.model self.now.front t.0 }
+    {
+        match self.class(t) {
+            Some(class) => matches!(class.scope, Scope::NonAncestors),
+            None => false,
+        }
+    }
+
+    // The ancestors of the transaction that its class leaves out of its conflict set. `Err` where there is no
+    // memory.
+    fn spared_numbers(&self, t: TxnId) -> Result<BTreeSet<u16, A>, AllocError>
+        ensures { IfOk result (λ numbers. numbers.keys ≡ spared_numbers self.now.model self.now.front t.0) }
+    {
+        if self.spares_ancestors(t) {
+            self.ancestors(t)
+        } else {
+            Ok(BTreeSet::new(self.allocator()))
+        }
+    }
+
+    // Whether u is among those whom t spares.
+    fn is_spared(&self, t: TxnId, spared: &BTreeSet<u16, A>, u: TxnId) -> bool
+        requires { spared.now.keys ≡ spared_numbers self.now.model self.now.front t.0 }
+        ensures { result ≡ is_spared self.now.model self.now.front t.0 u.0 }
+    {
+        spared.contains(&u.0)
+    }
+
+    // Whether the operation is in the transaction's conflict set, which spares these.
+    fn is_of_others(&self, t: TxnId, spared: &BTreeSet<u16, A>, item: &HeldOp) -> bool
+        requires { spared.now.keys ≡ spared_numbers self.now.model self.now.front t.0 }
+        ensures { result ≡ is_of_others self.now.model self.now.front t.0 (standing_in item.now) }
+    {
+        matches!(item.fate, Fate::InProgress)
+            && item.holder.0 != t.0
+            && !self.is_spared(t, spared, item.holder)
+    }
+
+    // Whether two operations on the object conflict.
+    fn do_conflict(&self, object: ObjId, p: &Op, q: &Op) -> bool
+        ensures { result ≡ conflict_on self.now.model object.0 p.now q.now }
+    {
+        match self.model.object(object) {
+            Some(object) => ObjectState::<A>::conflicts(&object.kind, p, q),
+            None => false,
+        }
+    }
+
+    // Whether the operation is on this object and in the transaction's conflict set, which spares these, and
+    // conflicts with this one.
+    fn is_against(
+        &self,
+        t: TxnId,
+        spared: &BTreeSet<u16, A>,
+        object: ObjId,
+        op: &Op,
+        item: &HeldOp,
+    ) -> bool
+        requires { spared.now.keys ≡ spared_numbers self.now.model self.now.front t.0 }
+        ensures { result ≡ is_against self.now.model self.now.front t.0 object.0 op.now item.now }
+    {
+        item.ob.0 == object.0
+            && self.is_of_others(t, spared, item)
+            && self.do_conflict(object, &item.op, op)
+    }
+
+    // Whether the operation is one of those that are looked for, for a transaction that spares these.
+    fn is_sought(&self, t: TxnId, spared: &BTreeSet<u16, A>, sought: &Sought, item: &HeldOp) -> bool
+        requires { spared.now.keys ≡ spared_numbers self.now.model self.now.front t.0 }
+        ensures { result ≡ is_sought self.now.model self.now.front t.0 sought.now item.now }
+    {
+        match sought {
+            Sought::Held => matches!(item.fate, Fate::InProgress) && item.holder.0 == t.0,
+            Sought::Others => self.is_of_others(t, spared, item),
+            Sought::Against(object, op) => self.is_against(t, spared, *object, op, item),
+        }
+    }
+
+    /// The numbers of the operations that are looked for, ascending. `Err` where there is no memory.
+    pub(crate) fn seek(&self, t: TxnId, sought: &Sought) -> Result<Vec<OpNo, A>, AllocError>
+        ensures { IfOk result (λ numbers. numbers.items ≡ numbers_of (is_sought self.now.model self.now.front t.0 sought.now) (held_ops self.now.model self.now.front)) }
+    {
+        let spared = self.spared_numbers(t)?;
+        let mut numbers = Vec::new(self.allocator());
+        let mut number = 1u32;
+        for item in self.operations() {
+            if self.is_sought(t, &spared, sought, item) {
+                numbers.push(OpNo(number))?;
+            }
+            number += 1;
+        }
+        Ok(numbers)
+    }
+
+    /// Who holds the operations of t's conflict set that an operation of t on the object conflicts with. `Err`
+    /// where there is no memory.
+    pub(crate) fn holders_against(
+        &self,
+        t: TxnId,
+        object: ObjId,
+        op: &Op,
+    ) -> Result<BTreeSet<u16, A>, AllocError>
+        ensures { IfOk result (λ holders. holders.keys ≡ holders_against self.now.model self.now.front t.0 object.0 op.now) }
+    {
+        let spared = self.spared_numbers(t)?;
+        let mut holders = BTreeSet::new(self.allocator());
+        for item in self.operations() {
+            if self.is_against(t, &spared, object, op, item) {
+                holders.insert(item.holder.0)?;
+            }
+        }
+        Ok(holders)
+    }
+}

@@ -1,0 +1,196 @@
+ghost use Rattle.std.specs.Prelude.{◌≡◌, ◌≤◌, ◌+◌, [], length, map, option_map, IfOk, OnOk, OnErr};
+ghost use Rattle.std.specs.Option.{option_copied};
+ghost use Rattle.std.specs.Prelude.{slice_get};
+ghost use Rattle.acta_table.specs.Classes.{kind_at};
+ghost use Rattle.acta_axioms.specs.History.{course, class_of, parent_of};
+ghost use Rattle.acta_axioms.specs.Operations.{access_set, conflict_set};
+ghost use Rattle.acta_axioms.specs.Values.{value, conflicting};
+ghost use Rattle.acta_axioms.specs.Edges.{edges};
+ghost use Rattle.acta_axioms.specs.Walks.{stepped, held_ops, op_numbers};
+ghost use Rattle.acta_axioms.specs.inside.Lineages.{lineage};
+
+use crate::course::Course;
+use crate::forming::{Formed, form_all};
+use crate::holding::follow;
+use crate::lineage::{Lineage, UNBEGUN, heir_of, largest_named, lineage_of, note};
+use crate::seeking::Sought;
+use crate::values::value_after;
+use acta_objects::ObjectState;
+use acta_sets::HeldOp;
+use acta_table::{Class, Edge, Kept, MOST_EVENTS, Model, ObjId, Op, OpNo, TxnId};
+use indexmap::IndexSet;
+use std::alloc::{AllocError, Allocator};
+
+/// A walk through a list of kept items, legal or not, from its front (ours): it answers what stands before the
+/// place that it has reached, as ACTA speaks of histories. Contracts see the model, the items in front of that
+/// place, and those from it on.
+#[derive(Drop)]
+pub struct Walk<'a, A: Allocator> {
+    pub(crate) model: &'a Model<A>,
+    kept: &'a [Kept<A>],
+    pub(crate) taken: usize,
+    pub(crate) lines: Vec<Lineage, A>,
+    pub(crate) operations: Vec<HeldOp, A>,
+    edges: Formed<A>,
+}
+
+impl<'a, A: Allocator> std::marker::Model for Walk<'a, A> {
+    ghost use Rattle.std.specs.Prelude.{take, drop};
+    ghost use Rattle.acta_axioms.specs.Walks.{Walked};
+    ghost use Rattle.acta_axioms.specs.inside.Walking.{IsKept};
+
+    ghost Value = { Walked A };
+
+    ghost view = { λ w. record { model = w.model.now; front = take w.taken w.kept.now; ahead = drop w.taken w.kept.now } };
+
+    ghost invariant = { λ w. IsKept w.model.now w.kept.now w.taken w.lines.items w.operations.items w.edges.keys };
+}
+
+impl<'a, A: Allocator + Copy> Walk<'a, A> {
+    /// A walk that stands before the first place of a list of at most `MOST_EVENTS` items. `Err` where there is no
+    /// memory.
+    pub fn of(alloc: A, model: &'a Model<A>, kept: &'a [Kept<A>]) -> Result<Walk<'a, A>, AllocError>
+        requires { length kept.now ≤ MOST_EVENTS }
+        ensures { IfOk result (λ walk. walk ≡ record { model = model.now; front = []; ahead = kept.now }) }
+    {
+        let line = UNBEGUN;
+        let lines = vec![in alloc; line; largest_named(kept) as usize + 1]?;
+        Ok(Walk {
+            model,
+            kept,
+            taken: 0,
+            lines,
+            operations: Vec::new(alloc),
+            edges: IndexSet::new(alloc),
+        })
+    }
+
+    /// Goes one item further, if one is ahead. `Err` where there is no memory, and then the walk stays where it was.
+    pub fn step(&mut self) -> Result<(), AllocError>
+        ensures ok { OnOk result (self.new ≡ stepped self.old) }
+        ensures err { OnErr result (self.new ≡ self.old) }
+    {
+        let Some(item) = self.next() else {
+            return Ok(());
+        };
+        let due = self.edges_due(&item.event)?;
+        self.operations.reserve(1)?;
+        form_all(&mut self.edges, due.as_slice())?;
+        let heir = heir_of(self.model, self.lines.as_slice(), &item.event);
+        follow(heir, &item.event, &mut self.operations);
+        self.taken += 1;
+        note(self.lines.as_mut_slice(), self.taken as u32, &item.event);
+        Ok(())
+    }
+
+    /// The operations that the transaction holds in progress (ACTA's access set), by number, ascending. `Err` where
+    /// there is no memory.
+    pub fn access_set(&self, t: TxnId) -> Result<Vec<OpNo, A>, AllocError>
+        ensures { IfOk result (λ ops. ops.items ≡ op_numbers (access_set self.now.model self.now.front t.0)) }
+    {
+        self.seek(t, &Sought::Held)
+    }
+
+    /// The operations in progress that others hold, but for ancestors that the transaction's class leaves out
+    /// (ACTA's conflict set), by number, ascending. `Err` where there is no memory.
+    pub fn conflict_set(&self, t: TxnId) -> Result<Vec<OpNo, A>, AllocError>
+        ensures { IfOk result (λ ops. ops.items ≡ op_numbers (conflict_set self.now.model self.now.front t.0)) }
+    {
+        self.seek(t, &Sought::Others)
+    }
+
+    /// The operations of the transaction's conflict set with which this operation on this object conflicts (ACTA's
+    /// conflict), by number, ascending. `Err` where there is no memory.
+    pub fn conflicting(&self, t: TxnId, object: ObjId, op: &Op) -> Result<Vec<OpNo, A>, AllocError>
+        ensures { IfOk result (λ ops. ops.items ≡ op_numbers (conflicting self.now.model self.now.front t.0 object.0 op.now)) }
+    {
+        self.seek(t, &Sought::Against(object, *op))
+    }
+
+    /// The value of the object: its first value, with the operations on it that are not aborted, in order. `None`
+    /// where it is not in the model. `Err` where there is no memory.
+    pub fn value(&self, object: ObjId) -> Result<Option<ObjectState<A>>, AllocError>
+        ensures { IfOk result (λ state. state ≡ option_map (value self.now.model self.now.front object.0) (kind_at self.now.model object.0)) }
+    {
+        match self.model.object(object) {
+            Some(of) => Ok(Some(value_after(
+                *self.operations.allocator(),
+                &of.kind,
+                self.operations(),
+                object,
+            )?)),
+            None => Ok(None),
+        }
+    }
+}
+
+impl<'a, A: Allocator> Walk<'a, A> {
+    /// The model.
+    pub fn model(&self) -> &'a Model<A>
+        ensures { result.now ≡ self.now.model }
+    {
+        self.model
+    }
+
+    /// The item at the place that is reached. `None` at the end of the list.
+    pub fn next(&self) -> Option<&'a Kept<A>>
+        ensures { option_copied result ≡ slice_get self.now.ahead 0 }
+    {
+        self.kept.get(self.taken)
+    }
+
+    /// The items in front of the place that is reached.
+    pub fn front(&self) -> &'a [Kept<A>]
+        ensures front { result.now ≡ self.now.front }
+        ensures few { length result.now ≤ MOST_EVENTS }
+    {
+        &self.kept[..self.taken]
+    }
+
+    // What is known of the transaction.
+    fn line(&self, t: TxnId) -> Lineage
+        ensures { result ≡ lineage self.now.front t.0 }
+    {
+        lineage_of(self.lines.as_slice(), t)
+    }
+
+    /// The first places of the transaction's start, commit, abort and join.
+    pub fn course(&self, t: TxnId) -> Course
+        ensures { result ≡ course self.now.front t.0 }
+    {
+        self.line(t).course
+    }
+
+    /// The class with which the transaction started. `None` where it has not, and where that class is not in the
+    /// model.
+    pub fn class(&self, t: TxnId) -> Option<&'a Class<A>>
+        ensures { option_copied result ≡ class_of self.now.model self.now.front t.0 }
+    {
+        let class = self.line(t).class?;
+        self.model.class(class)
+    }
+
+    /// The one that spawned the transaction at its start, and had begun then. `None` where there is none.
+    pub fn parent(&self, t: TxnId) -> Option<TxnId>
+        ensures { result ≡ parent_of self.now.front t.0 }
+    {
+        self.line(t).parent
+    }
+
+    /// The operations, in order: each with its holder (ACTA's responsible transaction) and its fate. The first has
+    /// the number 1.
+    pub fn operations(&self) -> &[HeldOp]
+        ensures operations { result.now ≡ held_ops self.now.model self.now.front }
+        ensures few { length result.now ≤ MOST_EVENTS }
+    {
+        self.operations.as_slice()
+    }
+
+    /// The edges that the items form, legal or not, in order of forming (ACTA's dependencies in force). Each is in
+    /// force once, however often it is formed, and the first has the number 1 (ours).
+    pub fn edges(&self) -> &[Edge]
+        ensures { result.now ≡ edges self.now.model self.now.front }
+    {
+        self.edges.as_slice()
+    }
+}

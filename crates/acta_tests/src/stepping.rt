@@ -1,0 +1,111 @@
+//! Each growth of a walk's steps refused in turn: a step that is refused leaves the walk where it was.
+
+use crate::models::{FOLLOWING, LENDING};
+use acta_axioms::Walk;
+use acta_lang::assemble;
+use acta_script::read_event;
+use acta_table::{Kept, MOST_EVENTS, Model};
+use refusing::Refusing;
+use std::alloc::Allocator;
+use std::process::Abort;
+use std::test::Fail;
+
+// More growths than any of these calls has.
+const MOST: u64 = 20;
+
+// How many items the walk has taken, and how many operations and edges it shows.
+fn counts<A: Allocator>(walk: &Walk<'_, A>) -> [usize; 3] {
+    [
+        walk.front().len(),
+        walk.operations().len(),
+        walk.edges().len(),
+    ]
+}
+
+// Steps, the first growth refused, then the second, and so on, until it succeeds. Gives how many were refused.
+fn step_each<A: Allocator + Copy, B: Allocator>(
+    rt: &impl Abort,
+    heap: &Refusing<B>,
+    walk: &mut Walk<'_, A>,
+) -> u64 {
+    for nth in 1..MOST {
+        let before = counts(walk);
+        heap.refuse(nth);
+        let stepped = walk.step();
+        if heap.is_waiting() {
+            heap.refuse(0);
+            assert!(rt; stepped.is_ok());
+            return nth.saturating_sub(1);
+        }
+        assert!(rt; stepped.is_err());
+        assert_eq!(rt; counts(walk), before);
+    }
+    heap.refuse(0);
+    MOST
+}
+
+// The events of the lines, and how many growths the step over each has.
+fn read<A: Allocator + Copy>(
+    alloc: A,
+    model: &Model<A>,
+    text: &str,
+) -> Result<(Vec<Kept<A>, A>, Vec<u64, A>), Fail> {
+    let mut kept = Vec::new(alloc);
+    let mut due = Vec::new(alloc);
+    for line in text.lines() {
+        let (said, growths) = line.split_once(" : ").ok_or("a line has no growths")?;
+        let event = read_event(alloc, model, said.as_bytes())?;
+        kept.push(Kept { event, ret: None })?;
+        due.push(growths.parse().map_err(|_| "a word is no number")?)?;
+    }
+    Ok((kept, due))
+}
+
+// Steps over the events of the lines, each growth refused in turn.
+fn steps<A: Allocator + Copy, B: Allocator>(
+    rt: &impl Abort,
+    heap: &Refusing<B>,
+    alloc: A,
+    model: &str,
+    text: &str,
+) -> Result<(), Fail> {
+    let model = assemble(alloc, model.as_bytes())?;
+    let (kept, due) = read(alloc, &model, text)?;
+    assert!(rt; kept.len() <= MOST_EVENTS);
+    let mut walk = Walk::of(alloc, &model, kept.as_slice())?;
+    for growths in &due {
+        let refused = step_each(rt, heap, &mut walk);
+        assert_eq!(rt; refused, *growths, "behind {:?}", counts(&walk));
+    }
+    Ok(())
+}
+
+// Of the operations; for an operation with edges, of the set of those whom it depends on, of the edges that are due, and of
+// the set of the edges, which has three parts; for one that spares its ancestor, of the set of these; of the edge that is formed.
+const OF_DEPENDING: &str = "\
+begin 1 loose : 1
+begin 2 loose : 0
+spawn 2 3 loose : 0
+do 1 x write 5 : 0
+do 2 x read : 5
+do 3 x read : 3
+delegate 1 2 1 : 0
+form CD 7 8 : 1
+commit 2 : 0";
+
+// Of the operations; of the edges that are due for a split, and of the set of the edges.
+const OF_PARTS: &str = "\
+begin 1 part : 1
+do 1 x write 5 : 0
+split 1 2 part 1 : 4
+join 1 2 : 0
+abort 2 : 0";
+
+#[test]
+fn refuses_each_growth(rt: HostRuntime) -> Result<(), Fail> {
+    let heap = Refusing::new(rt.alloc());
+    for (model, text) in [(LENDING, OF_DEPENDING), (FOLLOWING, OF_PARTS)] {
+        steps(&rt, &heap, &heap, model, text)?;
+    }
+    Ok(())
+}
