@@ -1,0 +1,4 @@
+mod Examples
+pub mod Replaying
+pub mod Standing
+pub mod Stopping

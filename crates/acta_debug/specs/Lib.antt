@@ -1,0 +1,6 @@
+pub mod Histories
+pub mod Sessions
+pub mod Breaks
+pub mod Moves
+pub mod Stops
+pub mod inside

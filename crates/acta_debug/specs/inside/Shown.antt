@@ -1,0 +1,21 @@
+-- What stands behind a debugger.
+use Rattle.std.specs.Prelude.{◌≡◌, ◌≤◌, ℕ, List, length, take}
+use Rattle.acta_table.specs.declared.event.Kept.{Kept}
+use Rattle.acta_table.specs.declared.limits.TheConstants.{MOST_EVENTS}
+use Rattle.acta_machine.specs.Places.{FollowsPlaces}
+use Rattle.acta_machine.specs.Table.{State}
+use Rattle.acta_debug.specs.declared.breaks.Break.{Break}
+use Rattle.acta_debug.specs.Histories.{IsHistory}
+use Rattle.acta_debug.specs.Sessions.{Session}
+
+-- the debugger that has this machine, history, place and breaks
+abbrev pub session_of : {A : Type 0} → State A → List (Kept A) → ℕ → List Break → Session A
+session_of machine history at breaks = record { model = machine.model; history = history; at = at; breaks = breaks }
+
+-- the list is a history of the machine's model, and the machine has kept the events of it that are behind the place
+pub record IsInside {A : Type 0} (machine : State A) (history : List (Kept A)) (at : ℕ) : Type 0 where
+  pub whole : IsHistory machine.model history
+  pub kept : machine.kept ≡ take at history
+  pub within : at ≤ length history
+  pub few : length history ≤ MOST_EVENTS
+  pub follows : FollowsPlaces machine

@@ -1,0 +1,17 @@
+//! A law of histories.
+
+ghost use Rattle.std.specs.Prelude.{ℕ, List, take};
+ghost use Rattle.acta_table.specs.declared.event.Event.{Event};
+ghost use Rattle.acta_table.specs.declared.event.Kept.{Kept};
+ghost use Rattle.acta_table.specs.declared.model.Parts.{Parts};
+ghost use Rattle.acta_machine.specs.Table.{run_state};
+ghost use Rattle.acta_debug.specs.Histories.{IsHistory};
+
+use std::alloc::Allocator;
+
+/// What a machine has kept is a history, and so is each front of one. So there is a debugger on the history of any run,
+/// refused events or not (ours).
+pub fn kept_histories<A: Allocator>()
+    ensures runs { (m : Parts A) (es : List (Event A)) → IsHistory m (run_state m es).kept }
+    ensures fronts { (m : Parts A) (h : List (Kept A)) → IsHistory m h → (n : ℕ) → IsHistory m (take n h) }
+{}

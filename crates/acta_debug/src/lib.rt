@@ -1,0 +1,15 @@
+//! The debugger: a history, a place in it, and the machine as it was there. It moves one event further or back, or to
+//! any place, and it runs on to where a break holds.
+#![tactic(auto)]
+
+mod breaks;
+mod debugger;
+mod errors;
+mod laws;
+mod replay;
+mod running;
+
+pub use breaks::{Break, Stop};
+pub use debugger::Debugger;
+pub use errors::{MoveError, NewError};
+pub use laws::kept_histories;

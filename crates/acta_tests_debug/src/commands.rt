@@ -1,0 +1,135 @@
+//! What a debugger does at a command, as words. A command is one of
+//!
+//! ```text
+//! step    back    goto N    run    clear
+//! break like EVENT    break txn T    break object OBJECT    break owed N    break ended T
+//! value OBJECT    status T    owed
+//! ```
+//!
+//! where the first of the breaks is that on the kind of an event, and the last line asks the machine.
+
+use crate::histories::number_in;
+use acta_debug::{Break, Debugger, MoveError};
+use acta_script::read_event;
+use acta_table::{Model, ObjId, TxnId};
+use std::alloc::{AllocError, Allocator};
+use std::process::Abort;
+use std::test::Fail;
+
+// The number that a word says.
+fn number(word: &str) -> Result<u32, Fail> {
+    Ok(word.parse().ok().ok_or("a word is no number")?)
+}
+
+fn txn(word: &str) -> Result<TxnId, Fail> {
+    Ok(TxnId(word.parse().ok().ok_or("a word is no transaction")?))
+}
+
+// The object of that name, in each of the standard models.
+fn object(name: &str) -> Result<ObjId, Fail> {
+    Ok(match name {
+        "x" => ObjId(0),
+        "n" => ObjId(1),
+        "m" => ObjId(2),
+        "s" => ObjId(3),
+        _ => Err("a word is no object")?,
+    })
+}
+
+// The break that the words say, in the words of the model.
+fn break_of<A: Allocator + Copy>(alloc: A, model: &Model<A>, words: &str) -> Result<Break, Fail> {
+    let (word, rest) = words.split_once(' ').ok_or("a break has one word")?;
+    Ok(match word {
+        "like" => Break::Kind(read_event(alloc, model, rest.as_bytes())?.kind()),
+        "txn" => Break::Touches(txn(rest)?),
+        "object" => Break::Object(object(rest)?),
+        "owed" => Break::OwedAtLeast(number(rest)?),
+        "ended" => Break::Ended(txn(rest)?),
+        _ => Err("a break of no kind")?,
+    })
+}
+
+// How a move ended, and where the debugger then stands.
+fn moved<A: Allocator + Copy>(
+    alloc: A,
+    done: Result<(), MoveError>,
+    at: u32,
+) -> Result<String<A>, AllocError> {
+    match done {
+        Ok(()) => format!(in alloc; "at {at}"),
+        Err(error) => format!(in alloc; "{error:?} at {at}"),
+    }
+}
+
+// Runs on, and tells where it stopped, and where the debugger then stands.
+fn ran<A: Allocator + Copy>(alloc: A, debugger: &mut Debugger<A>) -> Result<String<A>, AllocError> {
+    let stop = debugger.run()?;
+    let at = debugger.at();
+    format!(in alloc; "{stop:?} at {at}")
+}
+
+// What the debugger does at the command, or what its machine shows.
+fn told<A: Allocator + Copy>(
+    alloc: A,
+    debugger: &mut Debugger<A>,
+    command: &str,
+) -> Result<String<A>, Fail> {
+    let (word, rest) = command.split_once(' ').unwrap_or((command, ""));
+    Ok(match word {
+        "step" => {
+            let done = debugger.step();
+            moved(alloc, done, debugger.at())?
+        }
+        "back" => {
+            let done = debugger.back();
+            moved(alloc, done, debugger.at())?
+        }
+        "goto" => {
+            let done = debugger.goto(number(rest)?);
+            moved(alloc, done, debugger.at())?
+        }
+        "run" => ran(alloc, debugger)?,
+        "clear" => {
+            debugger.clear_breaks();
+            format!(in alloc; "cleared")?
+        }
+        "break" => {
+            let one = break_of(alloc, debugger.machine().model(), rest)?;
+            let number = debugger.add_break(one)?;
+            format!(in alloc; "break {number}")?
+        }
+        "value" => {
+            let value = number_in(debugger, object(rest)?)?.ok_or("an object has no number")?;
+            format!(in alloc; "{value}")?
+        }
+        "status" => {
+            let status = debugger.machine().status(txn(rest)?);
+            format!(in alloc; "{status:?}")?
+        }
+        "owed" => {
+            let owed = debugger.machine().owed()?.len();
+            format!(in alloc; "{owed}")?
+        }
+        _ => Err("a line has no command")?,
+    })
+}
+
+/// Plays the lines on the debugger: each has a command, and what is told of it.
+pub fn play<A: Allocator + Copy>(
+    rt: &impl Abort,
+    alloc: A,
+    debugger: &mut Debugger<A>,
+    lines: &str,
+) -> Result<(), Fail> {
+    for line in lines.lines() {
+        let (command, due) = line.split_once(" : ").ok_or("a line tells nothing")?;
+        let text = told(alloc, debugger, command)?;
+        assert_eq!(rt; text.as_str(), due, "at {line}");
+        assert_eq!(rt;
+            debugger.machine().history().len(),
+            debugger.at() as usize,
+            "at {line}"
+        );
+    }
+    Ok(())
+}
