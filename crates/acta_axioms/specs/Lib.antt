@@ -4,6 +4,7 @@ pub mod Values
 pub mod Edges
 pub mod Formulas
 pub mod Legal
+pub mod Axioms
 pub mod Faults
 pub mod Claims
 pub mod Walks

@@ -106,7 +106,7 @@ fate_at m h o n = option_map (λ s. s.fate) (standing_of m (take n h) o)
 
 -- whether an operation that stands so is in progress and held by t
 abbrev pub is_held_by : ℕ → Standing → Bool
-is_held_by t s = is_open s.fate && (s.holder == t)
+is_held_by t s = (s.holder == t) && is_open s.fate
 
 -- the access set of t: the operations in progress that it holds
 abbrev pub access_set : {A : Type 0} → Parts A → List (Kept A) → ℕ → List Operation

@@ -6,6 +6,8 @@ ghost use Rattle.acta_axioms.specs.History.{course, class_of, parent_of};
 ghost use Rattle.acta_axioms.specs.Operations.{access_set, conflict_set};
 ghost use Rattle.acta_axioms.specs.Values.{value, conflicting};
 ghost use Rattle.acta_axioms.specs.Edges.{edges};
+ghost use Rattle.acta_axioms.specs.Faults.{has_number};
+ghost use Rattle.acta_sets.specs.Operations.{operation_at};
 ghost use Rattle.acta_axioms.specs.Walks.{stepped, held_ops, op_numbers};
 ghost use Rattle.acta_axioms.specs.inside.Lineages.{lineage};
 
@@ -184,6 +186,26 @@ impl<'a, A: Allocator> Walk<'a, A> {
         ensures few { length result.now ≤ MOST_EVENTS }
     {
         self.operations.as_slice()
+    }
+
+    // The operation of this number, with its holder and its fate.
+    fn operation(&self, op: OpNo) -> Option<HeldOp>
+        ensures { result ≡ operation_at (held_ops self.now.model self.now.front) op.0 }
+    {
+        if op.0 == 0 {
+            return None;
+        }
+        self.operations().get(op.0 as usize - 1).copied()
+    }
+
+    /// Whether the transaction holds the operation in progress: whether it is in the transaction's access set (ACTA's).
+    pub fn holds(&self, t: TxnId, op: OpNo) -> bool
+        ensures { result ≡ has_number (map (λ o. o.number) (access_set self.now.model self.now.front t.0)) op.0 }
+    {
+        match self.operation(op) {
+            Some(item) => item.is_held(t),
+            None => false,
+        }
     }
 
     /// The edges that the items form, legal or not, in order of forming (ACTA's dependencies in force). Each is in

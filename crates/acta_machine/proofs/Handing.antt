@@ -1,29 +1,26 @@
 -- What is handed over: the rules on it and the axioms on it say the same.
-use Rattle.std.proofs.Common.{◌≡◌, ℕ, zero, suc, ◌+◌, ◌<◌, Bool, true, false, ◌&&◌, ◌||◌, not, ◌==◌, List, [], ◌∷◌, filter, find, Option, Some, None, is_none, slice_get, refl, sym, ap, ◌∙◌, arith, eq-eqb}
+use Rattle.std.proofs.Common.{◌≡◌, ℕ, Bool, true, false, ◌&&◌, ◌||◌, not, ◌==◌, List, [], ◌∷◌, filter, find, Option, Some, None, is_none, refl, sym, ap, ◌∙◌}
 use Rattle.std.specs.Prelude.{if◌then◌else◌}
 use Rattle.std.specs.List.{AllByRecursion}
 use Rattle.std.specs.Option.{option_map_or}
-use Rattle.std.proofs.lemmas.Bool.{true≢false, ne_eqb, eqb-true}
+use Rattle.std.proofs.lemmas.Bool.{true≢false, eqb-true}
 use Rattle.acta_table.specs.declared.answer.Rule.TheVariants.{NotResponsible, BadSet}
 use Rattle.acta_table.specs.declared.event.Event.{Event}
 use Rattle.acta_table.specs.declared.event.Event.TheVariants.{Begin, Spawn, Split, Join, Delegate, Form, Operate, Commit, Abort}
 use Rattle.acta_table.specs.declared.event.OpNo.{OpNo}
 use Rattle.acta_table.specs.declared.model.Parts.{Parts}
 use Rattle.acta_table.specs.Events.{operations_named}
-use Rattle.acta_table.specs.Numbered.{numbers_from, numbers_where, smallest}
+use Rattle.acta_table.specs.Numbered.{numbers_where, smallest}
 use Rattle.acta_table.specs.Sets.{numbers_of, is_named}
 use Rattle.acta_table.specs.Fates.{is_open}
 use Rattle.acta_axioms.specs.Faults.{has_number}
+use Rattle.acta_axioms.proofs.Numbers.{holds, has-held}
 use Rattle.acta_sets.specs.declared.held_op.HeldOp.{HeldOp}
 use Rattle.acta_sets.specs.Operations.{is_held, operation_at, are_open}
 use Rattle.acta_machine.specs.Summary.{Summary}
 use Rattle.acta_machine.specs.Rules.{is_of_another, not_held, unknown_in, left_out, not_responsible, bad_set}
 use Rattle.acta_machine.proofs.Broken.{by_none}
 use Rattle.acta_machine.proofs.Unbroken.{Unbroken}
-
--- whether t holds operation n in progress
-abbrev pub holds : List HeldOp → ℕ → ℕ → Bool
-holds items t n = option_map_or (is_held t) (operation_at items n) false
 
 -- where there is no smallest there is none
 none-smallest : (ns : List ℕ) → smallest ns ≡ None → ns ≡ []
@@ -79,37 +76,6 @@ held-named items t (o ∷ ops) all n named = of (o.0 == n) refl named (held-name
     of : (b : Bool) → (o.0 == n) ≡ b → (b || is_named ops n) ≡ true → (is_named ops n ≡ true → holds items t n ≡ true) → holds items t n ≡ true
     of true is e later = ap (holds items t) (sym (eqb-true o.0 n is)) ∙ all.0
     of false is e later = later e
-
--- the numbers of the operations that pass have a number where the operation of that number passes
-
-below : (test : HeldOp → Bool) (k n : ℕ) (items : List HeldOp) → n < k → has_number (numbers_from test k items) n ≡ false
-below test k n [] low = refl
-below test k n (i ∷ items) low = of (test i) (below test (k + 1) n items (omega (arith, low)))
-  where
-    of : (b : Bool) → has_number (numbers_from test (k + 1) items) n ≡ false → has_number (if b then k ∷ numbers_from test (k + 1) items else numbers_from test (k + 1) items) n ≡ false
-    of true later = (λ i. ne_eqb k n (λ e. omega (arith, low, e)) i || later i)
-    of false later = later
-
-from : (test : HeldOp → Bool) (k i : ℕ) (items : List HeldOp) → has_number (numbers_from test k items) (k + i) ≡ option_map_or test (slice_get items i) false
-from test k i [] = refl
-from test k zero (x ∷ items) = of (test x) (below test (k + 1) (k + 0) items (omega arith))
-  where
-    of : (b : Bool) → has_number (numbers_from test (k + 1) items) (k + 0) ≡ false → has_number (if b then k ∷ numbers_from test (k + 1) items else numbers_from test (k + 1) items) (k + 0) ≡ b
-    of true later = ap (λ c. c || has_number (numbers_from test (k + 1) items) (k + 0)) (eq-eqb k (k + 0) (omega arith))
-    of false later = later
-from test k (suc i) (x ∷ items) =
-    let same : k + suc i ≡ (k + 1) + i = omega arith in
-    of (test x) (ap (has_number (numbers_from test (k + 1) items)) same ∙ from test (k + 1) i items)
-  where
-    of : (b : Bool) → has_number (numbers_from test (k + 1) items) (k + suc i) ≡ option_map_or test (slice_get items i) false → has_number (if b then k ∷ numbers_from test (k + 1) items else numbers_from test (k + 1) items) (k + suc i) ≡ option_map_or test (slice_get items i) false
-    of true later = ap (λ c. c || has_number (numbers_from test (k + 1) items) (k + suc i)) (ne_eqb k (k + suc i) (λ e. omega (arith, e))) ∙ later
-    of false later = later
-
-has-held : (items : List HeldOp) (t n : ℕ) → has_number (numbers_where (is_held t) items) n ≡ holds items t n
-has-held items t zero = below (is_held t) 1 0 items (omega arith)
-has-held items t (suc n) =
-    let same : suc n ≡ 1 + n = omega arith in
-    ap (has_number (numbers_where (is_held t) items)) same ∙ from (is_held t) 1 n items
 
 -- where t holds all that is named, nothing that is named is not among what it holds
 pub none-unheld : (items : List HeldOp) (t : ℕ) (ns : List ℕ) → AllByRecursion (λ n. holds items t n ≡ true) ns → filter (λ n. not (has_number (numbers_where (is_held t) items) n)) ns ≡ []

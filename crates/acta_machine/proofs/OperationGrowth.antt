@@ -27,7 +27,7 @@ use Rattle.acta_axioms.proofs.Growth.{at_end, shown-push, number_after-push}
 use Rattle.acta_sets.specs.declared.held_op.HeldOp.{HeldOp}
 use Rattle.acta_sets.specs.Operations.{is_held, handed_op, handed, ended_op, ended, moved_from, moved, added}
 use Rattle.acta_machine.specs.Places.{held_op, held_ops}
-use Rattle.acta_machine.proofs.Handing.{holds}
+use Rattle.acta_axioms.proofs.Numbers.{holds}
 
 map-same : {X Y : Type 0} (f g : X → Y) → ((x : X) → f x ≡ g x) → (xs : List X) → map f xs ≡ map g xs
 map-same f g same [] = refl

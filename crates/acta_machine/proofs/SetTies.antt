@@ -7,7 +7,6 @@ use Rattle.acta_table.specs.declared.model.Kind.{Kind}
 use Rattle.acta_table.specs.declared.model.Parts.{Parts}
 use Rattle.acta_table.specs.Classes.{kind_at}
 use Rattle.acta_table.specs.Numbered.{numbers_where}
-use Rattle.acta_table.specs.Fates.{is_open}
 use Rattle.acta_objects.specs.Objects.{first_state, state_after}
 use Rattle.acta_axioms.specs.Operations.{Operation, standing, operations}
 use Rattle.acta_axioms.specs.Operations as by_places
@@ -35,23 +34,16 @@ where-places m h items test by same alike =
     ∙ map-map (λ n. record { 0 = n }) (λ (o : Operation). o.number) (filter (λ o. test (held_op o (standing m h o))) (operations h))
     ∙ ap op_numbers (filter-same (λ o. test (held_op o (standing m h o))) by alike (operations h))
 
-and_swap : (a b : Bool) → (a && b) ≡ (b && a)
-and_swap true true = refl
-and_swap true false = refl
-and_swap false true = refl
-and_swap false false = refl
-
 -- the numbers of t's access set by places, by the table
 pub held-places : {A : Type 0} (m : Parts A) (h : List (Kept A)) (items : List HeldOp) (t : ℕ) → items ≡ held_ops m h → map (λ o. o.number) (by_places.access_set m h t) ≡ numbers_where (is_held t) items
 held-places m h items t same =
-    ap (map (λ (o : Operation). o.number)) (sym (filter-same (λ o. is_held t (held_op o (standing m h o))) (λ o. by_places.is_held_by t (standing m h o)) (λ o. let s = standing m h o in and_swap (s.holder == t) (is_open s.fate)) (operations h)))
-    ∙ numbers-shown (λ o. held_op o (standing m h o)) (is_held t) h
+    numbers-shown (λ o. held_op o (standing m h o)) (is_held t) h
     ∙ ap (numbers_where (is_held t)) (sym same)
 
 pub access-places : {A : Type 0} (state : State A) (t : ℕ) → FollowsPlaces state → access_set_in state t ≡ op_numbers (by_places.access_set state.model state.kept t)
 access-places state t follows =
     where-places state.model state.kept _ (is_held t) (λ o. by_places.is_held_by t (standing state.model state.kept o)) follows.shows.operations
-    (λ o. let s = standing state.model state.kept o in and_swap (s.holder == t) (is_open s.fate))
+    (λ o. refl)
 
 pub conflict-places : {A : Type 0} (state : State A) (t : ℕ) → FollowsPlaces state → conflict_set_in state t ≡ op_numbers (by_places.conflict_set state.model state.kept t)
 conflict-places state t follows =

@@ -70,7 +70,8 @@ use Rattle.acta_machine.proofs.StatusGrowth.{statuses-begin, statuses-spawn, sta
 use Rattle.acta_machine.proofs.OperationGrowth.{operations-begin, operations-spawn, operations-split, operations-join, operations-delegate, operations-form, operations-operate, operations-commit, operations-inherited, operations-abort}
 use Rattle.acta_machine.proofs.Starting.{spawn_due, split_due, rooted-class}
 use Rattle.acta_machine.proofs.HolderGrowth.{well-started, well-given, well-handed, well-ended, well-added}
-use Rattle.acta_machine.proofs.Handing.{holds, named-held, held-named, none-unheld, none-left}
+use Rattle.acta_axioms.proofs.Numbers.{holds}
+use Rattle.acta_machine.proofs.Handing.{named-held, held-named, none-unheld, none-left}
 use Rattle.acta_machine.proofs.SetTies.{held-places}
 use Rattle.acta_machine.proofs.ValueTies.{return-places, conflicting-none}
 

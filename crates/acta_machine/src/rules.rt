@@ -2,11 +2,9 @@ ghost use Rattle.std.specs.Prelude.{◌≡◌, ◌+◌, ◌<◌, ◌≤◌, ◌+
 ghost use Rattle.std.specs.List.{list_any};
 ghost use Rattle.std.specs.Option.{option_map_or};
 ghost use Rattle.acta_table.specs.declared.event.EventKind.{EventKind};
-ghost use Rattle.acta_table.specs.Events.{acting, started, partner, class_named, named};
+ghost use Rattle.acta_table.specs.Events.{partner};
 ghost use Rattle.acta_table.specs.Classes.{can_do};
 ghost use Rattle.acta_table.specs.Numbered.{smallest};
-ghost use Rattle.acta_table.specs.WellFormed.{is_bad_number, bad_number, bad_class, bad_object, twice_in, same_transaction};
-ghost use Rattle.acta_objects.specs.WellFormed.{bad_operation};
 ghost use Rattle.acta_table.specs.Refusals.{broken_by};
 ghost use Rattle.acta_table.specs.Sets.{is_named};
 ghost use Rattle.acta_deps.specs.Statuses.{has_ended, is_in_progress};
@@ -17,29 +15,13 @@ ghost use Rattle.acta_machine.specs.Families.{heir_of};
 ghost use Rattle.acta_machine.specs.inside.Shown.{shown};
 
 use crate::board::Board;
-use acta_objects::is_of_kind;
+use acta_objects::form_refusal;
 use acta_sets::HeldOp;
 use acta_table::{
-    ClassId, Dep, Edge, Event, EventKind, Extent, LAST_TXN, MOST_EDGES, MOST_EVENTS, OpNo, OpSet,
-    Refusal, Rule, Status, TxnId, lesser,
+    ClassId, Dep, Edge, Event, EventKind, Extent, MOST_EDGES, MOST_EVENTS, OpNo, OpSet, Refusal,
+    Rule, Status, TxnId, lesser, smallest_of,
 };
 use std::alloc::{AllocError, Allocator};
-
-// The transaction that has to be in progress.
-fn acting_of<A: Allocator>(event: &Event<A>) -> Option<TxnId>
-    ensures { acting event.now ≡ option_map (λ t. t.0) result }
-{
-    match event {
-        Event::Begin(_, _) | Event::Form(_, _, _) => None,
-        Event::Spawn(t, _, _)
-        | Event::Split(t, _, _, _)
-        | Event::Join(t, _)
-        | Event::Delegate(t, _, _)
-        | Event::Operate(t, _, _)
-        | Event::Commit(t)
-        | Event::Abort(t) => Some(*t),
-    }
-}
 
 // The transaction that is handed something, and has to be in progress too.
 fn partner_of<A: Allocator>(event: &Event<A>) -> Option<TxnId>
@@ -51,40 +33,6 @@ fn partner_of<A: Allocator>(event: &Event<A>) -> Option<TxnId>
     }
 }
 
-fn is_bad_number(t: TxnId) -> bool
-    ensures { result ≡ is_bad_number t.0 }
-{
-    t.0 == 0 || t.0 > LAST_TXN
-}
-
-// The smaller of those of two transactions that are so.
-fn smallest_of(j: TxnId, is_j: bool, i: TxnId, is_i: bool) -> Option<u32>
-    ensures { result ≡ smallest ((if is_j then j.0 ∷ [] else []) ++ (if is_i then i.0 ∷ [] else [])) }
-{
-    match (is_j, is_i) {
-        (true, true) => Some(u32::from(j.0.min(i.0))),
-        (true, false) => Some(u32::from(j.0)),
-        (false, true) => Some(u32::from(i.0)),
-        (false, false) => None,
-    }
-}
-
-// The smallest number of a transaction that the event names and that none can have.
-fn smallest_bad<A: Allocator>(event: &Event<A>) -> Option<u32>
-    ensures { result ≡ smallest (filter is_bad_number (named event.now)) }
-{
-    match event {
-        Event::Spawn(j, i, _)
-        | Event::Split(j, i, _, _)
-        | Event::Join(j, i)
-        | Event::Delegate(j, i, _)
-        | Event::Form(_, j, i) => { smallest_of(*j, is_bad_number(*j), *i, is_bad_number(*i)) }
-        Event::Begin(t, _) | Event::Operate(t, _, _) | Event::Commit(t) | Event::Abort(t) => {
-            smallest_of(*t, is_bad_number(*t), *t, false)
-        }
-    }
-}
-
 // The rule, where there is such a number.
 fn broken_by(rule: Rule, number: Option<u32>) -> Option<Refusal>
     ensures { result ≡ broken_by rule number }
@@ -92,38 +40,6 @@ fn broken_by(rule: Rule, number: Option<u32>) -> Option<Refusal>
     match number {
         Some(number) => Some(Refusal::by(rule, number)),
         None => None,
-    }
-}
-
-#[tactic(auto, unfolding(acta_table::specs::WellFormed::bad_number))]
-fn bad_number<A: Allocator>(event: &Event<A>) -> Option<Refusal>
-    ensures { result ≡ bad_number event.now }
-{
-    broken_by(Rule::BadNumber, smallest_bad(event))
-}
-
-// The rule, where the two are one.
-fn one_twice(j: TxnId, i: TxnId) -> Option<Refusal>
-    ensures { result ≡ broken_by Rule.SameTransaction (twice_in (j.0 ∷ i.0 ∷ [])) }
-{
-    if j.0 == i.0 {
-        Some(Refusal::by(Rule::SameTransaction, u32::from(j.0)))
-    } else {
-        None
-    }
-}
-
-#[tactic(auto, unfolding(acta_table::specs::WellFormed::same_transaction))]
-fn same_transaction<A: Allocator>(event: &Event<A>) -> Option<Refusal>
-    ensures { result ≡ same_transaction event.now }
-{
-    match event {
-        Event::Spawn(j, i, _)
-        | Event::Split(j, i, _, _)
-        | Event::Join(j, i)
-        | Event::Delegate(j, i, _)
-        | Event::Form(_, j, i) => one_twice(*j, *i),
-        _ => None,
     }
 }
 
@@ -145,48 +61,11 @@ impl<A: Allocator + Copy> Board<A> {
         }
     }
 
-    #[tactic(auto, unfolding(acta_table::specs::WellFormed::bad_class))]
-    fn bad_class(&self, event: &Event<A>) -> Option<Refusal>
-        ensures { result ≡ bad_class self.now.model event.now }
-    {
-        let class = event.class()?;
-        if (class.0 as usize) < self.model.classes().len() {
-            None
-        } else {
-            Some(Refusal::of(Rule::BadClass))
-        }
-    }
-
-    #[tactic(auto, unfolding(acta_table::specs::WellFormed::bad_object))]
-    fn bad_object(&self, event: &Event<A>) -> Option<Refusal>
-        ensures { result ≡ bad_object self.now.model event.now }
-    {
-        match event {
-            Event::Operate(_, ob, _) if ob.0 as usize >= self.model.objects().len() => {
-                Some(Refusal::of(Rule::BadObject))
-            }
-            _ => None,
-        }
-    }
-
-    #[tactic(auto, unfolding(acta_objects::specs::WellFormed::bad_operation))]
-    fn bad_operation(&self, event: &Event<A>) -> Option<Refusal>
-        ensures { result ≡ bad_operation self.now.model event.now }
-    {
-        let Event::Operate(_, ob, op) = event else {
-            return None;
-        };
-        match self.model.object(*ob) {
-            Some(object) if !is_of_kind(&object.kind, op) => Some(Refusal::of(Rule::BadOperation)),
-            _ => None,
-        }
-    }
-
     #[tactic(auto, unfolding(crate::specs::Rules::not_in_progress))]
     fn not_in_progress(&self, event: &Event<A>) -> Option<Refusal>
         ensures { result ≡ not_in_progress (shown self.now) event.now }
     {
-        let t = acting_of(event)?;
+        let t = event.acting()?;
         if self.status(t) == Status::InProgress {
             None
         } else {
@@ -483,11 +362,7 @@ impl<A: Allocator + Copy> Board<A> {
     {
         let early = self
             .full()
-            .or_else(|| bad_number(event))
-            .or_else(|| self.bad_class(event))
-            .or_else(|| self.bad_object(event))
-            .or_else(|| self.bad_operation(event))
-            .or_else(|| same_transaction(event))
+            .or_else(|| form_refusal(&self.model, event))
             .or_else(|| self.not_in_progress(event))
             .or_else(|| self.already_begun(event))
             .or_else(|| self.not_in_model(event))

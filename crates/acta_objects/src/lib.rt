@@ -1,14 +1,16 @@
 //! Objects: the values that operations work on, what an operation does and returns, and which two
-//! operations conflict. A conflict is defined by states and orders, after ACTA; the three kinds of
-//! object (register, counter, set) are ours, and for each the table of conflicting pairs is proved to
-//! be that definition.
+//! operations conflict; and whether an event has the form that a model asks for. A conflict is
+//! defined by states and orders, after ACTA; the three kinds of object (register, counter, set) are
+//! ours, and for each the table of conflicting pairs is proved to be that definition.
 #![tactic(auto)]
 
+mod forms;
 mod kinds;
 mod members;
 mod replays;
 mod state;
 
+pub use forms::form_refusal;
 pub use kinds::{Counter, ElementSet, ObjectKind, Register};
 pub use members::Members;
 pub use replays::{Replayed, replay};

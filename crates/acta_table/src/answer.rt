@@ -1,8 +1,9 @@
-ghost use Rattle.std.specs.Prelude.{◌≡◌, min, Some, None};
+ghost use Rattle.std.specs.Prelude.{◌≡◌, ◌++◌, ◌∷◌, [], min, Some, None, if◌then◌else◌};
 ghost use Rattle.std.specs.Option.{option_map_or};
+ghost use Rattle.acta_table.specs.Numbered.{smallest};
 ghost use Rattle.acta_table.specs.Numbers.{rule_number};
 
-use crate::event::Ret;
+use crate::event::{Ret, TxnId};
 
 /// How a transaction stands (ACTA's significant events, read as a state).
 #[derive(Clone, Copy, PartialEq, Eq, Debug)]
@@ -98,6 +99,18 @@ pub fn lesser(least: Option<u32>, number: u32) -> Option<u32>
     match least {
         Some(least) => Some(number.min(least)),
         None => Some(number),
+    }
+}
+
+/// The smaller of those of two transactions of which something holds, as a rule that looks at both names it (ours).
+pub fn smallest_of(j: TxnId, is_j: bool, i: TxnId, is_i: bool) -> Option<u32>
+    ensures { result ≡ smallest ((if is_j then j.0 ∷ [] else []) ++ (if is_i then i.0 ∷ [] else [])) }
+{
+    match (is_j, is_i) {
+        (true, true) => Some(u32::from(j.0.min(i.0))),
+        (true, false) => Some(u32::from(j.0)),
+        (false, true) => Some(u32::from(i.0)),
+        (false, false) => None,
     }
 }
 

@@ -1,5 +1,5 @@
 ghost use Rattle.std.specs.Prelude.{◌≡◌, Decides, option_map, IfOk};
-ghost use Rattle.acta_table.specs.Events.{kind_of, started, class_named};
+ghost use Rattle.acta_table.specs.Events.{kind_of, acting, started, class_named};
 
 use crate::dep::Dep;
 use crate::op_set::OpSet;
@@ -119,6 +119,23 @@ impl<A: Allocator> Event<A> {
         match self {
             Event::Begin(t, _) | Event::Spawn(_, t, _) | Event::Split(_, t, _, _) => Some(*t),
             _ => None,
+        }
+    }
+
+    /// The transaction that does the event, and has to be in progress for it: there is none that begins, and an edge may
+    /// be formed before it begins.
+    pub fn acting(&self) -> Option<TxnId>
+        ensures { option_map (λ t. t.0) result ≡ acting self.now }
+    {
+        match self {
+            Event::Begin(_, _) | Event::Form(_, _, _) => None,
+            Event::Spawn(t, _, _)
+            | Event::Split(t, _, _, _)
+            | Event::Join(t, _)
+            | Event::Delegate(t, _, _)
+            | Event::Operate(t, _, _)
+            | Event::Commit(t)
+            | Event::Abort(t) => Some(*t),
         }
     }
 

@@ -13,7 +13,7 @@ mod op_set;
 mod policy;
 mod start_edges;
 
-pub use answer::{Answer, Fate, Refusal, Rule, Status, lesser};
+pub use answer::{Answer, Fate, Refusal, Rule, Status, lesser, smallest_of};
 pub use dep::{Dep, DepKinds, Edge, EdgeNo, Missing, Owed};
 pub use event::{ClassId, Event, EventKind, Kept, ObjId, Op, OpNo, Ret, TxnId};
 pub use items::Items;
