@@ -25,6 +25,13 @@ fn least(m: Option<u32>, n: Option<u32>) -> Option<u32>
 }
 
 impl Course {
+    /// Where the transaction first committed or aborted.
+    pub fn decided(self) -> Option<u32>
+        ensures { result ≡ least self.commit self.abort }
+    {
+        least(self.commit, self.abort)
+    }
+
     /// Where the transaction first ended, in any way.
     pub fn end(self) -> Option<u32>
         ensures { result ≡ end self }

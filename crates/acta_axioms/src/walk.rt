@@ -1,10 +1,11 @@
-ghost use Rattle.std.specs.Prelude.{◌≡◌, ◌≤◌, ◌+◌, [], length, map, option_map, IfOk, OnOk, OnErr};
+ghost use Rattle.std.specs.Prelude.{◌≡◌, ◌≤◌, ◌+◌, [], length, map, option_map, IfOk, IfSome, OnOk, OnErr};
 ghost use Rattle.std.specs.Option.{option_copied};
 ghost use Rattle.std.specs.Prelude.{slice_get};
 ghost use Rattle.acta_table.specs.Classes.{kind_at};
+ghost use Rattle.acta_objects.specs.Limits.{IsSmall};
 ghost use Rattle.acta_axioms.specs.History.{course, class_of, parent_of};
 ghost use Rattle.acta_axioms.specs.Operations.{access_set, conflict_set};
-ghost use Rattle.acta_axioms.specs.Values.{value, conflicting};
+ghost use Rattle.acta_axioms.specs.Values.{value, return_due, conflicting};
 ghost use Rattle.acta_axioms.specs.Edges.{edges};
 ghost use Rattle.acta_axioms.specs.Faults.{has_number};
 ghost use Rattle.acta_sets.specs.Operations.{operation_at};
@@ -19,7 +20,7 @@ use crate::seeking::Sought;
 use crate::values::value_after;
 use acta_objects::ObjectState;
 use acta_sets::HeldOp;
-use acta_table::{Class, Edge, Kept, MOST_EVENTS, Model, ObjId, Op, OpNo, TxnId};
+use acta_table::{Class, Edge, Kept, MOST_EVENTS, Model, ObjId, Op, OpNo, Ret, TxnId};
 use indexmap::IndexSet;
 use std::alloc::{AllocError, Allocator};
 
@@ -109,18 +110,39 @@ impl<'a, A: Allocator + Copy> Walk<'a, A> {
         self.seek(t, &Sought::Against(object, *op))
     }
 
+    // The value of the object, and that a counter is far from the ends of 64 bits.
+    fn value_of(&self, object: ObjId) -> Result<Option<ObjectState<A>>, AllocError>
+        ensures value { IfOk result (λ state. state ≡ option_map (value self.now.model self.now.front object.0) (kind_at self.now.model object.0)) }
+        ensures small { IfOk result (λ state. IfSome state (IsSmall (length (held_ops self.now.model self.now.front) + 1))) }
+        ensures few { length (held_ops self.now.model self.now.front) ≤ MOST_EVENTS }
+    {
+        let operations = self.operations();
+        match self.model.object(object) {
+            Some(of) => Ok(Some(value_after(
+                *self.operations.allocator(),
+                &of.kind,
+                operations,
+                object,
+            )?)),
+            None => Ok(None),
+        }
+    }
+
     /// The value of the object: its first value, with the operations on it that are not aborted, in order. `None`
     /// where it is not in the model. `Err` where there is no memory.
     pub fn value(&self, object: ObjId) -> Result<Option<ObjectState<A>>, AllocError>
         ensures { IfOk result (λ state. state ≡ option_map (value self.now.model self.now.front object.0) (kind_at self.now.model object.0)) }
     {
-        match self.model.object(object) {
-            Some(of) => Ok(Some(value_after(
-                *self.operations.allocator(),
-                &of.kind,
-                self.operations(),
-                object,
-            )?)),
+        self.value_of(object)
+    }
+
+    /// What the operation on the object has to return: what it returns on the object's value. `None` where the object
+    /// is not in the model. `Err` where there is no memory.
+    pub fn return_due(&self, object: ObjId, op: &Op) -> Result<Option<Ret>, AllocError>
+        ensures { IfOk result (λ due. due ≡ return_due self.now.model self.now.front object.0 op.now) }
+    {
+        match self.value_of(object)? {
+            Some(mut value) => Ok(Some(value.apply(op)?)),
             None => Ok(None),
         }
     }

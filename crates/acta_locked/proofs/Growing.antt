@@ -6,25 +6,14 @@ use Rattle.std.specs.List.{range_with_len}
 use Rattle.acta_table.specs.declared.answer.Answer.{Answer}
 use Rattle.acta_table.specs.declared.event.Event.{Event}
 use Rattle.acta_machine.specs.Places.{FollowsPlaces}
-use Rattle.acta_table.specs.declared.answer.Refusal.{Refusal}
 use Rattle.acta_table.specs.declared.limits.TheConstants.{MOST_EVENTS}
-use Rattle.acta_machine.specs.Changes.{summary_of}
-use Rattle.acta_machine.specs.Rules.{lowest_broken}
-use Rattle.acta_machine.specs.Table.{State, fresh, answer_to, after, moved_on, answers_to, after_all}
+use Rattle.acta_machine.specs.Table.{State, fresh, answer_to, after, answers_to, after_all}
+use Rattle.acta_machine.proofs.Runs.{model-after}
 use Rattle.acta_locked.specs.declared.book.Entry.{Entry}
 use Rattle.acta_table.specs.declared.model.Parts.{Parts}
 use Rattle.acta_locked.specs.Books.{Entries, IsRun, events_of, entry_of, entered}
 use Rattle.acta_locked.specs.Desks.{IsOfSomeRun}
 use Rattle.acta_locked.specs.inside.Shown.{IsMachineOf}
-
-model-moved : {A : Type 0} (s : State A) (e : Event A) (r : Option Refusal) → (moved_on s e r).model ≡ s.model
-model-moved s e None = refl
-model-moved s e (Some r) = refl
-
--- the model stays
-model-after : {A : Type 0} (s : State A) (e : Event A) → (after s e).model ≡ s.model
-unfolding after
-model-after s e = model-moved s e (lowest_broken s.model (summary_of s.model s.kept) e)
 
 after_all-more : {A : Type 0} (s : State A) (es : List (Event A)) (e : Event A) → after_all s (es ++ e ∷ []) ≡ after (after_all s es) e
 after_all-more s [] e = refl

@@ -1,3 +1,4 @@
 pub mod Growing
+pub mod Judging
 pub mod Settling
 pub mod Working

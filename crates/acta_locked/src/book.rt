@@ -1,10 +1,12 @@
 //! The book.
 
-ghost use Rattle.std.specs.Prelude.{◌≡◌, ◌<◌, Err, length, true, false, Decides, IfOk, OnErr, OnOk};
+ghost use Rattle.std.specs.Prelude.{◌≡◌, ◌<◌, [], Err, length, true, false, Decides, IfOk, OnErr, OnOk};
 ghost use Rattle.acta_machine.specs.Places.{FollowsPlaces};
+ghost use Rattle.acta_machine.specs.Table.{debts_in};
 ghost use Rattle.acta_locked.specs.Books.{IsRun, entered, entry_of, no_entries, state_of};
 ghost use Rattle.acta_locked.specs.declared.book.TakeError.TheVariants.{Memory};
 
+use acta_judge::{JudgeError, Verdict, judge};
 use acta_machine::Machine;
 use acta_table::{Answer, Event, MOST_EVENTS, Model};
 use std::alloc::{AllocError, AllocFailed, Allocator};
@@ -174,5 +176,21 @@ impl<A: Allocator> Book<A> {
         ensures follows { FollowsPlaces result.now }
     {
         &self.machine
+    }
+}
+
+impl<A: Allocator + Copy> Book<A> {
+    /// The verdict on the history that the machine keeps (ours): it has no fault, and what is owed is what the machine
+    /// owes. `Err` where there is no memory.
+    pub fn verdict(&self) -> Result<Verdict<A>, AllocError>
+        ensures { IfOk result (λ verdict. verdict ≡ record { faults = []; owed = debts_in (state_of self.now) }) }
+    {
+        let machine = self.machine();
+        let history = machine.history();
+        match judge(*self.entries.allocator(), machine.model(), history) {
+            Ok(verdict) => Ok(verdict),
+            Err(JudgeError::Memory) => Err(AllocError),
+            Err(JudgeError::TooLong) => unreachable!(),
+        }
     }
 }

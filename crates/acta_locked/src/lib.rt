@@ -4,6 +4,7 @@
 
 mod book;
 mod desk;
+mod laws;
 mod limits;
 mod run;
 mod settle;
@@ -13,6 +14,7 @@ mod worker;
 
 pub use book::{Book, Entry, TakeError};
 pub use desk::{Desk, PlainDesk};
+pub use laws::runs_are_faultless;
 pub use limits::MOST_WORKERS;
 pub use run::{DriveError, Driven, drive};
 pub use vault::{Job, LockedDesk, Vault};

@@ -13,6 +13,7 @@ pub mod OperationGrowth
 pub mod SetTies
 pub mod Opponents
 pub mod Origins
+pub mod Runs
 pub mod Starting
 pub mod StatusGrowth
 pub mod Steps

@@ -1,9 +1,7 @@
 ghost use Rattle.std.specs.Prelude.{◌≡◌, ◌+◌, ◌<◌, ◌≤◌, ◌++◌, ◌∷◌, [], filter, min, length, Some, None, option_map, option_and_then, if◌then◌else◌, IfOk};
-ghost use Rattle.std.specs.List.{list_any};
 ghost use Rattle.std.specs.Option.{option_map_or};
 ghost use Rattle.acta_table.specs.declared.event.EventKind.{EventKind};
 ghost use Rattle.acta_table.specs.Events.{partner};
-ghost use Rattle.acta_table.specs.Classes.{can_do};
 ghost use Rattle.acta_table.specs.Numbered.{smallest};
 ghost use Rattle.acta_table.specs.Refusals.{broken_by};
 ghost use Rattle.acta_table.specs.Sets.{is_named};
@@ -125,18 +123,6 @@ impl<A: Allocator + Copy> Board<A> {
         }
     }
 
-    // Whether some class may form edges.
-    fn may_any_form(&self) -> bool
-        ensures { result ≡ list_any (can_do EventKind.Form) self.now.model.classes }
-    {
-        for class in self.model.classes() {
-            if class.may.has(EventKind::Form) {
-                return true;
-            }
-        }
-        false
-    }
-
     // Whether the transaction has begun with a class that may form no edges.
     fn forms_none(&self, t: TxnId) -> bool
         ensures { result ≡ forms_none self.now.model (shown self.now) t.0 }
@@ -151,7 +137,7 @@ impl<A: Allocator + Copy> Board<A> {
         let is_allowed = match event {
             Event::Begin(_, class) => self.may_begin(*class),
             Event::Form(_, j, i) => {
-                self.may_any_form() && !self.forms_none(*j) && !self.forms_none(*i)
+                self.model.may_form() && !self.forms_none(*j) && !self.forms_none(*i)
             }
             Event::Spawn(t, _, class) => {
                 self.may_be_spawned(*class) && self.may(*t, EventKind::Spawn)

@@ -1,5 +1,5 @@
 -- Numbers that are put into an ordered set one by one: what is in it.
-use Rattle.std.proofs.Common.{◌≡◌, ℕ, Bool, true, false, ◌||◌, ◌==◌, List, [], ◌∷◌, map, filter, fold, refl, sym, ap, ◌∙◌, inl, inr, Ordering, Less, Equal, Greater, ◌≢◌}
+use Rattle.std.proofs.Common.{◌≡◌, ℕ, Bool, true, false, ◌&&◌, ◌||◌, ◌==◌, List, [], ◌∷◌, map, filter, fold, refl, sym, ap, ◌∙◌, inl, inr, Ordering, Less, Equal, Greater, ◌≢◌}
 use Rattle.std.specs.Prelude.{if◌then◌else◌}
 use Rattle.std.specs.List.{list_any}
 use Rattle.std.specs.Ordering.{nat_cmp, match_ordering, is_eq}
@@ -68,6 +68,29 @@ any-number u (n ∷ ns) = (λ i. at-number u n i || any-number u ns i)
 -- whether a number is in the set of some is whether it is among them
 pub in-ascending : (u : ℕ) (ns : List ℕ) → list_any (is_at (nat_cmp u)) (ascending ns) ≡ list_any (λ n. n == u) ns
 in-ascending u ns = any-ascending (is_at (nat_cmp u)) ns ∙ any-number u ns
+
+any-shown : {X : Type 0} (test : X → Bool) (show : X → ℕ) (u : ℕ) (xs : List X) → list_any (λ n. n == u) (map show (filter test xs)) ≡ list_any (λ x. (show x == u) && test x) xs
+any-shown test show u [] = refl
+any-shown test show u (x ∷ xs) = of (test x) ∙ ap (λ b. ((show x == u) && test x) || b) (any-shown test show u xs)
+  where
+    passes : (a : Bool) → a ≡ (a && true)
+    passes true = refl
+    passes false = refl
+
+    fails : (a : Bool) → false ≡ (a && false)
+    fails true = refl
+    fails false = refl
+
+    others : Bool
+    others = list_any (λ n. n == u) (map show (filter test xs))
+
+    of : (b : Bool) → list_any (λ n. n == u) (map show (if b then x ∷ filter test xs else filter test xs)) ≡ (((show x == u) && b) || others)
+    of true = ap (λ a. a || others) (passes (show x == u))
+    of false = ap (λ a. a || others) (fails (show x == u))
+
+-- whether a number is in the set of those that pass is whether one that passes shows it
+pub in-passing : {X : Type 0} (test : X → Bool) (show : X → ℕ) (u : ℕ) (xs : List X) → list_any (is_at (nat_cmp u)) (ascending (map show (filter test xs))) ≡ list_any (λ x. (show x == u) && test x) xs
+in-passing test show u xs = in-ascending u (map show (filter test xs)) ∙ any-shown test show u xs
 
 -- with one more put in where it passes, what is left has one less
 pub one-put : {X : Type 0} (test : X → Bool) (show : X → ℕ) (keys : List ℕ) (x : X) (xs : List X) →

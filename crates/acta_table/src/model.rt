@@ -3,13 +3,14 @@ ghost use Rattle.std.specs.Int.{w32};
 ghost use Rattle.std.specs.List.{All, list_any, list_all};
 ghost use Rattle.std.specs.Str.{bytes_eq};
 ghost use Rattle.std.specs.Char.{is_ascii_alphanumeric};
-ghost use Rattle.acta_table.specs.Classes.{class_at, object_at};
+ghost use Rattle.acta_table.specs.declared.event.EventKind.{EventKind};
+ghost use Rattle.acta_table.specs.Classes.{can_do, class_at, object_at};
 ghost use Rattle.acta_table.specs.Numbers.{model_fault_number};
 ghost use Rattle.acta_table.specs.Policies.{is_bad_policy};
 ghost use Rattle.acta_table.specs.Typed.{AreOfModel, HasFirst, HasSets};
 ghost use Rattle.acta_table.specs.Faults.{lowest_fault, is_name, has_twice, has_begin_edge, has_begin_kind, lacks_parents, fault_if};
 
-use crate::event::{ClassId, ObjId};
+use crate::event::{ClassId, EventKind, ObjId};
 use crate::items::Items;
 use crate::kinds::Kinds;
 use crate::limits::{LONGEST_NAME, MOST_CLASSES, MOST_OBJECTS};
@@ -379,6 +380,15 @@ impl<A: Allocator> Model<A> {
         ensures faultless { lowest_fault self.now ≡ None }
     {
         self.parts.classes.as_slice()
+    }
+
+    /// Whether some class may form edges by events of their own.
+    pub fn may_form(&self) -> bool
+        ensures { result ≡ list_any (can_do EventKind.Form) self.now.classes }
+    {
+        self.classes()
+            .iter()
+            .any(|class| class.may.has(EventKind::Form))
     }
 
     /// The object with this number; `None` where the model has none.

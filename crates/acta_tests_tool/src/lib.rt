@@ -9,6 +9,8 @@ mod driving;
 #[cfg(test)]
 mod images;
 #[cfg(test)]
+mod judging;
+#[cfg(test)]
 mod lines;
 #[cfg(test)]
 mod refusals;

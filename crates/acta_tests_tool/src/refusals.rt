@@ -252,6 +252,7 @@ fn refuse_command(
     rt: &(impl Abort + AllocGlobal),
     command: Command,
     model: &[u8],
+    input: &[u8],
     least: u64,
     due: Outcome,
     want: &[u8],
@@ -264,7 +265,7 @@ fn refuse_command(
         model: ModelName::Standard(Standard::Atomic),
     };
     for nth in 1..MOST {
-        let mut reader = Metered::new(INPUT);
+        let mut reader = Metered::new(input);
         let mut output = Vec::new(rt.alloc());
         heap.refuse(nth);
         let status = run_tool(
@@ -339,9 +340,27 @@ fn driven_runs(rt: HostRuntime) -> Result<(), Fail> {
 fn runs(rt: HostRuntime) -> Result<(), Fail> {
     let text = Standard::Atomic.text().as_bytes();
     let (due, want) = (Outcome::Refused, b"ok 1\nok 2 done\nline 3 fault 4\n");
-    refuse_command(&rt, Command::Run { kept: false }, text, 20, due, want)?;
+    refuse_command(
+        &rt,
+        Command::Run { kept: false },
+        text,
+        INPUT,
+        20,
+        due,
+        want,
+    )?;
     let want = b"begin 1 flat\ndo 1 x write 5 = done\nline 3 fault 4\n";
-    refuse_command(&rt, Command::Run { kept: true }, text, 20, due, want)
+    refuse_command(&rt, Command::Run { kept: true }, text, INPUT, 20, due, want)
+}
+
+// A read of a value that is not there, and a commit too many.
+const JUDGED: &[u8] = b"begin 1 flat\ndo 1 x read = 9\ncommit 1\ncommit 1\n";
+
+#[test]
+fn verdicts(rt: HostRuntime) -> Result<(), Fail> {
+    let text = Standard::Atomic.text().as_bytes();
+    let want = b"fault 3 4 1\nfault 11 2 1\n";
+    refuse_command(&rt, Command::Judge, text, JUDGED, 20, Outcome::Done, want)
 }
 
 #[test]
@@ -349,8 +368,24 @@ fn commands_for_images(rt: HostRuntime) -> Result<(), Fail> {
     let text = Standard::Atomic.text().as_bytes();
     let image = write_image(rt.alloc(), &assemble(rt.alloc(), text)?)?;
     let image = image.as_slice();
-    refuse_command(&rt, Command::Assemble, text, 10, Outcome::Done, image)?;
-    refuse_command(&rt, Command::CheckImage, image, 10, Outcome::Done, text)?;
+    refuse_command(
+        &rt,
+        Command::Assemble,
+        text,
+        INPUT,
+        10,
+        Outcome::Done,
+        image,
+    )?;
+    refuse_command(
+        &rt,
+        Command::CheckImage,
+        image,
+        INPUT,
+        10,
+        Outcome::Done,
+        text,
+    )?;
     let (due, want) = (Outcome::Refused, b"image fault 1\n");
-    refuse_command(&rt, Command::CheckImage, text, 0, due, want)
+    refuse_command(&rt, Command::CheckImage, text, INPUT, 0, due, want)
 }

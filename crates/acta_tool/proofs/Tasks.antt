@@ -12,7 +12,7 @@ use Rattle.acta_tool.specs.declared.outcome.Outcome.TheVariants.{Done, Refused, 
 use Rattle.acta_tool.specs.Outcome.{Answers, is_undriven}
 use Rattle.acta_tool.specs.Output.{Output}
 use Rattle.acta_tool.specs.Driving.{AnswersOne, MayCome, MayWrite, Task, book_lines, is_too_long, unless_too_long}
-use Rattle.acta_tool.specs.declared.run.Report.{Report}
+use Rattle.acta_tool.specs.declared.reports.Report.{Report}
 use Rattle.acta_tool.specs.inside.Reports.{MayComeOf, output_of}
 
 -- the task, by its fault

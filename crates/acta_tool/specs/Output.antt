@@ -1,7 +1,9 @@
 -- What the program writes for the bytes of a model and of an input, where it answers them.
-use Rattle.std.specs.Prelude.{ℕ, ◌+◌, Bool, true, false, ◌==◌, List, [], ◌∷◌, ◌++◌, map, length, codes, decimal, if◌then◌else◌, Option, Some, None, is_some, Result, Ok, Err}
+use Rattle.std.specs.Prelude.{ℕ, ◌+◌, Bool, true, false, ◌==◌, List, [], ◌∷◌, ◌++◌, map, length, codes, decimal, nat_lt, if◌then◌else◌, Option, Some, None, is_some, Result, Ok, Err}
 use Rattle.acta_table.specs.declared.answer.Answer.{Answer}
 use Rattle.acta_table.specs.declared.event.Event.{Event}
+use Rattle.acta_table.specs.declared.event.Kept.{Kept}
+use Rattle.acta_table.specs.declared.limits.TheConstants.{MOST_EVENTS}
 use Rattle.acta_table.specs.declared.model.Parts.{Parts}
 use Rattle.acta_table.specs.Numbers.{model_fault_number}
 use Rattle.acta_words.specs.Text.{lines_of, words_of, line_of, text_of}
@@ -13,11 +15,14 @@ use Rattle.acta_image.specs.Spelling.{image}
 use Rattle.acta_lang.specs.Canonical.{canonical}
 use Rattle.acta_lang.specs.Meaning.{code_number}
 use Rattle.acta_script.specs.declared.fault.LineFault.{LineFault}
-use Rattle.acta_script.specs.Answers.{answer_line, owed_line}
-use Rattle.acta_script.specs.Reading.{fault_number, event_of}
+use Rattle.acta_axioms.specs.Axioms.{axiom_number}
+use Rattle.acta_judge.specs.declared.verdict.Verdict.{Verdict}
+use Rattle.acta_judge.specs.Verdicts.{verdict}
+use Rattle.acta_script.specs.Answers.{answer_line, fault_line, owed_line}
+use Rattle.acta_script.specs.Reading.{fault_number, event_of, kept_of}
 use Rattle.acta_script.specs.Writing.{kept_line}
 use Rattle.acta_tool.specs.declared.args.Command.{Command}
-use Rattle.acta_tool.specs.declared.args.Command.TheVariants.{Assemble, CheckImage, Run, Drive}
+use Rattle.acta_tool.specs.declared.args.Command.TheVariants.{Assemble, CheckImage, Run, Judge, Drive}
 use Rattle.acta_tool.specs.declared.models.NoModel.{NoModel}
 use Rattle.acta_tool.specs.declared.models.NoModel.TheVariants.{Text, Image}
 use Rattle.acta_tool.specs.declared.input.BadLine.{BadLine}
@@ -102,12 +107,29 @@ run_on is_kept m s =
       text = text_of (told is_kept (run_answers m s.said) state ++ told_last is_kept state s.stop);
     }
 
--- the output of a command on a model: its image, its canonical text, or a run of the input's events; what `drive`
--- writes hangs on its threads, and is told apart
+-- what a verdict tells: its faults, then what is owed
+abbrev pub verdict_lines : {A : Type 0} → Verdict A → List (List ℕ)
+verdict_lines v = map (λ f. fault_line (axiom_number f.broken) f.place f.by) v.faults ++ map owed_line v.owed
+
+-- the output of `judge` on a model: the line that says nothing, or that there are too many, or the verdict
+abbrev pub judged_on : {A : Type 0} → Parts A → List (Kept A) → Option BadLine → Output
+judged_on m kept (Some b) = record { is_refused = true; text = text_of (stop_line b ∷ []) }
+judged_on m kept None =
+    if nat_lt MOST_EVENTS (length kept)
+    then record { is_refused = true; text = text_of (codes "judge fault 1" ∷ []) }
+    else record { is_refused = false; text = text_of (verdict_lines (verdict m kept)) }
+
+-- the same of what the lines say
+abbrev pub judge_on : {A : Type 0} → Parts A → Said (Kept A) → Output
+judge_on m s = judged_on m s.said s.stop
+
+-- the output of a command on a model: its image, its canonical text, a run of the input's events, or the verdict on
+-- its kept items; what `drive` writes hangs on its threads, and is told apart
 abbrev pub output_on : {A : Type 0} → Command → Parts A → List ℕ → Output
 output_on Assemble m input = record { is_refused = false; text = image m }
 output_on CheckImage m input = record { is_refused = false; text = canonical m }
 output_on (Run kept) m input = run_on kept m (said_in (event_of m) input)
+output_on Judge m input = judge_on m (said_in (kept_of m) input)
 output_on (Drive workers) m input = record { is_refused = false; text = [] }
 
 -- the output for bytes that mean no model

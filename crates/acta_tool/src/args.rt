@@ -27,6 +27,8 @@ pub enum Command {
     /// Answers the event lines of the standard input; or, where `kept`, tells the events that were kept, with what
     /// they returned, and nothing else.
     Run { kept: bool },
+    /// Judges the kept lines of the standard input: tells each fault, and what is owed.
+    Judge,
     /// Hands the event lines of the standard input in by this many threads, and tells the entries of the book.
     Drive { workers: u8 },
 }
@@ -80,6 +82,7 @@ fn command_named(spelled: &Spelled<'_>) -> Option<Command>
         "run" => Some(Command::Run {
             kept: spelled.is_kept,
         }),
+        "judge" => Some(Command::Judge),
         "drive" => {
             let workers = workers_named(spelled)?;
             Some(Command::Drive { workers })
@@ -226,6 +229,12 @@ fn surface<'a>(alloc: Global) -> Result<clap::Command<'a>, AllocError>
         program,
         "check-image",
         "Writes the text of the model's image, or what is wrong with it",
+    )?;
+    let program = with_command(
+        alloc,
+        program,
+        "judge",
+        "Judges the kept lines of the standard input: tells each fault, and what is owed",
     )?;
     with_drive(alloc, with_run(alloc, program)?)
 }

@@ -12,17 +12,17 @@ ghost use Rattle.acta_tool.specs.Output.{said_in, stop_line};
 ghost use Rattle.acta_tool.specs.inside.Reports.{MayComeOf, output_of};
 
 use crate::args::{Args, Command};
-use crate::input::{BadLine, SeatedLines, read_lines};
+use crate::input::{SeatedLines, read_lines};
 use crate::models::{ModelError, read_model};
 use crate::outcome::Outcome;
-use crate::run::{Report, read_within, refuse_model, write_report};
+use crate::reports::{Report, refuse_by, refuse_line, refuse_model, write_report};
+use crate::run::read_within;
 use crate::sink::Sink;
 use crate::source::Source;
-use crate::telling::{tell_book, tell_stop};
+use crate::telling::tell_book;
 use acta_locked::{Book, DriveError, OpenGate, Script, drive};
 use acta_script::Seated;
 use acta_table::Model;
-use acta_words::push_line;
 use std::alloc::{AllocError, Allocator};
 use std::sync::Wait;
 use std::thread::Threads;
@@ -60,30 +60,6 @@ fn scripts_of<A: Allocator + Copy>(
     Ok(scripts)
 }
 
-// What is told where a line says nothing.
-fn refuse_line<A: Allocator>(alloc: A, stop: BadLine) -> Result<Report<A>, AllocError>
-    ensures { IfOk result (λ report. output_of report ≡ record { is_refused = true; text = text_of (stop_line stop ∷ []) }) }
-{
-    let mut text = Vec::new(alloc);
-    tell_stop(&mut text, stop)?;
-    Ok(Report {
-        text,
-        is_refused: true,
-    })
-}
-
-// What is told of too many events.
-fn refuse_scripts<A: Allocator>(alloc: A) -> Result<Report<A>, AllocError>
-    ensures { IfOk result (λ report. output_of report ≡ record { is_refused = true; text = text_of (codes "drive fault 3" ∷ []) }) }
-{
-    let mut text = Vec::new(alloc);
-    push_line(&mut text, b"drive fault 3")?;
-    Ok(Report {
-        text,
-        is_refused: true,
-    })
-}
-
 // What is told of the book that a driven run leaves.
 fn report_book<A: Allocator + Copy>(alloc: A, book: &Book<A>) -> Result<Report<A>, DriveError>
     requires { All (λ e. IsInModel book.now.model e.event) book.now.entries }
@@ -111,7 +87,7 @@ fn drive_scripts<A: Allocator + Copy + Send + Sync, R: Threads + Wait + Sync>(
     match drive(rt, alloc, model, scripts, &OpenGate) {
         Ok(driven) => report_book(alloc, &driven.book),
         Err(e) => match e {
-            DriveError::TooManyEvents => Ok(refuse_scripts(alloc)?),
+            DriveError::TooManyEvents => Ok(refuse_by(alloc, b"drive fault 3")?),
             _ => Err(e),
         },
     }

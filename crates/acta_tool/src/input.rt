@@ -6,8 +6,8 @@ ghost use Rattle.acta_script.specs.Reading.{IsWhy};
 ghost use Rattle.acta_words.specs.Text.{words_of};
 ghost use Rattle.acta_tool.specs.Output.{said_by, said_in};
 
-use acta_script::{LineError, LineFault, Seated, read_event, read_seated};
-use acta_table::{Event, Model};
+use acta_script::{LineError, LineFault, Seated, read_event, read_kept, read_seated};
+use acta_table::{Event, Kept, Model};
 use acta_words::{Lines, has_words};
 use std::alloc::{AllocError, Allocator};
 
@@ -42,6 +42,26 @@ impl<'a, A: Allocator + Copy> LineReader<Event<A>> for EventLines<'a, A> {
 
     fn read(&self, line: &[u8]) -> Result<Event<A>, LineError> {
         read_event(self.alloc, self.model, line)
+    }
+}
+
+/// Reads lines as kept items.
+#[derive(Clone, Copy)]
+pub struct KeptLines<'a, A: Allocator + Copy> {
+    pub alloc: A,
+    pub model: &'a Model<A>,
+}
+
+impl<'a, A: Allocator + Copy> LineReader<Kept<A>> for KeptLines<'a, A> {
+    ghost use Rattle.acta_script.specs.Laws.{IsInModel};
+    ghost use Rattle.acta_script.specs.Reading.{kept_of};
+
+    ghost said = { λ r. kept_of r.model.now };
+
+    ghost fits = { λ r kept. IsInModel r.model.now kept.event };
+
+    fn read(&self, line: &[u8]) -> Result<Kept<A>, LineError> {
+        read_kept(self.alloc, self.model, line)
     }
 }
 

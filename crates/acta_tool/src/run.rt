@@ -3,30 +3,25 @@
 ghost use Rattle.std.specs.Prelude.{◌≡◌, ◌≤◌, ◌<◌, ◌+◌, ◌++◌, ◌⊎◌, false, length, vec_len, IfOk, IfErr, IfSome, MatchResult, None, Some};
 ghost use Rattle.acta_script.specs.Reading.{event_of};
 ghost use Rattle.acta_tool.specs.Outcome.{Answers, FailsBy, IsUnreadTooLong, KeepsUnread, WritesBy, input_of, is_drive, is_undriven, reads_input, reason_of};
-ghost use Rattle.acta_tool.specs.Output.{output_on, refused_model, run_on, said_in, told, told_last, tool_output};
+ghost use Rattle.acta_tool.specs.Output.{output_on, run_on, said_in, told, told_last, tool_output};
 ghost use Rattle.acta_words.specs.Text.{text_of};
 ghost use Rattle.acta_tool.specs.declared.source.ReadFault.TheVariants.{TooMuch as too_much};
 ghost use Rattle.acta_tool.specs.inside.Reports.{output_of};
 
 use crate::args::{Args, Command};
 use crate::input::{BadLine, EventLines, read_lines};
-use crate::models::{ModelError, NoModel, read_model};
+use crate::judging::judge_model;
+use crate::models::{ModelError, read_model};
 use crate::outcome::Outcome;
+use crate::reports::{Report, refuse_model, write_report};
 use crate::sink::Sink;
 use crate::source::{MOST_BYTES, ReadFault, Source, read_all};
-use crate::telling::{tell_end, tell_events, tell_no_model};
+use crate::telling::{tell_end, tell_events};
 use acta_image::write_image;
 use acta_lang::print_model;
 use acta_machine::{Machine, Run};
 use acta_table::Model;
 use std::alloc::{AllocError, Allocator};
-
-/// What is to be written, and whether the input was refused.
-#[derive(Drop)]
-pub struct Report<A: Allocator> {
-    pub text: Vec<u8, A>,
-    pub is_refused: bool,
-}
 
 // What is told of a run that this line stopped, if one did: the answers and what is owed, or the kept events alone.
 fn tell_run<A: Allocator + Copy>(
@@ -80,23 +75,12 @@ fn tell_model<A: Allocator + Copy>(
         Command::Assemble => write_image(alloc, &model)?,
         Command::CheckImage => print_model(alloc, &model)?,
         Command::Run { kept } => return run_model(alloc, kept, model, input),
+        Command::Judge => return judge_model(alloc, &model, input),
         Command::Drive { .. } => unreachable!(),
     };
     Ok(Report {
         text,
         is_refused: false,
-    })
-}
-
-/// What is told of bytes that mean no model.
-pub fn refuse_model<A: Allocator>(alloc: A, fault: NoModel) -> Result<Report<A>, AllocError>
-    ensures { IfOk result (λ report. output_of report ≡ refused_model fault) }
-{
-    let mut text = Vec::new(alloc);
-    tell_no_model(&mut text, fault)?;
-    Ok(Report {
-        text,
-        is_refused: true,
     })
 }
 
@@ -132,7 +116,7 @@ fn read_input<A: Allocator, S: Source>(
 {
     match command {
         Command::Assemble | Command::CheckImage => Ok(Vec::new(alloc)),
-        Command::Run { .. } | Command::Drive { .. } => read_all(alloc, input),
+        Command::Run { .. } | Command::Judge | Command::Drive { .. } => read_all(alloc, input),
     }
 }
 
@@ -154,22 +138,6 @@ pub fn read_within<A: Allocator, S: Source>(
         return Err(ReadFault::TooMuch);
     }
     Ok(bytes)
-}
-
-/// Writes a report in one go.
-pub fn write_report<A: Allocator, W: Sink>(report: &Report<A>, output: &mut W) -> Outcome
-    ensures answers { Answers result (output_of report.now) (W.contents output.old) (W.contents output.new) }
-    ensures written { WritesBy result (W.has_failed output.old) (W.has_failed output.new) }
-    ensures read { reason_of result ≡ None }
-    ensures driven { is_undriven result ≡ false }
-{
-    if output.put(report.text.as_slice()).is_err() {
-        Outcome::Unwritten
-    } else if report.is_refused {
-        Outcome::Refused
-    } else {
-        Outcome::Done
-    }
 }
 
 /// Reads the whole input, where the command reads it, does what the words asked for on the model that the bytes mean,

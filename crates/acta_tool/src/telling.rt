@@ -4,21 +4,24 @@ ghost use Rattle.std.specs.Prelude.{◌≡◌, ◌++◌, ◌∷◌, [], All, dec
 ghost use Rattle.acta_image.specs.Claims.{image_fault_number};
 ghost use Rattle.acta_lang.specs.declared.fault.AsmFault.{AsmFault};
 ghost use Rattle.acta_machine.specs.Table.{debts_in};
-ghost use Rattle.acta_script.specs.Answers.{answer_line, owed_line};
+ghost use Rattle.acta_axioms.specs.Axioms.{axiom_number};
+ghost use Rattle.acta_script.specs.Answers.{answer_line, fault_line, owed_line};
 ghost use Rattle.acta_script.specs.Laws.{IsInModel};
 ghost use Rattle.acta_script.specs.Writing.{kept_line};
 ghost use Rattle.acta_words.specs.Text.{line_of, text_of};
 ghost use Rattle.acta_tool.specs.Driving.{book_lines, entry_line};
-ghost use Rattle.acta_tool.specs.Output.{fault_number_words, fault_words, image_line, model_line, no_model_line, stop_line, told, told_last};
+ghost use Rattle.acta_tool.specs.Output.{fault_number_words, fault_words, image_line, model_line, no_model_line, stop_line, told, told_last, verdict_lines};
 
 use crate::input::BadLine;
 use crate::models::NoModel;
+use acta_axioms::Fault;
 use acta_image::ImageFault;
+use acta_judge::Verdict;
 use acta_lang::AsmFault;
 use acta_locked::{Book, Entry};
 use acta_machine::{Machine, Run};
-use acta_script::{answer_line, owed_line, write_event, write_kept};
-use acta_table::{Answer, Model};
+use acta_script::{answer_line, fault_line, owed_line, write_event, write_kept};
+use acta_table::{Answer, Model, Owed};
 use acta_words::{push_line, push_natural, push_word};
 use itoa::Buffer;
 use std::alloc::{AllocError, Allocator};
@@ -52,6 +55,20 @@ fn tell_history<A: Allocator + Copy>(
     Ok(())
 }
 
+// Tells these debts, a line each.
+fn tell_owed<A: Allocator + Copy>(
+    alloc: A,
+    owed: &[Owed],
+    text: &mut Vec<u8, A>,
+) -> Result<(), AllocError>
+    ensures { OnOk result (text.new.items ≡ text.old.items ++ text_of (map owed_line owed.now)) }
+{
+    for one in owed {
+        push_line(text, owed_line(alloc, one)?.as_slice())?;
+    }
+    Ok(())
+}
+
 // Tells what is owed, a line each.
 fn tell_debts<A: Allocator + Copy>(
     alloc: A,
@@ -60,9 +77,35 @@ fn tell_debts<A: Allocator + Copy>(
 ) -> Result<(), AllocError>
     ensures { OnOk result (text.new.items ≡ text.old.items ++ text_of (map owed_line (debts_in machine.now))) }
 {
-    for owed in machine.owed()?.as_slice() {
-        push_line(text, owed_line(alloc, owed)?.as_slice())?;
+    let owed = machine.owed()?;
+    tell_owed(alloc, owed.as_slice(), text)
+}
+
+// Tells these faults, a line each.
+fn tell_faults<A: Allocator + Copy>(
+    alloc: A,
+    faults: &[Fault],
+    text: &mut Vec<u8, A>,
+) -> Result<(), AllocError>
+    ensures { OnOk result (text.new.items ≡ text.old.items ++ text_of (map (λ f. fault_line (axiom_number f.broken) f.place f.by) faults.now)) }
+{
+    for fault in faults {
+        let line = fault_line(alloc, fault.broken.number(), fault.place, fault.by)?;
+        push_line(text, line.as_slice())?;
     }
+    Ok(())
+}
+
+/// Tells a verdict: its faults, then what is owed.
+pub fn tell_verdict<A: Allocator + Copy>(
+    alloc: A,
+    verdict: &Verdict<A>,
+    text: &mut Vec<u8, A>,
+) -> Result<(), AllocError>
+    ensures { OnOk result (text.new.items ≡ text.old.items ++ text_of (verdict_lines verdict.now)) }
+{
+    tell_faults(alloc, verdict.faults.as_slice(), text)?;
+    tell_owed(alloc, verdict.owed.as_slice(), text)?;
     Ok(())
 }
 

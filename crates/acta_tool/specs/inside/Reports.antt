@@ -5,7 +5,7 @@ use Rattle.acta_table.specs.declared.model.Parts.{Parts}
 use Rattle.acta_tool.specs.declared.models.ModelError.{ModelError}
 use Rattle.acta_tool.specs.declared.models.ModelError.TheVariants as error
 use Rattle.acta_tool.specs.declared.models.NoModel.{NoModel}
-use Rattle.acta_tool.specs.declared.run.Report.{Report}
+use Rattle.acta_tool.specs.declared.reports.Report.{Report}
 use Rattle.acta_tool.specs.Driving.{MayCome, Task}
 use Rattle.acta_tool.specs.Output.{Output}
 

@@ -1,0 +1,5 @@
+pub mod Aborting
+pub mod Counting
+pub mod Forms
+pub mod Meeting
+pub mod Merging

@@ -1,0 +1,4 @@
+pub mod Order
+pub mod Broken
+pub mod Verdicts
+pub mod inside

@@ -1,0 +1,63 @@
+//! Faults, put among those that are known, in their order and each once.
+
+ghost use Rattle.std.specs.Prelude.{◌≡◌, ◌∷◌, [], OnOk, map, option_to_list, if◌then◌else◌};
+ghost use Rattle.acta_axioms.specs.Faults.{faults_of};
+ghost use Rattle.acta_judge.specs.Order.{merged};
+
+use acta_axioms::{Axiom, Fault};
+use acta_table::OpNo;
+use std::alloc::{AllocError, Allocator};
+use std::collections::BTreeSet;
+
+/// An axiom, and a place at which it may be broken.
+#[derive(Clone, Copy)]
+pub(crate) struct Breach {
+    pub(crate) broken: Axiom,
+    pub(crate) place: u32,
+}
+
+impl Breach {
+    /// The axiom is broken by this number. `Err` where there is no memory.
+    pub(crate) fn tell<A: Allocator + Copy>(
+        self,
+        by: u64,
+        faults: &mut BTreeSet<Fault, A>,
+    ) -> Result<(), AllocError>
+        ensures { OnOk result (faults.new.keys ≡ merged faults.old.keys (faults_of self.broken self.place (by ∷ []))) }
+    {
+        faults.insert(Fault {
+            broken: self.broken,
+            place: self.place,
+            by,
+        })?;
+        Ok(())
+    }
+
+    /// The axiom is broken by this number, if there is one. `Err` where there is no memory.
+    pub(crate) fn tell_any<A: Allocator + Copy>(
+        self,
+        by: Option<u32>,
+        faults: &mut BTreeSet<Fault, A>,
+    ) -> Result<(), AllocError>
+        ensures { OnOk result (faults.new.keys ≡ merged faults.old.keys (faults_of self.broken self.place (option_to_list by))) }
+    {
+        match by {
+            Some(by) => self.tell(u64::from(by), faults),
+            None => Ok(()),
+        }
+    }
+
+    /// The axiom is broken by each of these operations. `Err` where there is no memory.
+    pub(crate) fn tell_each<A: Allocator + Copy>(
+        self,
+        ops: &[OpNo],
+        faults: &mut BTreeSet<Fault, A>,
+    ) -> Result<(), AllocError>
+        ensures { OnOk result (faults.new.keys ≡ merged faults.old.keys (faults_of self.broken self.place (map (λ o. o.0) ops.now))) }
+    {
+        for op in ops {
+            self.tell(u64::from(op.0), faults)?;
+        }
+        Ok(())
+    }
+}

@@ -1,0 +1,234 @@
+//! The faults at the place that a walk has reached, axiom by axiom.
+
+ghost use Rattle.std.specs.Prelude.{◌≡◌, not, map, filter, OnOk};
+ghost use Rattle.acta_table.specs.Sets.{numbers_of, is_named};
+ghost use Rattle.acta_axioms.specs.declared.fault.Axiom.TheVariants.{PartiesInProgress, Responsible, HandsWhole, Conflict};
+ghost use Rattle.acta_axioms.specs.Operations.{access_set};
+ghost use Rattle.acta_axioms.specs.Faults.{faults_at, faults_of, has_number, handed_unheld, idle_party, in_conflict, kept_back};
+ghost use Rattle.acta_judge.specs.Order.{merged};
+ghost use Rattle.acta_judge.specs.inside.Places.{faults_by, out_of_course, out_of_model, badly_handed, badly_operated, too_late};
+
+use crate::places::{
+    begun_again, ended_again, ended_unbegun, idle, ill_formed, not_allowed, not_in_time,
+    operated_idle, party, refuses, wants_whole, without_heir, wrong_return,
+};
+use crate::reporting::Breach;
+use acta_axioms::{Axiom, Fault, Walk};
+use acta_table::{Event, Kept, OpNo, OpSet, TxnId};
+use std::alloc::{AllocError, Allocator};
+use std::collections::BTreeSet;
+
+// The axiom, at this place.
+fn breach(broken: Axiom, place: u32) -> Breach
+    ensures { result ≡ record { broken = broken; place = place } }
+{
+    Breach { broken, place }
+}
+
+// Who begins, ends or operates where it cannot.
+fn tell_course<'a, A: Allocator + Copy>(
+    walk: &Walk<'a, A>,
+    place: u32,
+    event: &Event<A>,
+    faults: &mut BTreeSet<Fault, A>,
+) -> Result<(), AllocError>
+    ensures { OnOk result (faults.new.keys ≡ merged faults.old.keys (faults_by place (out_of_course walk.now.front event.now))) }
+{
+    breach(Axiom::BegunOnce, place).tell_any(begun_again(walk, event), faults)?;
+    breach(Axiom::EndedAfterBegun, place).tell_any(ended_unbegun(walk, event), faults)?;
+    breach(Axiom::EndedOnce, place).tell_any(ended_again(walk, event), faults)?;
+    breach(Axiom::OperatesInProgress, place).tell_any(operated_idle(walk, event), faults)
+}
+
+// What the model does not have or let.
+fn tell_model<'a, A: Allocator + Copy>(
+    walk: &Walk<'a, A>,
+    place: u32,
+    event: &Event<A>,
+    faults: &mut BTreeSet<Fault, A>,
+) -> Result<(), AllocError>
+    ensures { OnOk result (faults.new.keys ≡ merged faults.old.keys (faults_by place (out_of_model walk.now.model walk.now.front event.now))) }
+{
+    breach(Axiom::FormOfEvent, place).tell_any(ill_formed(walk.model(), event), faults)?;
+    breach(Axiom::Allowed, place).tell_any(not_allowed(walk, event), faults)
+}
+
+// Who takes part and is not in progress.
+fn tell_party<'a, A: Allocator + Copy>(
+    walk: &Walk<'a, A>,
+    place: u32,
+    event: &Event<A>,
+    faults: &mut BTreeSet<Fault, A>,
+) -> Result<(), AllocError>
+    ensures { OnOk result (faults.new.keys ≡ merged faults.old.keys (faults_of PartiesInProgress place (idle_party walk.now.front event.now))) }
+{
+    let breach = breach(Axiom::PartiesInProgress, place);
+    let (one, other) = party(event);
+    breach.tell_any(idle(walk, one), faults)?;
+    breach.tell_any(idle(walk, other), faults)
+}
+
+// Which of these operations the transaction does not hold in progress.
+fn tell_unheld<'a, A: Allocator + Copy>(
+    walk: &Walk<'a, A>,
+    breach: Breach,
+    t: TxnId,
+    ops: &[OpNo],
+    faults: &mut BTreeSet<Fault, A>,
+) -> Result<(), AllocError>
+    ensures { OnOk result (faults.new.keys ≡ merged faults.old.keys (faults_of breach.broken breach.place (filter (λ o. not (has_number (map (λ q. q.number) (access_set walk.now.model walk.now.front t.0)) o)) (numbers_of ops.now)))) }
+{
+    for op in ops {
+        if !walk.holds(t, *op) {
+            breach.tell(u64::from(op.0), faults)?;
+        }
+    }
+    Ok(())
+}
+
+// What is handed over, and not held in progress by the one that hands it over.
+fn tell_handed<'a, A: Allocator + Copy>(
+    walk: &Walk<'a, A>,
+    place: u32,
+    event: &Event<A>,
+    faults: &mut BTreeSet<Fault, A>,
+) -> Result<(), AllocError>
+    ensures { OnOk result (faults.new.keys ≡ merged faults.old.keys (faults_of Responsible place (handed_unheld walk.now.model walk.now.front event.now))) }
+{
+    match event {
+        Event::Split(t, _, _, ops) | Event::Delegate(t, _, ops) => {
+            tell_unheld(
+                walk,
+                breach(Axiom::Responsible, place),
+                *t,
+                ops.as_slice(),
+                faults,
+            )
+        }
+        _ => Ok(()),
+    }
+}
+
+// Which of the operations that are held are not among these.
+fn tell_unnamed<A: Allocator + Copy>(
+    breach: Breach,
+    held: &[OpNo],
+    ops: &OpSet<A>,
+    faults: &mut BTreeSet<Fault, A>,
+) -> Result<(), AllocError>
+    ensures { OnOk result (faults.new.keys ≡ merged faults.old.keys (faults_of breach.broken breach.place (filter (λ o. not (is_named ops.now o)) (numbers_of held.now)))) }
+{
+    for op in held {
+        if !ops.has_number(op.0 as usize) {
+            breach.tell(u64::from(op.0), faults)?;
+        }
+    }
+    Ok(())
+}
+
+// Which operations the transaction holds in progress that are not among these.
+fn tell_left<'a, A: Allocator + Copy>(
+    walk: &Walk<'a, A>,
+    breach: Breach,
+    t: TxnId,
+    ops: &OpSet<A>,
+    faults: &mut BTreeSet<Fault, A>,
+) -> Result<(), AllocError>
+    ensures { OnOk result (faults.new.keys ≡ merged faults.old.keys (faults_of breach.broken breach.place (filter (λ o. not (is_named ops.now o)) (map (λ q. q.number) (access_set walk.now.model walk.now.front t.0))))) }
+{
+    let held = walk.access_set(t)?;
+    tell_unnamed(breach, held.as_slice(), ops, faults)
+}
+
+// What one that has to hand over all keeps back.
+fn tell_kept_back<'a, A: Allocator + Copy>(
+    walk: &Walk<'a, A>,
+    place: u32,
+    event: &Event<A>,
+    faults: &mut BTreeSet<Fault, A>,
+) -> Result<(), AllocError>
+    ensures { OnOk result (faults.new.keys ≡ merged faults.old.keys (faults_of HandsWhole place (kept_back walk.now.model walk.now.front event.now))) }
+{
+    match event {
+        Event::Split(t, _, _, ops) | Event::Delegate(t, _, ops) if wants_whole(walk, *t) => {
+            tell_left(walk, breach(Axiom::HandsWhole, place), *t, ops, faults)
+        }
+        _ => Ok(()),
+    }
+}
+
+// Who takes part, or hands over, what it cannot.
+fn tell_handing<'a, A: Allocator + Copy>(
+    walk: &Walk<'a, A>,
+    place: u32,
+    event: &Event<A>,
+    faults: &mut BTreeSet<Fault, A>,
+) -> Result<(), AllocError>
+    ensures { OnOk result (faults.new.keys ≡ merged faults.old.keys (faults_by place (badly_handed walk.now.model walk.now.front event.now))) }
+{
+    tell_party(walk, place, event, faults)?;
+    tell_handed(walk, place, event, faults)?;
+    tell_kept_back(walk, place, event, faults)
+}
+
+// The operations that one conflicts with whose class refuses it.
+fn tell_conflicts<'a, A: Allocator + Copy>(
+    walk: &Walk<'a, A>,
+    place: u32,
+    event: &Event<A>,
+    faults: &mut BTreeSet<Fault, A>,
+) -> Result<(), AllocError>
+    ensures { OnOk result (faults.new.keys ≡ merged faults.old.keys (faults_of Conflict place (in_conflict walk.now.model walk.now.front event.now))) }
+{
+    match event {
+        Event::Operate(t, object, op) if refuses(walk, *t) => {
+            let ops = walk.conflicting(*t, *object, op)?;
+            breach(Axiom::Conflict, place).tell_each(ops.as_slice(), faults)
+        }
+        _ => Ok(()),
+    }
+}
+
+// An operation that conflicts, and a return that is not due.
+fn tell_operation<'a, A: Allocator + Copy>(
+    walk: &Walk<'a, A>,
+    place: u32,
+    item: &Kept<A>,
+    faults: &mut BTreeSet<Fault, A>,
+) -> Result<(), AllocError>
+    ensures { OnOk result (faults.new.keys ≡ merged faults.old.keys (faults_by place (badly_operated walk.now.model walk.now.front item.now.ret item.now.event))) }
+{
+    tell_conflicts(walk, place, &item.event, faults)?;
+    let by = wrong_return(walk, item)?;
+    breach(Axiom::Return, place).tell_any(by, faults)
+}
+
+// A commit without an heir, and an edge that is formed too late.
+fn tell_lateness<'a, A: Allocator + Copy>(
+    walk: &Walk<'a, A>,
+    place: u32,
+    event: &Event<A>,
+    faults: &mut BTreeSet<Fault, A>,
+) -> Result<(), AllocError>
+    ensures { OnOk result (faults.new.keys ≡ merged faults.old.keys (faults_by place (too_late walk.now.model walk.now.front event.now))) }
+{
+    breach(Axiom::Heir, place).tell_any(without_heir(walk, event), faults)?;
+    breach(Axiom::FormedInTime, place).tell_any(not_in_time(walk, event), faults)
+}
+
+/// Tells the faults of this item at the place that the walk has reached. `Err` where there is no memory.
+pub(crate) fn tell_item<'a, A: Allocator + Copy>(
+    walk: &Walk<'a, A>,
+    item: &Kept<A>,
+    faults: &mut BTreeSet<Fault, A>,
+) -> Result<(), AllocError>
+    ensures { OnOk result (faults.new.keys ≡ merged faults.old.keys (faults_at walk.now.model (record { before = walk.now.front; kept = item.now }))) }
+{
+    let place = walk.front().len() as u32 + 1;
+    let event = &item.event;
+    tell_course(walk, place, event, faults)?;
+    tell_model(walk, place, event, faults)?;
+    tell_handing(walk, place, event, faults)?;
+    tell_operation(walk, place, item, faults)?;
+    tell_lateness(walk, place, event, faults)
+}

@@ -1,0 +1,33 @@
+//! What a judge answers.
+
+ghost use Rattle.std.specs.Prelude.{◌≡◌};
+ghost use Rattle.acta_judge.specs.declared.verdict.JudgeError.TheVariants.{Memory};
+
+use acta_axioms::Fault;
+use acta_table::{Items, Owed};
+use std::alloc::{AllocError, Allocator};
+
+/// What is said of a history (ours): its faults, in order of axiom, place and number, each once, and what is owed at its
+/// end, by edge number.
+#[derive(Drop)]
+pub struct Verdict<A: Allocator> {
+    pub faults: Items<Fault, A>,
+    pub owed: Items<Owed, A>,
+}
+
+/// Why there is no verdict (ours).
+#[derive(Clone, Copy, PartialEq, Eq, Debug)]
+pub enum JudgeError {
+    /// The list has more than `MOST_EVENTS` items.
+    TooLong,
+    /// There is no memory.
+    Memory,
+}
+
+impl From<AllocError> for JudgeError {
+    ghost from_gives = { λ _ e. e ≡ Memory };
+
+    fn from(_error: AllocError) -> JudgeError {
+        JudgeError::Memory
+    }
+}

@@ -1,0 +1,60 @@
+//! The command `judge`: the verdict on the kept items of an input.
+
+ghost use Rattle.std.specs.Prelude.{◌≡◌, ◌∷◌, [], false, None, IfOk};
+ghost use Rattle.acta_script.specs.Reading.{kept_of};
+ghost use Rattle.acta_words.specs.Text.{text_of};
+ghost use Rattle.acta_tool.specs.Output.{judge_on, judged_on, said_in, verdict_lines};
+ghost use Rattle.acta_tool.specs.inside.Reports.{output_of};
+
+use crate::input::{KeptLines, read_lines};
+use crate::reports::{Report, refuse_by, refuse_line};
+use crate::telling::tell_verdict;
+use acta_judge::{JudgeError, Verdict, judge};
+use acta_table::{Kept, Model};
+use std::alloc::{AllocError, Allocator};
+
+// What is told of a verdict.
+fn report_verdict<A: Allocator + Copy>(
+    alloc: A,
+    verdict: &Verdict<A>,
+) -> Result<Report<A>, AllocError>
+    ensures { IfOk result (λ report. output_of report ≡ record { is_refused = false; text = text_of (verdict_lines verdict.now) }) }
+{
+    let mut text = Vec::new(alloc);
+    tell_verdict(alloc, verdict, &mut text)?;
+    Ok(Report {
+        text,
+        is_refused: false,
+    })
+}
+
+// What is told of kept items.
+fn judge_kept<A: Allocator + Copy>(
+    alloc: A,
+    model: &Model<A>,
+    kept: &[Kept<A>],
+) -> Result<Report<A>, AllocError>
+    ensures { IfOk result (λ report. output_of report ≡ judged_on model.now kept.now None) }
+{
+    match judge(alloc, model, kept) {
+        Ok(verdict) => report_verdict(alloc, &verdict),
+        Err(JudgeError::TooLong) => refuse_by(alloc, b"judge fault 1"),
+        Err(JudgeError::Memory) => Err(AllocError),
+    }
+}
+
+/// What is told of the kept lines of the input.
+pub fn judge_model<A: Allocator + Copy>(
+    alloc: A,
+    model: &Model<A>,
+    input: &[u8],
+) -> Result<Report<A>, AllocError>
+    ensures { IfOk result (λ report. output_of report ≡ judge_on model.now (said_in (kept_of model.now) input.now)) }
+{
+    let lines = KeptLines { alloc, model };
+    let read = read_lines(alloc, &lines, input)?;
+    match read.stop {
+        Some(stop) => refuse_line(alloc, stop),
+        None => judge_kept(alloc, model, read.said.as_slice()),
+    }
+}
