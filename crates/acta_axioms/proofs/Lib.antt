@@ -1,4 +1,4 @@
-mod Histories
+pub mod Histories
 mod Examples
 pub mod Growth
 pub mod Holders

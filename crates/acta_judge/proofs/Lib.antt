@@ -1,5 +1,7 @@
 pub mod Aborting
 pub mod Counting
+mod Examples
 pub mod Forms
+mod Histories
 pub mod Meeting
 pub mod Merging

@@ -1,34 +1,12 @@
 //! The histories of each model, played.
 
-use crate::histories::{
-    CONTINGENT, DELEGATING, FAMILIES, FLAT, LENDING, NESTED, PARTING, RECOVERABLE, SPLIT_JOIN,
-    UNTIED, WAITING,
-};
-use crate::models;
+use crate::histories::by_model;
 use crate::playing::play;
-use acta_models::Standard;
 use std::test::Fail;
-
-// The histories of each model, by its text.
-fn histories() -> [(&'static str, &'static str); 11] {
-    [
-        (Standard::Atomic.text(), FLAT),
-        (Standard::Contingent.text(), CONTINGENT),
-        (Standard::SplitJoin.text(), SPLIT_JOIN),
-        (models::PARTING, PARTING),
-        (models::DELEGATING, DELEGATING),
-        (Standard::Nested.text(), NESTED),
-        (models::UNTIED, UNTIED),
-        (models::WAITING, WAITING),
-        (models::FAMILIES, FAMILIES),
-        (Standard::Recoverable.text(), RECOVERABLE),
-        (models::LENDING, LENDING),
-    ]
-}
 
 #[test]
 fn go_as_they_say(rt: HostRuntime) -> Result<(), Fail> {
-    for (model, lines) in histories() {
+    for (model, lines) in by_model() {
         play(&rt, rt.alloc(), model, lines)?;
     }
     Ok(())
@@ -52,7 +30,7 @@ fn meets(lines: &str, rule: u8) -> bool {
 
 // Whether one of them meets the rule.
 fn is_met(rule: u8) -> bool {
-    for (_, lines) in histories() {
+    for (_, lines) in by_model() {
         if meets(lines, rule) {
             return true;
         }

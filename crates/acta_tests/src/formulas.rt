@@ -24,17 +24,17 @@ fn is_before(m: Option<u32>, n: Option<u32>) -> bool {
 
 /// Whether the formula of the kind is false, written out once more.
 pub fn is_false(kind: Dep, j: Course, i: Course) -> bool {
-    let decided = j.commit.or(j.abort);
+    let (decided, behind) = (j.decided(), i.decided());
     match kind {
         Dep::Cd => j.commit.is_some() && i.commit.is_some() && !is_before(i.commit, j.commit),
         Dep::Scd => i.commit.is_some() && j.commit.is_none(),
         Dep::Ad => i.abort.is_some() && j.abort.is_none(),
         Dep::Wd => i.abort.is_some() && !is_before(j.commit, i.abort) && j.abort.is_none(),
-        Dep::Td => decided.is_some() && !is_before(i.commit.or(i.abort), decided),
+        Dep::Td => decided.is_some() && !is_before(behind, decided),
         Dep::Ed => i.commit.is_some() && j.start.is_some() && j.abort.is_none(),
         Dep::Cmd => i.abort.is_some() && j.commit.is_none(),
         Dep::Bd => j.start.is_some() && !is_before(i.start, j.start),
-        Dep::Sd => j.start.is_some() && !is_before(i.commit.or(i.abort), j.start),
+        Dep::Sd => j.start.is_some() && !is_before(behind, j.start),
         Dep::Bcd => j.start.is_some() && !is_before(i.commit, j.start),
         Dep::Bad => j.start.is_some() && !is_before(i.abort, j.start),
         Dep::Wcd => j.start.is_some() && i.commit.is_some() && !is_before(i.commit, j.start),

@@ -1,6 +1,9 @@
 //! Short histories, each under its title, by the model that they are of: events with their answers, and what the machine
 //! shows. `docs/HISTORIES.md` lists the titles with the rules that they show.
 
+use crate::models;
+use acta_models::Standard;
+
 /// Flat transactions: the class `flat` begins, operates, commits and aborts.
 pub const FLAT: &str = "\
 # A write that is committed stays
@@ -1022,3 +1025,20 @@ do 2 x write 6 : ok 4 done
 do 2 x write 7 : ok 5 done
 commit 1 : ok 6
 commit 2 : ok 7";
+
+/// The text of each model, with the histories of it.
+pub fn by_model() -> [(&'static str, &'static str); 11] {
+    [
+        (Standard::Atomic.text(), FLAT),
+        (Standard::Contingent.text(), CONTINGENT),
+        (Standard::SplitJoin.text(), SPLIT_JOIN),
+        (models::PARTING, PARTING),
+        (models::DELEGATING, DELEGATING),
+        (Standard::Nested.text(), NESTED),
+        (models::UNTIED, UNTIED),
+        (models::WAITING, WAITING),
+        (models::FAMILIES, FAMILIES),
+        (Standard::Recoverable.text(), RECOVERABLE),
+        (models::LENDING, LENDING),
+    ]
+}

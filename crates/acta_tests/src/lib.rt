@@ -8,14 +8,12 @@ mod agreeing;
 mod checking;
 #[cfg(test)]
 mod following;
-#[cfg(test)]
-mod formulas;
+pub mod formulas;
 #[cfg(test)]
 mod growths;
-#[cfg(test)]
-mod histories;
-#[cfg(test)]
-mod models;
+pub mod histories;
+pub mod lists;
+pub mod models;
 #[cfg(test)]
 mod objects;
 #[cfg(test)]

@@ -1,9 +1,8 @@
 //! The models of the histories, as texts.
 
-use acta_lang::assemble;
-use acta_table::{Model, ObjId};
+use acta_lang::{AsmError, assemble};
+use acta_table::Model;
 use std::alloc::Allocator;
-use std::test::Fail;
 
 /// Transactions that split with an edge in either direction, hand over the whole, and form edges.
 pub const PARTING: &str = "\
@@ -205,26 +204,13 @@ pub struct Models<A: Allocator> {
 }
 
 impl<A: Allocator + Copy> Models<A> {
-    /// The model that the text means, and the wider one.
-    pub fn of(alloc: A, text: &str) -> Result<Models<A>, Fail> {
+    /// The model that the text means, and the wider one. `Err` where the text has a fault, and where there is no memory.
+    pub fn of(alloc: A, text: &str) -> Result<Models<A>, AsmError> {
         let mut more = String::from_str(alloc, text)?;
         more.push_str(MORE)?;
         Ok(Models {
             model: assemble(alloc, text.as_bytes())?,
             wider: assemble(alloc, more.as_str().as_bytes())?,
         })
-    }
-
-    /// The object of this name.
-    pub fn object(&self, name: &str) -> Result<ObjId, Fail> {
-        let mut objects = self.wider.objects().iter();
-        let at = objects
-            .position(|object| object.name.as_slice() == name.as_bytes())
-            .ok_or("no object has this name")?;
-        Ok(ObjId(
-            u16::try_from(at)
-                .ok()
-                .ok_or("an object has a small number")?,
-        ))
     }
 }

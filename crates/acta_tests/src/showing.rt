@@ -85,6 +85,19 @@ fn push_of_txn<A: Allocator + Copy>(
     }
 }
 
+// The object of this name.
+fn object_of<A: Allocator>(models: &Models<A>, name: &str) -> Result<ObjId, Fail> {
+    let mut objects = models.wider.objects().iter();
+    let at = objects
+        .position(|object| object.name.as_slice() == name.as_bytes())
+        .ok_or("no object has this name")?;
+    Ok(ObjId(
+        u16::try_from(at)
+            .ok()
+            .ok_or("an object has a small number")?,
+    ))
+}
+
 // Writes the value of an object.
 fn push_object<A: Allocator + Copy>(
     line: &mut Vec<u8, A>,
@@ -105,7 +118,7 @@ fn push_shown<A: Allocator + Copy>(
     let (word, rest) = asked.split_once(' ').unwrap_or((asked, ""));
     match word {
         "view" => Ok(push_ops(line, &machine.view_set()?)?),
-        "value" => Ok(push_object(line, machine, models.object(rest)?)?),
+        "value" => Ok(push_object(line, machine, object_of(models, rest)?)?),
         "edges" => Ok(push_edges(line, machine.edges())?),
         "owed" => Ok(push_debts(alloc, line, machine)?),
         _ => push_of_txn(line, machine, word, txn(rest)?),

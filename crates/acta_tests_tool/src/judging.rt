@@ -36,6 +36,19 @@ $ judge @contingent
 owed 1 2 commit
 status 0
 
+$ judge @atomic
+| begin 1 flat
+| begin 2 flat
+| do 1 x write 5 = done
+| do 2 x read = 5
+| commit 2
+| abort 1
+| begin 3 flat
+| do 3 x read = 5
+fault 10 4 1
+fault 11 8 3
+status 0
+
 $ judge @contingent
 | form CMD 1 1
 | begin 1 try
