@@ -1,4 +1,5 @@
 pub mod Answers
+pub mod Commands
 pub mod Laws
 pub mod Ranges
 pub mod Reading

@@ -7,6 +7,8 @@ use Rattle.acta_table.specs.declared.dep.Dep.{Dep}
 use Rattle.acta_table.specs.declared.event.ClassId.{ClassId}
 use Rattle.acta_table.specs.declared.event.Event.{Event}
 use Rattle.acta_table.specs.declared.event.Event.TheVariants.{Begin, Spawn, Split, Join, Delegate, Form, Operate, Commit, Abort}
+use Rattle.acta_table.specs.declared.event.EventKind.{EventKind}
+use Rattle.acta_table.specs.declared.event.EventKind.TheVariants.{Begin as begin_kind, Spawn as spawn_kind, Split as split_kind, Join as join_kind, Delegate as delegate_kind, Form as form_kind, Operate as operate_kind, Commit as commit_kind, Abort as abort_kind}
 use Rattle.acta_table.specs.declared.event.Kept.{Kept}
 use Rattle.acta_table.specs.declared.event.ObjId.{ObjId}
 use Rattle.acta_table.specs.declared.event.Op.{Op}
@@ -182,20 +184,38 @@ abort_said (t ∷ []) = do
   Ok (Abort t)
 abort_said _ = Err Arity
 
+-- the kind of event that a line with this first word says
+abbrev pub event_kind_said : List ℕ → Result EventKind LineFault
+event_kind_said word =
+    if bytes_eq word (codes "begin") then Ok begin_kind
+    else if bytes_eq word (codes "spawn") then Ok spawn_kind
+    else if bytes_eq word (codes "split") then Ok split_kind
+    else if bytes_eq word (codes "join") then Ok join_kind
+    else if bytes_eq word (codes "delegate") then Ok delegate_kind
+    else if bytes_eq word (codes "form") then Ok form_kind
+    else if bytes_eq word (codes "do") then Ok operate_kind
+    else if bytes_eq word (codes "commit") then Ok commit_kind
+    else if bytes_eq word (codes "abort") then Ok abort_kind
+    else Err Word
+
+-- the event of this kind that the words behind the first say
+abbrev pub event_of_kind : {A : Type 0} → Parts A → EventKind → List (List ℕ) → Result (Event A) LineFault
+event_of_kind m begin_kind words = begin_said m words
+event_of_kind m spawn_kind words = spawn_said m words
+event_of_kind m split_kind words = split_said m words
+event_of_kind m join_kind words = join_said words
+event_of_kind m delegate_kind words = delegate_said words
+event_of_kind m form_kind words = form_said words
+event_of_kind m operate_kind words = do_said m words
+event_of_kind m commit_kind words = commit_said words
+event_of_kind m abort_kind words = abort_said words
+
 -- the event that words say
 unfoldable pub event_said : {A : Type 0} → Parts A → List (List ℕ) → Result (Event A) LineFault
 event_said m [] = Err Empty
-event_said m (word ∷ words) =
-    if bytes_eq word (codes "begin") then begin_said m words
-    else if bytes_eq word (codes "spawn") then spawn_said m words
-    else if bytes_eq word (codes "split") then split_said m words
-    else if bytes_eq word (codes "join") then join_said words
-    else if bytes_eq word (codes "delegate") then delegate_said words
-    else if bytes_eq word (codes "form") then form_said words
-    else if bytes_eq word (codes "do") then do_said m words
-    else if bytes_eq word (codes "commit") then commit_said words
-    else if bytes_eq word (codes "abort") then abort_said words
-    else Err Word
+event_said m (word ∷ words) = do
+  kind ← event_kind_said word
+  event_of_kind m kind words
 
 -- the event that a line says, or its lowest fault
 abbrev pub event_of : {A : Type 0} → Parts A → List ℕ → Result (Event A) LineFault

@@ -17,6 +17,7 @@
 #![tactic(auto)]
 
 mod answers;
+mod commands;
 mod fault;
 mod kept;
 mod laws;
@@ -30,8 +31,10 @@ mod seated;
 mod writing;
 
 pub use answers::{answer_line, fault_line, owed_line};
+pub use commands::{BreakOn, DebugCommand, read_command};
 pub use fault::{LineError, LineFault};
 pub use kept::{read_kept, write_kept};
+pub use names::object_name;
 pub use reading::read_event;
 pub use seated::{Seated, read_seated};
 pub use writing::write_event;

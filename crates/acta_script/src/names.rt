@@ -76,10 +76,12 @@ pub(crate) fn class_name<A: Allocator>(model: &Model<A>, class: ClassId) -> &[u8
     model.classes()[usize::from(class.0)].name.as_slice()
 }
 
-/// The name of the object.
-pub(crate) fn object_name<A: Allocator>(model: &Model<A>, object: ObjId) -> &[u8]
-    requires { object.0 < length model.now.objects }
+/// The name of the object. One that is not in the model has an empty one.
+pub fn object_name<A: Allocator>(model: &Model<A>, object: ObjId) -> &[u8]
     ensures { result.now ≡ object_word model.now object }
 {
-    model.objects()[usize::from(object.0)].name.as_slice()
+    match model.objects().get(usize::from(object.0)) {
+        Some(found) => found.name.as_slice(),
+        None => b"",
+    }
 }

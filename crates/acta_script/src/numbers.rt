@@ -1,12 +1,13 @@
-//! The words of numbers: transactions, and the numbers of operations on objects.
+//! The words of numbers: transactions, the numbers of operations on objects, and those of commands.
 
 ghost use Rattle.std.specs.Prelude.{◌≡◌, ◌++◌, ◌∷◌, OnOk};
+ghost use Rattle.acta_script.specs.Commands.{count_said};
 ghost use Rattle.acta_script.specs.Reading.{txn_said, integer_said};
 ghost use Rattle.acta_script.specs.Writing.{txn_word};
 
 use crate::fault::LineFault;
 use acta_table::TxnId;
-use acta_words::{push_natural, read_i32, read_u16};
+use acta_words::{push_natural, read_i32, read_u16, read_u32};
 use std::alloc::{AllocError, Allocator};
 
 /// The transaction of a word of digits, of 16 bits.
@@ -15,6 +16,13 @@ pub(crate) fn txn_said(word: &[u8]) -> Result<TxnId, LineFault>
 {
     let number = read_u16(word).ok_or(LineFault::Number)?;
     Ok(TxnId(number))
+}
+
+/// The number of 32 bits of a word of digits.
+pub(crate) fn count_said(word: &[u8]) -> Result<u32, LineFault>
+    ensures { result ≡ count_said word.now }
+{
+    read_u32(word).ok_or(LineFault::Number)
 }
 
 /// The number of 32 bits of a word of digits, with a minus before them or not.

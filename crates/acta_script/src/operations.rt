@@ -12,12 +12,12 @@ use acta_table::Op;
 use acta_words::{push_integer, push_word};
 use std::alloc::{AllocError, Allocator};
 
-// The operation, where no word is left.
-fn alone(op: Op, words: &[&[u8]]) -> Result<Op, LineFault>
-    ensures { result ≡ alone op (map (λ word. word.now) words.now) }
+/// The value, where no word is left.
+pub(crate) fn alone<X: Copy>(x: X, words: &[&[u8]]) -> Result<X, LineFault>
+    ensures { result ≡ alone x (map (λ word. word.now) words.now) }
 {
     if words.is_empty() {
-        Ok(op)
+        Ok(x)
     } else {
         Err(LineFault::Arity)
     }

@@ -3,14 +3,14 @@
 
 ghost use Rattle.std.specs.Prelude.{◌≡◌, map, Ok, IfOk, IfErr};
 ghost use Rattle.acta_script.specs.Laws.{IsInModel, NamesNothing};
-ghost use Rattle.acta_script.specs.Reading.{IsWhy, begin_said, spawn_said, split_said, join_said, delegate_said, form_said, form_of_kind, do_said, commit_said, abort_said, event_said, event_of};
+ghost use Rattle.acta_script.specs.Reading.{IsWhy, begin_said, spawn_said, split_said, join_said, delegate_said, form_said, form_of_kind, do_said, commit_said, abort_said, event_kind_said, event_of_kind, event_said, event_of};
 
 use crate::fault::{LineError, LineFault};
 use crate::names::{class_said, kind_said, object_said};
 use crate::numbers::txn_said;
 use crate::op_sets::operations_said;
 use crate::operations::operation_said;
-use acta_table::{Dep, Event, Model};
+use acta_table::{Dep, Event, EventKind, Model};
 use acta_words::words_of;
 use std::alloc::Allocator;
 
@@ -158,6 +158,57 @@ fn abort_said<A: Allocator>(words: &[&[u8]]) -> Result<Event<A>, LineFault>
     Ok(Event::Abort(txn_said(t)?))
 }
 
+/// The kind of event that a line with this first word says.
+pub(crate) fn event_kind_said(word: &[u8]) -> Result<EventKind, LineFault>
+    ensures { result ≡ event_kind_said word.now }
+{
+    if word == b"begin".as_slice() {
+        Ok(EventKind::Begin)
+    } else if word == b"spawn".as_slice() {
+        Ok(EventKind::Spawn)
+    } else if word == b"split".as_slice() {
+        Ok(EventKind::Split)
+    } else if word == b"join".as_slice() {
+        Ok(EventKind::Join)
+    } else if word == b"delegate".as_slice() {
+        Ok(EventKind::Delegate)
+    } else if word == b"form".as_slice() {
+        Ok(EventKind::Form)
+    } else if word == b"do".as_slice() {
+        Ok(EventKind::Operate)
+    } else if word == b"commit".as_slice() {
+        Ok(EventKind::Commit)
+    } else if word == b"abort".as_slice() {
+        Ok(EventKind::Abort)
+    } else {
+        Err(LineFault::Word)
+    }
+}
+
+// The event of this kind that the words behind the first say.
+fn event_of_kind<A: Allocator + Copy>(
+    alloc: A,
+    model: &Model<A>,
+    kind: EventKind,
+    words: &[&[u8]],
+) -> Result<Event<A>, LineError>
+    ensures ok { IfOk result (λ event. event_of_kind model.now kind (map (λ word. word.now) words.now) ≡ Ok event) }
+    ensures fault { IfErr result (IsWhy (event_of_kind model.now kind (map (λ word. word.now) words.now))) }
+    ensures in_model { IfOk result (λ event. IsInModel model.now event) }
+{
+    match kind {
+        EventKind::Begin => Ok(begin_said(model, words)?),
+        EventKind::Spawn => Ok(spawn_said(model, words)?),
+        EventKind::Split => split_said(alloc, model, words),
+        EventKind::Join => Ok(join_said(words)?),
+        EventKind::Delegate => delegate_said(alloc, words),
+        EventKind::Form => Ok(form_said(words)?),
+        EventKind::Operate => Ok(do_said(model, words)?),
+        EventKind::Commit => Ok(commit_said(words)?),
+        EventKind::Abort => Ok(abort_said(words)?),
+    }
+}
+
 /// The event that the words say.
 #[tactic(auto, unfolding(crate::specs::Reading::event_said))]
 pub(crate) fn event_said<A: Allocator + Copy>(
@@ -172,27 +223,8 @@ pub(crate) fn event_said<A: Allocator + Copy>(
     let [word, words @ ..] = words else {
         return Err(LineFault::Empty.into());
     };
-    if *word == b"begin".as_slice() {
-        Ok(begin_said(model, words)?)
-    } else if *word == b"spawn".as_slice() {
-        Ok(spawn_said(model, words)?)
-    } else if *word == b"split".as_slice() {
-        split_said(alloc, model, words)
-    } else if *word == b"join".as_slice() {
-        Ok(join_said(words)?)
-    } else if *word == b"delegate".as_slice() {
-        delegate_said(alloc, words)
-    } else if *word == b"form".as_slice() {
-        Ok(form_said(words)?)
-    } else if *word == b"do".as_slice() {
-        Ok(do_said(model, words)?)
-    } else if *word == b"commit".as_slice() {
-        Ok(commit_said(words)?)
-    } else if *word == b"abort".as_slice() {
-        Ok(abort_said(words)?)
-    } else {
-        Err(LineFault::Word.into())
-    }
+    let kind = event_kind_said(word)?;
+    event_of_kind(alloc, model, kind, words)
 }
 
 /// The event that the line says (the line is our form for ACTA's events). `Fault` has the lowest fault of the line, and

@@ -65,7 +65,7 @@ fault 7 1 1
 status 0
 
 $ judge @atomic
-|
+| # nothing
 | begin 1 flat # a comment
 | do 1 x read = 9
 fault 11 2 1
@@ -85,7 +85,7 @@ status 0
 const REFUSED: &str = "\
 $ judge @atomic
 | commit 1
-|
+| # nothing
 | commit x
 line 3 fault 4
 status 1

@@ -3,6 +3,8 @@
 #![tactic(auto)]
 
 #[cfg(test)]
+mod debugging;
+#[cfg(test)]
 mod devices;
 #[cfg(test)]
 mod driving;

@@ -363,6 +363,50 @@ fn verdicts(rt: HostRuntime) -> Result<(), Fail> {
     refuse_command(&rt, Command::Judge, text, JUDGED, 20, Outcome::Done, want)
 }
 
+// A history, each command to a debugger, and a line that is faulty.
+const DEBUGGED: &[u8] = b"\
+begin 1 flat
+do 1 s insert 4
+do 1 s insert 1
+--
+step
+break owed 1
+break kind do
+break object s
+run
+goto 3
+back
+clear
+run
+value s
+value n
+status 1
+owed
+commit 1
+";
+
+#[test]
+fn debugging_runs(rt: HostRuntime) -> Result<(), Fail> {
+    let text = Standard::Atomic.text().as_bytes();
+    let want = b"\
+at 1
+break 1 set
+break 2 set
+break 3 set
+break 2 at 2
+at 3
+at 2
+cleared
+end 3
+value s {1,4}
+value n 0
+status 1 inprogress
+line 18 fault 2
+";
+    let due = Outcome::Refused;
+    refuse_command(&rt, Command::Debug, text, DEBUGGED, 100, due, want)
+}
+
 #[test]
 fn commands_for_images(rt: HostRuntime) -> Result<(), Fail> {
     let text = Standard::Atomic.text().as_bytes();

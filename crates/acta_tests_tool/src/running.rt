@@ -1,6 +1,6 @@
 //! Runs of the tool, as text. A case is a command line, `%` before each line of its model where that is a file, or `&`
-//! before its bytes as pairs of digits, `|` before each line of its input, the lines that are wanted, or `=` before the
-//! bytes, and the exit status.
+//! before its bytes as pairs of digits, `|` before each line of its input, the lines that are wanted, with `>` before one
+//! that would read as another part of the case, or `=` before the bytes, and the exit status.
 
 use acta_tool::{
     Args, Command, Metered, ModelName, Outcome, Watched, drive_tool, exit_status, parse, run_tool,
@@ -132,6 +132,8 @@ pub fn play<R: Threads + Wait + Sync + Abort + AllocGlobal>(
             add_bytes(&mut case.model, bytes)?;
         } else if let Some(bytes) = line.strip_prefix("= ") {
             add_bytes(&mut case.want, bytes)?;
+        } else if let Some(want) = line.strip_prefix("> ") {
+            add(&mut case.want, want)?;
         } else if let Some(input) = line.strip_prefix("| ") {
             add(&mut case.input, input)?;
         } else if let Some(status) = line.strip_prefix("status ") {

@@ -3,17 +3,15 @@ use Rattle.std.proofs.Common.{◌≡◌, ℕ, ◌+◌, List, [], ◌∷◌, ◌+
 use Rattle.std.specs.Prelude.{Option, None, Result}
 use Rattle.std.proofs.lemmas.List.{append-nil}
 use Rattle.acta_script.specs.declared.fault.LineFault.{LineFault}
-use Rattle.acta_words.specs.Text.{lines_of}
-use Rattle.acta_tool.specs.Output.{Said, said_by, said_from, said_in, with_line}
+use Rattle.acta_tool.specs.Output.{Said, said_by, said_from, with_line}
 
 -- these, before what else is said
 abbrev pub put_before : {X : Type 0} → List X → Said X → Said X
 put_before xs s = record s { said = xs ++ s.said }
 
 -- nothing has been read yet
-pub begins : {X : Type 0} (read : List ℕ → Result X LineFault) (input : List ℕ) (xs : List X) (left : List (List ℕ)) → xs ≡ [] → left ≡ lines_of input → put_before xs (said_from read 1 left) ≡ said_in read input
-unfolding said_in
-begins read input xs left none lines = λ i. put_before (none i) (said_from read 1 (lines i))
+pub begins : {X : Type 0} (read : List ℕ → Result X LineFault) (n : ℕ) (xs : List X) (left : List (List ℕ)) → xs ≡ [] → put_before xs (said_from read n left) ≡ said_from read n left
+begins read n xs left none = λ i. put_before (none i) (said_from read n left)
 
 -- no line is left
 pub ends : {X : Type 0} (read : List ℕ → Result X LineFault) (n : ℕ) (xs : List X) (left : List (List ℕ)) (all : Said X) → left ≡ [] → put_before xs (said_from read n left) ≡ all → all ≡ record { said = xs; stop = None }

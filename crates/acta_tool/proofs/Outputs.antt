@@ -1,5 +1,5 @@
 -- What a run tells is the output of `run`.
-use Rattle.std.proofs.Common.{◌≡◌, ℕ, Bool, List, [], ◌++◌, Option, is_some, sym, ap, ◌∙◌}
+use Rattle.std.proofs.Common.{◌≡◌, ℕ, Bool, List, ◌++◌, Option, is_some, sym, ap, ◌∙◌}
 use Rattle.std.proofs.lemmas.Grind.{flat_map-append}
 use Rattle.acta_table.specs.declared.answer.Answer.{Answer}
 use Rattle.acta_table.specs.declared.event.Event.{Event}

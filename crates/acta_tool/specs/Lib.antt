@@ -1,4 +1,5 @@
 pub mod CommandLines
+pub mod Debugging
 pub mod Driving
 pub mod Models
 pub mod Outcome

@@ -1,5 +1,7 @@
 -- What the program writes for the bytes of a model and of an input, where it answers them.
 use Rattle.std.specs.Prelude.{ℕ, ◌+◌, Bool, true, false, ◌==◌, List, [], ◌∷◌, ◌++◌, map, length, codes, decimal, nat_lt, if◌then◌else◌, Option, Some, None, is_some, Result, Ok, Err}
+use Rattle.std.specs.List.{after_first, before_first, position_or_len}
+use Rattle.std.specs.Option.{option_map_or}
 use Rattle.acta_table.specs.declared.answer.Answer.{Answer}
 use Rattle.acta_table.specs.declared.event.Event.{Event}
 use Rattle.acta_table.specs.declared.event.Kept.{Kept}
@@ -14,19 +16,23 @@ use Rattle.acta_image.specs.Claims.{image_fault_number}
 use Rattle.acta_image.specs.Spelling.{image}
 use Rattle.acta_lang.specs.Canonical.{canonical}
 use Rattle.acta_lang.specs.Meaning.{code_number}
+use Rattle.acta_script.specs.declared.commands.DebugCommand.{DebugCommand}
 use Rattle.acta_script.specs.declared.fault.LineFault.{LineFault}
 use Rattle.acta_axioms.specs.Axioms.{axiom_number}
 use Rattle.acta_judge.specs.declared.verdict.Verdict.{Verdict}
 use Rattle.acta_judge.specs.Verdicts.{verdict}
 use Rattle.acta_script.specs.Answers.{answer_line, fault_line, owed_line}
+use Rattle.acta_script.specs.Commands.{command_of}
 use Rattle.acta_script.specs.Reading.{fault_number, event_of, kept_of}
 use Rattle.acta_script.specs.Writing.{kept_line}
 use Rattle.acta_tool.specs.declared.args.Command.{Command}
-use Rattle.acta_tool.specs.declared.args.Command.TheVariants.{Assemble, CheckImage, Run, Judge, Drive}
+use Rattle.acta_tool.specs.declared.args.Command.TheVariants.{Assemble, CheckImage, Run, Judge, Debug, Drive}
 use Rattle.acta_tool.specs.declared.models.NoModel.{NoModel}
 use Rattle.acta_tool.specs.declared.models.NoModel.TheVariants.{Text, Image}
 use Rattle.acta_tool.specs.declared.input.BadLine.{BadLine}
+use Rattle.acta_tool.specs.Debugging.{ends_events, texts_of}
 use Rattle.acta_tool.specs.Models.{model_by}
+use Rattle.acta_debug.specs.Sessions.{opened}
 use Rattle.acta_machine.specs.Table.{State, run_answers, run_state, debts_in}
 
 -- what the lines say, up to the first that is faulty, and that one
@@ -123,13 +129,36 @@ judged_on m kept None =
 abbrev pub judge_on : {A : Type 0} → Parts A → Said (Kept A) → Output
 judge_on m s = judged_on m s.said s.stop
 
--- the output of a command on a model: its image, its canonical text, a run of the input's events, or the verdict on
--- its kept items; what `drive` writes hangs on its threads, and is told apart
+-- the texts of commands to a debugger on what a run of the events keeps, then the line that stopped them, if one did
+unfoldable pub debugged_on : {A : Type 0} → Parts A → List (Event A) → Said DebugCommand → Output
+debugged_on m events s =
+    let texts = texts_of (opened m (run_state m events).kept) s.said in
+    record {
+      is_refused = is_some s.stop;
+      text = text_of (texts ++ option_map_or (λ b. stop_line b ∷ []) s.stop []);
+    }
+
+-- the same, unless a line of the events is faulty, which is told alone
+abbrev pub debugged_unless : {A : Type 0} → Option BadLine → Parts A → List (Event A) → Said DebugCommand → Output
+debugged_unless None m events commands = debugged_on m events commands
+debugged_unless (Some b) m events commands = record { is_refused = true; text = text_of (stop_line b ∷ []) }
+
+-- the output of `debug` on a model: events stand before the first line `--`, and commands behind it
+unfoldable pub debug_on : {A : Type 0} → Parts A → List ℕ → Output
+debug_on m input =
+    let lines = lines_of input in
+    let events = said_from (event_of m) 1 (before_first ends_events lines) in
+    let first_command = position_or_len ends_events lines + 2 in
+    debugged_unless events.stop m events.said (said_from (command_of m) first_command (after_first ends_events lines))
+
+-- the output of a command on a model: its image, its canonical text, a run of the input's events, the verdict on its
+-- kept items, or a debugging run; what `drive` writes hangs on its threads, and is told apart
 abbrev pub output_on : {A : Type 0} → Command → Parts A → List ℕ → Output
 output_on Assemble m input = record { is_refused = false; text = image m }
 output_on CheckImage m input = record { is_refused = false; text = canonical m }
 output_on (Run kept) m input = run_on kept m (said_in (event_of m) input)
 output_on Judge m input = judge_on m (said_in (kept_of m) input)
+output_on Debug m input = debug_on m input
 output_on (Drive workers) m input = record { is_refused = false; text = [] }
 
 -- the output for bytes that mean no model

@@ -29,6 +29,9 @@ pub enum Command {
     Run { kept: bool },
     /// Judges the kept lines of the standard input: tells each fault, and what is owed.
     Judge,
+    /// Takes the events that are admitted of the lines before `--` as the history of a debugger, and tells what comes of
+    /// the commands behind it.
+    Debug,
     /// Hands the event lines of the standard input in by this many threads, and tells the entries of the book.
     Drive { workers: u8 },
 }
@@ -83,6 +86,7 @@ fn command_named(spelled: &Spelled<'_>) -> Option<Command>
             kept: spelled.is_kept,
         }),
         "judge" => Some(Command::Judge),
+        "debug" => Some(Command::Debug),
         "drive" => {
             let workers = workers_named(spelled)?;
             Some(Command::Drive { workers })
@@ -235,6 +239,12 @@ fn surface<'a>(alloc: Global) -> Result<clap::Command<'a>, AllocError>
         program,
         "judge",
         "Judges the kept lines of the standard input: tells each fault, and what is owed",
+    )?;
+    let program = with_command(
+        alloc,
+        program,
+        "debug",
+        "Does the commands behind the line -- on the history of the events before it",
     )?;
     with_drive(alloc, with_run(alloc, program)?)
 }

@@ -1,12 +1,15 @@
 //! The lines of an input, read one by one, up to the first line that says nothing.
 
-ghost use Rattle.std.specs.Prelude.{◌≡◌, ◌==◌, ℕ, List, Result, Ok, false, length, option_map, All, IfOk, IfErr, IfSome};
+ghost use Rattle.std.specs.Prelude.{◌≡◌, ◌==◌, ◌<◌, ◌+◌, ◌^◌, ℕ, List, Result, Ok, false, length, option_map, All, IfOk, IfErr, IfSome};
 ghost use Rattle.acta_script.specs.declared.fault.LineFault.{LineFault};
 ghost use Rattle.acta_script.specs.Reading.{IsWhy};
 ghost use Rattle.acta_words.specs.Text.{words_of};
-ghost use Rattle.acta_tool.specs.Output.{said_by, said_in};
+ghost use Rattle.acta_words.specs.inside.LinesToCome.{lines_to_come};
+ghost use Rattle.acta_tool.specs.Output.{said_by, said_from, said_in};
 
-use acta_script::{LineError, LineFault, Seated, read_event, read_kept, read_seated};
+use acta_script::{
+    DebugCommand, LineError, LineFault, Seated, read_command, read_event, read_kept, read_seated,
+};
 use acta_table::{Event, Kept, Model};
 use acta_words::{Lines, has_words};
 use std::alloc::{AllocError, Allocator};
@@ -65,6 +68,26 @@ impl<'a, A: Allocator + Copy> LineReader<Kept<A>> for KeptLines<'a, A> {
     }
 }
 
+/// Reads lines as commands to a debugger.
+#[derive(Clone, Copy)]
+pub struct CommandLines<'a, A: Allocator + Copy> {
+    pub alloc: A,
+    pub model: &'a Model<A>,
+}
+
+impl<'a, A: Allocator + Copy> LineReader<DebugCommand> for CommandLines<'a, A> {
+    ghost use Rattle.std.specs.Prelude.{⊤};
+    ghost use Rattle.acta_script.specs.Commands.{command_of};
+
+    ghost said = { λ r. command_of r.model.now };
+
+    ghost fits = { λ r command. ⊤ };
+
+    fn read(&self, line: &[u8]) -> Result<DebugCommand, LineError> {
+        read_command(self.alloc, self.model, line)
+    }
+}
+
 /// Reads lines as a seat, of so many, and an event.
 #[derive(Clone, Copy)]
 pub struct SeatedLines<'a, A: Allocator + Copy> {
@@ -114,19 +137,21 @@ fn said_by<X, L: LineReader<X>>(reader: &L, line: &[u8]) -> Result<Option<X>, Li
     }
 }
 
-/// What the lines of the input say, up to the first that is faulty; lines without a word are counted and passed over.
-/// `Err` where there is no memory.
-pub fn read_lines<X: Drop, A: Allocator, L: LineReader<X>>(
+/// What the lines that are left say, of which so many were taken before, up to the first that is faulty; lines without a
+/// word are counted and passed over. `Err` where there is no memory.
+pub fn read_left<X: Drop, A: Allocator, L: LineReader<X>>(
     alloc: A,
     reader: &L,
-    input: &[u8],
+    left: Lines<'_>,
+    taken: usize,
 ) -> Result<Input<X, A>, AllocError>
-    ensures said { IfOk result (λ read. said_in (L.said reader.now) input.now ≡ record { said = read.said.items; stop = read.stop }) }
+    requires { taken + length (lines_to_come left) < 2 ^ 64 }
+    ensures said { IfOk result (λ read. said_from (L.said reader.now) (taken + 1) (lines_to_come left.entry) ≡ record { said = read.said.items; stop = read.stop }) }
     ensures fits { IfOk result (λ read. All (L.fits reader.now) read.said.items) }
 {
     let mut said = Vec::new(alloc);
-    let mut lines = Lines::of(input);
-    let mut number = 0usize;
+    let mut lines = left;
+    let mut number = taken;
     while let Some(line) = lines.next() {
         number += 1;
         match said_by(reader, line) {
@@ -143,4 +168,19 @@ pub fn read_lines<X: Drop, A: Allocator, L: LineReader<X>>(
         }
     }
     Ok(Input { said, stop: None })
+}
+
+/// What the lines of the input say, up to the first that is faulty; lines without a word are counted and passed over.
+/// `Err` where there is no memory.
+#[tactic(auto, unfolding(crate::specs::Output::said_in))]
+pub fn read_lines<X: Drop, A: Allocator, L: LineReader<X>>(
+    alloc: A,
+    reader: &L,
+    input: &[u8],
+) -> Result<Input<X, A>, AllocError>
+    ensures said { IfOk result (λ read. said_in (L.said reader.now) input.now ≡ record { said = read.said.items; stop = read.stop }) }
+    ensures fits { IfOk result (λ read. All (L.fits reader.now) read.said.items) }
+{
+    let lines = Lines::of(input);
+    read_left(alloc, reader, lines, 0)
 }

@@ -3,6 +3,7 @@
 #![tactic(auto)]
 
 mod args;
+mod debugging;
 mod drive;
 mod fault;
 mod input;
@@ -12,6 +13,7 @@ mod models;
 mod outcome;
 mod reports;
 mod run;
+mod session;
 mod sink;
 mod source;
 mod telling;

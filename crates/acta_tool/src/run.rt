@@ -9,6 +9,7 @@ ghost use Rattle.acta_tool.specs.declared.source.ReadFault.TheVariants.{TooMuch 
 ghost use Rattle.acta_tool.specs.inside.Reports.{output_of};
 
 use crate::args::{Args, Command};
+use crate::debugging::debug_model;
 use crate::input::{BadLine, EventLines, read_lines};
 use crate::judging::judge_model;
 use crate::models::{ModelError, read_model};
@@ -76,6 +77,7 @@ fn tell_model<A: Allocator + Copy>(
         Command::CheckImage => print_model(alloc, &model)?,
         Command::Run { kept } => return run_model(alloc, kept, model, input),
         Command::Judge => return judge_model(alloc, &model, input),
+        Command::Debug => return debug_model(alloc, model, input),
         Command::Drive { .. } => unreachable!(),
     };
     Ok(Report {
@@ -116,7 +118,9 @@ fn read_input<A: Allocator, S: Source>(
 {
     match command {
         Command::Assemble | Command::CheckImage => Ok(Vec::new(alloc)),
-        Command::Run { .. } | Command::Judge | Command::Drive { .. } => read_all(alloc, input),
+        Command::Run { .. } | Command::Judge | Command::Debug | Command::Drive { .. } => {
+            read_all(alloc, input)
+        }
     }
 }
 

@@ -69,8 +69,8 @@ fn tell_owed<A: Allocator + Copy>(
     Ok(())
 }
 
-// Tells what is owed, a line each.
-fn tell_debts<A: Allocator + Copy>(
+/// Tells what is owed, a line each.
+pub fn tell_debts<A: Allocator + Copy>(
     alloc: A,
     machine: &Machine<A>,
     text: &mut Vec<u8, A>,

@@ -1,0 +1,114 @@
+-- Lines up to the first that is faulty, where some line that says nothing is no fault but ends them.
+use Rattle.std.proofs.Common.{◌≡◌, ℕ, zero, suc, ◌+◌, ◌<◌, ◌≤◌, List, [], ◌∷◌, length, take, drop, cond, not, sym, ap, ◌∙◌, refl, arith}
+use Rattle.std.specs.Prelude.{Bool, true, false, Option, Some, None, Result, Ok, Err}
+use Rattle.std.specs.List.{position_or_len}
+use Rattle.std.specs.Option.{option_map_or}
+use Rattle.acta_script.specs.declared.fault.LineFault.{LineFault}
+use Rattle.acta_script.specs.declared.fault.LineFault.TheVariants.{Word}
+use Rattle.acta_tool.specs.declared.input.BadLine.{BadLine}
+use Rattle.acta_tool.specs.Output.{Said, said_by, said_from, with_line}
+
+-- the number of a line, if one stopped
+abbrev number_or : ℕ → Option BadLine → ℕ
+number_or n stop = option_map_or (λ b. b.line) stop n
+
+-- a line of the number n, by what it says, before what others say
+module _ {X : Type 0} (n : ℕ) (r : Said X) where
+  -- who is stopped is stopped here or further on
+  not_before : (s : Option (Result X LineFault)) (b : BadLine) → (with_line n s r).stop ≡ Some b → (r.stop ≡ Some b → n + 1 ≤ b.line) → n ≤ b.line
+  not_before None b h more = let later = more h in omega (arith, later)
+  not_before (Some (Ok x)) b h more = let later = more h in omega (arith, later)
+  not_before (Some (Err fault)) b h more = let same : n ≡ b.line = ap (number_or 0) h in omega (arith, same)
+
+  -- who isn't stopped is stopped by no line
+  unstopped : (s : Option (Result X LineFault)) → (with_line n s r).stop ≡ None → r.stop ≡ None
+  unstopped None h = h
+  unstopped (Some (Ok x)) h = h
+  unstopped (Some (Err fault)) h = cc
+
+  -- who is stopped further on is stopped by one of the others
+  later : (s : Option (Result X LineFault)) (b : BadLine) → (with_line n s r).stop ≡ Some b → n < b.line → r.stop ≡ Some b
+  later None b h lt = h
+  later (Some (Ok x)) b h lt = h
+  later (Some (Err fault)) b h lt = let same : n ≡ b.line = ap (number_or 0) h in absurd (omega (arith, same, lt))
+
+  -- and says the same where these end before that
+  unended : (s : Option (Result X LineFault)) (b : BadLine) → (with_line n s r).stop ≡ Some b → n < b.line → with_line n s (record { said = r.said; stop = None }) ≡ record { said = (with_line n s r).said; stop = None }
+  unended None b h lt = refl
+  unended (Some (Ok x)) b h lt = refl
+  unended (Some (Err fault)) b h lt = let same : n ≡ b.line = ap (number_or 0) h in absurd (omega (arith, same, lt))
+
+  -- where this line stops them, the others make no difference
+  stopped : (s : Option (Result X LineFault)) (others : Said X) (b : BadLine) → (with_line n s r).stop ≡ Some b → b.line ≡ n → (r.stop ≡ Some b → n + 1 ≤ b.line) → with_line n s others ≡ with_line n s r
+  stopped None others b h at more = let further = more h in absurd (omega (arith, further, at))
+  stopped (Some (Ok x)) others b h at more = let further = more h in absurd (omega (arith, further, at))
+  stopped (Some (Err fault)) others b h at more = refl
+
+-- whether the first of some lines passes the test
+abbrev pub begins_with : (List ℕ → Bool) → List (List ℕ) → Bool
+begins_with ends [] = false
+begins_with ends (line ∷ lines) = ends line
+
+-- lines that are read, and a test of lines that say nothing
+module _ {X : Type 0} (read : List ℕ → Result X LineFault) (ends : List ℕ → Bool) (strange : (line : List ℕ) → ends line ≡ true → said_by read line ≡ Some (Err Word)) where
+  -- the number of the line that stops them is no lower than that of the first
+  pub numbered : (n : ℕ) (lines : List (List ℕ)) (b : BadLine) → (said_from read n lines).stop ≡ Some b → n ≤ b.line
+  numbered n [] b h = cc
+  numbered n (x ∷ xs) b h = not_before n (said_from read (n + 1) xs) (said_by read x) b h (numbered (n + 1) xs b)
+
+  -- a line that doesn't stop them, or not here, doesn't pass
+  by_test : (n : ℕ) (x : List ℕ) (r : Said X) (o : Option BadLine) → (with_line n (said_by read x) r).stop ≡ o → (Some (record { line = n; fault = Word }) ≡ o → ⊥) → (p : Bool) → ends x ≡ p → ends x ≡ false
+  by_test n x r o h other false is = is
+  by_test n x r o h other true is = absurd (other (sym (ap (λ (s : Option (Result X LineFault)). (with_line n s r).stop) (strange x is)) ∙ h))
+
+  fails : (n : ℕ) (x : List ℕ) (r : Said X) (b : BadLine) → (with_line n (said_by read x) r).stop ≡ Some b → n < b.line → ends x ≡ false
+  fails n x r b h lt = by_test n x r (Some b) h (λ e. let same : n ≡ b.line = ap (number_or 0) e in omega (arith, same, lt)) (ends x) refl
+
+  one_more : (k : ℕ) → 1 + k ≡ suc k
+  one_more k = omega arith
+
+  -- one line more before the first that passes
+  first_behind : (x : List ℕ) (xs : List (List ℕ)) → ends x ≡ false → position_or_len ends (x ∷ xs) ≡ suc (position_or_len ends xs)
+  first_behind x xs failing = ap (λ (t : Bool). cond (not t) (1 + position_or_len ends xs) 0) failing ∙ one_more (position_or_len ends xs)
+
+  -- where no line stops them, none passes
+  pub none_ends : (n : ℕ) (lines : List (List ℕ)) → (said_from read n lines).stop ≡ None → position_or_len ends lines ≡ length lines
+  none_ends n [] h = refl
+  none_ends n (x ∷ xs) h =
+      let r = said_from read (n + 1) xs in
+      let rest = none_ends (n + 1) xs (unstopped n r (said_by read x) h) in
+      first_behind x xs (by_test n x r None h (λ e. cc) (ends x) refl) ∙ ap (λ (k : ℕ). suc k) rest
+
+  -- where the one that stops them passes, it is the first that does, and those before it say what all say
+  pub ends_here : (n i : ℕ) (lines : List (List ℕ)) (line : List ℕ) (rest : List (List ℕ)) (b : BadLine) → (said_from read n lines).stop ≡ Some b → b.line ≡ n + i → drop i lines ≡ line ∷ rest → ends line ≡ true
+      → (position_or_len ends lines ≡ i) × (said_from read n (take (position_or_len ends lines) lines) ≡ record { said = (said_from read n lines).said; stop = None })
+  ends_here n i [] line rest b h at there passes = cc
+  ends_here n zero (x ∷ xs) line rest b h at there passes =
+      let here : x ≡ line = cc in
+      let sign : ends x ≡ true = ap ends here ∙ passes in
+      let first : position_or_len ends (x ∷ xs) ≡ 0 = ap (λ (t : Bool). cond (not t) (1 + position_or_len ends xs) 0) sign in
+      let none : (with_line n (said_by read x) (said_from read (n + 1) xs)).said ≡ [] = ap (λ (s : Option (Result X LineFault)). (with_line n s (said_from read (n + 1) xs)).said) (strange x sign) in (
+        first,
+        ap (λ (k : ℕ). said_from read n (take k (x ∷ xs))) first ∙ (λ j. record { said = sym none j; stop = None }),
+      )
+  ends_here n (suc i) (x ∷ xs) line rest b h at there passes =
+      let r = said_from read (n + 1) xs in
+      let lt : n < b.line = omega (arith, at) in
+      let next = ends_here (n + 1) i xs line rest b (later n r (said_by read x) b h lt) (omega (arith, at)) there passes in
+      let first = first_behind x xs (fails n x r b h lt) in (
+        first ∙ ap (λ (k : ℕ). suc k) next.0,
+        ap (λ (k : ℕ). said_from read n (take k (x ∷ xs))) first ∙ ap (with_line n (said_by read x)) next.1 ∙ unended n r (said_by read x) b h lt,
+      )
+
+  -- where it doesn't pass, those before the first that does say what all say
+  pub goes_past : (n i : ℕ) (lines : List (List ℕ)) (b : BadLine) → (said_from read n lines).stop ≡ Some b → b.line ≡ n + i → begins_with ends (drop i lines) ≡ false → said_from read n (take (position_or_len ends lines) lines) ≡ said_from read n lines
+  goes_past n i [] b h at failing = cc
+  goes_past n zero (x ∷ xs) b h at failing =
+      let r = said_from read (n + 1) xs in
+      ap (λ (k : ℕ). said_from read n (take k (x ∷ xs))) (first_behind x xs failing)
+      ∙ stopped n r (said_by read x) (said_from read (n + 1) (take (position_or_len ends xs) xs)) b h (omega (arith, at)) (numbered (n + 1) xs b)
+  goes_past n (suc i) (x ∷ xs) b h at failing =
+      let r = said_from read (n + 1) xs in
+      let lt : n < b.line = omega (arith, at) in
+      let next = goes_past (n + 1) i xs b (later n r (said_by read x) b h lt) (omega (arith, at)) failing in
+      ap (λ (k : ℕ). said_from read n (take k (x ∷ xs))) (first_behind x xs (fails n x r b h lt)) ∙ ap (with_line n (said_by read x)) next

@@ -1,0 +1,141 @@
+-- The texts of commands to a debugger.
+use Rattle.std.specs.Prelude.{ℕ, Bool, false, List, [], ◌∷◌, ◌++◌, length, map, codes, decimal, Result, Ok, Err, ℤ}
+use Rattle.std.specs.Fmt.{signed_decimal}
+use Rattle.std.specs.List.{join_with_byte}
+use Rattle.std.specs.Option.{option_map_or}
+use Rattle.std.specs.Str.{bytes_eq}
+use Rattle.acta_table.specs.declared.answer.Status.{Status}
+use Rattle.acta_table.specs.declared.answer.Status.TheVariants.{NotBegun, InProgress, Committed, Aborted, Joined}
+use Rattle.acta_table.specs.declared.event.ObjId.{ObjId}
+use Rattle.acta_table.specs.declared.event.TxnId.{TxnId}
+use Rattle.acta_words.specs.Text.{line_of, words_of}
+use Rattle.acta_objects.specs.declared.state.ObjectState.{ObjectState}
+use Rattle.acta_objects.specs.declared.state.ObjectState.TheVariants.{Register, Counter, Elements}
+use Rattle.acta_machine.specs.Table.{State, debts_in, status_in, value_in}
+use Rattle.acta_debug.specs.declared.breaks.Break.{Break}
+use Rattle.acta_debug.specs.declared.breaks.Break.TheVariants.{Kind, Touches, Object, OwedAtLeast, Ended}
+use Rattle.acta_debug.specs.declared.breaks.Stop.{Stop}
+use Rattle.acta_debug.specs.declared.breaks.Stop.TheVariants.{Broke, Finished}
+use Rattle.acta_debug.specs.declared.errors.MoveError.{MoveError}
+use Rattle.acta_debug.specs.declared.errors.MoveError.TheVariants.{AtEnd, AtStart, OutOfRange, Memory}
+use Rattle.acta_debug.specs.Histories.{state_at}
+use Rattle.acta_debug.specs.Moves.{gone_to, stepped, stepped_back, with_break, without_breaks}
+use Rattle.acta_debug.specs.Sessions.{Session}
+use Rattle.acta_debug.specs.Stops.{run_to_stop, stop_of}
+use Rattle.acta_script.specs.Answers.{owed_line}
+use Rattle.acta_script.specs.Writing.{object_word, txn_word}
+use Rattle.acta_script.specs.declared.commands.BreakOn.{BreakOn}
+use Rattle.acta_script.specs.declared.commands.BreakOn.TheVariants as on
+use Rattle.acta_script.specs.declared.commands.DebugCommand.{DebugCommand}
+use Rattle.acta_script.specs.declared.commands.DebugCommand.TheVariants as command
+
+-- whether these words are `--` alone
+abbrev pub is_sign : List (List ℕ) → Bool
+is_sign (word ∷ []) = bytes_eq word (codes "--")
+is_sign _ = false
+
+-- whether a line has the word `--` and no other: the first such line ends the events, and commands stand behind it
+abbrev pub ends_events : List ℕ → Bool
+ends_events line = is_sign (words_of line)
+
+-- the break that a command says
+abbrev pub break_of : BreakOn → Break
+break_of (on.Kind kind) = Kind kind
+break_of (on.Txn t) = Touches t
+break_of (on.Object ob) = Object ob
+break_of (on.Owed n) = OwedAtLeast n
+break_of (on.Ended t) = Ended t
+
+-- where a move leads: nowhere, where it can't be made
+abbrev pub moved : {A : Type 0} → Session A → Result (Session A) MoveError → Session A
+moved s (Ok t) = t
+moved s (Err e) = s
+
+-- at N
+abbrev pub at_line : ℕ → List ℕ
+at_line n = line_of (codes "at" ∷ decimal n ∷ [])
+
+-- why a move can't be made; want of memory is no reason that is told
+abbrev pub error_word : MoveError → List ℕ
+error_word AtEnd = codes "AtEnd"
+error_word AtStart = codes "AtStart"
+error_word OutOfRange = codes "OutOfRange"
+error_word Memory = []
+
+-- no ERROR
+abbrev pub barred_line : MoveError → List ℕ
+barred_line e = line_of (codes "no" ∷ error_word e ∷ [])
+
+-- the text of a move
+abbrev pub move_line : {A : Type 0} → Result (Session A) MoveError → List ℕ
+move_line (Ok s) = at_line s.at
+move_line (Err e) = barred_line e
+
+-- break B at N, or end N, for a run over so many events
+abbrev pub run_line : ℕ → Stop → List ℕ
+run_line last (Broke b n) = line_of (codes "break" ∷ decimal b ∷ codes "at" ∷ decimal n ∷ [])
+run_line last Finished = line_of (codes "end" ∷ decimal last ∷ [])
+
+-- break B set
+abbrev pub set_line : ℕ → List ℕ
+set_line b = line_of (codes "break" ∷ decimal b ∷ codes "set" ∷ [])
+
+-- the elements of a set, ascending, between braces
+abbrev pub elements_word : List ℤ → List ℕ
+elements_word xs = codes "{" ++ (join_with_byte 44 (map signed_decimal xs) ++ codes "}")
+
+-- the word of a value
+abbrev pub state_word : {A : Type 0} → ObjectState A → List ℕ
+state_word (Register v) = signed_decimal v
+state_word (Counter v) = signed_decimal v
+state_word (Elements xs) = elements_word xs
+
+-- value OBJECT V; an object that is not in the model has no value
+abbrev pub value_line : {A : Type 0} → State A → ObjId → List ℕ
+value_line state ob =
+    line_of (codes "value" ∷ object_word state.model ob ∷ option_map_or state_word (value_in state ob.0) [] ∷ [])
+
+-- the word of a status
+abbrev pub status_word : Status → List ℕ
+status_word NotBegun = codes "notbegun"
+status_word InProgress = codes "inprogress"
+status_word Committed = codes "committed"
+status_word Aborted = codes "aborted"
+status_word Joined = codes "joined"
+
+-- status T STATUS
+abbrev pub status_line : {A : Type 0} → State A → TxnId → List ℕ
+status_line state t = line_of (codes "status" ∷ txn_word t ∷ status_word (status_in state t.0) ∷ [])
+
+-- the machine where the debugger stands
+abbrev pub here : {A : Type 0} → Session A → State A
+here s = state_at s.model s.history s.at
+
+-- the text of a command: one line, but for the debts, which have one each
+unfoldable pub told_by : {A : Type 0} → Session A → DebugCommand → List (List ℕ)
+told_by s command.Step = move_line (stepped s) ∷ []
+told_by s command.Back = move_line (stepped_back s) ∷ []
+told_by s (command.Goto n) = move_line (gone_to s n) ∷ []
+told_by s command.Run = run_line (length s.history) (stop_of s) ∷ []
+told_by s (command.Break b) = set_line (length (with_break s (break_of b)).breaks) ∷ []
+told_by s command.Clear = codes "cleared" ∷ []
+told_by s (command.Value ob) = value_line (here s) ob ∷ []
+told_by s (command.Status t) = status_line (here s) t ∷ []
+told_by s command.Owed = map owed_line (debts_in (here s))
+
+-- the debugger behind it
+unfoldable pub behind : {A : Type 0} → Session A → DebugCommand → Session A
+behind s command.Step = moved s (stepped s)
+behind s command.Back = moved s (stepped_back s)
+behind s (command.Goto n) = moved s (gone_to s n)
+behind s command.Run = run_to_stop s
+behind s (command.Break b) = with_break s (break_of b)
+behind s command.Clear = without_breaks s
+behind s (command.Value ob) = s
+behind s (command.Status t) = s
+behind s command.Owed = s
+
+-- the texts of commands, one after another
+abbrev pub texts_of : {A : Type 0} → Session A → List DebugCommand → List (List ℕ)
+texts_of s [] = []
+texts_of s (c ∷ cs) = told_by s c ++ texts_of (behind s c) cs

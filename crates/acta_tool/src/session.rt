@@ -1,0 +1,339 @@
+//! A debugging run: what each command does to the debugger, and its text.
+
+ghost use Rattle.std.specs.Prelude.{◌≡◌, ◌≢◌, ◌++◌, ◌∷◌, [], codes, length, map, IfOk, OnOk};
+ghost use Rattle.std.specs.Fmt.{signed_decimal};
+ghost use Rattle.std.specs.List.{join_with_byte};
+ghost use Rattle.std.specs.Option.{option_map_or};
+ghost use Rattle.acta_debug.specs.Moves.{gone_to, stepped, stepped_back, with_break, without_breaks};
+ghost use Rattle.acta_debug.specs.Stops.{run_to_stop, stop_of};
+ghost use Rattle.acta_debug.specs.declared.errors.MoveError.TheVariants as barred;
+ghost use Rattle.acta_machine.specs.Table.{value_in};
+ghost use Rattle.acta_words.specs.Text.{text_of};
+ghost use Rattle.acta_tool.specs.Debugging.{at_line, barred_line, behind, break_of, elements_word, error_word, move_line, moved, run_line, set_line, state_word, status_line, status_word, texts_of, told_by, value_line};
+
+use crate::telling::tell_debts;
+use acta_debug::{Break, Debugger, MoveError, Stop};
+use acta_machine::Machine;
+use acta_objects::{Members, ObjectState};
+use acta_script::{BreakOn, DebugCommand, object_name};
+use acta_table::{ObjId, Status, TxnId};
+use acta_words::{push_integer, push_line, push_natural, push_word};
+use itoa::Buffer;
+use std::alloc::{AllocError, Allocator};
+
+// The break that a command says.
+fn break_of(on: BreakOn) -> Break
+    ensures { result ≡ break_of on }
+{
+    match on {
+        BreakOn::Kind(kind) => Break::Kind(kind),
+        BreakOn::Txn(t) => Break::Touches(t),
+        BreakOn::Object(ob) => Break::Object(ob),
+        BreakOn::Owed(n) => Break::OwedAtLeast(n),
+        BreakOn::Ended(t) => Break::Ended(t),
+    }
+}
+
+// Tells where the debugger stands.
+fn tell_at<A: Allocator>(text: &mut Vec<u8, A>, at: u32) -> Result<(), AllocError>
+    ensures { OnOk result (text.new.items ≡ text.old.items ++ text_of (at_line at ∷ [])) }
+{
+    text.extend_from_slice(b"at")?;
+    push_natural(text, u64::from(at))?;
+    push_line(text, b"")
+}
+
+// Why a move can't be made. Want of memory is no reason that is told.
+fn error_word(error: MoveError) -> Result<&'static [u8], AllocError>
+    ensures word { IfOk result (λ word. word.now ≡ error_word error) }
+    ensures memory { OnOk result (error ≢ barred.Memory) }
+{
+    match error {
+        MoveError::AtEnd => Ok(b"AtEnd"),
+        MoveError::AtStart => Ok(b"AtStart"),
+        MoveError::OutOfRange => Ok(b"OutOfRange"),
+        MoveError::Memory => Err(AllocError),
+    }
+}
+
+// Tells why a move can't be made.
+fn tell_barred<A: Allocator>(text: &mut Vec<u8, A>, error: MoveError) -> Result<(), AllocError>
+    ensures told { OnOk result (text.new.items ≡ text.old.items ++ text_of (barred_line error ∷ [])) }
+    ensures memory { OnOk result (error ≢ barred.Memory) }
+{
+    let word = error_word(error)?;
+    text.extend_from_slice(b"no")?;
+    push_word(text, word)?;
+    push_line(text, b"")
+}
+
+// Moves one event further.
+fn tell_step<A: Allocator + Copy>(
+    debugger: &mut Debugger<A>,
+    text: &mut Vec<u8, A>,
+) -> Result<(), AllocError>
+    ensures told { OnOk result (text.new.items ≡ text.old.items ++ text_of (move_line (stepped debugger.old) ∷ [])) }
+    ensures moved { OnOk result (debugger.new ≡ moved debugger.old (stepped debugger.old)) }
+{
+    match debugger.step() {
+        Ok(()) => tell_at(text, debugger.at()),
+        Err(error) => tell_barred(text, error),
+    }
+}
+
+// Moves one event back.
+fn tell_back<A: Allocator + Copy>(
+    debugger: &mut Debugger<A>,
+    text: &mut Vec<u8, A>,
+) -> Result<(), AllocError>
+    ensures told { OnOk result (text.new.items ≡ text.old.items ++ text_of (move_line (stepped_back debugger.old) ∷ [])) }
+    ensures moved { OnOk result (debugger.new ≡ moved debugger.old (stepped_back debugger.old)) }
+{
+    match debugger.back() {
+        Ok(()) => tell_at(text, debugger.at()),
+        Err(error) => tell_barred(text, error),
+    }
+}
+
+// Moves to behind so many events.
+fn tell_goto<A: Allocator + Copy>(
+    debugger: &mut Debugger<A>,
+    n: u32,
+    text: &mut Vec<u8, A>,
+) -> Result<(), AllocError>
+    ensures told { OnOk result (text.new.items ≡ text.old.items ++ text_of (move_line (gone_to debugger.old n) ∷ [])) }
+    ensures moved { OnOk result (debugger.new ≡ moved debugger.old (gone_to debugger.old n)) }
+{
+    match debugger.goto(n) {
+        Ok(()) => tell_at(text, debugger.at()),
+        Err(error) => tell_barred(text, error),
+    }
+}
+
+// Tells where a run over so many events has stopped.
+fn tell_stop<A: Allocator>(text: &mut Vec<u8, A>, last: u32, stop: Stop) -> Result<(), AllocError>
+    ensures { OnOk result (text.new.items ≡ text.old.items ++ text_of (run_line last stop ∷ [])) }
+{
+    match stop {
+        Stop::Broke { number, place } => {
+            text.extend_from_slice(b"break")?;
+            push_natural(text, number)?;
+            push_word(text, b"at")?;
+            push_natural(text, u64::from(place))?;
+            push_line(text, b"")
+        }
+        Stop::Finished => {
+            text.extend_from_slice(b"end")?;
+            push_natural(text, u64::from(last))?;
+            push_line(text, b"")
+        }
+    }
+}
+
+// Runs on.
+fn tell_run<A: Allocator + Copy>(
+    debugger: &mut Debugger<A>,
+    text: &mut Vec<u8, A>,
+) -> Result<(), AllocError>
+    ensures told { OnOk result (text.new.items ≡ text.old.items ++ text_of (run_line (length debugger.old.history) (stop_of debugger.old) ∷ [])) }
+    ensures moved { OnOk result (debugger.new ≡ run_to_stop debugger.old) }
+{
+    let last = debugger.last();
+    let stop = debugger.run()?;
+    tell_stop(text, last, stop)
+}
+
+// Adds a break.
+fn tell_break<A: Allocator>(
+    debugger: &mut Debugger<A>,
+    on: BreakOn,
+    text: &mut Vec<u8, A>,
+) -> Result<(), AllocError>
+    ensures told { OnOk result (text.new.items ≡ text.old.items ++ text_of (set_line (length (with_break debugger.old (break_of on)).breaks) ∷ [])) }
+    ensures added { OnOk result (debugger.new ≡ with_break debugger.old (break_of on)) }
+{
+    let number = debugger.add_break(break_of(on))?;
+    text.extend_from_slice(b"break")?;
+    push_natural(text, number)?;
+    push_word(text, b"set")?;
+    push_line(text, b"")
+}
+
+// Takes away all breaks.
+fn tell_clear<A: Allocator>(
+    debugger: &mut Debugger<A>,
+    text: &mut Vec<u8, A>,
+) -> Result<(), AllocError>
+    ensures told { OnOk result (text.new.items ≡ text.old.items ++ text_of (codes "cleared" ∷ [])) }
+    ensures cleared { OnOk result (debugger.new ≡ without_breaks debugger.old) }
+{
+    debugger.clear_breaks();
+    push_line(text, b"cleared")
+}
+
+// Writes the digits of a number, behind a minus where it is below 0.
+fn push_digits<A: Allocator>(text: &mut Vec<u8, A>, number: &i32) -> Result<(), AllocError>
+    ensures { OnOk result (text.new.items ≡ text.old.items ++ signed_decimal number.now) }
+{
+    let mut digits = Buffer::new();
+    text.extend_from_slice(digits.format(*number).as_bytes())
+}
+
+// Writes a comma and the number.
+fn push_next<A: Allocator>(text: &mut Vec<u8, A>, number: &i32) -> Result<(), AllocError>
+    ensures { OnOk result (text.new.items ≡ text.old.items ++ 44 ∷ signed_decimal number.now) }
+{
+    text.push(b',')?;
+    push_digits(text, number)
+}
+
+// Writes the numbers, with a comma between each two.
+fn push_joined<A: Allocator>(text: &mut Vec<u8, A>, numbers: &[i32]) -> Result<(), AllocError>
+    ensures { OnOk result (text.new.items ≡ text.old.items ++ join_with_byte 44 (map signed_decimal numbers.now)) }
+{
+    let [first, others @ ..] = numbers else {
+        return Ok(());
+    };
+    push_digits(text, first)?;
+    for number in others {
+        push_next(text, number)?;
+    }
+    Ok(())
+}
+
+// The elements of a set, ascending.
+fn elements_of<A: Allocator + Copy>(
+    alloc: A,
+    members: &Members<A>,
+) -> Result<Vec<i32, A>, AllocError>
+    ensures { IfOk result (λ elements. elements.items ≡ members.now) }
+{
+    members.items().copied().collect(alloc)
+}
+
+// Writes a space, and the elements of a set between braces.
+fn push_elements<A: Allocator + Copy>(
+    alloc: A,
+    members: &Members<A>,
+    text: &mut Vec<u8, A>,
+) -> Result<(), AllocError>
+    ensures { OnOk result (text.new.items ≡ text.old.items ++ 32 ∷ elements_word members.now) }
+{
+    let elements = elements_of(alloc, members)?;
+    text.extend_from_slice(b" {")?;
+    push_joined(text, elements.as_slice())?;
+    text.push(b'}')?;
+    Ok(())
+}
+
+// Writes a space and the value.
+fn push_state<A: Allocator + Copy>(
+    alloc: A,
+    state: &ObjectState<A>,
+    text: &mut Vec<u8, A>,
+) -> Result<(), AllocError>
+    ensures { OnOk result (text.new.items ≡ text.old.items ++ 32 ∷ state_word state.now) }
+{
+    match state {
+        ObjectState::Register(value) => push_integer(text, i64::from(*value)),
+        ObjectState::Counter(value) => push_integer(text, *value),
+        ObjectState::Elements(members) => push_elements(alloc, members, text),
+    }
+}
+
+// Writes a space and the value of an object, if it has one.
+fn push_value<A: Allocator + Copy>(
+    alloc: A,
+    machine: &Machine<A>,
+    object: ObjId,
+    text: &mut Vec<u8, A>,
+) -> Result<(), AllocError>
+    ensures { OnOk result (text.new.items ≡ text.old.items ++ 32 ∷ option_map_or state_word (value_in machine.now object.0) []) }
+{
+    match machine.value(object)? {
+        Some(state) => push_state(alloc, &state, text),
+        None => push_word(text, b""),
+    }
+}
+
+// Tells the value of an object.
+fn tell_value<A: Allocator + Copy>(
+    alloc: A,
+    machine: &Machine<A>,
+    object: ObjId,
+    text: &mut Vec<u8, A>,
+) -> Result<(), AllocError>
+    ensures { OnOk result (text.new.items ≡ text.old.items ++ text_of (value_line machine.now object ∷ [])) }
+{
+    text.extend_from_slice(b"value")?;
+    push_word(text, object_name(machine.model(), object))?;
+    push_value(alloc, machine, object, text)?;
+    push_line(text, b"")
+}
+
+// The word of a status.
+fn status_word(status: Status) -> &'static [u8]
+    ensures { result.now ≡ status_word status }
+{
+    match status {
+        Status::NotBegun => b"notbegun",
+        Status::InProgress => b"inprogress",
+        Status::Committed => b"committed",
+        Status::Aborted => b"aborted",
+        Status::Joined => b"joined",
+    }
+}
+
+// Tells how a transaction stands.
+fn tell_status<A: Allocator>(
+    machine: &Machine<A>,
+    t: TxnId,
+    text: &mut Vec<u8, A>,
+) -> Result<(), AllocError>
+    ensures { OnOk result (text.new.items ≡ text.old.items ++ text_of (status_line machine.now t ∷ [])) }
+{
+    text.extend_from_slice(b"status")?;
+    push_natural(text, u64::from(t.0))?;
+    push_word(text, status_word(machine.status(t)))?;
+    push_line(text, b"")
+}
+
+// Does a command, and tells its text.
+#[tactic(auto, unfolding(crate::specs::Debugging::told_by, crate::specs::Debugging::behind))]
+fn tell_command<A: Allocator + Copy>(
+    alloc: A,
+    debugger: &mut Debugger<A>,
+    command: DebugCommand,
+    text: &mut Vec<u8, A>,
+) -> Result<(), AllocError>
+    ensures told { OnOk result (text.new.items ≡ text.old.items ++ text_of (told_by debugger.old command)) }
+    ensures behind { OnOk result (debugger.new ≡ behind debugger.old command) }
+{
+    match command {
+        DebugCommand::Step => tell_step(debugger, text),
+        DebugCommand::Back => tell_back(debugger, text),
+        DebugCommand::Goto(n) => tell_goto(debugger, n, text),
+        DebugCommand::Run => tell_run(debugger, text),
+        DebugCommand::Break(on) => tell_break(debugger, on, text),
+        DebugCommand::Clear => tell_clear(debugger, text),
+        DebugCommand::Value(object) => tell_value(alloc, debugger.machine(), object, text),
+        DebugCommand::Status(t) => tell_status(debugger.machine(), t, text),
+        DebugCommand::Owed => tell_debts(alloc, debugger.machine(), text),
+    }
+}
+
+/// Does the commands, one after another, and tells their texts. `Err` where there is no memory, and then some may have
+/// been done.
+pub fn tell_commands<A: Allocator + Copy>(
+    alloc: A,
+    debugger: &mut Debugger<A>,
+    commands: &[DebugCommand],
+    text: &mut Vec<u8, A>,
+) -> Result<(), AllocError>
+    ensures { OnOk result (text.new.items ≡ text.old.items ++ text_of (texts_of debugger.old commands.now)) }
+{
+    for command in commands {
+        tell_command(alloc, debugger, *command, text)?;
+    }
+    Ok(())
+}
