@@ -1,8 +1,8 @@
-//! The program `acta_tool COMMAND [OPTIONS] MODEL`. Its words say what is to be done and with which model, a file or one
-//! that the program holds; the standard input holds the lines of a history. The model and the whole input are read before
-//! anything is written, and the answer is written in one go, so that a run whose input can't be read, or whose memory runs
-//! out, prints nothing. It ends with status 0 where all was answered, 1 where the model or a line was refused, 2 where the
-//! words are wrong, and 3 where a read, a write or the memory failed.
+//! The program `acta_tool COMMAND [OPTIONS] MODEL`. Its words say what is to be done and with which model, a file or
+//! one that the program holds; the standard input holds the lines of a history. The model and the whole input are read
+//! before anything is written, and the answer is written in one go, so that a run whose input can't be read, or whose
+//! memory runs out, prints nothing. It ends with status 0 where all was answered, 1 where the model or a line was
+//! refused, 2 where the words are wrong, and 3 where a read, a write or the memory failed.
 #![tactic(auto)]
 
 ghost use Rattle.std.specs.Prelude.{◌≤◌, IfOk, vec_len};

@@ -10,7 +10,6 @@ use Rattle.std.proofs.lemmas.Grind.{flat_map-append, fold-append}
 use Rattle.std.proofs.lemmas.Option.{none-some}
 use Rattle.acta_table.specs.declared.answer.Rule.TheVariants.{SameTransaction}
 use Rattle.acta_table.specs.declared.answer.Status.TheVariants.{InProgress}
-use Rattle.acta_table.specs.declared.dep.Dep.{Dep}
 use Rattle.acta_table.specs.declared.dep.Edge.{Edge}
 use Rattle.acta_table.specs.declared.event.ClassId.{ClassId}
 use Rattle.acta_table.specs.declared.event.Event.{Event}
@@ -36,7 +35,7 @@ use Rattle.acta_axioms.specs.History.{Place, number, places, first, starts, comm
 use Rattle.acta_axioms.specs.Edges.{holders_against, formed_by, formed_at, edges}
 use Rattle.acta_axioms.specs.Claims.{is_orderly, is_apart, IsOrderly, course_status, status_at}
 use Rattle.acta_axioms.specs.inside.Within.{within, IsWithin}
-use Rattle.acta_axioms.proofs.Growth.{found-passes, at_end, places-push, places_within, or_here, course-push}
+use Rattle.acta_axioms.proofs.Growth.{found-passes, at_end, places-push, places_within, or_here, or_here-false, course-push}
 use Rattle.acta_axioms.proofs.Holders.{all-upon, holders-others}
 use Rattle.acta_axioms.proofs.ValueGrowth.{eqb-turned}
 
@@ -49,14 +48,10 @@ edges-push m h k =
     ∙ fold-append with_edge [] (flat_map (formed_at m) (places h)) (flat_map (formed_at m) (at_end h k ∷ []))
     ∙ ap (formed (edges m h)) (append-nil (formed_by m h k.event))
 
--- an edge of two whose numbers differ joins two transactions
-apart_edge : (A : Type 0) (kind : Dep) (j i : TxnId) → same_transaction {A = A} (Form kind j i) ≡ None → is_apart (record { kind = kind; j = j; i = i }) ≡ true
-unfolding same_transaction
-apart_edge A kind j i apart = of_test (j.0 == i.0) apart
-  where
-    of_test : (b : Bool) → broken_by SameTransaction (if b then Some j.0 else None) ≡ None → not b ≡ true
-    of_test true is = absurd (none-some _ (sym is))
-    of_test false is = refl
+-- where the rule on two transactions holds, they are two
+two_apart : (t : ℕ) (same : Bool) → broken_by SameTransaction (if same then Some t else None) ≡ None → not same ≡ true
+two_apart t true is = absurd (none-some _ (sym is))
+two_apart t false is = refl
 
 apart_with : (es : List Edge) (e : Edge) → list_all is_apart es ≡ true → is_apart e ≡ true → list_all is_apart (with_edge es e) ≡ true
 apart_with es e all here = of_test (is_among es e)
@@ -65,23 +60,7 @@ apart_with es e all here = of_test (is_among es e)
     of_test true = all
     of_test false = list_all-append is_apart es (e ∷ []) ∙ (λ i. all i && (here i && true))
 
--- and so do those of a spawn or a split, in either direction
-apart_spawn : (A : Type 0) (t c : TxnId) (class : ClassId) → same_transaction {A = A} (Spawn t c class) ≡ None → not (t.0 == c.0) ≡ true
-unfolding same_transaction
-apart_spawn A t c class apart = of_test (t.0 == c.0) apart
-  where
-    of_test : (b : Bool) → broken_by SameTransaction (if b then Some t.0 else None) ≡ None → not b ≡ true
-    of_test true is = absurd (none-some _ (sym is))
-    of_test false is = refl
-
-apart_split : (A : Type 0) (t u : TxnId) (class : ClassId) (ops : List OpNo) → same_transaction {A = A} (Split t u class ops) ≡ None → not (t.0 == u.0) ≡ true
-unfolding same_transaction
-apart_split A t u class ops apart = of_test (t.0 == u.0) apart
-  where
-    of_test : (b : Bool) → broken_by SameTransaction (if b then Some t.0 else None) ≡ None → not b ≡ true
-    of_test true is = absurd (none-some _ (sym is))
-    of_test false is = refl
-
+-- the edges of a spawn or a split of another join two, in either direction
 apart_between : (t u : TxnId) (e : StartEdge) → not (t.0 == u.0) ≡ true → is_apart (edge_between t u e) ≡ true
 apart_between t u e apart = of_dependent e.dependent
   where
@@ -106,25 +85,20 @@ apart_upon m h policy t object op =
 
 -- an event that names no transaction twice leaves each edge between two
 pub apart-push : {A : Type 0} (m : Parts A) (h : List (Kept A)) (k : Kept A) → list_all is_apart (edges m h) ≡ true → same_transaction k.event ≡ None → list_all is_apart (edges m (h ++ k ∷ [])) ≡ true
+unfolding same_transaction
 apart-push {A} m h k all apart = ap (list_all is_apart) (edges-push m h k) ∙ of_event k.event apart
   where
+    by_class : (by : Class A → List Edge) → ((q : Class A) → list_all is_apart (formed (edges m h) (by q)) ≡ true) → (class : Option (Class A)) →
+        list_all is_apart (formed (edges m h) (option_map_or by class [])) ≡ true
+    by_class by each None = all
+    by_class by each (Some q) = each q
+
     of_event : (e : Event A) → same_transaction e ≡ None → list_all is_apart (formed (edges m h) (formed_by m h e)) ≡ true
-    of_event (Spawn t c class) two = of_class (class_at m class.0)
-      where
-        of_class : (k : Option (Class A)) → list_all is_apart (formed (edges m h) (option_map_or (λ q. edges_between t c q.spawn_edges) k [])) ≡ true
-        of_class None = all
-        of_class (Some q) = apart_all t c (edges m h) q.spawn_edges (apart_spawn _ t c class two) all
-    of_event (Split t u class ops) two = of_class (class_at m class.0)
-      where
-        of_class : (k : Option (Class A)) → list_all is_apart (formed (edges m h) (option_map_or (λ c. edges_between t u c.split_edges) k [])) ≡ true
-        of_class None = all
-        of_class (Some c) = apart_all t u (edges m h) c.split_edges (apart_split _ t u class ops two) all
-    of_event (Form kind j i) two = apart_with (edges m h) (record { kind = kind; j = j; i = i }) all (apart_edge _ kind j i two)
-    of_event (Operate t object op) two = of_class (class_of m h t.0)
-      where
-        of_class : (k : Option (Class A)) → list_all is_apart (formed (edges m h) (option_map_or (λ c. edges_upon c.policy t (holders_against m h t.0 object.0 op)) k [])) ≡ true
-        of_class None = all
-        of_class (Some c) = apart_formed (edges m h) (edges_upon c.policy t (holders_against m h t.0 object.0 op)) all (apart_upon m h c.policy t object.0 op)
+    of_event (Spawn t c class) two = by_class _ (λ q. apart_all t c (edges m h) q.spawn_edges (two_apart t.0 (t.0 == c.0) two) all) (class_at m class.0)
+    of_event (Split t u class ops) two = by_class _ (λ q. apart_all t u (edges m h) q.split_edges (two_apart t.0 (t.0 == u.0) two) all) (class_at m class.0)
+    of_event (Form kind j i) two = apart_with (edges m h) (record { kind = kind; j = j; i = i }) all (two_apart j.0 (j.0 == i.0) two)
+    of_event (Operate t object op) two =
+        by_class _ (λ q. apart_formed (edges m h) (edges_upon q.policy t (holders_against m h t.0 object.0 op)) all (apart_upon m h q.policy t object.0 op)) (class_of m h t.0)
     of_event _ two = all
 
 -- the places of a course
@@ -146,80 +120,59 @@ course-within h t = record {
 }
 
 or_none : {A : Type 0} (h : List (Kept A)) (o : Option ℕ) (b : Bool) → b ≡ false → or_here h o b ≡ o
-or_none h o true is = absurd (true≢false is)
-or_none h None false is = refl
-or_none h (Some n) false is = refl
+or_none h o b not_here = ap (or_here h o) not_here ∙ or_here-false h o
 
-or_new : {A : Type 0} (h : List (Kept A)) (o : Option ℕ) (b : Bool) → o ≡ None → b ≡ true → or_here h o b ≡ Some (length h + 1)
-or_new h o b none here = λ i. or_here h (none i) (here i)
+or_new : {A : Type 0} (h : List (Kept A)) (o : Option ℕ) (t : ℕ) → o ≡ None → or_here h o (t == t) ≡ Some (length h + 1)
+or_new h o t none = λ i. or_here h (none i) (eq-eqb t t refl i)
+
+-- a course, one item further, by what becomes of each of its places
+course-with : {A : Type 0} (h : List (Kept A)) (k : Kept A) (u : ℕ) (s c a j : Option ℕ) →
+    or_here h (course h u).start (starts u k.event) ≡ s → or_here h (course h u).commit (commits u k.event) ≡ c → or_here h (course h u).abort (aborts u k.event) ≡ a → or_here h (course h u).join (joins u k.event) ≡ j →
+    course (h ++ k ∷ []) u ≡ record { start = s; commit = c; abort = a; join = j }
+course-with h k u s c a j start commit abort join = course-push h k u ∙ (λ i. record { start = start i; commit = commit i; abort = abort i; join = join i })
 
 -- an event that neither starts nor ends u leaves its course
 pub course-other : {A : Type 0} (h : List (Kept A)) (k : Kept A) (u : ℕ) → starts u k.event ≡ false → commits u k.event ≡ false → aborts u k.event ≡ false → joins u k.event ≡ false → course (h ++ k ∷ []) u ≡ course h u
-course-other h k u no_start no_commit no_abort no_join = course-push h k u ∙ (λ i. record {
-  start = or_none h (course h u).start (starts u k.event) no_start i;
-  commit = or_none h (course h u).commit (commits u k.event) no_commit i;
-  abort = or_none h (course h u).abort (aborts u k.event) no_abort i;
-  join = or_none h (course h u).join (joins u k.event) no_join i;
-})
-
-same_number : (t : ℕ) → (t == t) ≡ true
-same_number t = eq-eqb t t refl
+course-other h k u no_start no_commit no_abort no_join =
+    course-with h k u _ _ _ _ (or_none h (course h u).start _ no_start) (or_none h (course h u).commit _ no_commit) (or_none h (course h u).abort _ no_abort) (or_none h (course h u).join _ no_join)
 
 -- the first begin, spawn or split of t is its start, the first commit its commit, the first abort its abort, and the
 -- first join its join
 pub course-begin : {A : Type 0} (h : List (Kept A)) (t : TxnId) (class : ClassId) (ret : Option Ret) → (course h t.0).start ≡ None →
     course (h ++ record { event = Begin t class; ret = ret } ∷ []) t.0 ≡ record (course h t.0) { start = Some (length h + 1) }
-course-begin h t class ret none = course-push h (record { event = Begin t class; ret = ret }) t.0 ∙ (λ i. record {
-  start = or_new h (course h t.0).start (t.0 == t.0) none (same_number t.0) i;
-  commit = or_none h (course h t.0).commit false refl i;
-  abort = or_none h (course h t.0).abort false refl i;
-  join = or_none h (course h t.0).join false refl i;
-})
+course-begin h t class ret none =
+    let was = course h t.0 in
+    course-with h (record { event = Begin t class; ret = ret }) t.0 _ _ _ _ (or_new h was.start t.0 none) (or_here-false h was.commit) (or_here-false h was.abort) (or_here-false h was.join)
 
 pub course-spawn : {A : Type 0} (h : List (Kept A)) (t c : TxnId) (class : ClassId) (ret : Option Ret) → (course h c.0).start ≡ None →
     course (h ++ record { event = Spawn t c class; ret = ret } ∷ []) c.0 ≡ record (course h c.0) { start = Some (length h + 1) }
-course-spawn h t c class ret none = course-push h (record { event = Spawn t c class; ret = ret }) c.0 ∙ (λ i. record {
-  start = or_new h (course h c.0).start (c.0 == c.0) none (same_number c.0) i;
-  commit = or_none h (course h c.0).commit false refl i;
-  abort = or_none h (course h c.0).abort false refl i;
-  join = or_none h (course h c.0).join false refl i;
-})
+course-spawn h t c class ret none =
+    let was = course h c.0 in
+    course-with h (record { event = Spawn t c class; ret = ret }) c.0 _ _ _ _ (or_new h was.start c.0 none) (or_here-false h was.commit) (or_here-false h was.abort) (or_here-false h was.join)
 
 pub course-split : {A : Type 0} (h : List (Kept A)) (t u : TxnId) (class : ClassId) (ops : List OpNo) (ret : Option Ret) → (course h u.0).start ≡ None →
     course (h ++ record { event = Split t u class ops; ret = ret } ∷ []) u.0 ≡ record (course h u.0) { start = Some (length h + 1) }
-course-split h t u class ops ret none = course-push h (record { event = Split t u class ops; ret = ret }) u.0 ∙ (λ i. record {
-  start = or_new h (course h u.0).start (u.0 == u.0) none (same_number u.0) i;
-  commit = or_none h (course h u.0).commit false refl i;
-  abort = or_none h (course h u.0).abort false refl i;
-  join = or_none h (course h u.0).join false refl i;
-})
+course-split h t u class ops ret none =
+    let was = course h u.0 in
+    course-with h (record { event = Split t u class ops; ret = ret }) u.0 _ _ _ _ (or_new h was.start u.0 none) (or_here-false h was.commit) (or_here-false h was.abort) (or_here-false h was.join)
 
 pub course-commit : {A : Type 0} (h : List (Kept A)) (t : TxnId) (ret : Option Ret) → (course h t.0).commit ≡ None →
     course (h ++ record { event = Commit t; ret = ret } ∷ []) t.0 ≡ record (course h t.0) { commit = Some (length h + 1) }
-course-commit h t ret none = course-push h (record { event = Commit t; ret = ret }) t.0 ∙ (λ i. record {
-  start = or_none h (course h t.0).start false refl i;
-  commit = or_new h (course h t.0).commit (t.0 == t.0) none (same_number t.0) i;
-  abort = or_none h (course h t.0).abort false refl i;
-  join = or_none h (course h t.0).join false refl i;
-})
+course-commit h t ret none =
+    let was = course h t.0 in
+    course-with h (record { event = Commit t; ret = ret }) t.0 _ _ _ _ (or_here-false h was.start) (or_new h was.commit t.0 none) (or_here-false h was.abort) (or_here-false h was.join)
 
 pub course-abort : {A : Type 0} (h : List (Kept A)) (t : TxnId) (ret : Option Ret) → (course h t.0).abort ≡ None →
     course (h ++ record { event = Abort t; ret = ret } ∷ []) t.0 ≡ record (course h t.0) { abort = Some (length h + 1) }
-course-abort h t ret none = course-push h (record { event = Abort t; ret = ret }) t.0 ∙ (λ i. record {
-  start = or_none h (course h t.0).start false refl i;
-  commit = or_none h (course h t.0).commit false refl i;
-  abort = or_new h (course h t.0).abort (t.0 == t.0) none (same_number t.0) i;
-  join = or_none h (course h t.0).join false refl i;
-})
+course-abort h t ret none =
+    let was = course h t.0 in
+    course-with h (record { event = Abort t; ret = ret }) t.0 _ _ _ _ (or_here-false h was.start) (or_here-false h was.commit) (or_new h was.abort t.0 none) (or_here-false h was.join)
 
 pub course-join : {A : Type 0} (h : List (Kept A)) (t u : TxnId) (ret : Option Ret) → (course h t.0).join ≡ None →
     course (h ++ record { event = Join t u; ret = ret } ∷ []) t.0 ≡ record (course h t.0) { join = Some (length h + 1) }
-course-join h t u ret none = course-push h (record { event = Join t u; ret = ret }) t.0 ∙ (λ i. record {
-  start = or_none h (course h t.0).start false refl i;
-  commit = or_none h (course h t.0).commit false refl i;
-  abort = or_none h (course h t.0).abort false refl i;
-  join = or_new h (course h t.0).join (t.0 == t.0) none (same_number t.0) i;
-})
+course-join h t u ret none =
+    let was = course h t.0 in
+    course-with h (record { event = Join t u; ret = ret }) t.0 _ _ _ _ (or_here-false h was.start) (or_here-false h was.commit) (or_here-false h was.abort) (or_new h was.join t.0 none)
 
 -- orderly courses and edges
 

@@ -56,6 +56,10 @@ first-push test h k = ap (find (λ p. test p.kept.event)) (places-push h k) ∙ 
 abbrev pub or_here : {A : Type 0} → List (Kept A) → Option ℕ → Bool → Option ℕ
 or_here h old now = option_or old (cond now (Some (length h + 1)) None)
 
+pub or_here-false : {A : Type 0} (h : List (Kept A)) (o : Option ℕ) → or_here h o false ≡ o
+or_here-false h None = refl
+or_here-false h (Some n) = refl
+
 pub option_map-or : {X Y : Type 0} (f : X → Y) (o p : Option X) → option_map f (option_or o p) ≡ option_or (option_map f o) (option_map f p)
 option_map-or f None p = refl
 option_map-or f (Some x) p = refl

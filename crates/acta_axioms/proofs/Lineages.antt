@@ -21,20 +21,16 @@ use Rattle.acta_axioms.specs.inside.Lineages.{unbegun, class_id, lineage, begun_
 use Rattle.acta_axioms.proofs.Growth.{found-passes, first-append, places_within, course-push, class_number-push, parent_of-push}
 use Rattle.acta_axioms.proofs.Tables.{get_or-blank}
 
--- one that has not begun has no class and no parent
+-- one that has not begun has nothing that a start gives: no class and no parent
+start-unbegun : {A X : Type 0} (by : Place A → Option X) (o : Option (Place A)) → is_some (option_map number o) ≡ false → option_and_then by o ≡ None
+start-unbegun by None is = refl
+start-unbegun by (Some p) is = absurd (true≢false is)
+
 class-unbegun : {A : Type 0} (h : List (Kept A)) (t : ℕ) → is_some (course h t).start ≡ false → class_number h t ≡ None
-class-unbegun {A} h t not_begun = of_first (first (starts t) h) not_begun
-  where
-    of_first : (o : Option (Place A)) → is_some (option_map number o) ≡ false → option_and_then (λ p. class_named p.kept.event) o ≡ None
-    of_first None is = refl
-    of_first (Some p) is = absurd (true≢false is)
+class-unbegun h t = start-unbegun _ (first (starts t) h)
 
 parent-unbegun : {A : Type 0} (h : List (Kept A)) (t : ℕ) → is_some (course h t).start ≡ false → parent_of h t ≡ None
-parent-unbegun {A} h t not_begun = of_first (first (starts t) h) not_begun
-  where
-    of_first : (o : Option (Place A)) → is_some (option_map number o) ≡ false → option_and_then (λ p. spawner p.before p.kept.event) o ≡ None
-    of_first None is = refl
-    of_first (Some p) is = absurd (true≢false is)
+parent-unbegun h t = start-unbegun _ (first (starts t) h)
 
 -- a lineage by its parts
 abbrev made_of : Option ℕ → Option ℕ → Option ℕ → Option ℕ → Option ℕ → Option TxnId → Lineage
@@ -44,13 +40,11 @@ made_of s c a j class parent = record { course = record { start = s; commit = c;
 abbrev here : ℕ → Option ℕ → Bool → Option ℕ
 here n o b = option_or o (cond b (Some n) None)
 
-or_nothing : (n : ℕ) (o : Option ℕ) → here n o false ≡ o
-or_nothing n None = refl
-or_nothing n (Some m) = refl
-
-or_this : (n : ℕ) (o : Option ℕ) → here n o true ≡ or_at n o
-or_this n None = refl
-or_this n (Some m) = refl
+or_where : (n : ℕ) (o : Option ℕ) (b : Bool) → here n o b ≡ (if b then or_at n o else o)
+or_where n None true = refl
+or_where n None false = refl
+or_where n (Some m) true = refl
+or_where n (Some m) false = refl
 
 -- what one that has begun has, or else what its start gives it
 abbrev given : {X : Type 0} → Option ℕ → Bool → Option X → Option X → Option X
@@ -64,33 +58,15 @@ given-nothing (Some i) new old none = refl
 start_line : (n : ℕ) (b : Bool) (s c a j class : Option ℕ) (parent : Option TxnId) (new : ClassId) (by : Option TxnId) → (is_some s ≡ false → class ≡ None) → (is_some s ≡ false → parent ≡ None) →
     made_of (here n s b) (here n c false) (here n a false) (here n j false) (given s b (Some new.0) class) (given s b by parent)
     ≡ (if b then started n new by (made_of s c a j class parent) else made_of s c a j class parent)
-start_line n true None c a j class parent new by no_class no_parent = λ i. made_of (Some n) (or_nothing n c i) (or_nothing n a i) (or_nothing n j i) (Some new.0) by
-start_line n true (Some m) c a j class parent new by no_class no_parent = λ i. made_of (Some m) (or_nothing n c i) (or_nothing n a i) (or_nothing n j i) class parent
+start_line n true None c a j class parent new by no_class no_parent = λ i. made_of (Some n) (or_where n c false i) (or_where n a false i) (or_where n j false i) (Some new.0) by
+start_line n true (Some m) c a j class parent new by no_class no_parent = λ i. made_of (Some m) (or_where n c false i) (or_where n a false i) (or_where n j false i) class parent
 start_line n false s c a j class parent new by no_class no_parent = λ i.
-    made_of (or_nothing n s i) (or_nothing n c i) (or_nothing n a i) (or_nothing n j i) (given-nothing s (Some new.0) class no_class i) (given-nothing s by parent no_parent i)
+    made_of (or_where n s false i) (or_where n c false i) (or_where n a false i) (or_where n j false i) (given-nothing s (Some new.0) class no_class i) (given-nothing s by parent no_parent i)
 
--- and one that ends one
-join_line : (n : ℕ) (b : Bool) (s c a j class : Option ℕ) (parent : Option TxnId) → (is_some s ≡ false → class ≡ None) → (is_some s ≡ false → parent ≡ None) →
-    made_of (here n s false) (here n c false) (here n a false) (here n j b) (given s false None class) (given s false None parent)
-    ≡ (if b then made_of s c a (or_at n j) class parent else made_of s c a j class parent)
-join_line n true s c a j class parent no_class no_parent = λ i.
-    made_of (or_nothing n s i) (or_nothing n c i) (or_nothing n a i) (or_this n j i) (given-nothing s None class no_class i) (given-nothing s None parent no_parent i)
-join_line n false s c a j class parent no_class no_parent = λ i.
-    made_of (or_nothing n s i) (or_nothing n c i) (or_nothing n a i) (or_nothing n j i) (given-nothing s None class no_class i) (given-nothing s None parent no_parent i)
-
-commit_line : (n : ℕ) (b : Bool) (s c a j class : Option ℕ) (parent : Option TxnId) → (is_some s ≡ false → class ≡ None) → (is_some s ≡ false → parent ≡ None) →
-    made_of (here n s false) (here n c b) (here n a false) (here n j false) (given s false None class) (given s false None parent)
-    ≡ (if b then made_of s (or_at n c) a j class parent else made_of s c a j class parent)
-commit_line n true s c a j class parent no_class no_parent = λ i.
-    made_of (or_nothing n s i) (or_this n c i) (or_nothing n a i) (or_nothing n j i) (given-nothing s None class no_class i) (given-nothing s None parent no_parent i)
-commit_line n false s c a j class parent no_class no_parent = join_line n false s c a j class parent no_class no_parent
-
-abort_line : (n : ℕ) (b : Bool) (s c a j class : Option ℕ) (parent : Option TxnId) → (is_some s ≡ false → class ≡ None) → (is_some s ≡ false → parent ≡ None) →
-    made_of (here n s false) (here n c false) (here n a b) (here n j false) (given s false None class) (given s false None parent)
-    ≡ (if b then made_of s c (or_at n a) j class parent else made_of s c a j class parent)
-abort_line n true s c a j class parent no_class no_parent = λ i.
-    made_of (or_nothing n s i) (or_nothing n c i) (or_this n a i) (or_nothing n j i) (given-nothing s None class no_class i) (given-nothing s None parent no_parent i)
-abort_line n false s c a j class parent no_class no_parent = join_line n false s c a j class parent no_class no_parent
+-- a lineage with the one place or the other
+where_true : (line : Option ℕ → Lineage) (b : Bool) (o p : Option ℕ) → line (if b then o else p) ≡ (if b then line o else line p)
+where_true line true o p = refl
+where_true line false o p = refl
 
 -- the lineage of one more item
 lineage-push : {A : Type 0} (h : List (Kept A)) (k : Kept A) (t : ℕ) → lineage (h ++ k ∷ []) t ≡ further (length h + 1) (has_begun h) k.event t (lineage h t)
@@ -111,16 +87,22 @@ lineage-push {A} h k t = (λ i. record { course = course-push h k t i; class = c
     j : Option ℕ
     j = (course h t).join
 
+    -- an event that starts none, by whether it ends t by a commit, an abort or a join
+    ended : (b d f : Bool) → made_of (here n s false) (here n c b) (here n a d) (here n j f) (given s false None (class_number h t)) (given s false None (parent_of h t))
+        ≡ made_of s (if b then or_at n c else c) (if d then or_at n a else a) (if f then or_at n j else j) (class_number h t) (parent_of h t)
+    ended b d f = λ i.
+        made_of (or_where n s false i) (or_where n c b i) (or_where n a d i) (or_where n j f i) (given-nothing s None (class_number h t) (class-unbegun h t) i) (given-nothing s None (parent_of h t) (parent-unbegun h t) i)
+
     of_event : (e : Event A) →
         made_of (here n s (starts t e)) (here n c (commits t e)) (here n a (aborts t e)) (here n j (joins t e)) (given s (starts t e) (class_named e) (class_number h t)) (given s (starts t e) (spawner h e) (parent_of h t))
         ≡ further n (has_begun h) e t (made_of s c a j (class_number h t) (parent_of h t))
     of_event (Begin u class) = start_line n (u.0 == t) s c a j (class_number h t) (parent_of h t) class None (class-unbegun h t) (parent-unbegun h t)
     of_event (Spawn v u class) = start_line n (u.0 == t) s c a j (class_number h t) (parent_of h t) class (spawner h (Spawn v u class)) (class-unbegun h t) (parent-unbegun h t)
     of_event (Split v u class ops) = start_line n (u.0 == t) s c a j (class_number h t) (parent_of h t) class None (class-unbegun h t) (parent-unbegun h t)
-    of_event (Join u v) = join_line n (u.0 == t) s c a j (class_number h t) (parent_of h t) (class-unbegun h t) (parent-unbegun h t)
-    of_event (Commit u) = commit_line n (u.0 == t) s c a j (class_number h t) (parent_of h t) (class-unbegun h t) (parent-unbegun h t)
-    of_event (Abort u) = abort_line n (u.0 == t) s c a j (class_number h t) (parent_of h t) (class-unbegun h t) (parent-unbegun h t)
-    of_event _ = join_line n false s c a j (class_number h t) (parent_of h t) (class-unbegun h t) (parent-unbegun h t)
+    of_event (Join u v) = ended false false (u.0 == t) ∙ where_true (λ o. made_of s c a o (class_number h t) (parent_of h t)) (u.0 == t) (or_at n j) j
+    of_event (Commit u) = ended (u.0 == t) false false ∙ where_true (λ o. made_of s o a j (class_number h t) (parent_of h t)) (u.0 == t) (or_at n c) c
+    of_event (Abort u) = ended false (u.0 == t) false ∙ where_true (λ o. made_of s c o j (class_number h t) (parent_of h t)) (u.0 == t) (or_at n a) a
+    of_event _ = ended false false false
 
 -- a blank table says of no item what there is to say
 pub lines-blank : {A : Type 0} (h : List (Kept A)) (lines : List Lineage) (n t : ℕ) → lines ≡ replicate n unbegun → get_or lines t unbegun ≡ lineage (take 0 h) t

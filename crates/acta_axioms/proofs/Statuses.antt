@@ -8,7 +8,7 @@ use Rattle.acta_table.specs.declared.event.Event.TheVariants.{Begin, Spawn, Spli
 use Rattle.acta_table.specs.declared.event.Kept.{Kept}
 use Rattle.acta_axioms.specs.History.{starts, commits, aborts, joins, course, least, has_begun, has_ended, is_in_progress}
 use Rattle.acta_axioms.specs.Claims.{course_status, status_at}
-use Rattle.acta_axioms.proofs.Growth.{or_here, course-push}
+use Rattle.acta_axioms.proofs.Growth.{or_here, or_here-false, course-push}
 
 -- a status after a begin, spawn or split of the transaction, after an abort, and after a join; after a commit it is
 -- committed
@@ -35,57 +35,43 @@ status_after t (Commit u) s = if u.0 == t then Committed else s
 status_after t (Abort u) s = if u.0 == t then when_aborted s else s
 status_after t _ s = s
 
+-- the status of a course that gets no new place, and of one that gets a start, a join, a commit or an abort
+as_it_was : {A : Type 0} (h : List (Kept A)) (s c a j : Option ℕ) →
+    course_status (record { start = or_here h s false; commit = or_here h c false; abort = or_here h a false; join = or_here h j false }) ≡ course_status (record { start = s; commit = c; abort = a; join = j })
+as_it_was h s c a j = λ i. course_status (record { start = or_here-false h s i; commit = or_here-false h c i; abort = or_here-false h a i; join = or_here-false h j i })
+
 begun_in : {A : Type 0} (h : List (Kept A)) (s c a j : Option ℕ) (b : Bool) →
     course_status (record { start = or_here h s b; commit = or_here h c false; abort = or_here h a false; join = or_here h j false }) ≡ (if b then when_begun (course_status (record { start = s; commit = c; abort = a; join = j })) else course_status (record { start = s; commit = c; abort = a; join = j }))
 begun_in h s (Some i) a j true = refl
-begun_in h s (Some i) a j false = refl
 begun_in h s None (Some i) j true = refl
-begun_in h s None (Some i) j false = refl
 begun_in h s None None (Some i) true = refl
-begun_in h s None None (Some i) false = refl
 begun_in h None None None None true = refl
-begun_in h None None None None false = refl
 begun_in h (Some i) None None None true = refl
-begun_in h (Some i) None None None false = refl
+begun_in h s c a j false = as_it_was h s c a j
 
 joined_in : {A : Type 0} (h : List (Kept A)) (s c a j : Option ℕ) (b : Bool) →
     course_status (record { start = or_here h s false; commit = or_here h c false; abort = or_here h a false; join = or_here h j b }) ≡ (if b then when_joined (course_status (record { start = s; commit = c; abort = a; join = j })) else course_status (record { start = s; commit = c; abort = a; join = j }))
 joined_in h s (Some i) a j true = refl
-joined_in h s (Some i) a j false = refl
 joined_in h s None (Some i) j true = refl
-joined_in h s None (Some i) j false = refl
 joined_in h s None None (Some i) true = refl
-joined_in h s None None (Some i) false = refl
 joined_in h None None None None true = refl
-joined_in h None None None None false = refl
 joined_in h (Some i) None None None true = refl
-joined_in h (Some i) None None None false = refl
+joined_in h s c a j false = as_it_was h s c a j
 
 committed_in : {A : Type 0} (h : List (Kept A)) (s c a j : Option ℕ) (b : Bool) →
     course_status (record { start = or_here h s false; commit = or_here h c b; abort = or_here h a false; join = or_here h j false }) ≡ (if b then Committed else course_status (record { start = s; commit = c; abort = a; join = j }))
 committed_in h s (Some i) a j true = refl
-committed_in h s (Some i) a j false = refl
-committed_in h s None (Some i) j true = refl
-committed_in h s None (Some i) j false = refl
-committed_in h s None None (Some i) true = refl
-committed_in h s None None (Some i) false = refl
-committed_in h None None None None true = refl
-committed_in h None None None None false = refl
-committed_in h (Some i) None None None true = refl
-committed_in h (Some i) None None None false = refl
+committed_in h s None a j true = refl
+committed_in h s c a j false = as_it_was h s c a j
 
 aborted_in : {A : Type 0} (h : List (Kept A)) (s c a j : Option ℕ) (b : Bool) →
     course_status (record { start = or_here h s false; commit = or_here h c false; abort = or_here h a b; join = or_here h j false }) ≡ (if b then when_aborted (course_status (record { start = s; commit = c; abort = a; join = j })) else course_status (record { start = s; commit = c; abort = a; join = j }))
 aborted_in h s (Some i) a j true = refl
-aborted_in h s (Some i) a j false = refl
 aborted_in h s None (Some i) j true = refl
-aborted_in h s None (Some i) j false = refl
 aborted_in h s None None (Some i) true = refl
-aborted_in h s None None (Some i) false = refl
 aborted_in h None None None None true = refl
-aborted_in h None None None None false = refl
 aborted_in h (Some i) None None None true = refl
-aborted_in h (Some i) None None None false = refl
+aborted_in h s c a j false = as_it_was h s c a j
 
 pub status_at-push : {A : Type 0} (h : List (Kept A)) (k : Kept A) (t : ℕ) → status_at (h ++ k ∷ []) t ≡ status_after t k.event (status_at h t)
 status_at-push {A} h k t = ap course_status (course-push h k t) ∙ of_event k.event
@@ -97,7 +83,7 @@ status_at-push {A} h k t = ap course_status (course-push h k t) ∙ of_event k.e
     of_event (Join u v) = joined_in h (course h t).start (course h t).commit (course h t).abort (course h t).join (u.0 == t)
     of_event (Commit u) = committed_in h (course h t).start (course h t).commit (course h t).abort (course h t).join (u.0 == t)
     of_event (Abort u) = aborted_in h (course h t).start (course h t).commit (course h t).abort (course h t).join (u.0 == t)
-    of_event _ = committed_in h (course h t).start (course h t).commit (course h t).abort (course h t).join false
+    of_event _ = as_it_was h (course h t).start (course h t).commit (course h t).abort (course h t).join
 
 -- whether this is the status of one in progress
 abbrev pub is_under_way : Status → Bool

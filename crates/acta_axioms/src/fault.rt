@@ -112,8 +112,8 @@ impl PartialOrd for Axiom {
 }
 
 /// A fault of a history: the axiom that is broken, the place, from 1, and the number of the transaction, operation or
-/// edge by which it is broken (0 where a return stands at no operation, and where there is no parent). Faults are ordered
-/// by the axiom's number, then by place, then by number.
+/// edge by which it is broken (0 where a return stands at no operation, and where there is no parent). Faults are
+/// ordered by the axiom's number, then by place, then by number.
 #[derive(Clone, Copy, PartialEq, Eq, PartialOrd, Ord, Debug)]
 pub struct Fault {
     pub broken: Axiom,

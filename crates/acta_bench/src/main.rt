@@ -1,5 +1,5 @@
-//! Measures a walk through a history: `acta_bench SHAPE N` makes a history of N items of that shape, walks through it, prints
-//! how many operations and edges there are in the end, and tells on standard error how long the walk took.
+//! Measures a walk through a history: `acta_bench SHAPE N` makes a history of N items of that shape, walks through it,
+//! prints how many operations and edges there are in the end, and tells on standard error how long the walk took.
 #![tactic(auto)]
 
 ghost use Rattle.std.specs.Prelude.{◌≤◌, length};

@@ -1,4 +1,4 @@
-pub mod Aborting
+pub mod Clashing
 pub mod Counting
 mod Examples
 pub mod Forms

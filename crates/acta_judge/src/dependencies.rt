@@ -1,14 +1,15 @@
-//! The axioms on dependencies: the formula of each edge, who owes both a commit and an abort, and what is owed.
+//! The axioms on dependencies: the formula of each edge, what is owed by it, and who owes both a commit and an abort.
 
-ghost use Rattle.std.specs.Prelude.{◌≡◌, IfOk, OnOk, if◌then◌else◌};
+ghost use Rattle.std.specs.Prelude.{◌≡◌, IfOk, OnOk, Some, if◌then◌else◌};
 ghost use Rattle.std.specs.BTreeSet.{insert_key};
 ghost use Rattle.std.specs.Ordering.{nat_cmp};
-ghost use Rattle.acta_table.specs.Dependencies.{is_commit, is_abort};
-ghost use Rattle.acta_axioms.specs.Edges.{edges};
-ghost use Rattle.acta_axioms.specs.Legal.{debt_in, clashes_in, owed};
-ghost use Rattle.acta_judge.specs.Broken.{place_in, edge_faults, faults_in_edges, faults_in_debts};
+ghost use Rattle.acta_table.specs.Dependencies.{is_abort};
+ghost use Rattle.acta_axioms.specs.declared.fault.Axiom.TheVariants.{Clash};
+ghost use Rattle.acta_axioms.specs.Faults.{faults_of};
+ghost use Rattle.acta_axioms.specs.Legal.{debt_in, owed};
+ghost use Rattle.acta_judge.specs.Broken.{place_in, edge_faults, faults_in_edges};
 ghost use Rattle.acta_judge.specs.Order.{merged};
-ghost use Rattle.acta_judge.specs.inside.Edges.{aborting};
+ghost use Rattle.acta_judge.specs.inside.Edges.{aborting, clashes_among, clashing_among};
 
 use crate::formulas::{debt, place_by};
 use crate::reporting::Breach;
@@ -16,18 +17,6 @@ use acta_axioms::{Axiom, Fault, Walk};
 use acta_table::{Edge, EdgeNo, Missing, Owed};
 use std::alloc::{AllocError, Allocator};
 use std::collections::BTreeSet;
-
-fn is_commit(missing: Option<Missing>) -> bool
-    ensures { result ≡ is_commit missing }
-{
-    matches!(missing, Some(Missing::Commit))
-}
-
-fn is_abort(missing: Option<Missing>) -> bool
-    ensures { result ≡ is_abort missing }
-{
-    matches!(missing, Some(Missing::Abort))
-}
 
 // Where the formula of the edge is false with nothing owed.
 fn place_in<'a, A: Allocator>(walk: &Walk<'a, A>, e: &Edge) -> Option<u32>
@@ -62,106 +51,85 @@ fn tell_edge<'a, A: Allocator + Copy>(
     breach.tell(number, faults)
 }
 
-/// Tells the faults by the edges that the items in front form. `Err` where there is no memory.
+/// Tells the faults by the edges that the items in front form, and answers what is owed by them, by edge number: one
+/// pass over the edges. `Err` where there is no memory.
+#[tactic(auto, unfolding(acta_axioms::specs::Legal::owed))]
 pub(crate) fn tell_edges<'a, A: Allocator + Copy>(
+    alloc: A,
     walk: &Walk<'a, A>,
     faults: &mut BTreeSet<Fault, A>,
-) -> Result<(), AllocError>
-    ensures { OnOk result (faults.new.keys ≡ merged faults.old.keys (faults_in_edges walk.now.model walk.now.front)) }
+) -> Result<Vec<Owed, A>, AllocError>
+    ensures told { OnOk result (faults.new.keys ≡ merged faults.old.keys (faults_in_edges walk.now.model walk.now.front)) }
+    ensures owed { IfOk result (λ debts. debts.items ≡ owed walk.now.model walk.now.front) }
 {
+    let mut debts = Vec::new(alloc);
     let edges = walk.edges();
     let mut number = 0;
     for e in edges {
         number += 1;
         tell_edge(walk, number, e, faults)?;
-    }
-    Ok(())
-}
-
-// Puts the one that owes by the edge among the others, where it owes an abort. `Err` where there is no memory.
-fn put_aborting<'a, A: Allocator + Copy>(
-    walk: &Walk<'a, A>,
-    e: &Edge,
-    txns: &mut BTreeSet<u16, A>,
-) -> Result<(), AllocError>
-    ensures { IfOk result (λ _. txns.new.keys ≡ (if is_abort (debt_in walk.now.front e.now) then insert_key nat_cmp txns.old.keys e.now.j.0 else txns.old.keys)) }
-{
-    if is_abort(debt_in(walk, e)) {
-        txns.insert(e.j.0)?;
-    }
-    Ok(())
-}
-
-// Who owes an abort. `Err` where there is no memory.
-fn aborting<'a, A: Allocator + Copy>(
-    alloc: A,
-    walk: &Walk<'a, A>,
-) -> Result<BTreeSet<u16, A>, AllocError>
-    ensures { IfOk result (λ txns. txns.keys ≡ aborting walk.now.front (edges walk.now.model walk.now.front)) }
-{
-    let mut txns = BTreeSet::new(alloc);
-    let edges = walk.edges();
-    for e in edges {
-        put_aborting(walk, e, &mut txns)?;
-    }
-    Ok(txns)
-}
-
-// Whether a commit is owed by the edge, and an abort by another, where these owe one.
-#[tactic(auto, using(crate::proofs::Aborting::in_aborting))]
-fn clashes_in<'a, A: Allocator + Copy>(
-    walk: &Walk<'a, A>,
-    owing: &BTreeSet<u16, A>,
-    e: &Edge,
-) -> bool
-    requires { owing.now.keys ≡ aborting walk.now.front (edges walk.now.model walk.now.front) }
-    ensures { result ≡ clashes_in walk.now.front (edges walk.now.model walk.now.front) e.now }
-{
-    is_commit(debt_in(walk, e)) && owing.contains(&e.j.0)
-}
-
-/// Tells who owes both a commit and an abort, at the last place in front. `Err` where there is no memory.
-pub(crate) fn tell_clashes<'a, A: Allocator + Copy>(
-    alloc: A,
-    walk: &Walk<'a, A>,
-    faults: &mut BTreeSet<Fault, A>,
-) -> Result<(), AllocError>
-    ensures { OnOk result (faults.new.keys ≡ merged faults.old.keys (faults_in_debts walk.now.model walk.now.front)) }
-{
-    let owing = aborting(alloc, walk)?;
-    let clash = Breach {
-        broken: Axiom::Clash,
-        place: walk.front().len() as u32,
-    };
-    let edges = walk.edges();
-    for e in edges {
-        if clashes_in(walk, &owing, e) {
-            clash.tell(u64::from(e.j.0), faults)?;
-        }
-    }
-    Ok(())
-}
-
-/// What is owed by the edges that the items in front form, by edge number. `Err` where there is no memory.
-#[tactic(auto, unfolding(acta_axioms::specs::Legal::owed))]
-pub(crate) fn owed_by<'a, A: Allocator>(
-    alloc: A,
-    walk: &Walk<'a, A>,
-) -> Result<Vec<Owed, A>, AllocError>
-    ensures { IfOk result (λ debts. debts.items ≡ owed walk.now.model walk.now.front) }
-{
-    let mut owed = Vec::new(alloc);
-    let edges = walk.edges();
-    let mut number = 0;
-    for e in edges {
-        number += 1;
         if let Some(missing) = debt_in(walk, e) {
-            owed.push(Owed {
+            debts.push(Owed {
                 edge: EdgeNo(number),
                 txn: e.j,
                 missing,
             })?;
         }
     }
-    Ok(owed)
+    Ok(debts)
+}
+
+// Puts the one who owes among the others, where an abort is owed. `Err` where there is no memory.
+fn put_aborting<A: Allocator + Copy>(
+    debt: &Owed,
+    txns: &mut BTreeSet<u16, A>,
+) -> Result<(), AllocError>
+    ensures { IfOk result (λ _. txns.new.keys ≡ (if is_abort (Some debt.now.missing) then insert_key nat_cmp txns.old.keys debt.now.txn.0 else txns.old.keys)) }
+{
+    if matches!(debt.missing, Missing::Abort) {
+        txns.insert(debt.txn.0)?;
+    }
+    Ok(())
+}
+
+// Who owes an abort. `Err` where there is no memory.
+fn aborting<A: Allocator + Copy>(alloc: A, debts: &[Owed]) -> Result<BTreeSet<u16, A>, AllocError>
+    ensures { IfOk result (λ txns. txns.keys ≡ aborting debts.now) }
+{
+    let mut txns = BTreeSet::new(alloc);
+    for debt in debts {
+        put_aborting(debt, &mut txns)?;
+    }
+    Ok(txns)
+}
+
+// Whether a commit is owed by this debt, by one of those who owe an abort by some of these.
+#[tactic(auto, using(crate::proofs::Clashing::in_aborting))]
+fn clashes_among<A: Allocator + Copy>(owing: &BTreeSet<u16, A>, debts: &[Owed], debt: &Owed) -> bool
+    requires { owing.now.keys ≡ aborting debts.now }
+    ensures { result ≡ clashes_among debts.now debt.now }
+{
+    matches!(debt.missing, Missing::Commit) && owing.contains(&debt.txn.0)
+}
+
+/// Tells who owes both a commit and an abort by these debts, at this place. `Err` where there is no memory.
+pub(crate) fn tell_clashes<A: Allocator + Copy>(
+    alloc: A,
+    place: u32,
+    debts: &[Owed],
+    faults: &mut BTreeSet<Fault, A>,
+) -> Result<(), AllocError>
+    ensures { OnOk result (faults.new.keys ≡ merged faults.old.keys (faults_of Clash place (clashing_among debts.now))) }
+{
+    let owing = aborting(alloc, debts)?;
+    let clash = Breach {
+        broken: Axiom::Clash,
+        place,
+    };
+    for debt in debts {
+        if clashes_among(&owing, debts, debt) {
+            clash.tell(u64::from(debt.txn.0), faults)?;
+        }
+    }
+    Ok(())
 }

@@ -4,9 +4,9 @@ ghost use Rattle.std.specs.Prelude.{◌≡◌, ◌<◌, [], length, Err, IfOk, O
 ghost use Rattle.acta_axioms.specs.Faults.{faults_in_places};
 ghost use Rattle.acta_judge.specs.declared.verdict.JudgeError.{JudgeError};
 ghost use Rattle.acta_judge.specs.Order.{merged};
-ghost use Rattle.acta_judge.specs.Verdicts.{verdict, all_faults};
+ghost use Rattle.acta_judge.specs.Verdicts.{verdict};
 
-use crate::dependencies::{owed_by, tell_clashes, tell_edges};
+use crate::dependencies::{tell_clashes, tell_edges};
 use crate::telling::tell_item;
 use crate::verdict::{JudgeError, Verdict};
 use acta_axioms::{Fault, Walk};
@@ -45,25 +45,27 @@ fn listed<A: Allocator + Copy>(
     Ok(listed)
 }
 
-// All faults of a list that a walk has gone through.
+// The verdict on a list that a walk goes through.
 fn told<'a, A: Allocator + Copy>(
     alloc: A,
     walk: &mut Walk<'a, A>,
     kept: &'a [Kept<A>],
-) -> Result<BTreeSet<Fault, A>, AllocError>
+) -> Result<Verdict<A>, AllocError>
     requires { walk.old ≡ record { model = walk.old.model; front = []; ahead = kept.now } }
-    ensures faults { IfOk result (λ faults. faults.keys ≡ merged [] (all_faults walk.old.model kept.now)) }
-    ensures walked { IfOk result (λ _. walk.new ≡ record { model = walk.old.model; front = kept.now; ahead = [] }) }
+    ensures { IfOk result (λ v. v ≡ verdict walk.old.model kept.now) }
 {
     let mut faults = BTreeSet::new(alloc);
     tell_places(walk, kept, &mut faults)?;
-    tell_edges(walk, &mut faults)?;
-    tell_clashes(alloc, walk, &mut faults)?;
-    Ok(faults)
+    let owed = tell_edges(alloc, walk, &mut faults)?;
+    tell_clashes(alloc, walk.front().len() as u32, &owed, &mut faults)?;
+    Ok(Verdict {
+        faults: Items::of(listed(alloc, &faults)?),
+        owed: Items::of(owed),
+    })
 }
 
-/// What is wrong with a list of kept items, legal or not, and what is owed at its end (ours, by ACTA's axioms and those of
-/// the model). `Err` where the list has more than `MOST_EVENTS` items, and where there is no memory.
+/// What is wrong with a list of kept items, legal or not, and what is owed at its end (ours, by ACTA's axioms and those
+/// of the model). `Err` where the list has more than `MOST_EVENTS` items, and where there is no memory.
 pub fn judge<A: Allocator + Copy>(
     alloc: A,
     model: &Model<A>,
@@ -77,10 +79,5 @@ pub fn judge<A: Allocator + Copy>(
         return Err(JudgeError::TooLong);
     }
     let mut walk = Walk::of(alloc, model, kept)?;
-    let faults = told(alloc, &mut walk, kept)?;
-    let owed = owed_by(alloc, &walk)?;
-    Ok(Verdict {
-        faults: Items::of(listed(alloc, &faults)?),
-        owed: Items::of(owed),
-    })
+    Ok(told(alloc, &mut walk, kept)?)
 }

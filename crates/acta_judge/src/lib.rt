@@ -1,6 +1,6 @@
-//! The judge: what is wrong with a history from elsewhere, legal or not, and what is owed at its end. It asks each axiom
-//! at each place of one walk through the history, and the formula of each edge once; it rests on the meaning of histories
-//! by their places, and never on a machine, so that the two can be checked against each other.
+//! The judge: what is wrong with a history from elsewhere, legal or not, and what is owed at its end. It asks each
+//! axiom at each place of one walk through the history, and the formula of each edge once; it rests on the meaning of
+//! histories by their places, and never on a machine, so that the two can be checked against each other.
 #![tactic(auto)]
 
 mod dependencies;

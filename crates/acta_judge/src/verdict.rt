@@ -7,8 +7,8 @@ use acta_axioms::Fault;
 use acta_table::{Items, Owed};
 use std::alloc::{AllocError, Allocator};
 
-/// What is said of a history (ours): its faults, in order of axiom, place and number, each once, and what is owed at its
-/// end, by edge number.
+/// What is said of a history (ours): its faults, in order of axiom, place and number, each once, and what is owed at
+/// its end, by edge number.
 #[derive(Drop)]
 pub struct Verdict<A: Allocator> {
     pub faults: Items<Fault, A>,

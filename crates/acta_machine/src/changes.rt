@@ -112,8 +112,8 @@ impl<A: Allocator> Board<A> {
         Ok(())
     }
 
-    // What the transaction holds in progress goes to its heir, or is committed where it has none. `Err` where there is no
-    // memory, and then nothing is changed.
+    // What the transaction holds in progress goes to its heir, or is committed where it has none. `Err` where there is
+    // no memory, and then nothing is changed.
     fn settle(&mut self, t: TxnId) -> Result<(), AllocError>
         ensures shows { OnOk result (shown self.new ≡ settled (shown self.old) t (heir_of self.old.model (shown self.old) t.0)) }
         ensures err { OnErr result (shown self.new ≡ shown self.old) }

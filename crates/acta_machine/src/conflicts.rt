@@ -27,7 +27,8 @@ impl<A: Allocator + Copy> Board<A> {
         spares.contains(&u.0)
     }
 
-    // Whether the operation is in the transaction's conflict set, on the same object, and conflicts, where t spares these.
+    // Whether the operation is in the transaction's conflict set, on the same object, and conflicts, where t spares
+    // these.
     fn stands_against(
         &self,
         t: TxnId,

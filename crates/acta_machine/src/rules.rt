@@ -402,8 +402,8 @@ impl<A: Allocator + Copy> Board<A> {
         broken_by(Rule::NoHeir, self.lost_heir(*t))
     }
 
-    /// The lowest rule that the event breaks, where it breaks none before that on too many edges, and forms these edges.
-    /// `Err` where there is no memory.
+    /// The lowest rule that the event breaks, where it breaks none before that on too many edges, and forms these
+    /// edges. `Err` where there is no memory.
     pub(crate) fn broken_from_edges(
         &self,
         event: &Event<A>,

@@ -80,8 +80,8 @@ pub fn owed_line<A: Allocator + Copy>(alloc: A, owed: &Owed) -> Result<Vec<u8, A
     Ok(line)
 }
 
-/// The line of a fault that is found in a history (ours): `fault`, the number of the axiom, the place of the event, from
-/// 1, and the number that breaks the axiom there. `Err` where there is no memory.
+/// The line of a fault that is found in a history (ours): `fault`, the number of the axiom, the place of the event,
+/// from 1, and the number that breaks the axiom there. `Err` where there is no memory.
 #[tactic(auto, unfolding(crate::specs::Answers::fault_line))]
 pub fn fault_line<A: Allocator + Copy>(
     alloc: A,

@@ -1,5 +1,5 @@
-//! Commands to a debugger, read as the lines of events are: unknown words first, then the number of words, then numbers,
-//! then names. So the fault that is told is the lowest. What a command does is no matter of lines.
+//! Commands to a debugger, read as the lines of events are: unknown words first, then the number of words, then
+//! numbers, then names. So the fault that is told is the lowest. What a command does is no matter of lines.
 
 ghost use Rattle.std.specs.Prelude.{◌≡◌, map, Ok, Err, IfOk, IfErr};
 ghost use Rattle.acta_script.specs.Commands.{break_command_said, break_said, command_of, command_said, ended_break_said, goto_said, kind_break_said, object_break_said, one_word, owed_break_said, status_said, txn_break_said, value_said};
@@ -202,9 +202,9 @@ fn command_said<A: Allocator>(model: &Model<A>, words: &[&[u8]]) -> Result<Debug
     }
 }
 
-/// The command that the line says (ours): `step`, `back`, `goto N`, `run`, `clear`, `value OBJECT`, `status T`, `owed`, or
-/// `break` with `kind EVENT`, `txn T`, `object OBJECT`, `owed N` or `ended T` behind it. `Fault` has the lowest fault of
-/// the line, and `Memory` comes where there is none. Transactions have 16 bits, and an N has 32.
+/// The command that the line says (ours): `step`, `back`, `goto N`, `run`, `clear`, `value OBJECT`, `status T`, `owed`,
+/// or `break` with `kind EVENT`, `txn T`, `object OBJECT`, `owed N` or `ended T` behind it. `Fault` has the lowest
+/// fault of the line, and `Memory` comes where there is none. Transactions have 16 bits, and an N has 32.
 pub fn read_command<A: Allocator + Copy>(
     alloc: A,
     model: &Model<A>,

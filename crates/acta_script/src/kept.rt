@@ -62,8 +62,8 @@ pub fn read_kept<A: Allocator + Copy>(
     kept_said(alloc, model, &words)
 }
 
-/// The line of the kept item: that of its event, and for a return ` = ` and its word (ours). Read again it gives the item.
-/// `Err` where there is no memory.
+/// The line of the kept item: that of its event, and for a return ` = ` and its word (ours). Read again it gives the
+/// item. `Err` where there is no memory.
 #[tactic(auto, using(crate::proofs::Lines::kept_line_plain, crate::proofs::Lines::kept_line_with))]
 pub fn write_kept<A: Allocator + Copy>(
     alloc: A,

@@ -11,9 +11,9 @@
 //! where `OP` is `read`, `get`, `size`, or `write`, `add`, `insert`, `remove`, `has` with an `INT` behind it, and `OPS`
 //! is `-` or numbers joined by commas. A kept line is an event, and for a return behind it `=` and `done`, `yes`, `no`
 //! or a number. A seated line is a seat, from 1, and an event behind it. An answer is `ok PLACE [RETURN]` or
-//! `no RULE [by N]`, a debt is `owed EDGE TXN commit` or `.. abort`, and a fault in a history is `fault AXIOM PLACE BY`.
-//! No line that is written ends in a line feed. What is written of an event or a kept item is read again as this event
-//! or item: it is a clause of `write_event` and `write_kept`.
+//! `no RULE [by N]`, a debt is `owed EDGE TXN commit` or `.. abort`, and a fault in a history is
+//! `fault AXIOM PLACE BY`. No line that is written ends in a line feed. What is written of an event or a kept item is
+//! read again as this event or item: it is a clause of `write_event` and `write_kept`.
 #![tactic(auto)]
 
 mod answers;

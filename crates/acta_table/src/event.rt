@@ -122,8 +122,8 @@ impl<A: Allocator> Event<A> {
         }
     }
 
-    /// The transaction that does the event, and has to be in progress for it: there is none that begins, and an edge may
-    /// be formed before it begins.
+    /// The transaction that does the event, and has to be in progress for it: there is none that begins, and an edge
+    /// may be formed before it begins.
     pub fn acting(&self) -> Option<TxnId>
         ensures { option_map (λ t. t.0) result ≡ acting self.now }
     {

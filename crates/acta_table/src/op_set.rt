@@ -64,7 +64,9 @@ impl<A: Allocator> OpSet<A> {
     pub fn has_number(&self, number: usize) -> bool
         ensures { result ≡ is_named self.now number }
     {
-        self.as_slice().iter().any(|op| op.0 as usize == number)
+        self.as_slice()
+            .binary_search_by_key(&number, |op| op.0 as usize)
+            .is_ok()
     }
 
     /// The numbers, ascending, each once.

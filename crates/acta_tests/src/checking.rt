@@ -1,5 +1,5 @@
-//! What is wrong with parts of models, which no text can say: `assemble` tells the fault of the line. Each is a class of a
-//! text that is altered.
+//! What is wrong with parts of models, which no text can say: `assemble` tells the fault of the line. Each is a class
+//! of a text that is altered.
 
 use acta_lang::assemble;
 use acta_models::Standard;

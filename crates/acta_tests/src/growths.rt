@@ -42,8 +42,8 @@ fn take<A: Allocator + Copy>(
     taken
 }
 
-// Takes the event, its first allocation refused, then the second, and so on, until it succeeds: each refused call has to answer
-// `Err`. Gives the answer in the end, and how many calls were refused.
+// Takes the event, its first allocation refused, then the second, and so on, until it succeeds: each refused call has
+// to answer `Err`. Gives the answer in the end, and how many calls were refused.
 fn refuse_each<A: Allocator + Copy, B: Allocator>(
     rt: &impl Abort,
     heap: &Refusing<B>,
@@ -80,8 +80,8 @@ fn run_on<A: Allocator + Copy>(
     Machine::run(alloc, model.copy()?, events)
 }
 
-// Takes the events of the lines on a new machine, each growth refused in turn. A line has an event, its answer, and how many
-// growths were refused.
+// Takes the events of the lines on a new machine, each growth refused in turn. A line has an event, its answer, and how
+// many growths were refused.
 fn grow_each<A: Allocator + Copy, B: Allocator>(
     rt: &impl Abort,
     heap: &Refusing<B>,
@@ -110,8 +110,8 @@ form AD 2 1 : ok 2 : 2
 begin 2 try : ok 3 : 0
 abort 1 : ok 4 : 1";
 
-// Of the operations, of a set that is an object, and of one that is handed over; for a split with two edges, of the edges that
-// are due, of the set that is kept, and of the edges in force. A join has none.
+// Of the operations, of a set that is an object, and of one that is handed over; for a split with two edges, of the
+// edges that are due, of the set that is kept, and of the edges in force. A join has none.
 const OF_PARTS: &str = "\
 begin 1 part : ok 1 : 1
 begin 2 part : ok 2 : 0
@@ -122,16 +122,16 @@ do 1 n add 1 : ok 6 done : 0
 split 1 4 part 3 : ok 7 : 3
 join 1 2 : ok 8 : 0";
 
-// Of the edges that are due, and of the edges in force; of the list of ancestors who are spared, and of the set of them. A
-// commit to a parent has none.
+// Of the edges that are due, and of the edges in force; of the list of ancestors who are spared, and of the set of
+// them. A commit to a parent has none.
 const OF_SPAWNS: &str = "\
 begin 1 top : ok 1 : 1
 spawn 1 2 sub : ok 2 : 2
 do 2 x write 5 : ok 3 done : 3
 commit 2 : ok 4 : 0";
 
-// For an operation with two edges, of the set of those whom it depends on, of the edges that are due, of the edges in force,
-// and of the operations, where the edges are taken back.
+// For an operation with two edges, of the set of those whom it depends on, of the edges that are due, of the edges in
+// force, and of the operations, where the edges are taken back.
 const OF_DEPENDING: &str = "\
 begin 1 loose : ok 1 : 1
 begin 2 loose : ok 2 : 0
@@ -318,8 +318,8 @@ enum Call {
     Items,
 }
 
-// Each call, how many growths it has, and what it answers with memory. The conflict set of one with ancestors needs a list of
-// these too.
+// Each call, how many growths it has, and what it answers with memory. The conflict set of one with ancestors needs a
+// list of these too.
 const CALLS: [(Call, u64, usize); 16] = [
     (Call::AccessSet, 1, 1),
     (Call::ConflictsOfRoot, 1, 1),

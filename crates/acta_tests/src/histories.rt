@@ -1,5 +1,5 @@
-//! Short histories, each under its title, by the model that they are of: events with their answers, and what the machine
-//! shows. `docs/HISTORIES.md` lists the titles with the rules that they show.
+//! Short histories, each under its title, by the model that they are of: events with their answers, and what the
+//! machine shows. `docs/HISTORIES.md` lists the titles with the rules that they show.
 
 use crate::models;
 use acta_models::Standard;

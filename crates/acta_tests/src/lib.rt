@@ -1,5 +1,5 @@
-//! Tests that cross the crates: histories as text with their answers, lists of events and what their places say, each refused
-//! allocation, and the edges of checked models. The values that they expect were computed by hand.
+//! Tests that cross the crates: histories as text with their answers, lists of events and what their places say, each
+//! refused allocation, and the edges of checked models. The values that they expect were computed by hand.
 #![tactic(auto)]
 
 #[cfg(test)]

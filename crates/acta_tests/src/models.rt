@@ -131,9 +131,9 @@ spawn starter TD started
 end
 ";
 
-/// Families: nested transactions with no edges at a spawn, which also delegate, join and form edges; those of `top` split
-/// too, or are split off, and hand over as much as they like. And the class `leaf`, of those that are spawned, and
-/// otherwise are flat.
+/// Families: nested transactions with no edges at a spawn, which also delegate, join and form edges; those of `top`
+/// split too, or are split off, and hand over as much as they like. And the class `leaf`, of those that are spawned,
+/// and otherwise are flat.
 pub const FAMILIES: &str = "\
 object x register 0
 object n counter 0
@@ -195,8 +195,8 @@ delegation whole
 end
 ";
 
-/// A model, and the wider one by which its lines are read: with the object `nowhere` and the class `stranger` behind the
-/// others, so that a line can name what the model lacks.
+/// A model, and the wider one by which its lines are read: with the object `nowhere` and the class `stranger` behind
+/// the others, so that a line can name what the model lacks.
 #[derive(Drop)]
 pub struct Models<A: Allocator> {
     pub model: Model<A>,
@@ -204,7 +204,8 @@ pub struct Models<A: Allocator> {
 }
 
 impl<A: Allocator + Copy> Models<A> {
-    /// The model that the text means, and the wider one. `Err` where the text has a fault, and where there is no memory.
+    /// The model that the text means, and the wider one. `Err` where the text has a fault, and where there is no
+    /// memory.
     pub fn of(alloc: A, text: &str) -> Result<Models<A>, AsmError> {
         let mut more = String::from_str(alloc, text)?;
         more.push_str(MORE)?;

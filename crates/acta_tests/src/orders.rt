@@ -1,5 +1,5 @@
-//! Two transactions and one edge between them, through each order of their starts and ends: the machine refuses and owes
-//! what the formula of its kind says.
+//! Two transactions and one edge between them, through each order of their starts and ends: the machine refuses and
+//! owes what the formula of its kind says.
 
 use crate::formulas::{course_of, is_false, payment};
 use acta_axioms::Places;
@@ -229,8 +229,8 @@ fn events_of<A: Allocator + Copy>(
     Ok(events)
 }
 
-// Machines with an edge of one kind agree along each order. Gives whether one refused an event by a rule on dependencies, and
-// whether there was a debt.
+// Machines with an edge of one kind agree along each order. Gives whether one refused an event by a rule on
+// dependencies, and whether there was a debt.
 fn through_each_order<A: Allocator + Copy>(
     rt: &impl Abort,
     alloc: A,

@@ -77,8 +77,8 @@ pub fn contingent<A: Allocator + Copy>(alloc: A) -> Result<Model<A>, Fail> {
     model_of(alloc, one(alloc, class)?)
 }
 
-/// Transactions of the class `part`: they begin or are split off, split, join and delegate, and hand over as much as they
-/// like.
+/// Transactions of the class `part`: they begin or are split off, split, join and delegate, and hand over as much as
+/// they like.
 pub fn split_join<A: Allocator + Copy>(alloc: A) -> Result<Model<A>, Fail> {
     let parting = Kinds::of(EventKind::Split)
         .union(Kinds::of(EventKind::Join))
@@ -89,8 +89,8 @@ pub fn split_join<A: Allocator + Copy>(alloc: A) -> Result<Model<A>, Fail> {
     model_of(alloc, one(alloc, part)?)
 }
 
-/// Recoverable transactions, of the class `loose`: those whose operations conflict end only after those that they depend
-/// on, and abort with them.
+/// Recoverable transactions, of the class `loose`: those whose operations conflict end only after those that they
+/// depend on, and abort with them.
 pub fn recoverable<A: Allocator + Copy>(alloc: A) -> Result<Model<A>, Fail> {
     let mut loose = class(alloc, "loose", Kinds::none())?;
     loose.policy = Policy::Depend(DepKinds::of(Dep::Ad).union(DepKinds::of(Dep::Td)));

@@ -1,5 +1,5 @@
-//! Lists of events, which no machine need have kept, and what their places say of them. A line is a title, an event, or a
-//! question about the events so far:
+//! Lists of events, which no machine need have kept, and what their places say of them. A line is a title, an event, or
+//! a question about the events so far:
 //!
 //! ```text
 //! # A title, with which a list begins

@@ -6,9 +6,9 @@
 //! ? access 1 : 1
 //! ```
 //!
-//! where the second has an event and its answer, and the third asks the machine for what it shows. After each event, admitted
-//! or refused, what the machine shows is what the places of its history say. A machine that runs all events of a history at
-//! once answers them as one after another.
+//! where the second has an event and its answer, and the third asks the machine for what it shows. After each event,
+//! admitted or refused, what the machine shows is what the places of its history say. A machine that runs all events of
+//! a history at once answers them as one after another.
 
 use crate::agreeing::agrees;
 use crate::models::Models;

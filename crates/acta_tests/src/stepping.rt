@@ -80,8 +80,9 @@ fn steps<A: Allocator + Copy, B: Allocator>(
     Ok(())
 }
 
-// Of the operations; for an operation with edges, of the set of those whom it depends on, of the edges that are due, and of
-// the set of the edges, which has three parts; for one that spares its ancestor, of the set of these; of the edge that is formed.
+// Of the operations; for an operation with edges, of the set of those whom it depends on, of the edges that are due,
+// and of the set of the edges, which has three parts; for one that spares its ancestor, of the set of these; of the
+// edge that is formed.
 const OF_DEPENDING: &str = "\
 begin 1 loose : 1
 begin 2 loose : 0

@@ -1,5 +1,5 @@
-//! What a walk answers, against the machine whose history it goes through, and against the places of the items that it has
-//! taken, which no machine need have kept.
+//! What a walk answers, against the machine whose history it goes through, and against the places of the items that it
+//! has taken, which no machine need have kept.
 
 use crate::agreeing::{class_in, parent_in, status_by};
 use crate::formulas::course_of;

@@ -1,5 +1,5 @@
-//! A slow judge: at each place it asks the places of what stands before, axiom by axiom, and at the end the formula of each
-//! edge. It is the definitions once more, and knows nothing of how the judge keeps what it has seen.
+//! A slow judge: at each place it asks the places of what stands before, axiom by axiom, and at the end the formula of
+//! each edge. It is the definitions once more, and knows nothing of how the judge keeps what it has seen.
 
 use acta_axioms::{Axiom, Course, Fault, Places, Walk};
 use acta_objects::ObjectState;

@@ -1,6 +1,6 @@
-//! Tests of the judge: histories as text with their verdicts, histories that machines keep, lists that no machine need have
-//! kept against a slow judge that asks their places, the longest list, and each refused growth. The verdicts that are written
-//! out were found by hand.
+//! Tests of the judge: histories as text with their verdicts, histories that machines keep, lists that no machine need
+//! have kept against a slow judge that asks their places, the longest list, and each refused growth. The verdicts that
+//! are written out were found by hand.
 #![tactic(auto)]
 
 #[cfg(test)]

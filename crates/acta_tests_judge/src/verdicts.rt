@@ -22,8 +22,8 @@ pub fn lines_on<A: Allocator + Copy>(
     Ok(lines)
 }
 
-/// Judges the items, and then without the first, without the first two, and so on, which leaves few histories legal. Gives
-/// the lines of the verdict on all.
+/// Judges the items, and then without the first, without the first two, and so on, which leaves few histories legal.
+/// Gives the lines of the verdict on all.
 pub fn lines_of_all<A: Allocator + Copy>(
     rt: &impl Abort,
     alloc: A,

@@ -1,6 +1,6 @@
 //! Runs of the tool, as text. A case is a command line, `%` before each line of its model where that is a file, or `&`
-//! before its bytes as pairs of digits, `|` before each line of its input, the lines that are wanted, with `>` before one
-//! that would read as another part of the case, or `=` before the bytes, and the exit status.
+//! before its bytes as pairs of digits, `|` before each line of its input, the lines that are wanted, with `>` before
+//! one that would read as another part of the case, or `=` before the bytes, and the exit status.
 
 use acta_tool::{
     Args, Command, Metered, ModelName, Outcome, Watched, drive_tool, exit_status, parse, run_tool,

@@ -29,8 +29,8 @@ pub enum Command {
     Run { kept: bool },
     /// Judges the kept lines of the standard input: tells each fault, and what is owed.
     Judge,
-    /// Takes the events that are admitted of the lines before `--` as the history of a debugger, and tells what comes of
-    /// the commands behind it.
+    /// Takes the events that are admitted of the lines before `--` as the history of a debugger, and tells what comes
+    /// of the commands behind it.
     Debug,
     /// Hands the event lines of the standard input in by this many threads, and tells the entries of the book.
     Drive { workers: u8 },

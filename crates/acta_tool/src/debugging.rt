@@ -1,4 +1,5 @@
-//! The command `debug`: events before the first line `--`, and behind it commands to a debugger on what is kept of them.
+//! The command `debug`: events before the first line `--`, and behind it commands to a debugger on what is kept of
+//! them.
 
 ghost use Rattle.std.specs.Prelude.{◌≡◌, ◌<◌, ◌+◌, ◌-◌, ◌^◌, ◌++◌, ◌∷◌, [], drop, length, option_map, IfOk, OnOk, Some};
 ghost use Rattle.std.specs.Option.{option_map_or};

@@ -137,8 +137,8 @@ fn said_by<X, L: LineReader<X>>(reader: &L, line: &[u8]) -> Result<Option<X>, Li
     }
 }
 
-/// What the lines that are left say, of which so many were taken before, up to the first that is faulty; lines without a
-/// word are counted and passed over. `Err` where there is no memory.
+/// What the lines that are left say, of which so many were taken before, up to the first that is faulty; lines without
+/// a word are counted and passed over. `Err` where there is no memory.
 pub fn read_left<X: Drop, A: Allocator, L: LineReader<X>>(
     alloc: A,
     reader: &L,

@@ -1,19 +1,30 @@
--- What the courses of two transactions give for an edge, and who owes an abort.
-use Rattle.std.specs.Prelude.{ℕ, List, map, filter, if◌then◌else◌, Option, None}
+-- What the courses of two transactions give for an edge, and what debts say of who owes both a commit and an abort.
+use Rattle.std.specs.Prelude.{ℕ, Bool, ◌&&◌, ◌==◌, List, map, filter, if◌then◌else◌, Option, Some, None}
+use Rattle.std.specs.List.{list_any}
 use Rattle.acta_table.specs.declared.dep.Dep.{Dep}
-use Rattle.acta_table.specs.declared.dep.Edge.{Edge}
-use Rattle.acta_table.specs.declared.event.Kept.{Kept}
-use Rattle.acta_table.specs.Dependencies.{is_abort}
+use Rattle.acta_table.specs.declared.dep.Owed.{Owed}
+use Rattle.acta_table.specs.Dependencies.{is_commit, is_abort}
 use Rattle.acta_table.specs.Numbered.{ascending}
 use Rattle.acta_axioms.specs.declared.course.Course.{Course}
 use Rattle.acta_axioms.specs.Formulas.{is_broken}
-use Rattle.acta_axioms.specs.Legal.{debt_in}
 use Rattle.acta_judge.specs.Broken.{place_broken}
 
 -- where the formula of an edge of this kind is false with nothing owed, by the courses of j and i
 abbrev pub place_by : Dep → Course → Course → Option ℕ
 place_by kind j i = if is_broken kind j i then place_broken kind j i else None
 
--- who owes an abort by some of these edges, ascending, each once
-abbrev pub aborting : {A : Type 0} → List (Kept A) → List Edge → List ℕ
-aborting h es = ascending (map (λ e. e.j.0) (filter (λ e. is_abort (debt_in h e)) es))
+-- who owes an abort by some of these debts, ascending, each once
+abbrev pub aborting : List Owed → List ℕ
+aborting debts = ascending (map (λ o. o.txn.0) (filter (λ o. is_abort (Some o.missing)) debts))
+
+-- whether by this debt t owes an abort
+abbrev pub owes_abort : ℕ → Owed → Bool
+owes_abort t o = (o.txn.0 == t) && is_abort (Some o.missing)
+
+-- whether a commit is owed by this debt, by one who owes an abort by one of these
+abbrev pub clashes_among : List Owed → Owed → Bool
+clashes_among debts o = is_commit (Some o.missing) && list_any (owes_abort o.txn.0) debts
+
+-- who owes both by these debts, some more than once
+abbrev pub clashing_among : List Owed → List ℕ
+clashing_among debts = map (λ o. o.txn.0) (filter (clashes_among debts) debts)

@@ -1,5 +1,5 @@
 -- The axioms on places in groups, as the judge asks them.
-use Rattle.std.specs.Prelude.{ℕ, List, [], ◌∷◌, ◌++◌, flat_map, Option}
+use Rattle.std.specs.Prelude.{ℕ, List, [], ◌∷◌, flat_map, Option}
 use Rattle.acta_table.specs.declared.event.Event.{Event}
 use Rattle.acta_table.specs.declared.event.Kept.{Kept}
 use Rattle.acta_table.specs.declared.event.Ret.{Ret}

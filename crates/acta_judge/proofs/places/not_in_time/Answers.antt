@@ -1,4 +1,4 @@
-use Rattle.std.proofs.Common.{◌≡◌, ℕ, Bool, true, false, List, [], ◌∷◌, ◌++◌, if◌then◌else◌, filter, refl, ap, sym, ◌∙◌}
+use Rattle.std.proofs.Common.{◌≡◌, ℕ, Bool, true, false, [], ◌∷◌, ◌++◌, if◌then◌else◌, filter, refl, ap, sym, ◌∙◌}
 use Rattle.std.specs.Prelude.{option_to_list, is_some}
 use Rattle.acta_table.specs.Numbered.{smallest}
 use Rattle.acta_axioms.specs.History.{end, has_begun, has_ended}

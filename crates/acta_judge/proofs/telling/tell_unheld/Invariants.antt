@@ -1,4 +1,4 @@
-use Rattle.std.proofs.Common.{◌≡◌, drop, filter, map, not, ℕ, List, Bool}
+use Rattle.std.proofs.Common.{◌≡◌, drop, filter, map, not, ℕ}
 use Rattle.acta_table.specs.Sets.{numbers_of}
 use Rattle.acta_axioms.specs.Faults.{faults_of, has_number}
 use Rattle.acta_axioms.specs.Operations.{access_set}
