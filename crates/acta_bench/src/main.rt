@@ -162,15 +162,22 @@ fn walked(
 }
 
 // The shape and the number of items that two words ask for.
-fn asked(shape: Option<String>, count: Option<String>) -> Result<(Shape, u32)> {
-    let (Some(shape), Some(count)) = (shape, count) else {
-        bail!("a shape and a number of items are wanted");
-    };
+fn asked_by(shape: &str, count: &str) -> Result<(Shape, u32)> {
     let count = count.parse::<u32>()?;
     ensure!(count <= 65_536, "at most 65536 items");
-    match shape_of(shape.as_str()) {
+    match shape_of(shape) {
         Some(shape) => Ok((shape, count)),
         None => bail!("no shape has this name"),
+    }
+}
+
+// The shape and the number of items that the command line asks for.
+fn asked(rt: &HostRuntime) -> Result<(Shape, u32)> {
+    let mut words = env::args(rt)?;
+    let _ = words.next();
+    match (words.next(), words.next()) {
+        (Some(shape), Some(count)) => asked_by(shape.as_str(), count.as_str()),
+        _ => bail!("a shape and a number of items are wanted"),
     }
 }
 
@@ -180,16 +187,21 @@ fn model(alloc: Global, shape: Shape) -> Result<Model<Global>> {
     assemble(alloc, text.as_bytes()).map_err(|_| anyhow!("the model has a fault"))
 }
 
+// Walks through the items, and tells how long that took, and what there is in the end.
+fn measure(rt: &HostRuntime, model: &Model<Global>, kept: &[Kept<Global>]) -> Result<()>
+    requires { length kept.now ≤ 65536 }
+{
+    let start = Instant::now(rt)?;
+    let (operations, edges) = walked(rt.alloc(), model, kept)?;
+    eprintln!(rt; "{} us", start.elapsed(rt)?.as_micros())?;
+    println!(rt; "{operations} operations, {edges} edges")?;
+    Ok(())
+}
+
 fn main(rt: HostRuntime) -> Result<()> {
-    let mut words = env::args(&rt)?;
-    let _ = words.next();
-    let (shape, count) = asked(words.next(), words.next())?;
+    let (shape, count) = asked(&rt)?;
     let model = model(rt.alloc(), shape)?;
     let kept = history(rt.alloc(), shape, count)?;
     ensure!(kept.len() <= 65_536, "at most 65536 items");
-    let start = Instant::now(&rt)?;
-    let (operations, edges) = walked(rt.alloc(), &model, kept.as_slice())?;
-    eprintln!(rt; "{} us", start.elapsed(&rt)?.as_micros())?;
-    println!(rt; "{operations} operations, {edges} edges")?;
-    Ok(())
+    measure(&rt, &model, kept.as_slice())
 }

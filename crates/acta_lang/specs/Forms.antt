@@ -99,13 +99,10 @@ abbrev pub end_form : List (List ℕ) → Form
 end_form [] = form.End
 end_form _ = form.Unknown
 
--- the form of a line of these words
-abbrev pub form_of : List (List ℕ) → Form
-form_of [] = form.Blank
-form_of (word ∷ words) =
-    if bytes_eq word (codes "object") then object_form words
-    else if bytes_eq word (codes "class") then class_form words
-    else if bytes_eq word (codes "starts") then starts_form words
+-- the form of a line of a class, by its first word and those behind it
+abbrev pub form_in_class : List ℕ → List (List ℕ) → Form
+form_in_class word words =
+    if bytes_eq word (codes "starts") then starts_form words
     else if bytes_eq word (codes "may") then may_form words
     else if bytes_eq word (codes "scope") then scope_form words
     else if bytes_eq word (codes "policy") then policy_form words
@@ -113,5 +110,13 @@ form_of (word ∷ words) =
     else if bytes_eq word (codes "delegation") then delegation_form words
     else if bytes_eq word (codes "spawn") then spawn_form words
     else if bytes_eq word (codes "split") then split_form words
-    else if bytes_eq word (codes "end") then end_form words
     else form.Unknown
+
+-- the form of a line of these words
+abbrev pub form_of : List (List ℕ) → Form
+form_of [] = form.Blank
+form_of (word ∷ words) =
+    if bytes_eq word (codes "object") then object_form words
+    else if bytes_eq word (codes "class") then class_form words
+    else if bytes_eq word (codes "end") then end_form words
+    else form_in_class word words

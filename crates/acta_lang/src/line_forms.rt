@@ -1,7 +1,7 @@
 //! The form of a line, by its words.
 
 ghost use Rattle.std.specs.Prelude.{◌≡◌, map};
-ghost use Rattle.acta_lang.specs.Forms.{form_of, object_form, class_form, spawn_form, split_form, end_form};
+ghost use Rattle.acta_lang.specs.Forms.{form_in_class, form_of, object_form, class_form, spawn_form, split_form, end_form};
 
 use crate::class_forms::{
     commit_form, delegation_form, edge_said, may_form, scope_form, starts_form,
@@ -74,19 +74,11 @@ fn end_form(words: &[&[u8]]) -> Form
     }
 }
 
-/// The form of a line of these words: the first tells what the others must be.
-pub(crate) fn form_of(words: &[&[u8]]) -> Form
-    ensures { result ≡ form_of (map (λ word. word.now) words.now) }
+// The form of a line of a class, by its first word and those behind it.
+fn form_in_class(first: &[u8], rest: &[&[u8]]) -> Form
+    ensures { result ≡ form_in_class first.now (map (λ word. word.now) rest.now) }
 {
-    let [first, rest @ ..] = words else {
-        return Form::Blank;
-    };
-    let first = *first;
-    if first == b"object".as_slice() {
-        object_form(rest)
-    } else if first == b"class".as_slice() {
-        class_form(rest)
-    } else if first == b"starts".as_slice() {
+    if first == b"starts".as_slice() {
         starts_form(rest)
     } else if first == b"may".as_slice() {
         may_form(rest)
@@ -102,9 +94,25 @@ pub(crate) fn form_of(words: &[&[u8]]) -> Form
         spawn_form(rest)
     } else if first == b"split".as_slice() {
         split_form(rest)
-    } else if first == b"end".as_slice() {
-        end_form(rest)
     } else {
         Form::Unknown
+    }
+}
+
+/// The form of a line of these words: the first tells what the others must be.
+pub(crate) fn form_of(words: &[&[u8]]) -> Form
+    ensures { result ≡ form_of (map (λ word. word.now) words.now) }
+{
+    let [first, rest @ ..] = words else {
+        return Form::Blank;
+    };
+    if *first == b"object".as_slice() {
+        object_form(rest)
+    } else if *first == b"class".as_slice() {
+        class_form(rest)
+    } else if *first == b"end".as_slice() {
+        end_form(rest)
+    } else {
+        form_in_class(first, rest)
     }
 }
