@@ -1,15 +1,13 @@
 //! What a machine shows against what the places of its history say: how each transaction stands, its access set and its
 //! conflict set, the view, the edges, who holds each operation and what became of it, and what is owed.
 
+use crate::calls::places_of;
 use crate::formulas::{course_of, is_false, payment};
 use crate::walking::follows_machine;
 use acta_axioms::{Course, Places};
 use acta_machine::Machine;
-use acta_table::{
-    ClassId, Edge, EdgeNo, Event, Fate, Kept, Model, OpNo, Owed, Scope, Status, TxnId,
-};
-use std::alloc::{AllocError, Allocator};
-use std::process::Abort;
+use acta_table::{ClassId, EdgeNo, Event, Fate, Kept, Model, OpNo, Owed, Scope, Status, TxnId};
+use std::alloc::{AllocError, Global};
 
 // A place past the last of each history.
 const END: u32 = 20;
@@ -21,7 +19,7 @@ const TXNS: u16 = 7;
 const OPS: u32 = 8;
 
 /// The transaction that spawned another, by the events that were kept.
-pub fn parent_in<A: Allocator>(history: &[Kept<A>], child: TxnId) -> Option<TxnId> {
+pub fn parent_in(history: &[Kept<Global>], child: TxnId) -> Option<TxnId> {
     for kept in history {
         match &kept.event {
             Event::Spawn(t, c, _) if *c == child => return Some(*t),
@@ -31,20 +29,8 @@ pub fn parent_in<A: Allocator>(history: &[Kept<A>], child: TxnId) -> Option<TxnI
     None
 }
 
-// Whether u is t's parent, or that one's parent, and so on.
-fn is_ancestor<A: Allocator>(history: &[Kept<A>], u: TxnId, t: TxnId) -> bool {
-    let mut next = parent_in(history, t);
-    for _ in history {
-        if next == Some(u) {
-            return true;
-        }
-        next = next.and_then(|parent| parent_in(history, parent));
-    }
-    false
-}
-
 /// The class that the start of a transaction names.
-pub fn class_in<A: Allocator>(history: &[Kept<A>], t: TxnId) -> Option<ClassId> {
+pub fn class_in(history: &[Kept<Global>], t: TxnId) -> Option<ClassId> {
     for kept in history {
         match &kept.event {
             Event::Begin(u, class) if *u == t => return Some(*class),
@@ -56,42 +42,26 @@ pub fn class_in<A: Allocator>(history: &[Kept<A>], t: TxnId) -> Option<ClassId> 
     None
 }
 
-// Whether the transaction's class leaves its ancestors out of its conflict set.
-fn spares<A: Allocator>(model: &Model<A>, history: &[Kept<A>], t: TxnId) -> bool {
-    match class_in(history, t) {
-        Some(class) => match model.class(class) {
-            Some(class) => class.scope == Scope::NonAncestors,
-            None => false,
-        },
-        None => false,
+// Whether what u holds in progress is in t's conflict set: not what t holds, and not what its parent holds, or that
+// one's parent, and so on, where t's class leaves its ancestors out.
+fn is_against(model: &Model<Global>, history: &[Kept<Global>], u: TxnId, t: TxnId) -> bool {
+    let mut spares = false;
+    if let Some(class) = class_in(history, t) {
+        if let Some(class) = model.class(class) {
+            spares = class.scope == Scope::NonAncestors;
+        }
     }
-}
-
-// Whether what u holds in progress is in t's conflict set.
-fn is_against<A: Allocator>(model: &Model<A>, history: &[Kept<A>], u: TxnId, t: TxnId) -> bool {
-    u != t && !(spares(model, history, t) && is_ancestor(history, u, t))
-}
-
-// The machine shows the sets of a transaction, operation by operation.
-fn shows_sets<A: Allocator + Copy>(
-    model: &Model<A>,
-    machine: &Machine<A>,
-    places: &Places<'_, A>,
-    t: TxnId,
-) -> Result<bool, AllocError> {
-    let access = machine.access_set(t)?;
-    let others = machine.conflict_set(t)?;
-    let mut shows = true;
-    for number in 1..OPS {
-        let op = OpNo(number);
-        let is_open = places.fate(op, END) == Some(Fate::InProgress);
-        let holder = places.holder(op, END);
-        let is_held = is_open && holder == Some(t);
-        let is_other = is_open
-            && holder.is_some_and(|u| is_against(model, machine.history(), u, t));
-        shows &= access.contains(&op) == is_held && others.contains(&op) == is_other;
+    let mut above = t;
+    for _ in history {
+        if above == u {
+            break;
+        }
+        match parent_in(history, above) {
+            Some(parent) if spares => above = parent,
+            _ => break,
+        }
     }
-    Ok(shows)
+    above != u
 }
 
 /// How a transaction stands, by its first places.
@@ -109,89 +79,75 @@ pub fn status_by(course: Course) -> Status {
     }
 }
 
-// The machine shows how a transaction stands, and its sets.
-fn shows_txn<A: Allocator + Copy>(
-    model: &Model<A>,
-    machine: &Machine<A>,
-    places: &Places<'_, A>,
+// The machine shows how a transaction stands, and its sets, operation by operation.
+fn shows_txn(
+    model: &Model<Global>,
+    machine: &Machine<Global>,
+    places: &Places<'_, Global>,
     t: TxnId,
 ) -> Result<bool, AllocError> {
-    Ok(
-        machine.status(t) == status_by(course_of(places, t))
-            && shows_sets(model, machine, places, t)?,
-    )
-}
-
-// The machine shows how each transaction stands, and its sets.
-fn shows_txns<A: Allocator + Copy>(
-    model: &Model<A>,
-    machine: &Machine<A>,
-    places: &Places<'_, A>,
-) -> Result<bool, AllocError> {
-    for number in 1..TXNS {
-        if !shows_txn(model, machine, places, TxnId(number))? {
-            return Ok(false);
+    let access = machine.access_set(t)?;
+    let others = machine.conflict_set(t)?;
+    let mut shows = machine.status(t) == status_by(course_of(places, t));
+    for number in 1..OPS {
+        let op = OpNo(number);
+        let (mut is_held, mut is_other) = (false, false);
+        if let (Some(u), Some(Fate::InProgress)) = (places.holder(op, END), places.fate(op, END)) {
+            is_held = u == t;
+            is_other = is_against(model, machine.history(), u, t);
         }
+        shows &= access.contains(&op) == is_held && others.contains(&op) == is_other;
     }
-    Ok(true)
+    Ok(shows)
 }
 
 // The machine shows the view, which with the access sets says what became of each operation.
-fn shows_view<A: Allocator + Copy>(
-    machine: &Machine<A>,
-    places: &Places<'_, A>,
-) -> Result<bool, AllocError> {
+fn shows_view(machine: &Machine<Global>, places: &Places<'_, Global>) -> Result<bool, AllocError> {
     let view = machine.view_set()?;
     let mut shows = true;
     for number in 1..OPS {
         let op = OpNo(number);
-        let fate = places.fate(op, END);
-        let is_live = fate == Some(Fate::InProgress) || fate == Some(Fate::Committed);
+        let is_live = matches!(
+            places.fate(op, END),
+            Some(Fate::InProgress | Fate::Committed)
+        );
         shows &= view.contains(&op) == is_live;
     }
     Ok(shows)
 }
 
-// What is owed by the edge of this number.
-fn debt_by<A: Allocator>(places: &Places<'_, A>, edge: &Edge, number: u64) -> Option<Owed> {
-    let missing = payment(edge.kind)?;
-    let (j, i) = (course_of(places, edge.j), course_of(places, edge.i));
-    if j.has_ended() || !is_false(edge.kind, j, i) {
-        return None;
-    }
-    Some(Owed {
-        edge: EdgeNo(number),
-        txn: edge.j,
-        missing,
-    })
-}
-
 // The machine shows the edges, and what is owed by them.
-fn shows_edges<A: Allocator + Copy>(
-    alloc: A,
-    machine: &Machine<A>,
-    places: &Places<'_, A>,
+fn shows_edges(
+    alloc: Global,
+    machine: &Machine<Global>,
+    places: &Places<'_, Global>,
 ) -> Result<bool, AllocError> {
     let mut due = Vec::new(alloc);
     let mut number = 0u64;
     for edge in places.edges() {
         number = number.saturating_add(1);
-        if let Some(debt) = debt_by(places, edge, number) {
-            due.push(debt)?;
+        let (j, i) = (course_of(places, edge.j), course_of(places, edge.i));
+        if let Some(missing) = payment(edge.kind) {
+            if !j.has_ended() && is_false(edge.kind, j, i) {
+                let (edge, txn) = (EdgeNo(number), edge.j);
+                due.push(Owed { edge, txn, missing })?;
+            }
         }
     }
     Ok(machine.edges() == places.edges() && machine.owed()?.as_slice() == due.as_slice())
 }
 
-// What the machine shows that isn't what the places of its history say.
-fn differing<A: Allocator + Copy>(
-    alloc: A,
-    model: &Model<A>,
-    machine: &Machine<A>,
-    places: &Places<'_, A>,
+// What the machine shows that isn't what these places say.
+fn differing_from(
+    alloc: Global,
+    model: &Model<Global>,
+    machine: &Machine<Global>,
+    places: &Places<'_, Global>,
 ) -> Result<&'static str, AllocError> {
-    if !shows_txns(model, machine, places)? {
-        return Ok("transactions");
+    for number in 1..TXNS {
+        if !shows_txn(model, machine, places, TxnId(number))? {
+            return Ok("transactions");
+        }
     }
     if !shows_view(machine, places)? {
         return Ok("the view");
@@ -202,31 +158,15 @@ fn differing<A: Allocator + Copy>(
     Ok("nothing")
 }
 
-// The same, by the places of the machine's history.
-fn differing_on<A: Allocator + Copy>(
-    alloc: A,
-    model: &Model<A>,
-    machine: &Machine<A>,
+/// What the machine shows that isn't what the places of its history say.
+pub fn differing(
+    alloc: Global,
+    model: &Model<Global>,
+    machine: &Machine<Global>,
 ) -> Result<&'static str, AllocError> {
     if !follows_machine(alloc, machine)? {
         return Ok("a walk");
     }
-    let places = Places::of(alloc, model, machine.history())?;
-    differing(alloc, model, machine, &places)
-}
-
-/// The machine shows what the places of its history say. The line is told where it doesn't.
-pub fn agrees<A: Allocator + Copy>(
-    rt: &impl Abort,
-    alloc: A,
-    model: &Model<A>,
-    machine: &Machine<A>,
-    line: &str,
-) -> Result<(), AllocError> {
-    assert_eq!(rt;
-        differing_on(alloc, model, machine)?,
-        "nothing",
-        "after {line}"
-    );
-    Ok(())
+    let places = places_of(alloc, model, machine.history())?;
+    differing_from(alloc, model, machine, &places)
 }

@@ -13,9 +13,9 @@ use std::alloc::{AllocError, Allocator, Global};
 use std::process::Abort;
 use std::test::Fail;
 
-// The last class of the text.
-fn class_of<A: Allocator + Copy>(alloc: A, text: &str) -> Result<Class<A>, Fail> {
-    let model = assemble(alloc, text.as_bytes())?;
+// The last class of a standard model.
+fn class_of<A: Allocator + Copy>(alloc: A, name: Standard) -> Result<Class<A>, Fail> {
+    let model = assemble(alloc, name.text().as_bytes())?;
     let class = model.classes().last().ok_or("a text has a class")?;
     Ok(class.copy()?)
 }
@@ -29,12 +29,22 @@ fn objects<A: Allocator + Copy>(alloc: A, names: &str) -> Result<Items<Object<A>
     let mut objects = Vec::new(alloc);
     if !names.is_empty() {
         for name in names.split(' ') {
-            let name = name_of(alloc, name)?;
-            let kind = Kind::Register(0);
+            let (name, kind) = (name_of(alloc, name)?, Kind::Register(0));
             objects.push(Object { name, kind })?;
         }
     }
     Ok(Items::of(objects))
+}
+
+// This class with another name.
+fn named<A: Allocator + Copy>(
+    alloc: A,
+    class: &Class<A>,
+    name: &str,
+) -> Result<Class<A>, AllocError> {
+    let mut class = class.copy()?;
+    class.name = name_of(alloc, name)?;
+    Ok(class)
 }
 
 // Classes of these names, which stand between single spaces, and otherwise as this one.
@@ -46,39 +56,35 @@ fn classes<A: Allocator + Copy>(
     let mut classes = Vec::new(alloc);
     if !names.is_empty() {
         for name in names.split(' ') {
-            let mut class = class.copy()?;
-            class.name = name_of(alloc, name)?;
-            classes.push(class)?;
+            classes.push(named(alloc, class, name)?)?;
         }
     }
     Ok(Items::of(classes))
 }
 
-// The fault of a model of these objects and classes.
-fn fault_in<A: Allocator>(
-    objects: Items<Object<A>, A>,
-    classes: Items<Class<A>, A>,
-) -> Option<ModelFault> {
-    Model::check(Parts { objects, classes }).err()
-}
-
-// The fault of a model of such registers and such classes, all of them flat.
-fn fault_of<A: Allocator + Copy>(
-    alloc: A,
-    registers: &str,
-    flats: &str,
-) -> Result<Option<ModelFault>, Fail> {
-    let flat = class_of(alloc, Standard::Atomic.text())?;
-    let objects = objects(alloc, registers)?;
-    Ok(fault_in(objects, classes(alloc, &flat, flats)?))
-}
-
-// The fault of a model of one class.
-fn fault_of_class<A: Allocator + Copy>(
+// Registers and classes of these names.
+fn parts_of<A: Allocator + Copy>(
     alloc: A,
     class: &Class<A>,
-) -> Result<Option<ModelFault>, AllocError> {
-    Ok(fault_in(Items::new(alloc), classes(alloc, class, "class")?))
+    registers: &str,
+    names: &str,
+) -> Result<Parts<A>, AllocError> {
+    let objects = objects(alloc, registers)?;
+    let classes = classes(alloc, class, names)?;
+    Ok(Parts { objects, classes })
+}
+
+// The number of the fault of a model of these parts, if it has one.
+fn fault_of(
+    alloc: Global,
+    class: &Class<Global>,
+    registers: &str,
+    names: &str,
+) -> Result<Option<u8>, AllocError> {
+    match Model::check(parts_of(alloc, class, registers, names)?) {
+        Ok(_) => Ok(None),
+        Err(fault) => Ok(Some(fault.number())),
+    }
 }
 
 // Each line has the names of registers, after `|` those of classes, and the number of the model's fault, or none.
@@ -96,123 +102,8 @@ a-b|x : 5
 a12345678901234567890123456789012|x : 5
 x|y  : 5";
 
-#[test]
-fn faults_of_names(rt: HostRuntime) -> Result<(), Fail> {
-    for line in NAMED.lines() {
-        let (names, due) = line.split_once(" : ").ok_or("a line has no fault")?;
-        let (objects, classes) = names.split_once('|').ok_or("a line has no classes")?;
-        let fault = fault_of(rt.alloc(), objects, classes)?;
-        assert_eq!(rt;
-            fault.map(ModelFault::number),
-            due.parse().ok(),
-            "at {line}"
-        );
-    }
-    Ok(())
-}
-
-// The one edge of this kind, of what is started on the one that starts it.
-fn on_starter<A: Allocator + Copy>(alloc: A, kind: Dep) -> Result<StartEdges<A>, AllocError> {
-    let dependent = Dependent::Started;
-    StartEdges::of(alloc, &[StartEdge { kind, dependent }])
-}
-
-// The fault of a model of one class, whose splits form an edge of this kind.
-fn fault_at_split<A: Allocator + Copy>(alloc: A, kind: Dep) -> Result<Option<ModelFault>, Fail> {
-    let edges = on_starter(alloc, kind)?;
-    let mut part = class_of(alloc, Standard::SplitJoin.text())?;
-    part.split_edges = edges;
-    Ok(fault_of_class(alloc, &part)?)
-}
-
-// The same of spawns.
-fn fault_at_spawn<A: Allocator + Copy>(alloc: A, kind: Dep) -> Result<Option<ModelFault>, Fail> {
-    let edges = on_starter(alloc, kind)?;
-    let mut sub = class_of(alloc, Standard::Nested.text())?;
-    sub.spawn_edges = edges;
-    Ok(fault_of_class(alloc, &sub)?)
-}
-
-// An edge of a begin kind at a split or at a spawn is a fault, and none of another kind is.
-#[test]
-fn begin_kinds_at_a_start(rt: HostRuntime) -> Result<(), Fail> {
-    for kind in Dep::ALL {
-        let due = if kind.is_begin_kind() {
-            Some(ModelFault::BeginKindAtStart)
-        } else {
-            None
-        };
-        let found = (
-            fault_at_split(rt.alloc(), kind)?,
-            fault_at_spawn(rt.alloc(), kind)?,
-        );
-        assert_eq!(rt; found, (due, due), "with {kind:?}");
-    }
-    Ok(())
-}
-
-// One that commits to its parent has one: it doesn't begin, and isn't split off.
-#[test]
-fn heirs_without_a_spawn(rt: HostRuntime) -> Result<(), Fail> {
-    let alloc = rt.alloc();
-    let fault = Some(ModelFault::HeirWithoutSpawn);
-    let mut sub = class_of(alloc, Standard::Nested.text())?;
-    for (begin, split, due) in [
-        (false, false, None),
-        (true, false, fault),
-        (false, true, fault),
-    ] {
-        sub.starts.begin = begin;
-        sub.starts.split = split;
-        assert_eq!(rt; fault_of_class(alloc, &sub)?, due);
-    }
-    Ok(())
-}
-
-// The fault of a model of this class with the policy.
-fn fault_with<A: Allocator + Copy>(
-    alloc: A,
-    class: &mut Class<A>,
-    policy: Policy,
-) -> Result<Option<ModelFault>, AllocError> {
-    class.policy = policy;
-    fault_of_class(alloc, class)
-}
-
-// A class depends by CD, AD, WD and TD, and by at least one of them.
-#[test]
-fn policies(rt: HostRuntime) -> Result<(), Fail> {
-    let alloc = rt.alloc();
-    let fault = Some(ModelFault::BadPolicyKind);
-    let mut loose = class_of(alloc, Standard::Recoverable.text())?;
-    for kind in Dep::ALL {
-        let is_good = matches!(kind, Dep::Cd | Dep::Ad | Dep::Wd | Dep::Td);
-        let due = if is_good { None } else { fault };
-        let kinds = DepKinds::of(Dep::Ad).union(DepKinds::of(kind));
-        let found = fault_with(alloc, &mut loose, Policy::Depend(kinds))?;
-        assert_eq!(rt; found, due, "at {kind:?}");
-    }
-    Ok(())
-}
-
-#[test]
-fn policies_of_no_kind(rt: HostRuntime) -> Result<(), Fail> {
-    let alloc = rt.alloc();
-    let mut loose = class_of(alloc, Standard::Recoverable.text())?;
-    for (policy, due) in [
-        (
-            Policy::Depend(DepKinds::none()),
-            Some(ModelFault::BadPolicyKind),
-        ),
-        (Policy::Refuse, None),
-    ] {
-        assert_eq!(rt; fault_with(alloc, &mut loose, policy)?, due);
-    }
-    Ok(())
-}
-
 // So many times the one name.
-fn names<A: Allocator>(alloc: A, count: u16) -> Result<String<A>, AllocError> {
+fn many(alloc: Global, count: u16) -> Result<String, AllocError> {
     let mut names = String::from_str(alloc, "x")?;
     for _ in 1..count {
         names.push_str(" x")?;
@@ -221,40 +112,159 @@ fn names<A: Allocator>(alloc: A, count: u16) -> Result<String<A>, AllocError> {
 }
 
 // The fault of a model of so many objects and classes, each of one name.
-fn fault_of_many<A: Allocator + Copy>(
-    alloc: A,
-    objects: u16,
-    classes: u16,
-) -> Result<Option<ModelFault>, Fail> {
-    let (objects, classes) = (names(alloc, objects)?, names(alloc, classes)?);
-    fault_of(alloc, objects.as_str(), classes.as_str())
+fn fault_of_many(
+    alloc: Global,
+    class: &Class<Global>,
+    (objects, classes): (u16, u16),
+) -> Result<Option<u8>, AllocError> {
+    let objects = many(alloc, objects)?;
+    let classes = many(alloc, classes)?;
+    fault_of(alloc, class, objects.as_str(), classes.as_str())
 }
 
-// One object or class more than there may be, each of one name, so that the next fault is there too.
-#[test]
-fn too_many(rt: HostRuntime) -> Result<(), Fail> {
-    let most = fault_of_many(rt.alloc(), 256, 16)?;
-    assert_eq!(rt; most, Some(ModelFault::DuplicateName));
-    let objects = fault_of_many(rt.alloc(), 257, 16)?;
-    assert_eq!(rt; objects, Some(ModelFault::TooManyObjects));
-    let classes = fault_of_many(rt.alloc(), 257, 17)?;
-    assert_eq!(rt; classes, Some(ModelFault::TooManyClasses));
+// The faults of these names; and of one object or class more than there may be, each of one name, so that the next fault
+// is there too.
+fn have_faults(rt: &impl Abort, alloc: Global, class: &Class<Global>) -> Result<(), Fail> {
+    for line in NAMED.lines() {
+        let (names, due) = line.split_once(" : ").ok_or("a line has no fault")?;
+        let (objects, classes) = names.split_once('|').ok_or("a line has no classes")?;
+        let fault = fault_of(alloc, class, objects, classes)?;
+        assert_eq!(rt; fault, due.parse().ok(), "at {line}");
+    }
+    assert_eq!(rt; fault_of_many(alloc, class, (256, 16))?, Some(4));
+    assert_eq!(rt; fault_of_many(alloc, class, (257, 16))?, Some(3));
+    assert_eq!(rt; fault_of_many(alloc, class, (257, 17))?, Some(2));
     Ok(())
 }
 
-// Whether it is the class of flat transactions.
-fn is_flat<A: Allocator>(class: &Class<A>) -> bool {
-    class.name.as_slice() == b"flat".as_slice()
-        && class.may.has(EventKind::Commit)
-        && !class.may.has(EventKind::Split)
-        && !class.may.has(EventKind::Begin)
+#[test]
+fn faults_of_names(rt: HostRuntime) -> Result<(), Fail> {
+    let flat = class_of(rt.alloc(), Standard::Atomic)?;
+    have_faults(&rt, rt.alloc(), &flat)
+}
+
+// The one edge of this kind, of what is started on the one that starts it.
+fn on_starter(alloc: Global, kind: Dep) -> Result<StartEdges<Global>, AllocError> {
+    let dependent = Dependent::Started;
+    StartEdges::of(alloc, &[StartEdge { kind, dependent }])
+}
+
+// The fault of the last class of a standard model: that of what is split off or spawned forms an edge of this kind on
+// the one that starts it, and the other depends by AD and by this kind.
+fn fault_with(alloc: Global, name: Standard, kind: Dep) -> Result<Option<u8>, Fail> {
+    let mut class = class_of(alloc, name)?;
+    match name {
+        Standard::SplitJoin => class.split_edges = on_starter(alloc, kind)?,
+        Standard::Nested => class.spawn_edges = on_starter(alloc, kind)?,
+        _ => class.policy = Policy::Depend(DepKinds::of(Dep::Ad).union(DepKinds::of(kind))),
+    }
+    Ok(fault_of(alloc, &class, "", "class")?)
+}
+
+// An edge of a begin kind at a split or at a spawn is a fault, and none of another kind is. A class depends by CD, AD,
+// WD and TD alone.
+#[test]
+fn faults_of_kinds(rt: HostRuntime) -> Result<(), Fail> {
+    for kind in Dep::ALL {
+        let start = if kind.is_begin_kind() { Some(6) } else { None };
+        let is_good = matches!(kind, Dep::Cd | Dep::Ad | Dep::Wd | Dep::Td);
+        let policy = if is_good { None } else { Some(8) };
+        let split = fault_with(rt.alloc(), Standard::SplitJoin, kind)?;
+        let spawn = fault_with(rt.alloc(), Standard::Nested, kind)?;
+        let loose = fault_with(rt.alloc(), Standard::Recoverable, kind)?;
+        assert!(rt;
+            split == start && spawn == start && loose == policy,
+            "with {kind:?}"
+        );
+    }
+    Ok(())
+}
+
+// One that commits to its parent has one: it doesn't begin, and isn't split off.
+fn heirs(rt: &impl Abort, alloc: Global, sub: &mut Class<Global>) -> Result<(), AllocError> {
+    for (begin, split, due) in [
+        (false, false, None),
+        (true, false, Some(7)),
+        (false, true, Some(7)),
+    ] {
+        sub.starts.begin = begin;
+        sub.starts.split = split;
+        assert_eq!(rt;
+            fault_of(alloc, sub, "", "class")?,
+            due,
+            "begins: {begin}, splits: {split}"
+        );
+    }
+    Ok(())
+}
+
+// A class depends by at least one kind, or refuses.
+fn policies(rt: &impl Abort, alloc: Global, loose: &mut Class<Global>) -> Result<(), AllocError> {
+    loose.policy = Policy::Depend(DepKinds::none());
+    assert_eq!(rt; fault_of(alloc, loose, "", "class")?, Some(8));
+    loose.policy = Policy::Refuse;
+    assert_eq!(rt; fault_of(alloc, loose, "", "class")?, None);
+    Ok(())
+}
+
+#[test]
+fn faults_of_classes(rt: HostRuntime) -> Result<(), Fail> {
+    heirs(
+        &rt,
+        rt.alloc(),
+        &mut class_of(rt.alloc(), Standard::Nested)?,
+    )?;
+    policies(
+        &rt,
+        rt.alloc(),
+        &mut class_of(rt.alloc(), Standard::Recoverable)?,
+    )?;
+    Ok(())
+}
+
+// The bits of each kind of event, and no others; and numbers of rules and of faults.
+#[test]
+fn numbers(rt: HostRuntime) {
+    let mut bits = 0u16;
+    for kind in [
+        EventKind::Begin,
+        EventKind::Spawn,
+        EventKind::Split,
+        EventKind::Join,
+        EventKind::Delegate,
+        EventKind::Form,
+        EventKind::Operate,
+        EventKind::Commit,
+        EventKind::Abort,
+    ] {
+        let set = Kinds::of(kind);
+        assert_eq!(rt; set.has(kind), bits != 0, "{kind:?}");
+        assert_eq!(rt; set.bits(), bits, "{kind:?}");
+        assert_eq!(rt; Kinds::from_bits(bits), Some(set), "{kind:?}");
+        assert!(rt; !Kinds::none().has(kind), "{kind:?}");
+        bits = if bits == 0 { 1 } else { bits.wrapping_mul(2) };
+    }
+    assert_eq!(rt; Kinds::from_bits(256), None);
+    let rules = [
+        Rule::Full.number(),
+        Rule::Conflict.number(),
+        Rule::NoHeir.number(),
+    ];
+    assert_eq!(rt; rules, [1, 14, 28]);
+    assert_eq!(rt; ModelFault::NoClass.number(), 1);
+    assert_eq!(rt; ModelFault::BadPolicyKind.number(), 8);
+    let begin: Event<Global> = Event::Begin(TxnId(1), ClassId(0));
+    assert_eq!(rt; begin.kind(), EventKind::Begin);
 }
 
 // The model shows the parts of the standard model of flat transactions.
-fn shows_flat<A: Allocator>(rt: &impl Abort, model: &Model<A>) {
+fn shows_flat(rt: &impl Abort, model: &Model<Global>) {
     assert_eq!(rt; (model.objects().len(), model.classes().len()), (4, 1));
     for class in model.classes() {
-        assert!(rt; is_flat(class));
+        assert_eq!(rt; class.name.as_slice(), b"flat".as_slice());
+        assert!(rt; class.may.has(EventKind::Commit));
+        assert!(rt; !class.may.has(EventKind::Split));
+        assert!(rt; !class.may.has(EventKind::Begin));
     }
 }
 
@@ -265,50 +275,6 @@ fn a_copy(rt: HostRuntime) -> Result<(), Fail> {
     shows_flat(&rt, &model);
     shows_flat(&rt, &model.copy()?);
     Ok(())
-}
-
-// The bits of each kind of event, and no others.
-#[test]
-fn sets_of_kinds(rt: HostRuntime) {
-    let kinds = [
-        (EventKind::Begin, 0u16),
-        (EventKind::Spawn, 1),
-        (EventKind::Split, 2),
-        (EventKind::Join, 4),
-        (EventKind::Delegate, 8),
-        (EventKind::Form, 16),
-        (EventKind::Operate, 32),
-        (EventKind::Commit, 64),
-        (EventKind::Abort, 128),
-    ];
-    for (kind, bits) in kinds {
-        let set = Kinds::of(kind);
-        assert_eq!(rt; set.has(kind), bits != 0);
-        assert_eq!(rt; set.bits(), bits);
-        assert_eq!(rt; Kinds::from_bits(bits), Some(set));
-        assert!(rt; !Kinds::none().has(kind));
-    }
-    assert_eq!(rt; Kinds::from_bits(256), None);
-}
-
-#[test]
-fn numbers_of_rules(rt: HostRuntime) {
-    for (rule, number) in [(Rule::Full, 1), (Rule::Conflict, 14), (Rule::NoHeir, 28)] {
-        assert_eq!(rt; rule.number(), number);
-    }
-}
-
-#[test]
-fn numbers_of_faults(rt: HostRuntime) {
-    for (fault, number) in [(ModelFault::NoClass, 1), (ModelFault::BadPolicyKind, 8)] {
-        assert_eq!(rt; fault.number(), number);
-    }
-}
-
-#[test]
-fn kind_of_an_event(rt: HostRuntime) {
-    let begin: Event<Global> = Event::Begin(TxnId(1), ClassId(0));
-    assert_eq!(rt; begin.kind(), EventKind::Begin);
 }
 
 // The set of some operations, as a copy of it shows them.
@@ -347,39 +313,29 @@ do 1 n read
 commit 1
 abort 1";
 
-// Whether the event is that of the line.
-fn is_said<A: Allocator + Copy>(
-    alloc: A,
-    model: &Model<A>,
-    event: &Event<A>,
-    line: &str,
-) -> Result<bool, LineError> {
-    Ok(event.is_same(&read_event(alloc, model, line.as_bytes())?))
-}
-
-// Of the lines, the event is that of the one at this place alone.
-fn is_said_once<A: Allocator + Copy>(
+// Of the lines, the event is that of this one alone.
+fn is_said_once(
     rt: &impl Abort,
-    alloc: A,
-    model: &Model<A>,
-    event: &Event<A>,
-    at: usize,
+    alloc: Global,
+    model: &Model<Global>,
+    event: &Event<Global>,
+    line: &str,
 ) -> Result<(), LineError> {
-    for (i, line) in EVENTS.lines().enumerate() {
-        assert_eq!(rt; is_said(alloc, model, event, line)?, i == at, "at {line}");
+    for other in EVENTS.lines() {
+        let said = read_event(alloc, model, other.as_bytes())?;
+        assert!(rt;
+            event.is_same(&said) == (line == other),
+            "at {line} and {other}"
+        );
     }
     Ok(())
 }
 
 // The event of each line is that of this line alone.
-fn are_said_once<A: Allocator + Copy>(
-    rt: &impl Abort,
-    alloc: A,
-    model: &Model<A>,
-) -> Result<(), LineError> {
-    for (at, line) in EVENTS.lines().enumerate() {
+fn are_said_once(rt: &impl Abort, alloc: Global, model: &Model<Global>) -> Result<(), LineError> {
+    for line in EVENTS.lines() {
         let event = read_event(alloc, model, line.as_bytes())?;
-        is_said_once(rt, alloc, model, &event, at)?;
+        is_said_once(rt, alloc, model, &event, line)?;
     }
     Ok(())
 }
@@ -396,11 +352,10 @@ fn checks_without_memory<A: Allocator + Copy, B: Allocator>(
     heap: &Refusing<B>,
     alloc: A,
 ) -> Result<(), Fail> {
-    let flat = class_of(alloc, Standard::Atomic.text())?;
-    let objects = objects(alloc, "x")?;
-    let classes = classes(alloc, &flat, "flat")?;
+    let flat = class_of(alloc, Standard::Atomic)?;
+    let parts = parts_of(alloc, &flat, "x", "flat")?;
     heap.refuse(1);
-    assert_eq!(rt; fault_in(objects, classes), None);
+    assert!(rt; Model::check(parts).is_ok());
     assert!(rt; heap.is_waiting());
     Ok(())
 }

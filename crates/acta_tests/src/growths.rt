@@ -1,9 +1,9 @@
 //! Each growth of a call refused in turn: the call answers want of memory, and changes nothing.
 
+use crate::calls::{new_machine, places_of, run_on, take};
 use crate::models::PARTING;
-use acta_axioms::Places;
 use acta_lang::assemble;
-use acta_machine::{Machine, Run};
+use acta_machine::Machine;
 use acta_models::Standard;
 use acta_objects::{ObjectState, replay};
 use acta_script::{answer_line, read_event};
@@ -21,29 +21,17 @@ const ONE: TxnId = TxnId(1);
 // More allocations than any of these calls makes.
 const MOST: u64 = 40;
 
-// Whether the machine has so many events and edges, and the first transaction stands so.
-fn stands<A: Allocator>(machine: &Machine<A>, events: usize, edges: usize, status: Status) -> bool {
-    machine.history().len() == events
-        && machine.edges().len() == edges
-        && machine.status(ONE) == status
-}
-
-// Takes the event; where that fails, the machine has to be as it was.
-fn take<A: Allocator + Copy>(
-    rt: &impl Abort,
-    machine: &mut Machine<A>,
-    event: &Event<A>,
-) -> Result<Answer, AllocError> {
-    let events = machine.history().len();
-    let edges = machine.edges().len();
-    let status = machine.status(ONE);
-    let taken = machine.take(event);
-    assert!(rt; taken.is_ok() || stands(machine, events, edges, status));
-    taken
+// How many events and edges the machine has, and how the first transaction stands.
+fn shape<A: Allocator>(machine: &Machine<A>) -> (usize, usize, Status) {
+    (
+        machine.history().len(),
+        machine.edges().len(),
+        machine.status(ONE),
+    )
 }
 
 // Takes the event, its first allocation refused, then the second, and so on, until it succeeds: each refused call has
-// to answer `Err`. Gives the answer in the end, and how many calls were refused.
+// to answer `Err`, and leaves the machine as it was. Gives the answer in the end, and how many calls were refused.
 fn refuse_each<A: Allocator + Copy, B: Allocator>(
     rt: &impl Abort,
     heap: &Refusing<B>,
@@ -51,37 +39,39 @@ fn refuse_each<A: Allocator + Copy, B: Allocator>(
     event: &Event<A>,
 ) -> (Option<Answer>, u64) {
     for nth in 1..MOST {
+        let before = shape(machine);
         heap.refuse(nth);
-        let answer = take(rt, machine, event);
+        let answer = take(machine, event);
         if heap.is_waiting() {
             heap.refuse(0);
             return (answer.ok(), nth.saturating_sub(1));
         }
-        assert!(rt; answer.is_err());
+        assert!(rt; answer.is_err() && shape(machine) == before);
     }
     heap.refuse(0);
     (None, MOST)
 }
 
-// A machine on a copy of the model.
-fn copied_machine<A: Allocator + Copy>(
+// Takes the event of the line, each growth refused in turn. The line has an event, its answer, and how many growths were
+// refused.
+fn grow_line<A: Allocator + Copy, B: Allocator>(
+    rt: &impl Abort,
+    heap: &Refusing<B>,
     alloc: A,
-    model: &Model<A>,
-) -> Result<Machine<A>, AllocError> {
-    Machine::new(alloc, model.copy()?)
+    machine: &mut Machine<A>,
+    line: &str,
+) -> Result<(), Fail> {
+    let (said, due) = line.split_once(" : ").ok_or("a line has no answer")?;
+    let (due, growths) = due.split_once(" : ").ok_or("a line has no growths")?;
+    let event = read_event(alloc, machine.model(), said.as_bytes())?;
+    let (answer, refused) = refuse_each(rt, heap, machine, &event);
+    let told = answer_line(alloc, &answer.ok_or("with memory there is an answer")?)?;
+    assert_eq!(rt; told.as_slice(), due.as_bytes(), "at {line}");
+    assert_eq!(rt; Some(refused), growths.parse().ok(), "at {line}");
+    Ok(())
 }
 
-// A run on a copy of the model.
-fn run_on<A: Allocator + Copy>(
-    alloc: A,
-    model: &Model<A>,
-    events: &[Event<A>],
-) -> Result<Run<A>, AllocError> {
-    Machine::run(alloc, model.copy()?, events)
-}
-
-// Takes the events of the lines on a new machine, each growth refused in turn. A line has an event, its answer, and how
-// many growths were refused.
+// Takes the events of the lines on a new machine.
 fn grow_each<A: Allocator + Copy, B: Allocator>(
     rt: &impl Abort,
     heap: &Refusing<B>,
@@ -90,15 +80,9 @@ fn grow_each<A: Allocator + Copy, B: Allocator>(
     text: &str,
 ) -> Result<(), Fail> {
     let model = assemble(alloc, model.as_bytes())?;
-    let mut machine = copied_machine(alloc, &model)?;
+    let mut machine = new_machine(alloc, &model)?;
     for line in text.lines() {
-        let (said, due) = line.split_once(" : ").ok_or("a line has no answer")?;
-        let (due, growths) = due.split_once(" : ").ok_or("a line has no growths")?;
-        let event = read_event(alloc, &model, said.as_bytes())?;
-        let (answer, refused) = refuse_each(rt, heap, &mut machine, &event);
-        let told = answer_line(alloc, &answer.ok_or("with memory there is an answer")?)?;
-        assert_eq!(rt; told.as_slice(), due.as_bytes(), "at {line}");
-        assert_eq!(rt; Some(refused), growths.parse().ok(), "at {line}");
+        grow_line(rt, heap, alloc, &mut machine, line)?;
     }
     Ok(())
 }
@@ -155,19 +139,6 @@ fn of_events(rt: HostRuntime) -> Result<(), Fail> {
     Ok(())
 }
 
-// The events that the lines say.
-fn events<A: Allocator + Copy>(
-    alloc: A,
-    model: &Model<A>,
-    text: &str,
-) -> Result<Vec<Event<A>, A>, Fail> {
-    let mut events = Vec::new(alloc);
-    for line in text.lines() {
-        events.push(read_event(alloc, model, line.as_bytes())?)?;
-    }
-    Ok(events)
-}
-
 // A transaction with a child and a grandchild, another, and one that has aborted before its child.
 const READ: &str = "\
 begin 1 top
@@ -180,60 +151,53 @@ begin 5 top
 spawn 5 6 sub
 abort 5";
 
-// The operations that 1 holds.
-fn access<A: Allocator + Copy>(machine: &Machine<A>) -> Result<usize, AllocError> {
-    Ok(numbers(&machine.access_set(ONE)?))
+// Each call that takes memory, how many growths it has, and what it answers with memory, as a number. The conflict set of
+// one with ancestors needs a list of these too.
+const CALLS: &str = "\
+access set : 1 : 1
+conflicts of root : 1 : 1
+conflicts of child : 2 : 2
+view set : 1 : 12
+value : 1 : 1
+owed : 1 : 1
+machine copy : 15 : 961
+run : 25 : 9
+model copy : 9 : 2
+new machine : 11 : 0
+first start : 9 : 1
+element : 2 : 1
+replay : 2 : 2
+op set : 3 : 3
+start edges : 2 : 2
+items : 2 : 1";
+
+// The numbers of the operations, as digits.
+fn numbers(ops: &[OpNo]) -> usize {
+    let mut number = 0usize;
+    for op in ops {
+        number = number.saturating_mul(10).saturating_add(op.0 as usize);
+    }
+    number
 }
 
-// The operations that others hold than this transaction and its ancestors.
-fn conflicts<A: Allocator + Copy>(machine: &Machine<A>, t: TxnId) -> Result<usize, AllocError> {
-    Ok(numbers(&machine.conflict_set(t)?))
+// How many events, edges and debts the machine shows, as digits.
+fn counted<A: Allocator + Copy>(machine: &Machine<A>) -> Result<usize, AllocError> {
+    let debts = machine.owed()?.len();
+    let (events, edges) = (machine.history().len(), machine.edges().len());
+    let digits = events.saturating_mul(10).saturating_add(edges);
+    Ok(digits.saturating_mul(10).saturating_add(debts))
 }
 
-fn view<A: Allocator + Copy>(machine: &Machine<A>) -> Result<usize, AllocError> {
-    Ok(numbers(&machine.view_set()?))
-}
-
-// Whether the object has a value.
-fn valued<A: Allocator + Copy>(machine: &Machine<A>) -> Result<usize, AllocError> {
-    Ok(usize::from(machine.value(ObjId(3))?.is_some()))
-}
-
-// How many debts there are.
-fn debts<A: Allocator + Copy>(machine: &Machine<A>) -> Result<usize, AllocError> {
-    Ok(machine.owed()?.len())
+// The same of a copy of the machine.
+fn copied<A: Allocator + Copy>(machine: &Machine<A>) -> Result<usize, AllocError> {
+    let copy = machine.copy()?;
+    counted(&copy)
 }
 
 // Where the first transaction starts, by an index of the history.
 fn first_start<A: Allocator + Copy>(alloc: A, machine: &Machine<A>) -> Result<usize, AllocError> {
-    let places = Places::of(alloc, machine.model(), machine.history())?;
+    let places = places_of(alloc, machine.model(), machine.history())?;
     Ok(places.start(ONE).unwrap_or(0) as usize)
-}
-
-// How many events a machine has kept after a run.
-fn ran<A: Allocator + Copy>(
-    alloc: A,
-    model: &Model<A>,
-    events: &[Event<A>],
-) -> Result<usize, AllocError> {
-    Ok(run_on(alloc, model, events)?.machine.history().len())
-}
-
-// How many classes a copy of the model has.
-fn copied_model<A: Allocator + Copy>(model: &Model<A>) -> Result<usize, AllocError> {
-    Ok(model.copy()?.classes().len())
-}
-
-// How many events a new machine has kept.
-fn made<A: Allocator + Copy>(alloc: A, model: &Model<A>) -> Result<usize, AllocError> {
-    Ok(copied_machine(alloc, model)?.history().len())
-}
-
-// How many events, edges and debts a copy of the machine shows, as digits.
-fn copied<A: Allocator + Copy>(machine: &Machine<A>) -> Result<usize, AllocError> {
-    let copy = machine.copy()?;
-    let counts = [copy.history().len(), copy.edges().len(), copy.owed()?.len()];
-    Ok(digits(&counts))
 }
 
 // What a copy of a set with one element answers for it.
@@ -244,20 +208,11 @@ fn one_element<A: Allocator + Copy>(alloc: A) -> Result<usize, AllocError> {
     Ok(usize::from(found == Ret::Flag(true)))
 }
 
-// How many returns a replay tells.
-fn replayed<A: Allocator + Copy>(alloc: A) -> Result<usize, AllocError> {
-    let ops = [Op::Insert(3), Op::Has(3)];
-    Ok(replay(alloc, &Kind::Elements, &ops)?.rets.as_slice().len())
-}
-
 // How many operations a set of four numbers names, one of them twice, as a copy of a delegation has it.
 fn named<A: Allocator + Copy>(alloc: A) -> Result<usize, AllocError> {
-    let ops = [OpNo(9), OpNo(2), OpNo(9), OpNo(0)];
-    let kept = Kept {
-        event: Event::Delegate(ONE, TxnId(2), OpSet::of(alloc, &ops)?),
-        ret: None,
-    };
-    match kept.copy()?.event {
+    let ops = OpSet::of(alloc, &[OpNo(9), OpNo(2), OpNo(9), OpNo(0)])?;
+    let (event, ret) = (Event::Delegate(ONE, TxnId(2), ops), None);
+    match (Kept { event, ret }).copy()?.event {
         Event::Delegate(_, _, ops) => Ok(ops.as_slice().len()),
         _ => Ok(0),
     }
@@ -273,149 +228,120 @@ fn wanted<A: Allocator + Copy>(alloc: A) -> Result<usize, AllocError> {
     Ok(edges.copy()?.as_slice().len())
 }
 
-// How long a list of one item is, and a copy of it.
-fn listed<A: Allocator + Copy>(alloc: A) -> Result<usize, AllocError> {
-    let list = Items::of(Vec::from_slice(alloc, b"x")?);
-    Ok(list.copy()?.as_slice().len())
-}
-
-// The counts, as the digits of a number.
-fn digits(counts: &[usize]) -> usize {
-    let mut number = 0usize;
-    for count in counts {
-        number = number.saturating_mul(10).saturating_add(*count);
-    }
-    number
-}
-
-// The numbers of the operations, as digits.
-fn numbers(ops: &[OpNo]) -> usize {
-    let mut number = 0usize;
-    for op in ops {
-        number = number.saturating_mul(10).saturating_add(op.0 as usize);
-    }
-    number
-}
-
-// A call that takes memory.
-#[derive(Clone, Copy, Debug)]
-enum Call {
-    AccessSet,
-    ConflictsOfRoot,
-    ConflictsOfChild,
-    ViewSet,
-    Value,
-    Owed,
-    MachineCopy,
-    Run,
-    ModelCopy,
-    NewMachine,
-    FirstStart,
-    Element,
-    Replay,
-    OpSet,
-    StartEdges,
-    Items,
-}
-
-// Each call, how many growths it has, and what it answers with memory. The conflict set of one with ancestors needs a
-// list of these too.
-const CALLS: [(Call, u64, usize); 16] = [
-    (Call::AccessSet, 1, 1),
-    (Call::ConflictsOfRoot, 1, 1),
-    (Call::ConflictsOfChild, 2, 2),
-    (Call::ViewSet, 1, 12),
-    (Call::Value, 1, 1),
-    (Call::Owed, 1, 1),
-    (Call::MachineCopy, 15, 961),
-    (Call::Run, 25, 9),
-    (Call::ModelCopy, 9, 2),
-    (Call::NewMachine, 11, 0),
-    (Call::FirstStart, 9, 1),
-    (Call::Element, 2, 1),
-    (Call::Replay, 2, 2),
-    (Call::OpSet, 3, 3),
-    (Call::StartEdges, 2, 2),
-    (Call::Items, 2, 1),
-];
-
-// What is called: a model, some events, and a machine that took them.
-#[derive(Drop)]
-struct Called<'a, A: Allocator> {
+// What a call on a machine answers, as a number, or none where it is another call: the numbers of operations, whether
+// an object has a value, how many debts there are, and where the first transaction starts.
+fn of_machine<A: Allocator + Copy>(
     alloc: A,
-    model: &'a Model<A>,
-    events: &'a [Event<A>],
-    machine: &'a Machine<A>,
+    machine: &Machine<A>,
+    call: &str,
+) -> Result<Option<usize>, AllocError> {
+    let answer = match call {
+        "access set" => numbers(&machine.access_set(ONE)?),
+        "conflicts of root" => numbers(&machine.conflict_set(TxnId(4))?),
+        "conflicts of child" => numbers(&machine.conflict_set(TxnId(3))?),
+        "view set" => numbers(&machine.view_set()?),
+        "value" => usize::from(machine.value(ObjId(3))?.is_some()),
+        "owed" => machine.owed()?.len(),
+        "machine copy" => copied(machine)?,
+        "first start" => first_start(alloc, machine)?,
+        _ => return Ok(None),
+    };
+    Ok(Some(answer))
 }
 
-// What the call answers, as a number.
-fn answer<A: Allocator + Copy>(on: &Called<'_, A>, call: Call) -> Result<usize, AllocError> {
-    match call {
-        Call::AccessSet => access(on.machine),
-        Call::ConflictsOfRoot => conflicts(on.machine, TxnId(4)),
-        Call::ConflictsOfChild => conflicts(on.machine, TxnId(3)),
-        Call::ViewSet => view(on.machine),
-        Call::Value => valued(on.machine),
-        Call::Owed => debts(on.machine),
-        Call::MachineCopy => copied(on.machine),
-        Call::Run => ran(on.alloc, on.model, on.events),
-        Call::ModelCopy => copied_model(on.model),
-        Call::NewMachine => made(on.alloc, on.model),
-        Call::FirstStart => first_start(on.alloc, on.machine),
-        Call::Element => one_element(on.alloc),
-        Call::Replay => replayed(on.alloc),
-        Call::OpSet => named(on.alloc),
-        Call::StartEdges => wanted(on.alloc),
-        Call::Items => listed(on.alloc),
-    }
-}
-
-// Each growth of the call is refused in turn, until it succeeds: it has as many growths, and answers this.
-fn grow<A: Allocator + Copy, B: Allocator>(
-    rt: &impl Abort,
-    heap: &Refusing<B>,
-    on: &Called<'_, A>,
-    (call, growths, due): (Call, u64, usize),
-) {
-    for nth in 1..=growths {
-        heap.refuse(nth);
-        assert!(rt; answer(on, call).is_err(), "growth {nth} of {call:?}");
-    }
-    heap.refuse(growths.saturating_add(1));
-    let answered = answer(on, call);
-    assert!(rt; heap.is_waiting(), "{call:?} has more growths");
-    heap.refuse(0);
-    assert_eq!(rt; answered.ok(), Some(due), "{call:?}");
-}
-
-// The growths of each call.
-fn grow_all<A: Allocator + Copy, B: Allocator>(
-    rt: &impl Abort,
-    heap: &Refusing<B>,
-    on: &Called<'_, A>,
-) {
-    for call in CALLS {
-        grow(rt, heap, on, call);
-    }
-}
-
-// The growths of each call on this model, after these events.
-fn grow_on<A: Allocator + Copy, B: Allocator>(
-    rt: &impl Abort,
-    heap: &Refusing<B>,
+// What a call on a model answers, as a number, or on less: how many events were kept, how many classes there are, how
+// many returns are told, and how long a list is.
+fn of_model<A: Allocator + Copy>(
     alloc: A,
     model: &Model<A>,
     events: &[Event<A>],
-) -> Result<(), AllocError> {
-    let run = run_on(alloc, model, events)?;
-    let machine = &run.machine;
-    let on = Called {
-        alloc,
-        model,
-        events,
-        machine,
-    };
-    grow_all(rt, heap, &on);
+    call: &str,
+) -> Result<usize, AllocError> {
+    match call {
+        "run" => Ok(run_on(alloc, model, events)?.machine.history().len()),
+        "model copy" => Ok(model.copy()?.classes().len()),
+        "new machine" => Ok(new_machine(alloc, model)?.history().len()),
+        "element" => one_element(alloc),
+        "replay" => Ok(
+            replay(alloc, &Kind::Elements, &[Op::Insert(3), Op::Has(3)])?
+                .rets
+                .as_slice()
+                .len(),
+        ),
+        "op set" => named(alloc),
+        "start edges" => wanted(alloc),
+        "items" => Ok(
+            Items::of(Vec::from_slice(alloc, b"x")?)
+                .copy()?
+                .as_slice()
+                .len(),
+        ),
+        _ => Err(AllocError),
+    }
+}
+
+// What a call answers, as a number.
+fn answer<A: Allocator + Copy>(
+    alloc: A,
+    machine: &Machine<A>,
+    events: &[Event<A>],
+    call: &str,
+) -> Result<usize, AllocError> {
+    match of_machine(alloc, machine, call)? {
+        Some(answer) => Ok(answer),
+        None => of_model(alloc, machine.model(), events, call),
+    }
+}
+
+// Each growth of the call of the line is refused in turn, until it succeeds: it has as many growths, and answers this.
+fn grow<A: Allocator + Copy, B: Allocator>(
+    rt: &impl Abort,
+    heap: &Refusing<B>,
+    alloc: A,
+    machine: &Machine<A>,
+    events: &[Event<A>],
+    line: &str,
+) -> Result<(), Fail> {
+    let (call, due) = line.split_once(" : ").ok_or("a line has no growths")?;
+    let (growths, due) = due.split_once(" : ").ok_or("a line has no answer")?;
+    for nth in 1..MOST {
+        heap.refuse(nth);
+        let answer = answer(alloc, machine, events, call);
+        if heap.is_waiting() {
+            heap.refuse(0);
+            assert_eq!(rt;
+                Some(nth.saturating_sub(1)),
+                growths.parse().ok(),
+                "at {line}"
+            );
+            assert_eq!(rt; answer.ok(), due.parse().ok(), "at {line}");
+            return Ok(());
+        }
+        assert!(rt; answer.is_err(), "growth {nth} at {line}");
+    }
+    Err("a call makes too many allocations")?
+}
+
+// The events that are read.
+fn read<A: Allocator + Copy>(alloc: A, model: &Model<A>) -> Result<Vec<Event<A>, A>, Fail> {
+    let mut events = Vec::new(alloc);
+    for line in READ.lines() {
+        events.push(read_event(alloc, model, line.as_bytes())?)?;
+    }
+    Ok(events)
+}
+
+// The growths of each call on the machine, and on its events.
+fn grow_all<A: Allocator + Copy, B: Allocator>(
+    rt: &impl Abort,
+    heap: &Refusing<B>,
+    alloc: A,
+    machine: &Machine<A>,
+    events: &[Event<A>],
+) -> Result<(), Fail> {
+    for line in CALLS.lines() {
+        grow(rt, heap, alloc, machine, events, line)?;
+    }
     Ok(())
 }
 
@@ -426,8 +352,9 @@ fn grow_read<A: Allocator + Copy, B: Allocator>(
     alloc: A,
     model: &Model<A>,
 ) -> Result<(), Fail> {
-    let events = events(alloc, model, READ)?;
-    Ok(grow_on(rt, heap, alloc, model, &events)?)
+    let events = read(alloc, model)?;
+    let run = run_on(alloc, model, &events)?;
+    grow_all(rt, heap, alloc, &run.machine, &events)
 }
 
 // The growths of each call on the model of nested transactions.

@@ -5,9 +5,9 @@
 #[cfg(test)]
 mod agreeing;
 #[cfg(test)]
-mod checking;
+mod calls;
 #[cfg(test)]
-mod following;
+mod checking;
 pub mod formulas;
 #[cfg(test)]
 mod growths;
@@ -18,8 +18,6 @@ pub mod models;
 mod objects;
 #[cfg(test)]
 mod orders;
-#[cfg(test)]
-mod parts;
 #[cfg(test)]
 mod placing;
 #[cfg(test)]

@@ -2,11 +2,15 @@
 
 ghost use Rattle.std.specs.Prelude.{◌≡◌, false, [], ◌∷◌, IfOk, OnOk};
 
+use acta_lang::assemble;
+use acta_models::Standard;
 use acta_objects::{
     Counter, ElementSet, Members, ObjectKind, ObjectState, Register, is_of_kind, replay,
 };
-use acta_table::{Kind, Op, Ret};
-use std::alloc::{AllocError, Allocator, Global};
+use acta_script::read_kept;
+use acta_table::{Event, Kind, Model, ObjId, Op, Ret};
+use std::alloc::{AllocError, Global};
+use std::process::Abort;
 use std::test::Fail;
 
 // Does two operations that don't conflict in one order on one value, and in the other on an equal one.
@@ -35,7 +39,7 @@ fn both_orders<K: ObjectKind<Op = Op, Ret = Ret>>(
 }
 
 // Whether it is the counter of this value, and its copy is.
-fn is_counted<A: Allocator + Copy>(state: &ObjectState<A>, sum: i64) -> Result<bool, AllocError> {
+fn is_counted(state: &ObjectState<Global>, sum: i64) -> Result<bool, AllocError> {
     match (state, state.copy()?) {
         (ObjectState::Counter(value), ObjectState::Counter(copied)) => {
             Ok(*value == sum && copied == sum)
@@ -52,24 +56,52 @@ fn replays_sums(rt: HostRuntime) -> Result<(), Fail> {
     Ok(())
 }
 
+// Operations on a set, with what each returns; the last is none of a set's.
+const ON_A_SET: &str = "\
+do 1 s insert 3 = yes
+do 1 s insert 3 = no
+do 1 s insert -2 = yes
+do 1 s has 3 = yes
+do 1 s has 4 = no
+do 1 s size = 2
+do 1 s remove 3 = yes
+do 1 s remove 3 = no
+do 1 s size = 1
+do 1 s read = done";
+
+// The operation that a kept line says, and what it returned.
+fn operation(
+    alloc: Global,
+    model: &Model<Global>,
+    line: &str,
+) -> Result<(ObjId, Op, Option<Ret>), Fail> {
+    let kept = read_kept(alloc, model, line.as_bytes())?;
+    match kept.event {
+        Event::Operate(_, object, op) => Ok((object, op, kept.ret)),
+        _ => Err("a line is no operation")?,
+    }
+}
+
+// Does the operations on the set.
+fn keeps(
+    rt: &impl Abort,
+    alloc: Global,
+    model: &Model<Global>,
+    members: &mut Members<Global>,
+) -> Result<(), Fail> {
+    for line in ON_A_SET.lines() {
+        let (_, op, ret) = operation(alloc, model, line)?;
+        let found = ElementSet::apply(members, &op)?;
+        assert!(rt; Some(found) == ret, "at {line}");
+    }
+    Ok(())
+}
+
 #[test]
 fn keeps_a_set(rt: HostRuntime) -> Result<(), Fail> {
+    let model = assemble(rt.alloc(), Standard::Atomic.text().as_bytes())?;
     let mut members = Members::new(rt.alloc());
-    let rows = [
-        (Op::Insert(3), Ret::Flag(true)),
-        (Op::Insert(3), Ret::Flag(false)),
-        (Op::Insert(-2), Ret::Flag(true)),
-        (Op::Has(3), Ret::Flag(true)),
-        (Op::Has(4), Ret::Flag(false)),
-        (Op::Size, Ret::Value(2)),
-        (Op::Remove(3), Ret::Flag(true)),
-        (Op::Remove(3), Ret::Flag(false)),
-        (Op::Size, Ret::Value(1)),
-        (Op::Read, Ret::Done),
-    ];
-    for (op, want) in rows {
-        assert_eq!(rt; ElementSet::apply(&mut members, &op)?, want);
-    }
+    keeps(&rt, rt.alloc(), &model, &mut members)?;
     let copied = members.copy()?;
     for x in copied.items() {
         assert_eq!(rt; *x, -2);
@@ -77,51 +109,57 @@ fn keeps_a_set(rt: HostRuntime) -> Result<(), Fail> {
     Ok(())
 }
 
-#[test]
-fn knows_conflicts(rt: HostRuntime) {
-    let (register, counter, set) = (Kind::Register(0), Kind::Counter(0), Kind::Elements);
-    let rows = [
-        (register, Op::Read, Op::Read, false),
-        (register, Op::Read, Op::Write(0), true),
-        (register, Op::Write(1), Op::Write(1), false),
-        (register, Op::Write(1), Op::Write(2), true),
-        (counter, Op::Add(1), Op::Add(2), false),
-        (counter, Op::Get, Op::Add(2), true),
-        (counter, Op::Add(0), Op::Get, false),
-        (set, Op::Insert(1), Op::Insert(1), true),
-        (set, Op::Insert(1), Op::Insert(2), false),
-        (set, Op::Has(1), Op::Remove(1), true),
-        (set, Op::Has(1), Op::Has(1), false),
-        (set, Op::Size, Op::Remove(5), true),
-        (set, Op::Size, Op::Has(5), false),
-    ];
-    for (kind, p, q, want) in rows {
-        assert!(rt; is_of_kind(&kind, &p) && is_of_kind(&kind, &q));
-        assert_eq!(rt; ObjectState::<Global>::conflicts(&kind, &p, &q), want);
-        assert_eq!(rt; ObjectState::<Global>::conflicts(&kind, &q, &p), want);
-    }
+// Two operations on an object, and whether they conflict, in either order.
+const PAIRS: &str = "\
+do 1 x read, do 1 x read : no
+do 1 x read, do 1 x write 0 : yes
+do 1 x write 1, do 1 x write 1 : no
+do 1 x write 1, do 1 x write 2 : yes
+do 1 n add 1, do 1 n add 2 : no
+do 1 n get, do 1 n add 2 : yes
+do 1 n add 0, do 1 n get : no
+do 1 s insert 1, do 1 s insert 1 : yes
+do 1 s insert 1, do 1 s insert 2 : no
+do 1 s has 1, do 1 s remove 1 : yes
+do 1 s has 1, do 1 s has 1 : no
+do 1 s size, do 1 s remove 5 : yes
+do 1 s size, do 1 s has 5 : no";
+
+// Two operations of a line conflict as it says.
+fn conflict(rt: &impl Abort, alloc: Global, model: &Model<Global>, line: &str) -> Result<(), Fail> {
+    let (pair, due) = line.split_once(" : ").ok_or("a line has no answer")?;
+    let (p, q) = pair.split_once(", ").ok_or("a line has two operations")?;
+    let (object, p, _) = operation(alloc, model, p)?;
+    let (_, q, _) = operation(alloc, model, q)?;
+    let kind = model.object(object).ok_or("the model has the object")?.kind;
+    assert!(rt; is_of_kind(&kind, &p) && is_of_kind(&kind, &q), "at {line}");
+    let there = ObjectState::<Global>::conflicts(&kind, &p, &q);
+    let back = ObjectState::<Global>::conflicts(&kind, &q, &p);
+    assert!(rt;
+        there == (due == "yes") && back == (due == "yes"),
+        "at {line}"
+    );
+    Ok(())
 }
 
 #[test]
-fn registers_commute(rt: HostRuntime) -> Result<(), Fail> {
+fn knows_conflicts(rt: HostRuntime) -> Result<(), Fail> {
+    let model = assemble(rt.alloc(), Standard::Atomic.text().as_bytes())?;
+    for line in PAIRS.lines() {
+        conflict(&rt, rt.alloc(), &model, line)?;
+    }
+    Ok(())
+}
+
+// Two operations that commute on a register, on a counter and on a set.
+#[test]
+fn commute(rt: HostRuntime) -> Result<(), Fail> {
     let (mut one, mut other) = (4, 4);
     let rets = both_orders::<Register>(&mut one, &mut other, &Op::Write(9), &Op::Write(9))?;
-    assert_eq!(rt; (one, other), (9, 9));
-    assert_eq!(rt; rets, [(Ret::Done, Ret::Done); 2]);
-    Ok(())
-}
-
-#[test]
-fn counters_commute(rt: HostRuntime) -> Result<(), Fail> {
+    assert_eq!(rt; (one, other, rets), (9, 9, [(Ret::Done, Ret::Done); 2]));
     let (mut one, mut other) = (4, 4);
     let rets = both_orders::<Counter>(&mut one, &mut other, &Op::Add(2), &Op::Add(-9))?;
-    assert_eq!(rt; (one, other), (-3, -3));
-    assert_eq!(rt; rets, [(Ret::Done, Ret::Done); 2]);
-    Ok(())
-}
-
-#[test]
-fn sets_commute(rt: HostRuntime) -> Result<(), Fail> {
+    assert_eq!(rt; (one, other, rets), (-3, -3, [(Ret::Done, Ret::Done); 2]));
     let mut one = Members::new(rt.alloc());
     let mut other = Members::new(rt.alloc());
     let (p, q) = (Op::Insert(2), Op::Remove(5));

@@ -1,4 +1,4 @@
-//! Plays histories that are written as text, each on a machine of its own. A line is one of
+//! Plays the histories of each model, which are written as text, each on a machine of its own. A line is one of
 //!
 //! ```text
 //! # A title, with which a history begins
@@ -10,30 +10,32 @@
 //! admitted or refused, what the machine shows is what the places of its history say. A machine that runs all events of
 //! a history at once answers them as one after another.
 
-use crate::agreeing::agrees;
+use crate::agreeing::differing;
+use crate::calls::{new_machine, run_on, take};
+use crate::histories::by_model;
 use crate::models::Models;
 use crate::showing::shown;
-use acta_machine::{Machine, Run};
+use acta_machine::Machine;
 use acta_script::{answer_line, read_event};
 use acta_table::{Answer, Event, Model};
-use std::alloc::{AllocError, Allocator};
+use std::alloc::{AllocError, Global};
 use std::process::Abort;
 use std::test::Fail;
 
 // A history as far as it was played.
 #[derive(Drop)]
-struct Played<A: Allocator> {
-    machine: Machine<A>,
-    events: Vec<Event<A>, A>,
-    answers: Vec<Answer, A>,
+struct Played {
+    machine: Machine<Global>,
+    events: Vec<Event<Global>>,
+    answers: Vec<Answer>,
 }
 
 // The machine shows what is due where it is asked.
-fn shows<A: Allocator + Copy>(
+fn shows(
     rt: &impl Abort,
-    alloc: A,
-    models: &Models<A>,
-    machine: &Machine<A>,
+    alloc: Global,
+    models: &Models<Global>,
+    machine: &Machine<Global>,
     (asked, due): (&str, &str),
 ) -> Result<(), Fail> {
     let told = shown(alloc, models, machine, asked)?;
@@ -41,112 +43,133 @@ fn shows<A: Allocator + Copy>(
     Ok(())
 }
 
-impl<A: Allocator + Copy> Played<A> {
+impl Played {
     // Nothing of a history.
-    fn new(alloc: A, model: &Model<A>) -> Result<Played<A>, AllocError> {
+    fn new(alloc: Global, model: &Model<Global>) -> Result<Played, AllocError> {
         Ok(Played {
-            machine: Machine::new(alloc, model.copy()?)?,
+            machine: new_machine(alloc, model)?,
             events: Vec::new(alloc),
             answers: Vec::new(alloc),
         })
     }
 
-    // What the machine answers the event, as a line.
-    fn answer(&mut self, alloc: A, event: Event<A>) -> Result<Vec<u8, A>, AllocError> {
-        let answer = self.machine.take(&event)?;
+    // What the machine answers the event that is said, as a line.
+    fn told(
+        &mut self,
+        alloc: Global,
+        models: &Models<Global>,
+        said: &str,
+    ) -> Result<Vec<u8>, Fail> {
+        let event = read_event(alloc, &models.wider, said.as_bytes())?;
+        let answer = take(&mut self.machine, &event)?;
         self.events.push(event)?;
         self.answers.push(answer)?;
-        answer_line(alloc, &answer)
-    }
-
-    // What the machine answers the event that is said.
-    fn told(&mut self, alloc: A, models: &Models<A>, said: &str) -> Result<Vec<u8, A>, Fail> {
-        let event = read_event(alloc, &models.wider, said.as_bytes())?;
-        Ok(self.answer(alloc, event)?)
+        Ok(answer_line(alloc, &answer)?)
     }
 
     // The machine answers the event of the line as it says, and shows what the places of its history say.
     fn take(
         &mut self,
         rt: &impl Abort,
-        alloc: A,
-        models: &Models<A>,
+        alloc: Global,
+        models: &Models<Global>,
         line: &str,
     ) -> Result<(), Fail> {
         let (said, due) = line.split_once(" : ").ok_or("a line has no answer")?;
         let told = self.told(alloc, models, said)?;
         assert_eq!(rt; told.as_slice(), due.as_bytes(), "at {line}");
-        Ok(agrees(rt, alloc, &models.model, &self.machine, line)?)
+        let differing = differing(alloc, &models.model, &self.machine)?;
+        assert_eq!(rt; differing, "nothing", "after {line}");
+        Ok(())
     }
 
     // The machine, and a copy of it, show what the line says.
-    fn ask(&self, rt: &impl Abort, alloc: A, models: &Models<A>, line: &str) -> Result<(), Fail> {
+    fn ask(
+        &self,
+        rt: &impl Abort,
+        alloc: Global,
+        models: &Models<Global>,
+        line: &str,
+    ) -> Result<(), Fail> {
         let (asked, due) = line.split_once(" :").ok_or("a line has no answer")?;
         shows(rt, alloc, models, &self.machine, (asked, due))?;
         shows(rt, alloc, models, &self.machine.copy()?, (asked, due))
     }
 
-    // Whether the run answered the same, and has the same edges.
-    fn is_as(&self, run: &Run<A>) -> bool {
-        run.answers.as_slice() == self.answers.as_slice()
-            && run.machine.edges() == self.machine.edges()
-    }
-
-    // A machine that runs the events at once answers the same.
-    fn end(&self, rt: &impl Abort, alloc: A, model: &Model<A>) -> Result<(), AllocError> {
-        let run = Machine::run(alloc, model.copy()?, &self.events)?;
-        assert!(rt; self.is_as(&run));
+    // A machine that runs the events at once answers the same, and has the same edges.
+    fn end(&self, rt: &impl Abort, alloc: Global, model: &Model<Global>) -> Result<(), AllocError> {
+        let run = run_on(alloc, model, &self.events)?;
+        assert!(rt; run.answers.as_slice() == self.answers.as_slice());
+        assert!(rt; run.machine.edges() == self.machine.edges());
         Ok(())
     }
 }
 
-impl<A: Allocator + Copy> Played<A> {
-    // Nothing of a new history.
-    fn start(&mut self, alloc: A, model: &Model<A>) -> Result<(), AllocError> {
-        *self = Played::new(alloc, model)?;
-        Ok(())
-    }
-
-    // A line begins a history, asks what the machine shows, or has an event.
-    fn follow(
-        &mut self,
-        rt: &impl Abort,
-        alloc: A,
-        models: &Models<A>,
-        line: &str,
-    ) -> Result<(), Fail> {
-        if line.starts_with("# ") {
-            self.end(rt, alloc, &models.model)?;
-            return Ok(self.start(alloc, &models.model)?);
-        }
-        match line.strip_prefix("? ") {
-            Some(asked) => self.ask(rt, alloc, models, asked),
-            None => self.take(rt, alloc, models, line),
+// The rules by which an event was refused, each as the bit of its number.
+fn rules_met(answers: &[Answer]) -> u32 {
+    let mut met = 0u32;
+    for answer in answers {
+        if let Answer::Refused { rule, .. } = answer {
+            met |= 1u32.checked_shl(u32::from(rule.number())).unwrap_or(0);
         }
     }
+    met
 }
 
-// Plays the histories on these models.
-fn play_on<A: Allocator + Copy>(
+// A line begins a history, asks what the machine shows, or has an event. Gives the rules that a history has met, where
+// it is over.
+fn follow(
     rt: &impl Abort,
-    alloc: A,
-    models: &Models<A>,
+    alloc: Global,
+    models: &Models<Global>,
+    played: &mut Played,
+    line: &str,
+) -> Result<u32, Fail> {
+    if line.starts_with("# ") {
+        played.end(rt, alloc, &models.model)?;
+        let met = rules_met(&played.answers);
+        *played = Played::new(alloc, &models.model)?;
+        return Ok(met);
+    }
+    match line.strip_prefix("? ") {
+        Some(asked) => played.ask(rt, alloc, models, asked)?,
+        None => played.take(rt, alloc, models, line)?,
+    }
+    Ok(0)
+}
+
+// Plays the histories on these models. Gives the rules that they met.
+fn play_on(
+    rt: &impl Abort,
+    alloc: Global,
+    models: &Models<Global>,
     histories: &str,
-) -> Result<(), Fail> {
+) -> Result<u32, Fail> {
     let mut played = Played::new(alloc, &models.model)?;
+    let mut met = 0u32;
     for line in histories.lines() {
-        played.follow(rt, alloc, models, line)?;
+        met |= follow(rt, alloc, models, &mut played, line)?;
     }
-    Ok(played.end(rt, alloc, &models.model)?)
+    played.end(rt, alloc, &models.model)?;
+    Ok(met | rules_met(&played.answers))
 }
 
-/// Plays the histories of the model that the text means.
-pub fn play<A: Allocator + Copy>(
-    rt: &impl Abort,
-    alloc: A,
-    model: &str,
-    histories: &str,
-) -> Result<(), Fail> {
+// Plays the histories of the model that the text means.
+fn play(rt: &impl Abort, alloc: Global, model: &str, histories: &str) -> Result<u32, Fail> {
     let models = Models::of(alloc, model)?;
     play_on(rt, alloc, &models, histories)
+}
+
+// The histories go as they say, and together they meet each rule but those on too many events and on too many edges.
+#[test]
+fn histories_go_as_they_say(rt: HostRuntime) -> Result<(), Fail> {
+    let mut met = 0u32;
+    for (model, histories) in by_model() {
+        met |= play(&rt, rt.alloc(), model, histories)?;
+    }
+    for rule in 1..=28u32 {
+        let is_met = met.checked_shr(rule).unwrap_or(0) % 2 == 1;
+        assert_eq!(rt; is_met, rule != 1 && rule != 16, "rule {rule}");
+    }
+    Ok(())
 }

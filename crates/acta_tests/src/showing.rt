@@ -6,10 +6,10 @@ use acta_objects::ObjectState;
 use acta_script::owed_line;
 use acta_table::{Edge, ObjId, OpNo, Status, TxnId};
 use acta_words::{push_integer, push_natural, push_word, read_u16};
-use std::alloc::{AllocError, Allocator};
+use std::alloc::{AllocError, Global};
 use std::test::Fail;
 
-fn push_ops<A: Allocator>(line: &mut Vec<u8, A>, ops: &[OpNo]) -> Result<(), AllocError> {
+fn push_ops(line: &mut Vec<u8>, ops: &[OpNo]) -> Result<(), AllocError> {
     for op in ops {
         push_natural(line, u64::from(op.0))?;
     }
@@ -17,7 +17,7 @@ fn push_ops<A: Allocator>(line: &mut Vec<u8, A>, ops: &[OpNo]) -> Result<(), All
 }
 
 /// Writes the edges: of each its kind, the one that depends, and the one that it depends on.
-pub fn push_edges<A: Allocator>(line: &mut Vec<u8, A>, edges: &[Edge]) -> Result<(), AllocError> {
+pub fn push_edges(line: &mut Vec<u8>, edges: &[Edge]) -> Result<(), AllocError> {
     for edge in edges {
         push_word(line, edge.kind.word().as_bytes())?;
         push_natural(line, u64::from(edge.j.0))?;
@@ -26,10 +26,11 @@ pub fn push_edges<A: Allocator>(line: &mut Vec<u8, A>, edges: &[Edge]) -> Result
     Ok(())
 }
 
-fn push_debts<A: Allocator + Copy>(
-    alloc: A,
-    line: &mut Vec<u8, A>,
-    machine: &Machine<A>,
+// Writes what is owed.
+fn push_debts(
+    alloc: Global,
+    line: &mut Vec<u8>,
+    machine: &Machine<Global>,
 ) -> Result<(), AllocError> {
     for debt in &machine.owed()? {
         push_word(line, &owed_line(alloc, debt)?)?;
@@ -37,11 +38,8 @@ fn push_debts<A: Allocator + Copy>(
     Ok(())
 }
 
-// A value of an object, where there is one: its number, or what is in the set.
-fn push_value<A: Allocator>(
-    line: &mut Vec<u8, A>,
-    value: Option<&ObjectState<A>>,
-) -> Result<(), AllocError> {
+// Writes a value of an object, where there is one: its number, or what is in the set.
+fn push_value(line: &mut Vec<u8>, value: Option<&ObjectState<Global>>) -> Result<(), AllocError> {
     match value {
         Some(ObjectState::Register(value)) => push_integer(line, i64::from(*value)),
         Some(ObjectState::Counter(value)) => push_integer(line, *value),
@@ -71,9 +69,9 @@ pub fn txn(word: &str) -> Result<TxnId, Fail> {
 }
 
 // Writes what the machine shows of a transaction.
-fn push_of_txn<A: Allocator + Copy>(
-    line: &mut Vec<u8, A>,
-    machine: &Machine<A>,
+fn push_of_txn(
+    line: &mut Vec<u8>,
+    machine: &Machine<Global>,
     word: &str,
     t: TxnId,
 ) -> Result<(), Fail> {
@@ -86,33 +84,32 @@ fn push_of_txn<A: Allocator + Copy>(
 }
 
 // The object of this name.
-fn object_of<A: Allocator>(models: &Models<A>, name: &str) -> Result<ObjId, Fail> {
-    let mut objects = models.wider.objects().iter();
-    let at = objects
-        .position(|object| object.name.as_slice() == name.as_bytes())
-        .ok_or("no object has this name")?;
-    Ok(ObjId(
-        u16::try_from(at)
-            .ok()
-            .ok_or("an object has a small number")?,
-    ))
+fn object_of(models: &Models<Global>, name: &str) -> Result<ObjId, Fail> {
+    let mut number = 0u16;
+    for object in models.wider.objects() {
+        if object.name.as_slice() == name.as_bytes() {
+            return Ok(ObjId(number));
+        }
+        number = number.saturating_add(1);
+    }
+    Err("no object has this name")?
 }
 
 // Writes the value of an object.
-fn push_object<A: Allocator + Copy>(
-    line: &mut Vec<u8, A>,
-    machine: &Machine<A>,
+fn push_object(
+    line: &mut Vec<u8>,
+    machine: &Machine<Global>,
     object: ObjId,
 ) -> Result<(), AllocError> {
     push_value(line, machine.value(object)?.as_ref())
 }
 
 // Writes what the machine shows of what is asked.
-fn push_shown<A: Allocator + Copy>(
-    alloc: A,
-    line: &mut Vec<u8, A>,
-    models: &Models<A>,
-    machine: &Machine<A>,
+fn push_shown(
+    alloc: Global,
+    line: &mut Vec<u8>,
+    models: &Models<Global>,
+    machine: &Machine<Global>,
     asked: &str,
 ) -> Result<(), Fail> {
     let (word, rest) = asked.split_once(' ').unwrap_or((asked, ""));
@@ -127,12 +124,12 @@ fn push_shown<A: Allocator + Copy>(
 
 /// What the machine shows of what is asked: `status T`, `access T`, `conflict T`, `view`, `value OBJECT`, `edges`,
 /// `owed`.
-pub fn shown<A: Allocator + Copy>(
-    alloc: A,
-    models: &Models<A>,
-    machine: &Machine<A>,
+pub fn shown(
+    alloc: Global,
+    models: &Models<Global>,
+    machine: &Machine<Global>,
     asked: &str,
-) -> Result<Vec<u8, A>, Fail> {
+) -> Result<Vec<u8>, Fail> {
     let mut line = Vec::new(alloc);
     push_shown(alloc, &mut line, models, machine, asked)?;
     Ok(line)

@@ -1,10 +1,11 @@
 //! Each growth of a walk's steps refused in turn: a step that is refused leaves the walk where it was.
 
+use crate::calls::walk_of;
 use crate::models::{FOLLOWING, LENDING};
 use acta_axioms::Walk;
 use acta_lang::assemble;
 use acta_script::read_event;
-use acta_table::{Kept, MOST_EVENTS, Model};
+use acta_table::{Kept, Model};
 use refusing::Refusing;
 use std::alloc::Allocator;
 use std::process::Abort;
@@ -14,12 +15,12 @@ use std::test::Fail;
 const MOST: u64 = 20;
 
 // How many items the walk has taken, and how many operations and edges it shows.
-fn counts<A: Allocator>(walk: &Walk<'_, A>) -> [usize; 3] {
-    [
+fn counts<A: Allocator>(walk: &Walk<'_, A>) -> (usize, usize, usize) {
+    (
         walk.front().len(),
         walk.operations().len(),
         walk.edges().len(),
-    ]
+    )
 }
 
 // Steps, the first growth refused, then the second, and so on, until it succeeds. Gives how many were refused.
@@ -37,31 +38,44 @@ fn step_each<A: Allocator + Copy, B: Allocator>(
             assert!(rt; stepped.is_ok());
             return nth.saturating_sub(1);
         }
-        assert!(rt; stepped.is_err());
-        assert_eq!(rt; counts(walk), before);
+        assert!(rt; stepped.is_err() && counts(walk) == before);
     }
     heap.refuse(0);
     MOST
 }
 
-// The events of the lines, and how many growths the step over each has.
+// The events of the lines.
 fn read<A: Allocator + Copy>(
     alloc: A,
     model: &Model<A>,
     text: &str,
-) -> Result<(Vec<Kept<A>, A>, Vec<u64, A>), Fail> {
+) -> Result<Vec<Kept<A>, A>, Fail> {
     let mut kept = Vec::new(alloc);
-    let mut due = Vec::new(alloc);
     for line in text.lines() {
-        let (said, growths) = line.split_once(" : ").ok_or("a line has no growths")?;
+        let (said, _) = line.split_once(" : ").ok_or("a line has no growths")?;
         let event = read_event(alloc, model, said.as_bytes())?;
         kept.push(Kept { event, ret: None })?;
-        due.push(growths.parse().map_err(|_| "a word is no number")?)?;
     }
-    Ok((kept, due))
+    Ok(kept)
 }
 
-// Steps over the events of the lines, each growth refused in turn.
+// Steps over the events of the lines, each growth refused in turn: behind each event stands how many growths the step
+// over it has.
+fn step_over<A: Allocator + Copy, B: Allocator>(
+    rt: &impl Abort,
+    heap: &Refusing<B>,
+    walk: &mut Walk<'_, A>,
+    text: &str,
+) -> Result<(), Fail> {
+    for line in text.lines() {
+        let (_, growths) = line.split_once(" : ").ok_or("a line has no growths")?;
+        let refused = step_each(rt, heap, walk);
+        assert_eq!(rt; Some(refused), growths.parse().ok(), "at {line}");
+    }
+    Ok(())
+}
+
+// Steps through the list that the text means.
 fn steps<A: Allocator + Copy, B: Allocator>(
     rt: &impl Abort,
     heap: &Refusing<B>,
@@ -70,14 +84,9 @@ fn steps<A: Allocator + Copy, B: Allocator>(
     text: &str,
 ) -> Result<(), Fail> {
     let model = assemble(alloc, model.as_bytes())?;
-    let (kept, due) = read(alloc, &model, text)?;
-    assert!(rt; kept.len() <= MOST_EVENTS);
-    let mut walk = Walk::of(alloc, &model, kept.as_slice())?;
-    for growths in &due {
-        let refused = step_each(rt, heap, &mut walk);
-        assert_eq!(rt; refused, *growths, "behind {:?}", counts(&walk));
-    }
-    Ok(())
+    let kept = read(alloc, &model, text)?;
+    let mut walk = walk_of(alloc, &model, kept.as_slice())?;
+    step_over(rt, heap, &mut walk, text)
 }
 
 // Of the operations; for an operation with edges, of the set of those whom it depends on, of the edges that are due,

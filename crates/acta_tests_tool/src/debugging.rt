@@ -1,20 +1,14 @@
-//! Runs of `debug`, as text, and the lines of its commands.
+//! Runs of `debug`, as cases of `running`, and the lines of its commands.
 
-use crate::running::play;
 use acta_lang::assemble;
 use acta_models::Standard;
 use acta_script::{LineError, read_command};
 use acta_table::Model;
-use std::alloc::{AllocError, Allocator};
-use std::process::Abort;
+use std::alloc::{AllocError, Global};
 use std::test::Fail;
 
 // What a line of a command says, or the code of its fault.
-fn command_said<A: Allocator + Copy>(
-    alloc: A,
-    model: &Model<A>,
-    line: &[u8],
-) -> Result<String<A>, AllocError> {
+fn command_said(alloc: Global, model: &Model<Global>, line: &[u8]) -> Result<String, AllocError> {
     match read_command(alloc, model, line) {
         Ok(command) => format!(in alloc; "{command:?}"),
         Err(LineError::Fault(fault)) => {
@@ -108,25 +102,22 @@ break ended x 1 -> 3
 value X 1 -> 3
 status x 1 -> 3";
 
-// Reads the commands of a text: a line each, and what it says behind an arrow.
-fn read<A: Allocator + Copy>(rt: &impl Abort, alloc: A, rows: &str) -> Result<(), Fail> {
-    let model = assemble(alloc, Standard::SplitJoin.text().as_bytes())?;
-    for row in rows.lines() {
-        let (line, want) = row.split_once(" -> ").ok_or("a row has no arrow")?;
-        let said = command_said(alloc, &model, line.as_bytes())?;
-        assert_eq!(rt; said.as_str(), want, "at {line}");
+// The commands of the texts: a line each, and what it says behind an arrow.
+#[test]
+fn commands(rt: HostRuntime) -> Result<(), Fail> {
+    let model = assemble(rt.alloc(), Standard::SplitJoin.text().as_bytes())?;
+    for rows in [SAID, FAULTY] {
+        for row in rows.lines() {
+            let (line, want) = row.split_once(" -> ").ok_or("a row has no arrow")?;
+            let said = command_said(rt.alloc(), &model, line.as_bytes())?;
+            assert_eq!(rt; said.as_str(), want, "at {line}");
+        }
     }
     Ok(())
 }
 
-#[test]
-fn commands(rt: HostRuntime) -> Result<(), Fail> {
-    read(&rt, rt.alloc(), SAID)?;
-    read(&rt, rt.alloc(), FAULTY)
-}
-
-// A write that is committed, gone over forward and back.
-const WRITTEN: &str = "\
+/// A write that is committed, gone over forward and back.
+pub const WRITTEN: &str = "\
 $ debug @atomic
 | begin 1 flat
 | do 1 x write 5
@@ -151,9 +142,9 @@ no AtStart
 status 0
 ";
 
-// A debt that is owed behind place 4 and paid at place 5, and sums and elements behind it; breaks of each kind but that
-// on the kind of an event.
-const PAID: &str = "\
+/// A debt that is owed behind place 4 and paid at place 5, and sums and elements behind it; breaks of each kind but that
+/// on the kind of an event.
+pub const PAID: &str = "\
 $ debug @contingent
 | form SCD 2 1
 | begin 1 try
@@ -245,8 +236,8 @@ at 8
 status 0
 ";
 
-// Events that are refused are no part of the history; how transactions stand; each kind of event.
-const STOOD: &str = "\
+/// Events that are refused are no part of the history; how transactions stand; each kind of event.
+pub const STOOD: &str = "\
 $ debug @split_join
 | begin 1 part
 | begin 1 part
@@ -334,8 +325,8 @@ break 2 at 2
 status 0
 ";
 
-// No commands, no events, and neither.
-const BARE: &str = "\
+/// No commands, no events, and neither.
+pub const BARE: &str = "\
 $ debug @atomic
 status 0
 
@@ -362,8 +353,8 @@ at 0
 status 0
 ";
 
-// Faults among the events and among the commands; of the model; of the command line.
-const REFUSED: &str = "\
+/// Faults among the events and among the commands; of the model; of the command line.
+pub const REFUSED: &str = "\
 $ debug @atomic
 | begin 1 flat
 | bgin 1 flat
@@ -432,16 +423,3 @@ status 2
 $ debug @nosuch
 status 2
 ";
-
-#[test]
-fn debugging_runs(rt: HostRuntime) -> Result<(), Fail> {
-    play(&rt, WRITTEN)?;
-    play(&rt, PAID)?;
-    play(&rt, STOOD)
-}
-
-#[test]
-fn what_is_no_debugging_run(rt: HostRuntime) -> Result<(), Fail> {
-    play(&rt, BARE)?;
-    play(&rt, REFUSED)
-}

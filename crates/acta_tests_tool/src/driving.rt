@@ -1,15 +1,18 @@
-//! Driven runs of the tool: those of one worker as text, and of several by what their lines say.
+//! Driven runs of the tool: those of one worker as cases of `running`, and of several by what their lines say; and as
+//! many lines as a book or a judge takes.
 
-use crate::running::{play, serve};
+use crate::running::serve;
 use acta_models::Standard;
 use acta_tool::{Args, Command, ModelName, Outcome};
-use std::alloc::{AllocError, Global};
+use refusing::Refusing;
+use std::alloc::{AllocError, Allocator, Global};
 use std::process::Abort;
 use std::sync::Wait;
 use std::test::Fail;
 use std::thread::Threads;
 
-const DRIVES: &str = "\
+/// Runs of one worker, and of several by one seat.
+pub const DRIVES: &str = "\
 $ drive --workers 1 @atomic
 | 1 begin 1 flat
 | 1 commit 1
@@ -167,51 +170,83 @@ $ run --workers 1 @atomic
 status 2
 ";
 
-#[test]
-fn drives(rt: HostRuntime) -> Result<(), Fail> {
-    play(&rt, DRIVES)
-}
-
-// What is told, and how it ends, where so many workers hand in these lines on the model of flat transactions.
-fn driven<R: Threads + Wait + Sync + AllocGlobal>(
+// What is told on the model of flat transactions of a line that stands so many times, and how it ends.
+fn told<R: Threads + Wait + Sync, B: Allocator + Send + Sync>(
     rt: &R,
-    workers: u8,
-    input: &[u8],
-) -> (Outcome, Vec<u8>) {
-    let args = Args {
-        command: Command::Drive { workers },
-        model: ModelName::Standard(Standard::Atomic),
-    };
-    let model = Standard::Atomic.text().as_bytes();
-    let mut output = Vec::new(rt.alloc());
-    let ended = serve(rt, &args, model, input, &mut output);
-    (ended, output)
-}
-
-// So many lines, which are refused by the first rules.
-fn lines(alloc: Global, count: u32) -> Result<Vec<u8>, AllocError> {
-    let mut lines = Vec::new(alloc);
+    alloc: Global,
+    heap: &Refusing<B>,
+    command: Command,
+    (line, count): (&[u8], u32),
+) -> Result<(Outcome, Vec<u8>), AllocError> {
+    let mut input = Vec::new(alloc);
     for _ in 0..count {
-        lines.extend_from_slice(b"1 commit 1\n")?;
+        input.extend_from_slice(line)?;
     }
-    Ok(lines)
+    let mut output = Vec::new(alloc);
+    let model = ModelName::Standard(Standard::Atomic);
+    let args = Args { command, model };
+    let text = Standard::Atomic.text().as_bytes();
+    let ended = serve(rt, heap, &args, text, input.as_slice(), &mut output);
+    Ok((ended, output))
 }
 
-#[test]
-fn more_lines_than_a_book_takes(rt: HostRuntime) -> Result<(), Fail> {
-    let input = lines(rt.alloc(), 65_537)?;
-    let (ended, output) = driven(&rt, 16, input.as_slice());
-    assert_eq!(rt; ended, Outcome::Refused);
-    assert_eq!(rt; output.as_slice(), b"drive fault 3\n".as_slice());
+// So many such lines are told of so: what is told starts and ends with these texts, and of too many lines it is the
+// first alone.
+fn tells<R: Threads + Wait + Sync + Abort, B: Allocator + Send + Sync>(
+    rt: &R,
+    alloc: Global,
+    heap: &Refusing<B>,
+    command: Command,
+    (line, count): (&[u8], u32),
+    (start, end): (&str, &str),
+) -> Result<(), AllocError> {
+    let (ended, output) = told(rt, alloc, heap, command, (line, count))?;
+    let is_taken = count <= 65_536;
+    let due = if is_taken {
+        Outcome::Done
+    } else {
+        Outcome::Refused
+    };
+    assert!(rt; ended == due, "of {count} lines");
+    assert!(rt; output.starts_with(start.as_bytes()), "of {count} lines");
+    assert!(rt; output.ends_with(end.as_bytes()), "of {count} lines");
+    assert!(rt; is_taken || output.len() == start.len(), "of {count} lines");
     Ok(())
 }
 
+// A book takes 65,536 lines, and not one more; here each line is refused.
 #[test]
 fn as_many_lines_as_a_book_takes(rt: HostRuntime) -> Result<(), Fail> {
-    let input = lines(rt.alloc(), 65_536)?;
-    let (ended, output) = driven(&rt, 1, input.as_slice());
-    assert_eq!(rt; ended, Outcome::Done);
-    assert!(rt; output.ends_with(b"\n65536 1 commit 1 : no 7 by 1\n"));
+    let heap = Refusing::new(rt.alloc());
+    let line = b"1 commit 1\n".as_slice();
+    for (workers, count, start, end) in [
+        (16, 65_537, "drive fault 3\n", ""),
+        (1, 65_536, "", "\n65536 1 commit 1 : no 7 by 1\n"),
+    ] {
+        let command = Command::Drive { workers };
+        tells(&rt, rt.alloc(), &heap, command, (line, count), (start, end))?;
+    }
+    Ok(())
+}
+
+// And so does a judge.
+#[test]
+fn as_many_lines_as_a_judge_takes(rt: HostRuntime) -> Result<(), Fail> {
+    let heap = Refusing::new(rt.alloc());
+    let line = b"commit 1\n".as_slice();
+    for (count, start, end) in [
+        (65_537, "judge fault 1\n", ""),
+        (65_536, "fault 2 1 1\nfault 2 2 1\n", "\nfault 3 65536 1\n"),
+    ] {
+        tells(
+            &rt,
+            rt.alloc(),
+            &heap,
+            Command::Judge,
+            (line, count),
+            (start, end),
+        )?;
+    }
     Ok(())
 }
 
@@ -235,16 +270,16 @@ const THREE: &[u8] =
 // Whichever worker comes first, each hands in its lines in order, and two of them add to what no other touches.
 #[test]
 fn three_workers(rt: HostRuntime) -> Result<(), Fail> {
-    let (ended, output) = driven(&rt, 3, THREE);
-    assert_eq!(rt; ended, Outcome::Done);
+    let heap = Refusing::new(rt.alloc());
+    let command = Command::Drive { workers: 3 };
+    let (ended, output) = told(&rt, rt.alloc(), &heap, command, (THREE, 1))?;
+    assert!(rt; ended == Outcome::Done);
     let output = str::from_utf8(output.as_slice())?;
     assert_eq!(rt; output.lines().count(), 6);
     for (seat, event) in [("1", "1 do 1 n add 5 : ok "), ("2", "2 do 2 m add 7 : ok ")] {
         let told = of_seat(rt.alloc(), output, seat)?;
         assert_eq!(rt; told.lines().count(), 2);
-        let Some(last) = told.lines().last() else {
-            return Err(Fail::new("a seat has no line"));
-        };
+        let last = told.lines().last().ok_or("a seat has no line")?;
         assert!(rt;
             last.starts_with(event) && last.ends_with(" done"),
             "at {last}"

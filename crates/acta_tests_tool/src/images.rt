@@ -1,16 +1,14 @@
-//! Images: worked bytes, each proper prefix of an image, and each byte set to each other value.
+//! Images: worked bytes, as cases of `running`, each proper prefix of an image, and each byte set to each other value.
 
-use crate::running::play;
 use acta_image::{ImageFault, LoadError, load, write_image};
 use acta_lang::assemble;
 use acta_models::Standard;
 use acta_tool::images_run_as_their_texts;
 use std::alloc::{AllocError, Global};
-use std::process::Abort;
 use std::test::Fail;
 
-// Images that are written, and images that are read, good and faulty. A command other than `run` reads no input.
-const IMAGES: &str = "\
+/// Images that are written, and images that are read, good and faulty. A command other than `run` reads no input.
+pub const IMAGES: &str = "\
 $ assemble @atomic
 | jump
 = 41435441 01 01 0004
@@ -270,11 +268,6 @@ $ check-image
 status 2
 ";
 
-#[test]
-fn written_and_read(rt: HostRuntime) -> Result<(), Fail> {
-    play(&rt, IMAGES)
-}
-
 // The image of a standard model.
 fn image_of(alloc: Global, name: Standard) -> Result<Vec<u8>, Fail> {
     let text = name.text().as_bytes();
@@ -292,32 +285,19 @@ fn is_spelled_so(alloc: Global, bytes: &[u8]) -> Result<bool, AllocError> {
     }
 }
 
+// Each proper prefix is cut short, and each byte may have each other value.
 #[test]
-fn each_prefix_is_cut_short(rt: HostRuntime) -> Result<(), Fail> {
-    for name in Standard::ALL {
-        let image = image_of(rt.alloc(), name)?;
-        for len in 0..image.len() {
-            let read = load(rt.alloc(), &image[..len]);
-            assert!(rt;
-                matches!(read, Err(LoadError::Fault(ImageFault::Truncated))),
-                "at {len}"
-            );
-        }
-    }
-    Ok(())
-}
-
-#[test]
-fn each_byte_has_each_other_value(rt: HostRuntime) -> Result<(), Fail> {
+fn prefixes_and_bytes(rt: HostRuntime) -> Result<(), Fail> {
     for name in Standard::ALL {
         let mut image = image_of(rt.alloc(), name)?;
         for place in 0..image.len() {
-            let byte = image[place];
-            for _ in 0..255 {
+            let read = load(rt.alloc(), &image[..place]);
+            let is_cut = matches!(read, Err(LoadError::Fault(ImageFault::Truncated)));
+            assert!(rt; is_cut, "at {place}");
+            for _ in 0..256 {
                 image[place] = image[place].wrapping_add(1);
                 assert!(rt; is_spelled_so(rt.alloc(), image.as_slice())?, "at {place}");
             }
-            image[place] = byte;
         }
     }
     Ok(())

@@ -1,15 +1,7 @@
-//! Histories from elsewhere, judged by the tool.
+//! Histories from elsewhere, judged by the tool: cases of `running`.
 
-use crate::running::{play, serve};
-use acta_models::Standard;
-use acta_tool::{Args, Command, ModelName, Outcome};
-use std::alloc::{AllocError, Global};
-use std::process::Abort;
-use std::sync::Wait;
-use std::test::Fail;
-use std::thread::Threads;
-
-const VERDICTS: &str = "\
+/// Verdicts.
+pub const VERDICTS: &str = "\
 $ judge @atomic
 status 0
 
@@ -81,8 +73,8 @@ owed 1 2 commit
 status 0
 ";
 
-// Lines, models and command lines that are faulty.
-const REFUSED: &str = "\
+/// Lines, models and command lines that are faulty.
+pub const REFUSED: &str = "\
 $ judge @atomic
 | commit 1
 | # nothing
@@ -111,55 +103,3 @@ status 2
 $ judge
 status 2
 ";
-
-#[test]
-fn verdicts(rt: HostRuntime) -> Result<(), Fail> {
-    play(&rt, VERDICTS)
-}
-
-#[test]
-fn what_is_not_judged(rt: HostRuntime) -> Result<(), Fail> {
-    play(&rt, REFUSED)
-}
-
-// So many commits of one that never began.
-fn commits(alloc: Global, count: u32) -> Result<Vec<u8>, AllocError> {
-    let mut lines = Vec::new(alloc);
-    for _ in 0..count {
-        lines.extend_from_slice(b"commit 1\n")?;
-    }
-    Ok(lines)
-}
-
-// What is told of so many commits.
-fn judged<R: Threads + Wait + Sync + Abort + AllocGlobal>(
-    rt: &R,
-    count: u32,
-) -> Result<(Outcome, Vec<u8>), Fail> {
-    let args = Args {
-        command: Command::Judge,
-        model: ModelName::Standard(Standard::Atomic),
-    };
-    let input = commits(rt.alloc(), count)?;
-    let model = Standard::Atomic.text().as_bytes();
-    let mut output = Vec::new(rt.alloc());
-    let ended = serve(rt, &args, model, input.as_slice(), &mut output);
-    Ok((ended, output))
-}
-
-#[test]
-fn more_lines_than_a_judge_takes(rt: HostRuntime) -> Result<(), Fail> {
-    let (ended, output) = judged(&rt, 65_537)?;
-    assert_eq!(rt; ended, Outcome::Refused);
-    assert_eq!(rt; output.as_slice(), b"judge fault 1\n".as_slice());
-    Ok(())
-}
-
-#[test]
-fn as_many_lines_as_a_judge_takes(rt: HostRuntime) -> Result<(), Fail> {
-    let (ended, output) = judged(&rt, 65_536)?;
-    assert_eq!(rt; ended, Outcome::Done);
-    assert!(rt; output.starts_with(b"fault 2 1 1\nfault 2 2 1\n"));
-    assert!(rt; output.ends_with(b"\nfault 3 65536 1\n"));
-    Ok(())
-}

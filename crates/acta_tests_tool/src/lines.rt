@@ -4,61 +4,32 @@ use acta_lang::assemble;
 use acta_models::Standard;
 use acta_script::{LineError, read_event, read_kept, write_event, write_kept};
 use acta_table::Model;
-use std::alloc::{AllocError, Allocator};
+use std::alloc::{AllocError, Allocator, Global};
 use std::process::Abort;
 use std::test::Fail;
 
-// What is written for the event that a line says, or the code of its fault.
-fn event_again<A: Allocator + Copy>(
+/// What is written for the event, or the kept item, that a line says, or the code of its fault.
+pub fn again<A: Allocator + Copy>(
     alloc: A,
     model: &Model<A>,
     line: &[u8],
+    is_kept: bool,
 ) -> Result<Vec<u8, A>, AllocError> {
-    match read_event(alloc, model, line) {
-        Ok(event) => write_event(alloc, model, &event),
-        Err(LineError::Fault(fault)) => Vec::from_slice(
-            alloc,
-            &[b'0'.saturating_add(fault.number())],
-        ),
-        Err(LineError::Memory) => Err(AllocError),
+    let fault = if is_kept {
+        match read_kept(alloc, model, line) {
+            Ok(kept) => return write_kept(alloc, model, &kept),
+            Err(fault) => fault,
+        }
+    } else {
+        match read_event(alloc, model, line) {
+            Ok(event) => return write_event(alloc, model, &event),
+            Err(fault) => fault,
+        }
+    };
+    match fault {
+        LineError::Fault(fault) => Vec::from_slice(alloc, &[b'0'.saturating_add(fault.number())]),
+        LineError::Memory => Err(AllocError),
     }
-}
-
-// The same of a kept item.
-fn kept_again<A: Allocator + Copy>(
-    alloc: A,
-    model: &Model<A>,
-    line: &[u8],
-) -> Result<Vec<u8, A>, AllocError> {
-    match read_kept(alloc, model, line) {
-        Ok(kept) => write_kept(alloc, model, &kept),
-        Err(LineError::Fault(fault)) => Vec::from_slice(
-            alloc,
-            &[b'0'.saturating_add(fault.number())],
-        ),
-        Err(LineError::Memory) => Err(AllocError),
-    }
-}
-
-// Plays the rows of a text: a line, and what is wanted behind an arrow.
-fn play<A: Allocator + Copy>(
-    rt: &impl Abort,
-    alloc: A,
-    name: Standard,
-    rows: &str,
-    are_kept: bool,
-) -> Result<(), Fail> {
-    let model = assemble(alloc, name.text().as_bytes())?;
-    for row in rows.lines() {
-        let (line, want) = row.split_once(" -> ").ok_or("a row has no arrow")?;
-        let said = if are_kept {
-            kept_again(alloc, &model, line.as_bytes())?
-        } else {
-            event_again(alloc, &model, line.as_bytes())?
-        };
-        assert_eq!(rt; said.as_slice(), want.as_bytes(), "at {line}");
-    }
-    Ok(())
 }
 
 // What each form says; numbers, blanks and comments as they may be written.
@@ -189,33 +160,39 @@ commit x = 5 -> 4
 begin 1 nosuch = x -> 4
 begin 1 nosuch = 5 -> 5";
 
+// The lines of the texts, each with what is wanted behind an arrow.
 #[test]
 fn what_lines_say(rt: HostRuntime) -> Result<(), Fail> {
-    for (lines, is_kept) in [(SAID, false), (FAULTY, false), (KEPT, true)] {
-        play(&rt, rt.alloc(), Standard::SplitJoin, lines, is_kept)?;
+    let model = assemble(rt.alloc(), Standard::SplitJoin.text().as_bytes())?;
+    for (rows, is_kept) in [(SAID, false), (FAULTY, false), (KEPT, true)] {
+        for row in rows.lines() {
+            let (line, want) = row.split_once(" -> ").ok_or("a row has no arrow")?;
+            let said = again(rt.alloc(), &model, line.as_bytes(), is_kept)?;
+            assert_eq!(rt; said.as_slice(), want.as_bytes(), "at {line}");
+        }
     }
     Ok(())
 }
 
-// The line of an event is read, and what it says is written again, or its fault, as these bytes.
-fn says<A: Allocator + Copy>(
+// The line of an event, with so many ones behind it, has the fault of this code.
+fn says(
     rt: &impl Abort,
-    alloc: A,
-    model: &Model<A>,
-    line: &[u8],
-    due: &[u8],
-) -> Result<(), Fail> {
-    let told = event_again(alloc, model, line)?;
-    assert_eq!(rt; told.as_slice(), due);
+    alloc: Global,
+    model: &Model<Global>,
+    (line, ones): (&[u8], usize),
+    due: u8,
+) -> Result<(), AllocError> {
+    let mut longer = Vec::from_slice(alloc, line)?;
+    for _ in 0..ones {
+        longer.push(b'1')?;
+    }
+    let told = again(alloc, model, longer.as_slice(), false)?;
+    assert_eq!(rt;
+        told.as_slice(),
+        [due].as_slice(),
+        "at a line of {ones} ones"
+    );
     Ok(())
-}
-
-// A commit of a number of four hundred digits.
-fn long_number<A: Allocator + Copy>(alloc: A) -> Result<Vec<u8, A>, AllocError> {
-    let digits = vec![in alloc; b'1'; 400]?;
-    let mut line = Vec::from_slice(alloc, b"commit ")?;
-    line.extend_from_slice(digits.as_slice())?;
-    Ok(line)
 }
 
 // Bytes that no text has belong to words, and long words and numbers are read to their end.
@@ -223,10 +200,14 @@ fn long_number<A: Allocator + Copy>(alloc: A) -> Result<Vec<u8, A>, AllocError> 
 fn hostile_lines(rt: HostRuntime) -> Result<(), Fail> {
     let alloc = rt.alloc();
     let model = assemble(alloc, Standard::Atomic.text().as_bytes())?;
-    says(&rt, alloc, &model, b"commit 1\0", b"4")?;
-    says(&rt, alloc, &model, b"commit\xff 1", b"2")?;
-    says(&rt, alloc, &model, b"begin 1 flat\r", b"5")?;
-    let word = vec![in alloc; b'1'; 1_000_000]?;
-    says(&rt, alloc, &model, word.as_slice(), b"2")?;
-    says(&rt, alloc, &model, long_number(alloc)?.as_slice(), b"4")
+    for (line, ones, due) in [
+        (b"commit 1\0".as_slice(), 0, b'4'),
+        (b"commit\xff 1", 0, b'2'),
+        (b"begin 1 flat\r", 0, b'5'),
+        (b"", 1_000_000, b'2'),
+        (b"commit ", 400, b'4'),
+    ] {
+        says(&rt, alloc, &model, (line, ones), due)?;
+    }
+    Ok(())
 }

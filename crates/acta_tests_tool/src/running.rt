@@ -1,33 +1,41 @@
 //! Runs of the tool, as text. A case is a command line, `%` before each line of its model where that is a file, or `&`
 //! before its bytes as pairs of digits, `|` before each line of its input, the lines that are wanted, with `>` before
-//! one that would read as another part of the case, or `=` before the bytes, and the exit status.
+//! one that would read as another part of the case, or `=` before the bytes, and the exit status. Behind the status, as
+//! in `status 0 over 20`, can stand that each allocation of the run is refused in turn, and that it makes more than so
+//! many.
 
+use crate::{debugging, driving, images, judging, refusals, tour};
+use acta_locked::DriveError;
 use acta_tool::{
-    Args, Command, Metered, ModelName, Outcome, Watched, drive_tool, exit_status, parse, run_tool,
+    Args, Command, Metered, ModelName, Outcome, ReadFault, Watched, drive_tool, exit_status, parse,
+    run_tool,
 };
-use std::alloc::{AllocError, Global};
+use refusing::Refusing;
+use std::alloc::{AllocError, Allocator, Global};
 use std::process::Abort;
 use std::sync::Wait;
 use std::test::Fail;
 use std::thread::Threads;
 
+// More allocations than any case makes of which each is refused.
+const MOST: u64 = 400;
+
 // A case as far as it was read.
 #[derive(Drop)]
-struct Case {
-    command: String,
+struct Case<'a> {
+    command: &'a str,
     model: Vec<u8>,
     input: Vec<u8>,
     want: Vec<u8>,
 }
 
-impl Case {
-    fn of(alloc: Global, command: &str) -> Result<Case, AllocError> {
-        Ok(Case {
-            command: String::from_str(alloc, command)?,
-            model: Vec::new(alloc),
-            input: Vec::new(alloc),
-            want: Vec::new(alloc),
-        })
+// A case of a command line.
+fn case_of<'a>(alloc: Global, command: &'a str) -> Case<'a> {
+    Case {
+        command,
+        model: Vec::new(alloc),
+        input: Vec::new(alloc),
+        want: Vec::new(alloc),
     }
 }
 
@@ -37,17 +45,18 @@ fn add(text: &mut Vec<u8>, line: &str) -> Result<(), AllocError> {
     text.extend_from_slice(b"\n")
 }
 
-/// Adds the bytes that a line of pairs of hexadecimal digits has; what is no digit is passed over.
-pub fn add_bytes(bytes: &mut Vec<u8>, line: &str) -> Result<(), AllocError> {
-    let mut high = None;
-    for digit in line.chars().filter_map(|c| c.to_digit(16)) {
-        match high {
-            None => high = Some(digit),
-            Some(first) => {
+// Adds the bytes that a line of pairs of hexadecimal digits has; what is no digit is passed over.
+fn add_bytes(bytes: &mut Vec<u8>, line: &str) -> Result<(), AllocError> {
+    let mut high: Option<u32> = None;
+    for c in line.chars() {
+        match (c.to_digit(16), high) {
+            (Some(digit), Some(first)) => {
                 let [byte, ..] = first.wrapping_mul(16).wrapping_add(digit).to_le_bytes();
                 bytes.push(byte)?;
                 high = None;
             }
+            (Some(digit), None) => high = Some(digit),
+            (None, _) => {}
         }
     }
     Ok(())
@@ -64,8 +73,9 @@ fn words(alloc: Global, line: &str) -> Result<Vec<String>, AllocError> {
 }
 
 /// Does what the words asked for on the bytes of a model and of an input.
-pub fn serve<R: Threads + Wait + Sync + AllocGlobal>(
+pub fn serve<R: Threads + Wait + Sync, B: Allocator + Send + Sync>(
     rt: &R,
+    heap: &Refusing<B>,
     args: &Args<'_>,
     model: &[u8],
     input: &[u8],
@@ -74,21 +84,64 @@ pub fn serve<R: Threads + Wait + Sync + AllocGlobal>(
     let mut input = Metered::new(input);
     let mut output = Watched::new(output);
     match args.command {
-        Command::Drive { .. } => {
-            drive_tool(rt, rt.alloc(), args, model, &mut input, &mut output)
-        }
-        _ => run_tool(rt.alloc(), args, model, &mut input, &mut output),
+        Command::Drive { .. } => drive_tool(rt, heap, args, model, &mut input, &mut output),
+        _ => run_tool(heap, args, model, &mut input, &mut output),
     }
 }
 
-// Runs a case, and compares what it writes and how it ends.
-fn run<R: Threads + Wait + Sync + Abort + AllocGlobal>(
+// Runs a case, where this allocation is refused, and compares what it writes and how it ends: where it is cut short, it
+// writes nothing. Gives whether no allocation was refused.
+fn is_whole<R: Threads + Wait + Sync + Abort, B: Allocator + Send + Sync>(
     rt: &R,
-    case: &Case,
-    status: &str,
+    alloc: Global,
+    heap: &Refusing<B>,
+    (args, status): (&Args<'_>, &str),
+    case: &Case<'_>,
+    nth: u64,
+) -> bool {
+    let model = match args.model {
+        ModelName::Standard(name) => name.text().as_bytes(),
+        ModelName::Path(_) => case.model.as_slice(),
+    };
+    let mut output = Vec::new(alloc);
+    heap.refuse(nth);
+    let ended = serve(rt, heap, args, model, case.input.as_slice(), &mut output);
+    let is_whole = heap.is_waiting();
+    heap.refuse(0);
+    match ended {
+        Outcome::Unread(ReadFault::Memory)
+        | Outcome::Undriven(DriveError::Memory | DriveError::NoThread) => {
+            assert!(rt; output.is_empty() && !is_whole, "at {}", case.command);
+        }
+        _ => {
+            let code = exit_status(&Ok(ended));
+            assert_eq!(rt;
+                output.as_slice(),
+                case.want.as_slice(),
+                "at {}",
+                case.command
+            );
+            assert_eq!(rt; Some(code), status.parse().ok(), "at {}", case.command);
+        }
+    }
+    is_whole
+}
+
+// Runs a case, or each allocation of it refused in turn.
+fn run<R: Threads + Wait + Sync + Abort, B: Allocator + Send + Sync>(
+    rt: &R,
+    alloc: Global,
+    heap: &Refusing<B>,
+    case: &Case<'_>,
+    due: &str,
 ) -> Result<(), Fail> {
-    let words = words(rt.alloc(), &case.command)?;
-    let args = match parse(rt.alloc(), words.as_slice()) {
+    let (status, least) = due.split_once(" over ").unwrap_or((due, "0"));
+    let least = least
+        .parse::<u64>()
+        .ok()
+        .ok_or("a case has no number of allocations")?;
+    let words = words(alloc, case.command)?;
+    let args = match parse(alloc, words.as_slice()) {
         Ok(args) => args,
         Err(fault) => {
             let code = exit_status(&Err(fault));
@@ -96,50 +149,36 @@ fn run<R: Threads + Wait + Sync + Abort + AllocGlobal>(
             return Ok(());
         }
     };
-    let model = match args.model {
-        ModelName::Standard(name) => name.text().as_bytes(),
-        ModelName::Path(_) => case.model.as_slice(),
-    };
-    let mut output = Vec::new(rt.alloc());
-    let ended = serve(rt, &args, model, case.input.as_slice(), &mut output);
-    assert_eq!(rt;
-        output.as_slice(),
-        case.want.as_slice(),
-        "at {}",
-        case.command
-    );
-    assert_eq!(rt;
-        Some(exit_status(&Ok(ended))),
-        status.parse().ok(),
-        "at {}",
-        case.command
-    );
-    Ok(())
+    for nth in 1..MOST {
+        let refused = if status == due { u64::MAX } else { nth };
+        if is_whole(rt, alloc, heap, (&args, status), case, refused) {
+            assert!(rt; nth > least, "at {}", case.command);
+            return Ok(());
+        }
+    }
+    Err("a case makes too many allocations")?
 }
 
-/// Plays the cases of a text.
-pub fn play<R: Threads + Wait + Sync + Abort + AllocGlobal>(
+// Plays the cases of a text.
+fn play<R: Threads + Wait + Sync + Abort, B: Allocator + Send + Sync>(
     rt: &R,
+    alloc: Global,
+    heap: &Refusing<B>,
     cases: &str,
 ) -> Result<(), Fail> {
-    let mut case = Case::of(rt.alloc(), "")?;
+    let mut case = case_of(alloc, "");
     for line in cases.lines() {
-        if let Some(command) = line.strip_prefix("$ ") {
-            case = Case::of(rt.alloc(), command)?;
-        } else if let Some(model) = line.strip_prefix("% ") {
-            add(&mut case.model, model)?;
-        } else if let Some(bytes) = line.strip_prefix("& ") {
-            add_bytes(&mut case.model, bytes)?;
-        } else if let Some(bytes) = line.strip_prefix("= ") {
-            add_bytes(&mut case.want, bytes)?;
-        } else if let Some(want) = line.strip_prefix("> ") {
-            add(&mut case.want, want)?;
-        } else if let Some(input) = line.strip_prefix("| ") {
-            add(&mut case.input, input)?;
-        } else if let Some(status) = line.strip_prefix("status ") {
-            run(rt, &case, status)?;
-        } else if !line.is_empty() {
-            add(&mut case.want, line)?;
+        let (mark, rest) = line.split_once(' ').unwrap_or((line, ""));
+        match mark {
+            "$" => case = case_of(alloc, rest),
+            "%" => add(&mut case.model, rest)?,
+            "&" => add_bytes(&mut case.model, rest)?,
+            "=" => add_bytes(&mut case.want, rest)?,
+            ">" => add(&mut case.want, rest)?,
+            "|" => add(&mut case.input, rest)?,
+            "status" => run(rt, alloc, heap, &case, rest)?,
+            "" => {}
+            _ => add(&mut case.want, line)?,
         }
     }
     Ok(())
@@ -446,23 +485,28 @@ status 0
 ";
 
 #[test]
-fn runs(rt: HostRuntime) -> Result<(), Fail> {
-    play(&rt, RUNS)
-}
-
-#[test]
-fn what_is_seen_behind_an_end(rt: HostRuntime) -> Result<(), Fail> {
-    play(&rt, ENDS)
-}
-
-#[test]
-fn files_and_command_lines(rt: HostRuntime) -> Result<(), Fail> {
-    play(&rt, FILES)
-}
-
-#[test]
-fn the_statuses(rt: HostRuntime) {
+fn cases(rt: HostRuntime) -> Result<(), Fail> {
+    let heap = Refusing::new(rt.alloc());
+    for cases in [
+        RUNS,
+        ENDS,
+        FILES,
+        tour::TOUR,
+        images::IMAGES,
+        judging::VERDICTS,
+        judging::REFUSED,
+        debugging::WRITTEN,
+        debugging::PAID,
+        debugging::STOOD,
+        debugging::BARE,
+        debugging::REFUSED,
+        driving::DRIVES,
+        refusals::RUNS,
+    ] {
+        play(&rt, rt.alloc(), &heap, cases)?;
+    }
     assert_eq!(rt; exit_status(&Ok(Outcome::Done)), 0);
     assert_eq!(rt; exit_status(&Ok(Outcome::Refused)), 1);
     assert_eq!(rt; exit_status(&Ok(Outcome::Unwritten)), 3);
+    Ok(())
 }

@@ -1,47 +1,71 @@
 //! Texts of models, as text: `%` before each line, and behind the last the line and the code of the fault, or the word
-//! `good`.
+//! `good`. `*COUNT` is before what stands so many times, with its number at `#`, and lines for what is between `;`, and
+//! `+COUNT` before what stands so many times in one line.
 
 use acta_lang::{AsmError, assemble, print_model};
 use acta_models::{Standard, load_all};
-use std::alloc::{AllocError, Allocator, Global};
+use std::alloc::{AllocError, Global};
 use std::process::Abort;
 use std::test::Fail;
 
-// The line and the code at which the text fails, or nothing.
-fn fault<A: Allocator + Copy>(alloc: A, text: &[u8]) -> Result<Option<(usize, u8)>, AllocError> {
+// The line and the code at which the text fails, or `good`.
+fn judged(alloc: Global, text: &[u8]) -> Result<String, AllocError> {
     match assemble(alloc, text) {
-        Ok(_) => Ok(None),
-        Err(AsmError::Fault(fault)) => Ok(Some((fault.line, fault.code.number()))),
+        Ok(_) => String::from_str(alloc, "good"),
+        Err(AsmError::Fault(fault)) => {
+            let (line, code) = (fault.line, fault.code.number());
+            format!(in alloc; "{line} {code}")
+        }
         Err(AsmError::Memory) => Err(AllocError),
     }
 }
 
-// Whether the text has this fault, as a row names it: the line and the code, or `good`.
-fn is_judged<A: Allocator + Copy>(alloc: A, text: &[u8], row: &str) -> Result<bool, AllocError> {
-    let fault = fault(alloc, text)?;
-    let Some((line, code)) = row.split_once(' ') else {
-        return Ok(fault.is_none());
-    };
-    let want = line.parse().ok().zip(code.parse().ok());
-    Ok(want.is_some() && fault == want)
+// Adds what stands so many times: `COUNT TEXT`, where the text has its number at `#`, and lines between `;`.
+fn add_numbered(alloc: Global, text: &mut Vec<u8>, row: &str) -> Result<(), Fail> {
+    let (count, row) = row.split_once(' ').ok_or("a row has no count")?;
+    let (head, tail) = row.split_once('#').ok_or("a row has no number")?;
+    for number in 0..count.parse::<u32>().ok().ok_or("a count is no number")? {
+        let named = format!(in alloc; "{head}{number}")?;
+        text.extend_from_slice(named.as_bytes())?;
+        for line in tail.split(';') {
+            text.extend_from_slice(line.as_bytes())?;
+            text.push(b'\n')?;
+        }
+    }
+    Ok(())
+}
+
+// The same, where the text stands in one line, as it is.
+fn add_repeated(text: &mut Vec<u8>, row: &str) -> Result<(), Fail> {
+    let (count, row) = row.split_once(' ').ok_or("a row has no count")?;
+    for _ in 0..count.parse::<u32>().ok().ok_or("a count is no number")? {
+        text.extend_from_slice(row.as_bytes())?;
+    }
+    Ok(())
 }
 
 // Plays the rows of a text.
-fn play<A: Allocator + Copy>(rt: &impl Abort, alloc: A, rows: &str) -> Result<(), Fail> {
+fn play(rt: &impl Abort, alloc: Global, rows: &str) -> Result<(), Fail> {
     let mut text = Vec::new(alloc);
     for row in rows.lines() {
-        if let Some(line) = row.strip_prefix("%") {
+        if let Some(line) = row.strip_prefix('%') {
             text.extend_from_slice(line.as_bytes())?;
-            text.extend_from_slice(b"\n")?;
+            text.push(b'\n')?;
+        } else if let Some(numbered) = row.strip_prefix('*') {
+            add_numbered(alloc, &mut text, numbered)?;
+        } else if let Some(repeated) = row.strip_prefix('+') {
+            add_repeated(&mut text, repeated)?;
         } else if !row.is_empty() {
-            assert!(rt; is_judged(alloc, text.as_slice(), row)?, "at {row}");
+            let judged = judged(alloc, text.as_slice())?;
+            assert_eq!(rt; judged.as_str(), row, "at {row}");
             text.clear();
         }
     }
     Ok(())
 }
 
-// Each code alone, as far as it can hold alone, and each two that can hold at one line; those on too many follow below.
+// Each code alone, as far as it can hold alone, and each two that can hold at one line; then those on too many, the 257th object and the
+// 17th class, alone and with what else can hold there.
 const FAULTY: &str = "\
 %class a
 %starts begin
@@ -351,7 +375,58 @@ const FAULTY: &str = "\
 %delegation any
 %end
 %class a
-9 4";
+9 4
+
+*256 object o# set
+%object one_more set
+%class a
+257 7
+
+*256 object o# set
+%object one_more set # \u{7f}
+%class a
+257 1
+
+*256 object o# set
+%object 9 set
+%class a
+257 3
+
+*256 object o# set
+%object o7 set
+%class a
+257 4
+
+*256 object o# set
+%object one_more register x
+%class a
+257 6
+
+*256 object o# set
+%object one_more set
+257 7
+
+*256 object o# set
+%class a
+%object one_more set
+%end
+258 5
+
+*256 object o# set
+%class a
+257 8
+
+*256 object o# set
+*15 class c#;starts;may;scope others;policy refuse;commit keeps;delegation any;end
+%class c15
+%class one_more
+%end
+378 5
+
+*256 object o# set
+*16 class c#;starts;may;scope others;policy refuse;commit keeps;delegation any;end
+%class one_more
+385 7";
 
 // Texts that mean models.
 const GOOD: &str = "\
@@ -380,102 +455,50 @@ good
 %delegation whole
 %end
 %object y register -0
+good
+
+*256 object o# set
+*16 class c#;starts;may;scope others;policy refuse;commit keeps;delegation any;end
 good";
 
-#[test]
-fn faulty_texts(rt: HostRuntime) -> Result<(), Fail> {
-    play(&rt, rt.alloc(), FAULTY)
-}
-
-#[test]
-fn good_texts(rt: HostRuntime) -> Result<(), Fail> {
-    play(&rt, rt.alloc(), GOOD)
-}
-
-// Adds the lines of as many objects.
-fn add_objects(alloc: Global, text: &mut Vec<u8>, count: u32) -> Result<(), AllocError> {
-    for number in 0..count {
-        let line = format!(in alloc; "object o{number} set\n")?;
-        text.extend_from_slice(line.as_bytes())?;
-    }
-    Ok(())
-}
-
-// Adds the lines of as many classes.
-fn add_classes(alloc: Global, text: &mut Vec<u8>, count: u32) -> Result<(), AllocError> {
-    for number in 0..count {
-        let line = format!(in alloc;
-            "class c{number}\nstarts\nmay\nscope others\npolicy refuse\ncommit keeps\ndelegation any\nend\n"
-        )?;
-        text.extend_from_slice(line.as_bytes())?;
-    }
-    Ok(())
-}
-
-const LAST_CLASS: &str = "\
-class c15
-starts
-may
-scope others
-policy refuse
-commit keeps
-delegation any
-end
-";
-
-// The 257th object and the 17th class, alone and with what else can hold there.
-#[test]
-fn too_many(rt: HostRuntime) -> Result<(), Fail> {
-    let mut text = Vec::new(rt.alloc());
-    add_objects(rt.alloc(), &mut text, 256)?;
-    for (line, want) in [
-        ("object one_more set\nclass a", "257 7"),
-        ("object one_more set # \u{7f}\nclass a", "257 1"),
-        ("object 9 set\nclass a", "257 3"),
-        ("object o7 set\nclass a", "257 4"),
-        ("object one_more register x\nclass a", "257 6"),
-        ("object one_more set", "257 7"),
-        ("class a\nobject one_more set\nend", "258 5"),
-        ("class a", "257 8"),
-    ] {
-        let mut longer = Vec::from_slice(rt.alloc(), text.as_slice())?;
-        longer.extend_from_slice(line.as_bytes())?;
-        assert!(rt;
-            is_judged(rt.alloc(), longer.as_slice(), want)?,
-            "at {line}"
-        );
-    }
-    add_classes(rt.alloc(), &mut text, 15)?;
-    let mut inside = Vec::from_slice(rt.alloc(), text.as_slice())?;
-    inside.extend_from_slice(b"class c15\nclass one_more\nend")?;
-    assert!(rt; is_judged(rt.alloc(), inside.as_slice(), "378 5")?);
-    text.extend_from_slice(LAST_CLASS.as_bytes())?;
-    assert!(rt; is_judged(rt.alloc(), text.as_slice(), "good")?);
-    text.extend_from_slice(b"class one_more")?;
-    assert!(rt; is_judged(rt.alloc(), text.as_slice(), "385 7")?);
-    Ok(())
-}
-
 // Bytes and sizes that no friendly text has.
+const HOSTILE: &str = "\
+%class \0
+1 1
+
+%
+%
+2 9
+
++1000000 a
+1 2
+
++1000000 a
+%
+%end
+1 2
+
++1 object x register 
++400 0
+1 9
+
++1 object x register 
++400 0
++1 99999999999
+1 6";
+
 #[test]
-fn hostile_texts(rt: HostRuntime) -> Result<(), Fail> {
-    let alloc = rt.alloc();
-    assert!(rt; is_judged(alloc, b"class a\r\n", "1 1")?);
-    assert!(rt; is_judged(alloc, b"class \0", "1 1")?);
-    assert!(rt; is_judged(alloc, b"class a\nstarts\x80 begin", "2 1")?);
-    assert!(rt; is_judged(alloc, b"\n\n", "2 9")?);
-    let mut word = vec![in alloc; b'a'; 1_000_000]?;
-    assert!(rt; is_judged(alloc, word.as_slice(), "1 2")?);
-    word.extend_from_slice(b"\nend")?;
-    assert!(rt; is_judged(alloc, word.as_slice(), "1 2")?);
-    let digits = vec![in alloc; b'0'; 400]?;
-    let mut number = Vec::from_slice(alloc, b"object x register ")?;
-    number.extend_from_slice(digits.as_slice())?;
-    assert!(rt; is_judged(alloc, number.as_slice(), "1 9")?);
-    number.extend_from_slice(b"99999999999")?;
-    assert!(rt; is_judged(alloc, number.as_slice(), "1 6")?);
-    let comment = vec![in alloc; b'#'; 16_777_216]?;
-    assert!(rt; is_judged(alloc, comment.as_slice(), "1 9")?);
+fn texts(rt: HostRuntime) -> Result<(), Fail> {
+    for rows in [FAULTY, GOOD, HOSTILE] {
+        play(&rt, rt.alloc(), rows)?;
+    }
+    for text in [b"class a\r\n".as_slice(), b"class \0"] {
+        assert_eq!(rt; judged(rt.alloc(), text)?.as_str(), "1 1");
+    }
+    let comment = vec![in rt.alloc(); b'#'; 16_777_216]?;
+    assert_eq!(rt; judged(rt.alloc(), comment.as_slice())?.as_str(), "1 9");
+    let text = b"class a\nstarts\x80 begin";
+    assert_eq!(rt; judged(rt.alloc(), text)?.as_str(), "2 1");
     Ok(())
 }
 
@@ -483,12 +506,10 @@ fn hostile_texts(rt: HostRuntime) -> Result<(), Fail> {
 #[test]
 fn standard_texts_are_canonical(rt: HostRuntime) -> Result<(), Fail> {
     let models = load_all(rt.alloc())?;
-    for (name, model) in Standard::ALL.iter().zip(models.iter()) {
-        assert_eq!(rt;
-            print_model(rt.alloc(), model)?.as_slice(),
-            name.text().as_bytes()
-        );
-    }
     assert_eq!(rt; models.len(), 5);
+    for (name, model) in Standard::ALL.iter().zip(models.iter()) {
+        let printed = print_model(rt.alloc(), model)?;
+        assert_eq!(rt; printed.as_slice(), name.text().as_bytes());
+    }
     Ok(())
 }

@@ -1,9 +1,7 @@
 //! The runs of the tour in the documents, as they are shown there.
 
-use crate::running::play;
-use std::test::Fail;
-
-const TOUR: &str = "\
+/// The cases of `running` that they are.
+pub const TOUR: &str = "\
 $ run @atomic
 | begin 1 flat
 | begin 2 flat
@@ -139,8 +137,3 @@ ok 4
 ok 5
 status 0
 ";
-
-#[test]
-fn the_tour(rt: HostRuntime) -> Result<(), Fail> {
-    play(&rt, TOUR)
-}

@@ -1,0 +1,56 @@
+//! The calls that promise most, each in a function of its own that says nothing of its result: what tests show is
+//! compared when they run.
+
+use acta_axioms::{Places, Walk};
+use acta_machine::{Machine, Run};
+use acta_table::{Answer, Event, Kept, MOST_EVENTS, Model};
+use std::alloc::{AllocError, Allocator};
+
+/// A machine on a copy of the model.
+pub fn new_machine<A: Allocator + Copy>(
+    alloc: A,
+    model: &Model<A>,
+) -> Result<Machine<A>, AllocError> {
+    Machine::new(alloc, model.copy()?)
+}
+
+/// A run on a copy of the model.
+pub fn run_on<A: Allocator + Copy>(
+    alloc: A,
+    model: &Model<A>,
+    events: &[Event<A>],
+) -> Result<Run<A>, AllocError> {
+    Machine::run(alloc, model.copy()?, events)
+}
+
+/// What the machine answers the event.
+pub fn take<A: Allocator + Copy>(
+    machine: &mut Machine<A>,
+    event: &Event<A>,
+) -> Result<Answer, AllocError> {
+    machine.take(event)
+}
+
+/// A walk that stands before a list, which is no longer than a history may be.
+pub fn walk_of<'a, A: Allocator + Copy>(
+    alloc: A,
+    model: &'a Model<A>,
+    kept: &'a [Kept<A>],
+) -> Result<Walk<'a, A>, AllocError> {
+    if kept.len() > MOST_EVENTS {
+        return Err(AllocError);
+    }
+    Walk::of(alloc, model, kept)
+}
+
+/// The places of such a list.
+pub fn places_of<'a, A: Allocator + Copy>(
+    alloc: A,
+    model: &'a Model<A>,
+    kept: &'a [Kept<A>],
+) -> Result<Places<'a, A>, AllocError> {
+    if kept.len() > MOST_EVENTS {
+        return Err(AllocError);
+    }
+    Places::of(alloc, model, kept)
+}
