@@ -1,10 +1,10 @@
 //! Lists that break axioms, each axiom alone by some, with the faults and the debts that are due; by model.
 
-use crate::reading::{Judged, is_due};
+use crate::reading::Judged;
 use crate::verdicts::lines_of_all;
 use acta_models::Standard;
 use acta_tests::models::{DELEGATING, Models, PARTING, UNTIED};
-use std::alloc::Allocator;
+use std::alloc::Global;
 use std::process::Abort;
 use std::test::Fail;
 
@@ -514,74 +514,64 @@ fn by_model() -> [(&'static str, &'static str); 7] {
     ]
 }
 
-// The verdict on the list is the one that is due.
-fn expect<A: Allocator + Copy>(
+// The axiom that is broken, where the lines tell of one fault alone.
+fn alone_in(due: &str) -> Option<u8> {
+    let fault = due.strip_prefix("fault ")?;
+    if fault.contains("fault ") {
+        return None;
+    }
+    let (axiom, _) = fault.split_once(' ')?;
+    axiom.parse().ok()
+}
+
+// The verdict on the list is the one that is due. Gives the axiom that is broken, where only one is, and once.
+fn expect(
     rt: &impl Abort,
-    alloc: A,
-    models: &Models<A>,
+    alloc: Global,
+    models: &Models<Global>,
     list: &str,
-) -> Result<(), Fail> {
+) -> Result<Option<u8>, Fail> {
     let (title, lines) = list.split_once('\n').unwrap_or((list, ""));
     let judged = Judged::read(alloc, &models.wider, lines)?;
-    let items = judged.items.as_slice();
+    let (items, due) = (judged.items.as_slice(), judged.due.as_str());
     for n in 1..items.len() {
         lines_of_all(rt, alloc, &models.model, &items[..n], title)?;
     }
     let told = lines_of_all(rt, alloc, &models.model, items, title)?;
-    assert_eq!(rt;
-        told.as_slice(),
-        judged.due.as_str().as_bytes(),
-        "at {title}"
-    );
-    Ok(())
+    assert_eq!(rt; told.as_slice(), due.as_bytes(), "at {title}");
+    Ok(alone_in(due))
 }
 
-// The same of each list of a model.
-fn expect_each<A: Allocator + Copy>(
+// The same of each list of a model, with each axiom that is broken alone.
+fn play(
     rt: &impl Abort,
-    alloc: A,
+    alloc: Global,
     model: &str,
     lists: &str,
+    alone: &mut Vec<u8>,
 ) -> Result<(), Fail> {
     let models = Models::of(alloc, model)?;
     for list in lists.split("# ") {
-        expect(rt, alloc, &models, list)?;
-    }
-    Ok(())
-}
-
-#[test]
-fn each_fault_is_told(rt: HostRuntime) -> Result<(), Fail> {
-    for (model, lists) in by_model() {
-        expect_each(&rt, rt.alloc(), model, lists)?;
-    }
-    Ok(())
-}
-
-// The axiom that the list breaks, where its only fault is one.
-fn alone_in(list: &str) -> Option<u8> {
-    let mut due = list.lines().filter(|line| is_due(line));
-    let only = due.next()?.strip_prefix("fault ")?;
-    if due.any(|line| line.starts_with("fault ")) {
-        return None;
-    }
-    only.split_whitespace().next()?.parse().ok()
-}
-
-// Whether a list breaks this axiom alone.
-fn is_alone(axiom: u8) -> bool {
-    for (_, lists) in by_model() {
-        if lists.split("# ").any(|list| alone_in(list) == Some(axiom)) {
-            return true;
+        if let Some(axiom) = expect(rt, alloc, &models, list)? {
+            alone.push(axiom)?;
         }
     }
-    false
+    Ok(())
 }
 
-// Each axiom is broken alone by some list.
+// Each fault is told, and each axiom is broken alone by some list.
 #[test]
-fn each_axiom_is_broken_alone(rt: HostRuntime) {
-    for axiom in 1..=33u8 {
-        assert_eq!(rt; is_alone(axiom), axiom <= 13 || axiom > 20, "axiom {axiom}");
+fn each_fault_is_told(rt: HostRuntime) -> Result<(), Fail> {
+    let mut alone = Vec::new(rt.alloc());
+    for (model, lists) in by_model() {
+        play(&rt, rt.alloc(), model, lists, &mut alone)?;
     }
+    for axiom in 1..=33u8 {
+        assert_eq!(rt;
+            alone.contains(&axiom),
+            axiom <= 13 || axiom > 20,
+            "axiom {axiom}"
+        );
+    }
+    Ok(())
 }

@@ -20,4 +20,6 @@ mod refusals;
 #[cfg(test)]
 mod slowly;
 #[cfg(test)]
+mod telling;
+#[cfg(test)]
 mod verdicts;

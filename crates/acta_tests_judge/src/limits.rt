@@ -1,10 +1,10 @@
-//! The longest list that is judged, and one that is longer.
+//! The longest list that is judged, one that is longer, and one with many faults.
 
 use acta_axioms::{Axiom, Fault};
-use acta_judge::{JudgeError, judge};
+use acta_judge::{JudgeError, Verdict, judge};
 use acta_lang::assemble;
 use acta_models::Standard;
-use acta_table::{Dep, Event, Kept, Model, TxnId};
+use acta_table::{Dep, Event, Kept, TxnId};
 use std::alloc::{AllocError, Global};
 use std::process::Abort;
 use std::test::Fail;
@@ -23,51 +23,36 @@ fn same(alloc: Global, times: u32, is_commit: bool) -> Result<Vec<Kept<Global>>,
     Ok(items)
 }
 
-fn model_of(alloc: Global, name: Standard) -> Result<Model<Global>, Fail> {
-    Ok(assemble(alloc, name.text().as_bytes())?)
-}
-
-#[test]
-fn one_item_more_is_too_long(rt: HostRuntime) -> Result<(), Fail> {
-    let model = model_of(rt.alloc(), Standard::Atomic)?;
-    let items = same(rt.alloc(), 65_537, true)?;
-    let error = judge(rt.alloc(), &model, items.as_slice()).err();
-    assert_eq!(rt; error, Some(JudgeError::TooLong));
-    Ok(())
-}
-
-#[test]
-fn the_longest_is_judged(rt: HostRuntime) -> Result<(), Fail> {
-    let model = model_of(rt.alloc(), Standard::Contingent)?;
-    let items = same(rt.alloc(), 65_536, false)?;
-    let verdict = judge(rt.alloc(), &model, items.as_slice())?;
-    assert!(rt; verdict.faults.as_slice().is_empty() && verdict.owed.as_slice().is_empty());
-    Ok(())
+// What the judge says of so many commits, or of so many times one edge.
+fn judged(
+    alloc: Global,
+    times: u32,
+    is_commit: bool,
+) -> Result<Result<Verdict<Global>, JudgeError>, Fail> {
+    let model = assemble(alloc, Standard::Contingent.text().as_bytes())?;
+    let items = same(alloc, times, is_commit)?;
+    Ok(judge(alloc, &model, items.as_slice()))
 }
 
 // The faults of commits of the transaction 1 at each place up to the last, from this one on.
 fn has_faults(rt: &impl Abort, faults: &[Fault], broken: Axiom, first: u32) {
     let mut place = first;
     for fault in faults {
-        assert_eq!(rt;
-            *fault,
-            Fault {
-                broken,
-                place,
-                by: 1
-            }
-        );
+        let is_due = fault.broken == broken && fault.place == place && fault.by == 1;
+        assert!(rt; is_due, "at {place}");
         place = place.saturating_add(1);
     }
 }
 
-// A commit that comes again and again never began, and ends once more each time.
+// One item more is too long. A commit that comes again and again never began, and ends once more each time.
 #[test]
-fn each_of_many_commits_is_told(rt: HostRuntime) -> Result<(), Fail> {
-    let model = model_of(rt.alloc(), Standard::Atomic)?;
-    let items = same(rt.alloc(), 4_096, true)?;
-    let verdict = judge(rt.alloc(), &model, items.as_slice())?;
-    let faults = verdict.faults.as_slice();
+fn long_lists(rt: HostRuntime) -> Result<(), Fail> {
+    let longer = judged(rt.alloc(), 65_537, true)?.err();
+    assert_eq!(rt; longer, Some(JudgeError::TooLong));
+    let longest = judged(rt.alloc(), 65_536, false)??;
+    assert!(rt; longest.faults.as_slice().is_empty() && longest.owed.as_slice().is_empty());
+    let commits = judged(rt.alloc(), 4_096, true)??;
+    let faults = commits.faults.as_slice();
     assert_eq!(rt; faults.len(), 8_191);
     let (unbegun, again) = faults.split_at_checked(4_096).ok_or("faults are lacking")?;
     has_faults(&rt, unbegun, Axiom::EndedAfterBegun, 1);

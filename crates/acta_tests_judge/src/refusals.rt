@@ -1,14 +1,18 @@
 //! Each growth of a call refused in turn: the answer is want of memory, and no other.
 
-use crate::reading::{Judged, told};
+use crate::reading::Judged;
+use crate::verdicts::told;
 use acta_judge::{JudgeError, judge};
 use acta_lang::assemble;
 use acta_models::Standard;
 use acta_table::Model;
 use refusing::Refusing;
-use std::alloc::Allocator;
+use std::alloc::Global;
 use std::process::Abort;
 use std::test::Fail;
+
+// What the judge allocates from.
+type Heap<'h> = &'h Refusing<Global>;
 
 // More allocations than any of these calls makes.
 const MOST: u64 = 4_000;
@@ -61,21 +65,20 @@ owed 3 2 abort",
 ];
 
 // Judges the list, the nth allocation refused; where it came, the answer is want of memory. Says whether it came.
-fn refused<A: Allocator + Copy, B: Allocator>(
+fn refused<'h>(
     rt: &impl Abort,
-    heap: &Refusing<B>,
-    alloc: A,
-    model: &Model<A>,
-    judged: &Judged<A>,
+    heap: Heap<'h>,
+    model: &Model<Heap<'h>>,
+    judged: &Judged<Heap<'h>>,
     nth: u64,
 ) -> Result<bool, Fail> {
     heap.refuse(nth);
-    let made = judge(alloc, model, judged.items.as_slice());
+    let made = judge(heap, model, judged.items.as_slice());
     let is_whole = heap.is_waiting();
     heap.refuse(0);
     match made {
         Ok(verdict) => {
-            let lines = told(alloc, &verdict)?;
+            let lines = told(heap, &verdict)?;
             assert!(rt; is_whole && lines.as_slice() == judged.due.as_str().as_bytes());
         }
         Err(error) => assert!(rt; !is_whole && error == JudgeError::Memory),
@@ -83,40 +86,24 @@ fn refused<A: Allocator + Copy, B: Allocator>(
     Ok(!is_whole)
 }
 
-// Judges the list, its first allocation refused, then the second, and so on, until none is. Says how many were.
-fn refuse_each<A: Allocator + Copy, B: Allocator>(
-    rt: &impl Abort,
-    heap: &Refusing<B>,
-    alloc: A,
-    model: &Model<A>,
-    judged: &Judged<A>,
-) -> Result<u64, Fail> {
+// Judges what the lines say, its first allocation refused, then the second, and so on, until none is. Says how many
+// were.
+fn refuse_each(rt: &impl Abort, heap: Heap<'_>, name: Standard, lines: &str) -> Result<u64, Fail> {
+    let model = assemble(heap, name.text().as_bytes())?;
+    let judged = Judged::read(heap, &model, lines)?;
     for nth in 1..MOST {
-        if !refused(rt, heap, alloc, model, judged, nth)? {
+        if !refused(rt, heap, &model, &judged, nth)? {
             return Ok(nth.wrapping_sub(1));
         }
     }
     Err(Fail::new("a call makes too many allocations"))
 }
 
-// The same of what the lines say.
-fn refuse_lines<A: Allocator + Copy, B: Allocator>(
-    rt: &impl Abort,
-    heap: &Refusing<B>,
-    alloc: A,
-    name: Standard,
-    lines: &str,
-) -> Result<u64, Fail> {
-    let model = assemble(alloc, name.text().as_bytes())?;
-    let judged = Judged::read(alloc, &model, lines)?;
-    refuse_each(rt, heap, alloc, &model, &judged)
-}
-
 #[test]
 fn a_judge_for_whom_there_is_no_memory(rt: HostRuntime) -> Result<(), Fail> {
     let heap = Refusing::new(rt.alloc());
     for (name, lines, least) in HISTORIES {
-        let refused = refuse_lines(&rt, &heap, &heap, name, lines)?;
+        let refused = refuse_each(&rt, &heap, name, lines)?;
         assert!(rt; refused >= least, "only {refused} at {lines}");
     }
     Ok(())

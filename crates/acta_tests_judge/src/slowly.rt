@@ -1,11 +1,13 @@
-//! A slow judge, by the answers at each place and by the formula of each edge.
+//! A slow judge: it asks the places before each item, tells each axiom over what they answer, and at the end asks the
+//! formula of each edge. It is the definitions once more, and knows nothing of how the judge keeps what it has seen.
 
-use crate::asking::{Faults, Here};
-use acta_axioms::{Axiom, Course, Fault, Places, Walk};
+use crate::asking::{Before, Said};
+use crate::telling::Faults;
+use acta_axioms::{Axiom, Course, Places, Walk};
 use acta_judge::Verdict;
 use acta_table::{Dep, Edge, EdgeNo, Items, Kept, MOST_EVENTS, Missing, Model, Owed};
 use acta_tests::formulas::{course_of, is_false, payment};
-use std::alloc::{AllocError, Allocator};
+use std::alloc::{AllocError, Global};
 use std::collections::BTreeSet;
 
 // Where a formula of the kind that is false and not owed became so.
@@ -20,69 +22,34 @@ fn place_of(kind: Dep, j: Course, i: Course) -> Option<u32> {
     }
 }
 
-// What is owed by the edge.
-fn debt<A: Allocator>(places: &Places<'_, A>, edge: &Edge) -> Option<Missing> {
+// Where the formula of the edge is false and not owed, and what is owed by it.
+fn settled(places: &Places<'_, Global>, edge: &Edge) -> (Option<u32>, Option<Missing>) {
     let (j, i) = (course_of(places, edge.j), course_of(places, edge.i));
-    if is_false(edge.kind, j, i) && !j.has_ended() {
-        payment(edge.kind)
-    } else {
-        None
+    if !is_false(edge.kind, j, i) {
+        return (None, None);
+    }
+    match payment(edge.kind) {
+        Some(missing) if !j.has_ended() => (None, Some(missing)),
+        _ => (place_of(edge.kind, j, i), None),
     }
 }
 
-// Where the formula of the edge is false and not owed.
-fn place_in<A: Allocator>(places: &Places<'_, A>, edge: &Edge) -> Option<u32> {
-    let (j, i) = (course_of(places, edge.j), course_of(places, edge.i));
-    if is_false(edge.kind, j, i) && debt(places, edge).is_none() {
-        place_of(edge.kind, j, i)
-    } else {
-        None
-    }
-}
-
-// The faults by edges.
-fn tell_edges<A: Allocator + Copy>(
-    places: &Places<'_, A>,
-    faults: &mut Faults<A>,
-) -> Result<(), AllocError> {
-    let mut number = 0u64;
-    for edge in places.edges() {
-        number = number.saturating_add(1);
-        if let Some(place) = place_in(places, edge) {
-            faults.tell(Axiom::Dependency(edge.kind), place, number)?;
-        }
-    }
-    Ok(())
-}
-
-// Whether the one that owes a commit by the edge owes an abort by another.
-fn clashes<A: Allocator>(places: &Places<'_, A>, edge: &Edge) -> bool {
-    let mut edges = places.edges().iter();
-    debt(places, edge) == Some(Missing::Commit)
-        && edges.any(|other| other.j == edge.j && debt(places, other) == Some(Missing::Abort))
-}
-
-// Who owes both, at the last place.
-fn tell_clashes<A: Allocator + Copy>(
-    places: &Places<'_, A>,
-    last: u32,
-    faults: &mut Faults<A>,
-) -> Result<(), AllocError> {
-    for edge in places.edges() {
-        if clashes(places, edge) {
-            faults.tell(Axiom::Clash, last, u64::from(edge.j.0))?;
-        }
-    }
-    Ok(())
-}
-
-// What is owed, by edge number.
-fn owed<A: Allocator + Copy>(alloc: A, places: &Places<'_, A>) -> Result<Vec<Owed, A>, AllocError> {
+// Tells the faults by edges, and gives what is owed, by edge number.
+fn tell_edges(
+    alloc: Global,
+    places: &Places<'_, Global>,
+    faults: &mut Faults,
+) -> Result<Vec<Owed>, AllocError> {
     let mut owed = Vec::new(alloc);
     let mut number = 0u64;
     for edge in places.edges() {
         number = number.saturating_add(1);
-        if let Some(missing) = debt(places, edge) {
+        let (place, missing) = settled(places, edge);
+        if let Some(place) = place {
+            faults.place = place;
+            faults.tell(Axiom::Dependency(edge.kind), true, number)?;
+        }
+        if let Some(missing) = missing {
             owed.push(Owed {
                 edge: EdgeNo(number),
                 txn: edge.j,
@@ -93,59 +60,65 @@ fn owed<A: Allocator + Copy>(alloc: A, places: &Places<'_, A>) -> Result<Vec<Owe
     Ok(owed)
 }
 
-// The faults at all places, place by place.
-fn tell_places<A: Allocator + Copy>(
-    alloc: A,
-    walk: &mut Walk<'_, A>,
-    faults: &mut Faults<A>,
+// Who owes both a commit and an abort.
+fn tell_clashes(owed: &[Owed], faults: &mut Faults) -> Result<(), AllocError> {
+    for one in owed {
+        for other in owed {
+            let is_clash = one.txn == other.txn
+                && one.missing == Missing::Commit
+                && other.missing == Missing::Abort;
+            faults.tell(Axiom::Clash, is_clash, u64::from(one.txn.0))?;
+        }
+    }
+    Ok(())
+}
+
+// The faults at all places, place by place. The walk then stands at the end.
+fn tell_places(
+    alloc: Global,
+    walk: &mut Walk<'_, Global>,
+    faults: &mut Faults,
 ) -> Result<(), AllocError> {
+    let mut front = Vec::new(alloc);
     for _ in 0..MOST_EVENTS {
         let Some(item) = walk.next() else {
             return Ok(());
         };
-        Here::of(alloc, walk, item)?.tell_all(faults)?;
+        let said = Said::of(item);
+        let before = Before::of(alloc, walk, front.as_slice(), said.asked)?;
+        faults.place = faults.place.saturating_add(1);
+        before.tell_all(said, faults)?;
+        front.push(said)?;
         walk.step()?;
     }
     Ok(())
 }
 
-// The faults in their order.
-fn listed<A: Allocator + Copy>(alloc: A, faults: &Faults<A>) -> Result<Vec<Fault, A>, AllocError> {
-    let mut listed = Vec::new(alloc);
-    for fault in faults.found.iter() {
-        listed.push(*fault)?;
-    }
-    Ok(listed)
-}
-
-// The verdict on what a walk has gone through.
-fn verdict_on<A: Allocator + Copy>(
-    alloc: A,
-    walk: &Walk<'_, A>,
-    faults: &mut Faults<A>,
-) -> Result<Verdict<A>, AllocError> {
-    let places = Places::of(alloc, walk.model(), walk.front())?;
-    tell_edges(&places, faults)?;
-    tell_clashes(&places, walk.front().len() as u32, faults)?;
-    Ok(Verdict {
-        faults: Items::of(listed(alloc, faults)?),
-        owed: Items::of(owed(alloc, &places)?),
-    })
-}
-
 /// The verdict on the list, slowly.
-pub fn judged_slowly<A: Allocator + Copy>(
-    alloc: A,
-    model: &Model<A>,
-    kept: &[Kept<A>],
-) -> Result<Verdict<A>, AllocError> {
+pub fn judged_slowly(
+    alloc: Global,
+    model: &Model<Global>,
+    kept: &[Kept<Global>],
+) -> Result<Verdict<Global>, AllocError> {
     if kept.len() > MOST_EVENTS {
         return Err(AllocError);
     }
     let mut walk = Walk::of(alloc, model, kept)?;
     let mut faults = Faults {
         found: BTreeSet::new(alloc),
+        place: 0,
     };
     tell_places(alloc, &mut walk, &mut faults)?;
-    verdict_on(alloc, &walk, &mut faults)
+    let places = Places::of(alloc, model, kept)?;
+    let owed = tell_edges(alloc, &places, &mut faults)?;
+    faults.place = kept.len() as u32;
+    tell_clashes(owed.as_slice(), &mut faults)?;
+    let mut listed = Vec::new(alloc);
+    for fault in faults.found.iter() {
+        listed.push(*fault)?;
+    }
+    Ok(Verdict {
+        faults: Items::of(listed),
+        owed: Items::of(owed),
+    })
 }

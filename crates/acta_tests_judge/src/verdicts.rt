@@ -1,21 +1,37 @@
-//! Verdicts, held against those of a slow judge.
+//! Verdicts as lines, held against those of a slow judge.
 
-use crate::reading::told;
 use crate::slowly::judged_slowly;
-use acta_judge::judge;
+use acta_judge::{Verdict, judge};
+use acta_script::{fault_line, owed_line};
 use acta_table::{Kept, Model};
-use std::alloc::Allocator;
+use std::alloc::{AllocError, Allocator, Global};
 use std::process::Abort;
 use std::test::Fail;
 
+/// The lines of the verdict.
+pub fn told<A: Allocator + Copy>(alloc: A, verdict: &Verdict<A>) -> Result<Vec<u8, A>, AllocError> {
+    let mut lines = Vec::new(alloc);
+    for fault in verdict.faults.as_slice() {
+        let line = fault_line(alloc, fault.broken.number(), fault.place, fault.by)?;
+        lines.extend_from_slice(line.as_slice())?;
+        lines.push(b'\n')?;
+    }
+    for owed in verdict.owed.as_slice() {
+        let line = owed_line(alloc, owed)?;
+        lines.extend_from_slice(line.as_slice())?;
+        lines.push(b'\n')?;
+    }
+    Ok(lines)
+}
+
 /// The lines of the verdict on the items. They are those of a slow judge.
-pub fn lines_on<A: Allocator + Copy>(
+pub fn lines_on(
     rt: &impl Abort,
-    alloc: A,
-    model: &Model<A>,
-    items: &[Kept<A>],
+    alloc: Global,
+    model: &Model<Global>,
+    items: &[Kept<Global>],
     at: &str,
-) -> Result<Vec<u8, A>, Fail> {
+) -> Result<Vec<u8>, Fail> {
     let lines = told(alloc, &judge(alloc, model, items)?)?;
     let slowly = told(alloc, &judged_slowly(alloc, model, items)?)?;
     assert_eq!(rt; lines.as_slice(), slowly.as_slice(), "slowly, at {at}");
@@ -24,13 +40,13 @@ pub fn lines_on<A: Allocator + Copy>(
 
 /// Judges the items, and then without the first, without the first two, and so on, which leaves few histories legal.
 /// Gives the lines of the verdict on all.
-pub fn lines_of_all<A: Allocator + Copy>(
+pub fn lines_of_all(
     rt: &impl Abort,
-    alloc: A,
-    model: &Model<A>,
-    items: &[Kept<A>],
+    alloc: Global,
+    model: &Model<Global>,
+    items: &[Kept<Global>],
     at: &str,
-) -> Result<Vec<u8, A>, Fail> {
+) -> Result<Vec<u8>, Fail> {
     for n in 1..items.len() {
         lines_on(rt, alloc, model, &items[n..], at)?;
     }
