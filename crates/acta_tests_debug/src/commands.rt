@@ -8,11 +8,10 @@
 //!
 //! where the first of the breaks is that on the kind of an event, and the last line asks the machine.
 
-use crate::histories::number_in;
+use crate::histories::{Heap, number_in};
 use acta_debug::{Break, Debugger, MoveError};
-use acta_script::read_event;
-use acta_table::{Model, ObjId, TxnId};
-use std::alloc::{AllocError, Allocator};
+use acta_table::{EventKind, ObjId, TxnId};
+use std::alloc::{AllocError, Global};
 use std::process::Abort;
 use std::test::Fail;
 
@@ -36,11 +35,28 @@ fn object(name: &str) -> Result<ObjId, Fail> {
     })
 }
 
-// The break that the words say, in the words of the model.
-fn break_of<A: Allocator + Copy>(alloc: A, model: &Model<A>, words: &str) -> Result<Break, Fail> {
+// The kind of the event that the words say.
+fn kind(event: &str) -> Result<EventKind, Fail> {
+    let (word, _) = event.split_once(' ').ok_or("an event has one word")?;
+    Ok(match word {
+        "begin" => EventKind::Begin,
+        "spawn" => EventKind::Spawn,
+        "split" => EventKind::Split,
+        "join" => EventKind::Join,
+        "delegate" => EventKind::Delegate,
+        "form" => EventKind::Form,
+        "do" => EventKind::Operate,
+        "commit" => EventKind::Commit,
+        "abort" => EventKind::Abort,
+        _ => Err("a word is no event")?,
+    })
+}
+
+// The break that the words say.
+fn break_of(words: &str) -> Result<Break, Fail> {
     let (word, rest) = words.split_once(' ').ok_or("a break has one word")?;
     Ok(match word {
-        "like" => Break::Kind(read_event(alloc, model, rest.as_bytes())?.kind()),
+        "like" => Break::Kind(kind(rest)?),
         "txn" => Break::Touches(txn(rest)?),
         "object" => Break::Object(object(rest)?),
         "owed" => Break::OwedAtLeast(number(rest)?),
@@ -50,11 +66,7 @@ fn break_of<A: Allocator + Copy>(alloc: A, model: &Model<A>, words: &str) -> Res
 }
 
 // How a move ended, and where the debugger then stands.
-fn moved<A: Allocator + Copy>(
-    alloc: A,
-    done: Result<(), MoveError>,
-    at: u32,
-) -> Result<String<A>, AllocError> {
+fn moved(alloc: Global, done: Result<(), MoveError>, at: u32) -> Result<String, AllocError> {
     match done {
         Ok(()) => format!(in alloc; "at {at}"),
         Err(error) => format!(in alloc; "{error:?} at {at}"),
@@ -62,18 +74,21 @@ fn moved<A: Allocator + Copy>(
 }
 
 // Runs on, and tells where it stopped, and where the debugger then stands.
-fn ran<A: Allocator + Copy>(alloc: A, debugger: &mut Debugger<A>) -> Result<String<A>, AllocError> {
-    let stop = debugger.run()?;
+fn ran(alloc: Global, debugger: &mut Debugger<Heap<'_>>) -> Result<String, AllocError> {
+    let stop = debugger.run();
     let at = debugger.at();
-    format!(in alloc; "{stop:?} at {at}")
+    match stop {
+        Ok(stop) => format!(in alloc; "{stop:?} at {at}"),
+        Err(AllocError) => moved(alloc, Err(MoveError::Memory), at),
+    }
 }
 
-// What the debugger does at the command, or what its machine shows.
-fn told<A: Allocator + Copy>(
-    alloc: A,
-    debugger: &mut Debugger<A>,
+/// What the debugger does at the command, or what its machine shows. What lacks memory is told too.
+pub fn told(
+    alloc: Global,
+    debugger: &mut Debugger<Heap<'_>>,
     command: &str,
-) -> Result<String<A>, Fail> {
+) -> Result<String, Fail> {
     let (word, rest) = command.split_once(' ').unwrap_or((command, ""));
     Ok(match word {
         "step" => {
@@ -94,9 +109,11 @@ fn told<A: Allocator + Copy>(
             format!(in alloc; "cleared")?
         }
         "break" => {
-            let one = break_of(alloc, debugger.machine().model(), rest)?;
-            let number = debugger.add_break(one)?;
-            format!(in alloc; "break {number}")?
+            let one = break_of(rest)?;
+            match debugger.add_break(one) {
+                Ok(number) => format!(in alloc; "break {number}")?,
+                Err(AllocError) => moved(alloc, Err(MoveError::Memory), debugger.at())?,
+            }
         }
         "value" => {
             let value = number_in(debugger, object(rest)?)?.ok_or("an object has no number")?;
@@ -115,21 +132,18 @@ fn told<A: Allocator + Copy>(
 }
 
 /// Plays the lines on the debugger: each has a command, and what is told of it.
-pub fn play<A: Allocator + Copy>(
+pub fn play(
     rt: &impl Abort,
-    alloc: A,
-    debugger: &mut Debugger<A>,
+    alloc: Global,
+    debugger: &mut Debugger<Heap<'_>>,
     lines: &str,
 ) -> Result<(), Fail> {
     for line in lines.lines() {
         let (command, due) = line.split_once(" : ").ok_or("a line tells nothing")?;
         let text = told(alloc, debugger, command)?;
         assert_eq!(rt; text.as_str(), due, "at {line}");
-        assert_eq!(rt;
-            debugger.machine().history().len(),
-            debugger.at() as usize,
-            "at {line}"
-        );
+        let (history, at) = (debugger.machine().history().len(), debugger.at());
+        assert_eq!(rt; history, at as usize, "at {line}");
     }
     Ok(())
 }

@@ -6,43 +6,44 @@ use acta_models::Standard;
 use acta_objects::ObjectState;
 use acta_script::read_kept;
 use acta_table::{Kept, Model, ObjId};
-use std::alloc::{AllocError, Allocator};
+use refusing::Refusing;
+use std::alloc::{AllocError, Global};
 use std::test::Fail;
 
+/// What debuggers allocate from.
+pub type Heap<'h> = &'h Refusing<Global>;
+
 /// The standard model of that name.
-pub fn model_of<A: Allocator + Copy>(alloc: A, name: Standard) -> Result<Model<A>, Fail> {
-    Ok(assemble(alloc, name.text().as_bytes())?)
+pub fn model_of(heap: Heap<'_>, name: Standard) -> Result<Model<Heap<'_>>, Fail> {
+    Ok(assemble(heap, name.text().as_bytes())?)
 }
 
 /// The items that the lines say, in the words of the model.
-pub fn items<A: Allocator + Copy>(
-    alloc: A,
-    model: &Model<A>,
+pub fn items<'h>(
+    heap: Heap<'h>,
+    model: &Model<Heap<'h>>,
     text: &str,
-) -> Result<Vec<Kept<A>, A>, Fail> {
-    let mut items = Vec::new(alloc);
+) -> Result<Vec<Kept<Heap<'h>>, Heap<'h>>, Fail> {
+    let mut items = Vec::new(heap);
     for line in text.lines() {
-        items.push(read_kept(alloc, model, line.as_bytes())?)?;
+        items.push(read_kept(heap, model, line.as_bytes())?)?;
     }
     Ok(items)
 }
 
 /// A debugger on the history that the lines say.
-pub fn debugger<A: Allocator + Copy>(
-    alloc: A,
+pub fn debugger<'h>(
+    heap: Heap<'h>,
     name: Standard,
     text: &str,
-) -> Result<Debugger<A>, Fail> {
-    let model = model_of(alloc, name)?;
-    let history = items(alloc, &model, text)?;
-    Ok(Debugger::new(alloc, model, history)?)
+) -> Result<Debugger<Heap<'h>>, Fail> {
+    let model = model_of(heap, name)?;
+    let history = items(heap, &model, text)?;
+    Ok(Debugger::new(heap, model, history)?)
 }
 
 /// The number that a register or a counter has where the debugger stands.
-pub fn number_in<A: Allocator + Copy>(
-    debugger: &Debugger<A>,
-    ob: ObjId,
-) -> Result<Option<i64>, AllocError> {
+pub fn number_in(debugger: &Debugger<Heap<'_>>, ob: ObjId) -> Result<Option<i64>, AllocError> {
     Ok(match debugger.machine().value(ob)? {
         Some(ObjectState::Register(value)) => Some(i64::from(value)),
         Some(ObjectState::Counter(value)) => Some(value),
@@ -61,7 +62,7 @@ begin 3 try
 ";
 
 /// The same, and so many additions of 1 to n by the third.
-pub fn sums<A: Allocator + Copy>(alloc: A, times: u32) -> Result<String<A>, AllocError> {
+pub fn sums(alloc: Global, times: u32) -> Result<String, AllocError> {
     let mut text = String::from_str(alloc, PAID)?;
     for _ in 0..times {
         text.push_str("do 3 n add 1 = done\n")?;

@@ -1,157 +1,118 @@
 //! Each growth refused in turn: a call answers want of memory, and the debugger stays as it was.
 
-use crate::histories::{debugger, items, model_of, number_in, sums};
-use acta_debug::{Break, Debugger, MoveError, NewError};
+use crate::commands::told;
+use crate::histories::{Heap, debugger, items, model_of, number_in, sums};
+use acta_debug::{Debugger, NewError};
 use acta_models::Standard;
-use acta_table::{EventKind, Kept, Model, ObjId};
+use acta_table::ObjId;
 use refusing::Refusing;
-use std::alloc::{AllocError, Allocator};
+use std::alloc::{AllocError, Global};
 use std::process::Abort;
 use std::test::Fail;
 
 // More allocations than any of these calls makes.
 const MOST: u64 = 4_000;
 
-fn too_many() -> Fail {
-    Fail::new("a call makes too many allocations")
-}
-
-// A call of a debugger.
-#[derive(Clone, Copy)]
-enum Call {
-    Step,
-    Back,
-    Goto(u32),
-    Run,
-    AddBreak,
-}
-
-// Makes the call: of a run it gives where the debugger then stands, as of a move, and of a break its number.
-fn made<A: Allocator + Copy>(debugger: &mut Debugger<A>, call: Call) -> Result<u64, MoveError> {
-    match call {
-        Call::Step => debugger.step()?,
-        Call::Back => debugger.back()?,
-        Call::Goto(n) => debugger.goto(n)?,
-        Call::Run => {
-            debugger.run()?;
-        }
-        Call::AddBreak => return Ok(debugger.add_break(Break::Kind(EventKind::Begin))?),
-    }
-    Ok(u64::from(debugger.at()))
-}
+// Commands with what is told of them, and the value of n behind each. A break that could not be added has no number.
+const CALLS: &str = "\
+goto 65 : at 65 : 59
+back : at 64 : 58
+break like begin 1 try : break 1 : 58
+goto 0 : at 0 : 0
+step : at 1 : 0
+run : Broke { number: 1, place: 2 } at 2 : 0
+run : Broke { number: 1, place: 3 } at 3 : 0
+run : Broke { number: 1, place: 6 } at 6 : 0
+run : Finished at 70 : 64";
 
 // The counter n, where the debugger stands.
-fn sum<A: Allocator + Copy>(debugger: &Debugger<A>) -> Result<Option<i64>, AllocError> {
+fn sum(debugger: &Debugger<Heap<'_>>) -> Result<Option<i64>, AllocError> {
     number_in(debugger, ObjId(1))
 }
 
-// Makes the call, the nth allocation refused; where it came, the answer is want of memory, and the debugger stands
-// where it stood. Says whether it came.
-fn refused<A: Allocator + Copy, B: Allocator>(
+// Does what the command says, the nth allocation refused; where it came, want of memory is told, and the debugger
+// stands where it stood. Gives what is told where it did not come.
+fn refused<'h>(
     rt: &impl Abort,
-    heap: &Refusing<B>,
-    debugger: &mut Debugger<A>,
-    call: Call,
-    due: u64,
+    alloc: Global,
+    heap: Heap<'h>,
+    debugger: &mut Debugger<Heap<'h>>,
+    command: &str,
     nth: u64,
-) -> Result<bool, Fail> {
+) -> Result<Option<String>, Fail> {
     let (at, value) = (debugger.at(), sum(debugger)?);
     heap.refuse(nth);
-    let done = made(debugger, call);
+    let text = told(alloc, debugger, command)?;
     let is_whole = heap.is_waiting();
     heap.refuse(0);
     if is_whole {
-        assert_eq!(rt; done, Ok(due), "of {due}");
-    } else {
-        assert_eq!(rt; done, Err(MoveError::Memory), "of {due}");
-        assert_eq!(rt; (debugger.at(), sum(debugger)?), (at, value), "of {due}");
+        return Ok(Some(text));
     }
-    Ok(!is_whole)
+    assert!(rt; text.as_str().starts_with("Memory at "), "at {command}");
+    assert_eq!(rt;
+        (debugger.at(), sum(debugger)?),
+        (at, value),
+        "at {command}"
+    );
+    Ok(None)
 }
 
-// Makes the call, its first allocation refused, then the second, and so on, until none is. Says how many were.
-fn refuse_each<A: Allocator + Copy, B: Allocator>(
+// Does what the line says, the first allocation refused, then the second, and so on, until none is.
+fn refuse_each<'h>(
     rt: &impl Abort,
-    heap: &Refusing<B>,
-    debugger: &mut Debugger<A>,
-    call: Call,
-    due: u64,
-) -> Result<u64, Fail> {
+    alloc: Global,
+    heap: Heap<'h>,
+    debugger: &mut Debugger<Heap<'h>>,
+    line: &str,
+) -> Result<(), Fail> {
+    let (command, due) = line.split_once(" : ").ok_or("a line tells nothing")?;
     for nth in 1..MOST {
-        if !refused(rt, heap, debugger, call, due, nth)? {
-            return Ok(nth.wrapping_sub(1));
+        if let Some(text) = refused(rt, alloc, heap, debugger, command, nth)? {
+            let value = sum(debugger)?.ok_or("n has no number")?;
+            let text = format!(in alloc; "{text} : {value}")?;
+            assert!(rt; nth > 1, "no growth at {line}");
+            assert_eq!(rt; text.as_str(), due, "at {line}");
+            return Ok(());
         }
     }
-    Err(too_many())
+    Err(Fail::new("a call makes too many allocations"))
 }
 
-// Calls with what they answer, and the value of n behind them. A break that could not be added has no number.
-const CALLS: [(Call, u64, i64); 9] = [
-    (Call::Goto(65), 65, 59),
-    (Call::Back, 64, 58),
-    (Call::AddBreak, 1, 58),
-    (Call::Goto(0), 0, 0),
-    (Call::Step, 1, 0),
-    (Call::Run, 2, 0),
-    (Call::Run, 3, 0),
-    (Call::Run, 6, 0),
-    (Call::Run, 70, 64),
-];
-
-fn call_each<A: Allocator + Copy, B: Allocator>(
-    rt: &impl Abort,
-    heap: &Refusing<B>,
-    debugger: &mut Debugger<A>,
-) -> Result<(), Fail> {
-    for (call, due, value) in CALLS {
-        let refused = refuse_each(rt, heap, debugger, call, due)?;
-        assert!(rt; refused > 0, "no growth of {due}");
-        assert_eq!(rt; sum(debugger)?, Some(value), "of {due}");
-    }
-    Ok(())
-}
-
-#[test]
-fn a_debugger_that_cannot_grow(rt: HostRuntime) -> Result<(), Fail> {
-    let heap = Refusing::new(rt.alloc());
-    let text = sums(&heap, 64)?;
-    let mut debugger = debugger(&heap, Standard::Contingent, text.as_str())?;
-    call_each(&rt, &heap, &mut debugger)
-}
-
-// Makes a debugger, the nth allocation refused; where it came, there is none, for want of memory. Says whether it came.
-fn new_refused<'h, B: Allocator>(
-    rt: &impl Abort,
-    heap: &'h Refusing<B>,
-    model: Model<&'h Refusing<B>>,
-    history: Vec<Kept<&'h Refusing<B>>, &'h Refusing<B>>,
-    nth: u64,
-) -> Result<bool, Fail> {
+// Makes a debugger on the history, the nth allocation refused; where it came, there is none, for want of memory. Says
+// whether it came.
+fn new_refused(rt: &impl Abort, heap: Heap<'_>, text: &str, nth: u64) -> Result<bool, Fail> {
+    let model = model_of(heap, Standard::Contingent)?;
+    let history = items(heap, &model, text)?;
     heap.refuse(nth);
     let made = Debugger::new(heap, model, history);
     let is_whole = heap.is_waiting();
     heap.refuse(0);
     match made {
         Ok(debugger) => assert!(rt; is_whole && debugger.last() == 16),
-        Err(NewError::Memory) => assert!(rt; !is_whole),
-        Err(NewError::NotAHistory(_)) => return Err(Fail::new(
-            "a refused growth has another answer",
-        )),
+        Err(error) => assert!(rt; !is_whole && error == NewError::Memory),
     }
     Ok(!is_whole)
 }
 
-#[test]
-fn a_debugger_for_which_there_is_no_memory(rt: HostRuntime) -> Result<(), Fail> {
-    let heap = Refusing::new(rt.alloc());
-    let text = sums(&heap, 10)?;
+// Makes a debugger, its first allocation refused, then the second, and so on, until none is. Says how many were.
+fn new_refused_each(rt: &impl Abort, heap: Heap<'_>, text: &str) -> Result<u64, Fail> {
     for nth in 1..MOST {
-        let model = model_of(&heap, Standard::Contingent)?;
-        let history = items(&heap, &model, text.as_str())?;
-        if !new_refused(&rt, &heap, model, history, nth)? {
-            assert!(rt; nth > 10, "only {nth}");
-            return Ok(());
+        if !new_refused(rt, heap, text, nth)? {
+            return Ok(nth.wrapping_sub(1));
         }
     }
-    Err(too_many())
+    Err(Fail::new("a call makes too many allocations"))
+}
+
+#[test]
+fn a_debugger_for_which_there_is_no_memory(rt: HostRuntime) -> Result<(), Fail> {
+    let (alloc, heap) = (rt.alloc(), Refusing::new(rt.alloc()));
+    let refused = new_refused_each(&rt, &heap, sums(alloc, 10)?.as_str())?;
+    assert!(rt; refused > 9, "only {refused}");
+    let text = sums(alloc, 64)?;
+    let mut debugger = debugger(&heap, Standard::Contingent, text.as_str())?;
+    for line in CALLS.lines() {
+        refuse_each(&rt, alloc, &heap, &mut debugger, line)?;
+    }
+    Ok(())
 }

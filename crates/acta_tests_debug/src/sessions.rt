@@ -3,6 +3,7 @@
 use crate::commands::play;
 use crate::histories::{debugger, sums};
 use acta_models::Standard;
+use refusing::Refusing;
 use std::test::Fail;
 
 // A long history, which is gone over in both directions. A debt is owed behind one place.
@@ -39,15 +40,6 @@ owed : 1
 back : at 3
 owed : 0
 goto 4294967295 : OutOfRange at 3";
-
-#[test]
-fn over_a_long_history(rt: HostRuntime) -> Result<(), Fail> {
-    let alloc = rt.alloc();
-    let text = sums(alloc, 124)?;
-    let mut debugger = debugger(alloc, Standard::Contingent, text.as_str())?;
-    assert_eq!(rt; (debugger.at(), debugger.last()), (0, 130));
-    play(&rt, alloc, &mut debugger, OVER_SUMS)
-}
 
 // Histories, with what is done with a debugger on each. One that splits, delegates and joins: 7 is the end of 1, and
 // not of 2. One that spawns. One that forms edges.
@@ -195,10 +187,13 @@ run : Broke { number: 3, place: 6 } at 6";
 
 #[test]
 fn each_session(rt: HostRuntime) -> Result<(), Fail> {
-    let alloc = rt.alloc();
+    let (alloc, heap) = (rt.alloc(), Refusing::new(rt.alloc()));
     for (name, history, lines) in SESSIONS {
-        let mut debugger = debugger(alloc, name, history)?;
+        let mut debugger = debugger(&heap, name, history)?;
         play(&rt, alloc, &mut debugger, lines)?;
     }
-    Ok(())
+    let text = sums(alloc, 124)?;
+    let mut debugger = debugger(&heap, Standard::Contingent, text.as_str())?;
+    assert_eq!(rt; (debugger.at(), debugger.last()), (0, 130));
+    play(&rt, alloc, &mut debugger, OVER_SUMS)
 }
