@@ -4,11 +4,11 @@
 use acta_locked::{Entry, Report, Script};
 use acta_machine::Machine;
 use acta_script::answer_line;
-use acta_table::Model;
-use std::alloc::{AllocError, Allocator};
+use acta_table::{Answer, Model};
+use std::alloc::{AllocError, Global};
 
 /// Whether the two lists have the same entries, in order.
-pub fn are_same<A: Allocator>(entries: &[Entry<A>], others: &[Entry<A>]) -> bool {
+pub fn are_same(entries: &[Entry<Global>], others: &[Entry<Global>]) -> bool {
     if entries.len() != others.len() {
         return false;
     }
@@ -20,12 +20,12 @@ pub fn are_same<A: Allocator>(entries: &[Entry<A>], others: &[Entry<A>]) -> bool
     true
 }
 
-/// Whether the entries of this seat are those of the report, in order, and their events are the script.
-pub fn is_part<A: Allocator>(
-    entries: &[Entry<A>],
+// Whether the entries of this seat are those of the report, in order, and their events are the script.
+fn is_part(
+    entries: &[Entry<Global>],
     seat: u8,
-    script: &Script<A>,
-    report: &Report<A>,
+    script: &Script<Global>,
+    report: &Report<Global>,
 ) -> bool {
     let (events, told) = (script.as_slice(), report.entries.as_slice());
     if report.seat != seat || told.len() != events.len() {
@@ -47,10 +47,10 @@ pub fn is_part<A: Allocator>(
 }
 
 /// Whether each seat's report is its part of the entries and answers its script.
-pub fn are_parts<A: Allocator>(
-    entries: &[Entry<A>],
-    scripts: &[Script<A>],
-    reports: &[Report<A>],
+pub fn are_parts(
+    entries: &[Entry<Global>],
+    scripts: &[Script<Global>],
+    reports: &[Report<Global>],
 ) -> bool {
     if reports.len() != scripts.len() || scripts.len() > 16 {
         return false;
@@ -63,30 +63,34 @@ pub fn are_parts<A: Allocator>(
     true
 }
 
-/// Whether the entry is answered by this line.
-pub fn says<A: Allocator + Copy>(
-    alloc: A,
-    entry: &Entry<A>,
-    line: &str,
-) -> Result<bool, AllocError> {
-    let told = answer_line(alloc, &entry.answer)?;
-    Ok(told.as_slice() == line.as_bytes())
+/// The answers of the entries, a line each.
+pub fn answers(alloc: Global, entries: &[Entry<Global>]) -> Result<Vec<u8>, AllocError> {
+    let mut lines = Vec::new(alloc);
+    for entry in entries {
+        lines.extend_from_slice(answer_line(alloc, &entry.answer)?.as_slice())?;
+        lines.push(b'\n')?;
+    }
+    Ok(lines)
 }
 
-/// Whether the entries are numbered from 1, and a new machine on the model answers each event as its entry says.
-pub fn replays<A: Allocator + Copy>(
-    alloc: A,
-    model: Model<A>,
-    entries: &[Entry<A>],
-) -> Result<bool, AllocError> {
+/// How many of the entries were refused, where the entries are numbered from 1, and a new machine on the model answers
+/// each event as its entry says.
+pub fn replayed(
+    alloc: Global,
+    model: Model<Global>,
+    entries: &[Entry<Global>],
+) -> Result<Option<u32>, AllocError> {
     let mut machine = Machine::new(alloc, model)?;
-    let mut number = 0u32;
+    let (mut number, mut refused) = (0u32, 0u32);
     for entry in entries {
         number = number.wrapping_add(1);
         let answer = machine.take(&entry.event)?;
         if entry.number != number || entry.answer != answer {
-            return Ok(false);
+            return Ok(None);
+        }
+        if matches!(answer, Answer::Refused { .. }) {
+            refused = refused.wrapping_add(1);
         }
     }
-    Ok(true)
+    Ok(Some(refused))
 }

@@ -1,12 +1,12 @@
 //! Sixteen workers, who fill a book on a standard model: a machine of its own answers the book's events again, and
 //! each part of the book answers its script.
 
-use crate::books::{are_parts, replays};
-use crate::scripts::model_of;
-use acta_locked::{Driven, Entry, OpenGate, Script, drive};
+use crate::books::{are_parts, replayed};
+use crate::scripts::{driven, model_of};
+use acta_locked::{OpenGate, Script};
 use acta_models::Standard;
-use acta_table::{Answer, ClassId, Event, ObjId, Op, TxnId};
-use std::alloc::{AllocError, Allocator, Global};
+use acta_table::{ClassId, Event, ObjId, Op, TxnId};
+use std::alloc::{AllocError, Global};
 use std::process::Abort;
 use std::sync::Wait;
 use std::test::Fail;
@@ -17,36 +17,33 @@ const WORKERS: u16 = 16;
 
 const ROUNDS: u16 = 256;
 
-// An operation: mostly additions, which are not in conflict, and else one that may be.
-fn operation<A: Allocator>(t: TxnId, mix: u16) -> Event<A> {
-    let (x, n, s) = (ObjId(0), ObjId(1), ObjId(3));
-    match mix % 13 {
-        0 => Event::Operate(t, x, Op::Write(7)),
-        1 => Event::Operate(t, x, Op::Read),
-        2 => Event::Operate(t, n, Op::Get),
-        3 => Event::Operate(t, s, Op::Insert(5)),
-        4 => Event::Operate(t, s, Op::Size),
-        5 => Event::Operate(t, x, Op::Get),
-        _ => Event::Operate(t, n, Op::Add(3)),
-    }
-}
-
-// An operation that conflicts with no other of these scripts.
-fn calm_operation<A: Allocator>(t: TxnId) -> Event<A> {
-    Event::Operate(t, ObjId(2), Op::Add(3))
+// An operation: mostly additions, which are not in conflict, and else one that may be. A calm one conflicts with no
+// other of these scripts.
+fn operation(t: TxnId, is_calm: bool, mix: u16) -> Event<Global> {
+    let (x, n, m, s) = (ObjId(0), ObjId(1), ObjId(2), ObjId(3));
+    let (object, op) = match mix % 13 {
+        _ if is_calm => (m, Op::Add(3)),
+        0 => (x, Op::Write(7)),
+        1 => (x, Op::Read),
+        2 => (n, Op::Get),
+        3 => (s, Op::Insert(5)),
+        4 => (s, Op::Size),
+        5 => (x, Op::Get),
+        _ => (n, Op::Add(3)),
+    };
+    Event::Operate(t, object, op)
 }
 
 // A step of a round. Each round has a transaction of its own, but the last, whose number is used again: it begins, in
 // every other round operates, tries to commit, and then to abort. What else it does is refused: it begins twice, and
 // commits and aborts where it has ended. From the calm round on no operation conflicts with another's.
-fn step_of<A: Allocator>(seat: u16, round: u16, calm: u16, step: u16) -> Event<A> {
+fn step_of(seat: u16, round: u16, calm: u16, step: u16) -> Event<Global> {
     let first = seat.wrapping_sub(1).wrapping_mul(255);
     let t = TxnId(first.wrapping_add(round % 255).wrapping_add(1));
     match step {
-        4 if round % 2 == 0 && round < calm => {
-            operation(t, seat.wrapping_mul(7).wrapping_add(round))
+        4 if round % 2 == 0 => {
+            operation(t, round >= calm, seat.wrapping_mul(7).wrapping_add(round))
         }
-        4 if round % 2 == 0 => calm_operation(t),
         8 | 10 | 12 | 14 => Event::Commit(t),
         9 | 11 | 13 | 15 => Event::Abort(t),
         _ => Event::Begin(t, ClassId(0)),
@@ -72,28 +69,6 @@ fn all_scripts(alloc: Global, calm: u16) -> Result<Vec<Script<Global>>, AllocErr
     Ok(scripts)
 }
 
-// How many of the entries were refused.
-fn refused<A: Allocator>(entries: &[Entry<A>]) -> u32 {
-    let mut refused = 0u32;
-    for entry in entries {
-        if matches!(entry.answer, Answer::Refused { .. }) {
-            refused = refused.wrapping_add(1);
-        }
-    }
-    refused
-}
-
-// A drive of the scripts over a book of the model.
-fn driven_by<R: Threads + Wait + Sync>(
-    rt: &R,
-    alloc: Global,
-    name: Standard,
-    scripts: &[Script<Global>],
-) -> Result<Driven<Global>, Fail> {
-    let model = model_of(alloc, name)?;
-    Ok(drive(rt, alloc, model, scripts, &OpenGate)?)
-}
-
 // The book is full, some of its entries were refused and some were not, and it is told by its own machine.
 fn crowd<R: Threads + Wait + Sync + Abort>(
     rt: &R,
@@ -102,12 +77,11 @@ fn crowd<R: Threads + Wait + Sync + Abort>(
     calm: u16,
 ) -> Result<(), Fail> {
     let scripts = all_scripts(alloc, calm)?;
-    let driven = driven_by(rt, alloc, name, scripts.as_slice())?;
+    let driven = driven(rt, alloc, name, scripts.as_slice(), &OpenGate)??;
     let entries = driven.book.entries();
     assert_eq!(rt; entries.len(), 65_536);
     assert!(rt; are_parts(entries, scripts.as_slice(), driven.reports.as_slice()));
-    assert!(rt; replays(alloc, model_of(alloc, name)?, entries)?);
-    let refused = refused(entries);
+    let refused = replayed(alloc, model_of(alloc, name)?, entries)?.ok_or("answers differ")?;
     assert!(rt;
         8_192 < refused && refused < 65_536,
         "{refused} are refused"

@@ -1,8 +1,9 @@
 //! Why a drive has no result: the faults of its scripts, and a gate that gives up.
 
 use crate::gates::Stopping;
-use crate::scripts::{atomic, two_scripts};
-use acta_locked::{DriveError, Entry, Gate, OpenGate, Script, drive};
+use crate::scripts::{driven, two_scripts};
+use acta_locked::{DriveError, OpenGate, Script};
+use acta_models::Standard;
 use acta_table::{Event, TxnId};
 use std::alloc::{AllocError, Global};
 use std::process::Abort;
@@ -28,17 +29,6 @@ fn all_commits(alloc: Global, calls: &[usize]) -> Result<Vec<Script<Global>>, Al
     Ok(scripts)
 }
 
-// What the drive of the scripts fails with.
-fn fault<R: Threads + Wait + Sync, G: Gate<Entry<Global>> + Sync>(
-    rt: &R,
-    alloc: Global,
-    scripts: &[Script<Global>],
-    gate: &G,
-) -> Result<Option<DriveError>, Fail> {
-    let model = atomic(alloc)?;
-    Ok(drive(rt, alloc, model, scripts, gate).err())
-}
-
 // Scripts of so many commits each are not run, for this reason.
 fn are_barred<R: Threads + Wait + Sync + Abort>(
     rt: &R,
@@ -47,17 +37,9 @@ fn are_barred<R: Threads + Wait + Sync + Abort>(
     why: DriveError,
 ) -> Result<(), Fail> {
     let scripts = all_commits(alloc, calls)?;
-    let found = fault(rt, alloc, scripts.as_slice(), &OpenGate)?;
+    let found = driven(rt, alloc, Standard::Atomic, scripts.as_slice(), &OpenGate)?.err();
     assert_eq!(rt; found, Some(why));
     Ok(())
-}
-
-#[test]
-fn scripts_that_are_not_run(rt: HostRuntime) -> Result<(), Fail> {
-    let alloc = rt.alloc();
-    are_barred(&rt, alloc, &[], DriveError::NoWorker)?;
-    are_barred(&rt, alloc, &[1; 17], DriveError::TooManyWorkers)?;
-    are_barred(&rt, alloc, &[32_768, 32_769], DriveError::TooManyEvents)
 }
 
 // The second worker gives up before its first call.
@@ -68,12 +50,16 @@ fn gives_up<R: Threads + Wait + Sync + Abort>(rt: &R, alloc: Global) -> Result<(
         "begin 2 flat\ndo 2 m add 7",
     )?;
     let gate = Stopping { seat: 2, call: 1 };
-    let found = fault(rt, alloc, scripts.as_slice(), &gate)?;
+    let found = driven(rt, alloc, Standard::Atomic, scripts.as_slice(), &gate)?.err();
     assert_eq!(rt; found, Some(DriveError::GaveUp(2)));
     Ok(())
 }
 
 #[test]
-fn a_gate_that_gives_up(rt: HostRuntime) -> Result<(), Fail> {
-    gives_up(&rt, rt.alloc())
+fn drives_that_have_no_result(rt: HostRuntime) -> Result<(), Fail> {
+    let alloc = rt.alloc();
+    are_barred(&rt, alloc, &[], DriveError::NoWorker)?;
+    are_barred(&rt, alloc, &[1; 17], DriveError::TooManyWorkers)?;
+    are_barred(&rt, alloc, &[32_768, 32_769], DriveError::TooManyEvents)?;
+    gives_up(&rt, alloc)
 }

@@ -1,14 +1,14 @@
 //! A full book: it has 65,536 entries, of which none needs to be admitted, and takes no more.
 
-use crate::scripts::atomic;
+use crate::scripts::model_of;
 use acta_locked::{Book, TakeError};
+use acta_models::Standard;
 use acta_table::{Answer, Event, Rule, TxnId};
-use std::alloc::{Allocator, Global};
-use std::process::Abort;
+use std::alloc::Global;
 use std::test::Fail;
 
 // Commits a transaction that has not begun, and says whether it is refused for that, under this number.
-fn is_refused<A: Allocator + Copy>(book: &mut Book<A>, number: u32) -> Result<bool, TakeError> {
+fn is_refused(book: &mut Book<Global>, number: u32) -> Result<bool, TakeError> {
     let entry = book.take(1, Event::Commit(TxnId(1)))?;
     let answer = Answer::Refused {
         rule: Rule::NotInProgress,
@@ -17,8 +17,9 @@ fn is_refused<A: Allocator + Copy>(book: &mut Book<A>, number: u32) -> Result<bo
     Ok(entry.number == number && entry.seat == 1 && entry.answer == answer)
 }
 
-fn fill(rt: &impl Abort, alloc: Global) -> Result<(), Fail> {
-    let mut book = Book::new(alloc, atomic(alloc)?)?;
+#[test]
+fn a_full_book_takes_no_more(rt: HostRuntime) -> Result<(), Fail> {
+    let mut book = Book::new(rt.alloc(), model_of(rt.alloc(), Standard::Atomic)?)?;
     for number in 1..65_537u32 {
         assert!(rt; is_refused(&mut book, number)?, "call {number}");
     }
@@ -27,9 +28,4 @@ fn fill(rt: &impl Abort, alloc: Global) -> Result<(), Fail> {
     assert_eq!(rt; book.entries().len(), 65_536);
     assert!(rt; book.machine().history().is_empty());
     Ok(())
-}
-
-#[test]
-fn a_full_book_takes_no_more(rt: HostRuntime) -> Result<(), Fail> {
-    fill(&rt, rt.alloc())
 }

@@ -64,27 +64,19 @@ impl<'a, R: Wait> Meeting<'a, R> {
     /// Whether the gate was shown these entries, each once, and no others.
     pub fn has_shown(&self, entries: &[Entry<Global>]) -> bool {
         let shown = self.shown.lock(self.rt);
-        if shown.len() != entries.len() {
-            return false;
-        }
         for entry in entries {
-            if times(shown.as_slice(), entry) != 1 {
+            let mut times = 0u64;
+            for told in shown.iter() {
+                if told.is_same(entry) {
+                    times = times.wrapping_add(1);
+                }
+            }
+            if times != 1 {
                 return false;
             }
         }
-        true
+        shown.len() == entries.len()
     }
-}
-
-// How many of the entries are this one.
-fn times(shown: &[Entry<Global>], entry: &Entry<Global>) -> u64 {
-    let mut times = 0u64;
-    for told in shown {
-        if told.is_same(entry) {
-            times = times.wrapping_add(1);
-        }
-    }
-    times
 }
 
 impl<'a, R: Wait> Gate<Entry<Global>> for Meeting<'a, R> {

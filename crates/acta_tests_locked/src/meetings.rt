@@ -1,13 +1,14 @@
 //! Two workers who meet: both are in the midst of their scripts at once, and the book has the calls of both.
 
-use crate::books::{are_parts, says};
+use crate::books::{answers, are_parts};
 use crate::gates::{Meeting, Place};
-use crate::scripts::{atomic, two_scripts};
-use acta_locked::{Driven, Entry, Script, drive};
+use crate::scripts::{driven, two_scripts};
+use acta_locked::{Driven, Script};
 use acta_machine::Machine;
+use acta_models::Standard;
 use acta_objects::ObjectState;
 use acta_table::ObjId;
-use std::alloc::{AllocError, Allocator, Global};
+use std::alloc::{AllocError, Global};
 use std::process::Abort;
 use std::sync::Wait;
 use std::test::Fail;
@@ -21,10 +22,7 @@ const N: ObjId = ObjId(1);
 const M: ObjId = ObjId(2);
 
 // The number that a register or a counter has.
-fn number_in<A: Allocator + Copy>(
-    machine: &Machine<A>,
-    ob: ObjId,
-) -> Result<Option<i64>, AllocError> {
+fn number_in(machine: &Machine<Global>, ob: ObjId) -> Result<Option<i64>, AllocError> {
     Ok(match machine.value(ob)? {
         Some(ObjectState::Register(value)) => Some(i64::from(value)),
         Some(ObjectState::Counter(value)) => Some(value),
@@ -32,34 +30,22 @@ fn number_in<A: Allocator + Copy>(
     })
 }
 
-// Drives two scripts, whose workers meet. The gate was shown what the book has, and each report is its seat's part.
+// Drives two scripts, whose workers meet. The gate was shown what the book has, each report is its seat's part, and the
+// answers are these lines.
 fn meet_at<R: Threads + Wait + Sync + Abort>(
     rt: &R,
     alloc: Global,
     place: Place,
     scripts: &[Script<Global>],
+    lines: &str,
 ) -> Result<Driven<Global>, Fail> {
     let gate = Meeting::new(rt, alloc, place);
-    let model = atomic(alloc)?;
-    let driven = drive(rt, alloc, model, scripts, &gate)?;
+    let driven = driven(rt, alloc, Standard::Atomic, scripts, &gate)??;
     let entries = driven.book.entries();
     assert!(rt; are_parts(entries, scripts, driven.reports.as_slice()));
     assert!(rt; gate.has_shown(entries));
+    assert_eq!(rt; answers(alloc, entries)?.as_slice(), lines.as_bytes());
     Ok(driven)
-}
-
-// The answers of the entries are these lines, in order.
-fn all_say(
-    rt: &impl Abort,
-    alloc: Global,
-    entries: &[Entry<Global>],
-    lines: &[&str],
-) -> Result<(), Fail> {
-    assert_eq!(rt; entries.len(), lines.len());
-    for k in 0..lines.len() {
-        assert!(rt; says(alloc, &entries[k], lines[k])?, "entry {k}");
-    }
-    Ok(())
 }
 
 // Seat 1 adds to n and seat 2 to m. The book has their begins before their operations, and all are admitted.
@@ -69,18 +55,12 @@ fn add_both<R: Threads + Wait + Sync + Abort>(rt: &R, alloc: Global) -> Result<(
         "begin 1 flat\ndo 1 n add 5",
         "begin 2 flat\ndo 2 m add 7",
     )?;
-    let driven = meet_at(rt, alloc, Place::BeforeSecond, scripts.as_slice())?;
-    let lines = ["ok 1", "ok 2", "ok 3 done", "ok 4 done"];
-    all_say(rt, alloc, driven.book.entries(), lines.as_slice())?;
+    let lines = "ok 1\nok 2\nok 3 done\nok 4 done\n";
+    let driven = meet_at(rt, alloc, Place::BeforeSecond, scripts.as_slice(), lines)?;
     let machine = driven.book.machine();
     assert_eq!(rt; number_in(machine, N)?, Some(5));
     assert_eq!(rt; number_in(machine, M)?, Some(7));
     Ok(())
-}
-
-#[test]
-fn two_workers_meet_before_their_second_calls(rt: HostRuntime) -> Result<(), Fail> {
-    add_both(&rt, rt.alloc())
 }
 
 // Both write to x: the first of the writes is admitted, the second is refused by it, and x has the value of the first.
@@ -90,10 +70,9 @@ fn write_both<R: Threads + Wait + Sync + Abort>(rt: &R, alloc: Global) -> Result
         "begin 1 flat\ndo 1 x write 5",
         "begin 2 flat\ndo 2 x write 6",
     )?;
-    let driven = meet_at(rt, alloc, Place::AfterFirst, scripts.as_slice())?;
+    let lines = "ok 1\nok 2\nok 3 done\nno 14 by 1\n";
+    let driven = meet_at(rt, alloc, Place::AfterFirst, scripts.as_slice(), lines)?;
     let entries = driven.book.entries();
-    let lines = ["ok 1", "ok 2", "ok 3 done", "no 14 by 1"];
-    all_say(rt, alloc, entries, lines.as_slice())?;
     assert_eq!(rt; entries.len(), 4);
     let (first, second) = (entries[2].seat, entries[3].seat);
     assert!(rt; (first, second) == (1, 2) || (first, second) == (2, 1));
@@ -103,6 +82,7 @@ fn write_both<R: Threads + Wait + Sync + Abort>(rt: &R, alloc: Global) -> Result
 }
 
 #[test]
-fn two_workers_meet_after_their_first_calls(rt: HostRuntime) -> Result<(), Fail> {
+fn two_workers_meet(rt: HostRuntime) -> Result<(), Fail> {
+    add_both(&rt, rt.alloc())?;
     write_both(&rt, rt.alloc())
 }

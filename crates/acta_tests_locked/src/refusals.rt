@@ -1,6 +1,6 @@
 //! Each allocation refused in turn: a book stays as it was, and a driven run says why it has no result.
 
-use crate::scripts::{atomic, model_of, script, two_scripts};
+use crate::scripts::{model_of, script, two_scripts};
 use acta_locked::{Book, DriveError, OpenGate, Script, TakeError, drive};
 use acta_models::Standard;
 use acta_table::Event;
@@ -13,10 +13,6 @@ use std::thread::Threads;
 
 // More allocations than any of these calls makes.
 const MOST: u64 = 400;
-
-fn too_many() -> Fail {
-    Fail::new("a call makes too many allocations")
-}
 
 // Whether the book has so many entries, of which so many were admitted.
 fn stands<A: Allocator>(book: &Book<A>, entries: usize, admitted: usize) -> bool {
@@ -58,7 +54,7 @@ fn take_each<A: Allocator + Copy, B: Allocator>(
             return Ok(nth.wrapping_sub(1));
         }
     }
-    Err(too_many())
+    Err(Fail::new("a call makes too many allocations"))
 }
 
 // Calls with the growths that they make: of an event with a set the copy that is kept, of the list of entries, and the
@@ -88,14 +84,6 @@ fn take_all<B: Allocator>(rt: &impl Abort, heap: &Refusing<B>) -> Result<u64, Fa
     Ok(refused)
 }
 
-#[test]
-fn a_book_that_cannot_grow(rt: HostRuntime) -> Result<(), Fail> {
-    let heap = Refusing::new(rt.alloc());
-    let refused = take_all(&rt, &heap)?;
-    assert!(rt; refused > 10, "only {refused} growths");
-    Ok(())
-}
-
 // Drives the scripts, the nth allocation refused; where it came, the answer is want of memory, or that a thread could
 // not be started, and else the book has all calls. Says whether it came.
 fn drive_refused<'h, B: Allocator + Send + Sync, R: Threads + Wait + Sync + Abort>(
@@ -104,7 +92,7 @@ fn drive_refused<'h, B: Allocator + Send + Sync, R: Threads + Wait + Sync + Abor
     scripts: &[Script<&'h Refusing<B>>],
     nth: u64,
 ) -> Result<bool, Fail> {
-    let model = atomic(heap)?;
+    let model = model_of(heap, Standard::Atomic)?;
     heap.refuse(nth);
     let driven = drive(rt, heap, model, scripts, &OpenGate);
     let is_whole = heap.is_waiting();
@@ -132,13 +120,15 @@ fn drive_each<B: Allocator + Send + Sync, R: Threads + Wait + Sync + Abort>(
             return Ok(nth.wrapping_sub(1));
         }
     }
-    Err(too_many())
+    Err(Fail::new("a call makes too many allocations"))
 }
 
 #[test]
-fn a_driven_run_that_cannot_grow(rt: HostRuntime) -> Result<(), Fail> {
+fn books_and_drives_that_cannot_grow(rt: HostRuntime) -> Result<(), Fail> {
     let heap = Refusing::new(rt.alloc());
+    let refused = take_all(&rt, &heap)?;
+    assert!(rt; refused > 10, "only {refused} growths of a book");
     let refused = drive_each(&rt, &heap)?;
-    assert!(rt; refused > 8, "only {refused} growths");
+    assert!(rt; refused > 8, "only {refused} growths of a drive");
     Ok(())
 }

@@ -1,21 +1,18 @@
-//! Models and scripts: a script is written as text, an event a line.
+//! Models and scripts, and their drives: a script is written as text, an event a line.
 
 use acta_lang::assemble;
-use acta_locked::Script;
+use acta_locked::{DriveError, Driven, Entry, Gate, Script, drive};
 use acta_models::Standard;
 use acta_script::read_event;
 use acta_table::Model;
-use std::alloc::Allocator;
+use std::alloc::{Allocator, Global};
+use std::sync::Wait;
 use std::test::Fail;
+use std::thread::Threads;
 
 /// The standard model of that name.
 pub fn model_of<A: Allocator + Copy>(alloc: A, name: Standard) -> Result<Model<A>, Fail> {
     Ok(assemble(alloc, name.text().as_bytes())?)
-}
-
-/// The model of flat transactions.
-pub fn atomic<A: Allocator + Copy>(alloc: A) -> Result<Model<A>, Fail> {
-    model_of(alloc, Standard::Atomic)
 }
 
 /// The script that the text says, in the words of the model.
@@ -37,9 +34,21 @@ pub fn two_scripts<A: Allocator + Copy>(
     first: &str,
     second: &str,
 ) -> Result<Vec<Script<A>, A>, Fail> {
-    let model = atomic(alloc)?;
+    let model = model_of(alloc, Standard::Atomic)?;
     let mut scripts = Vec::new(alloc);
     scripts.push(script(alloc, &model, first)?)?;
     scripts.push(script(alloc, &model, second)?)?;
     Ok(scripts)
+}
+
+/// A drive of the scripts over a book of the standard model.
+pub fn driven<R: Threads + Wait + Sync, G: Gate<Entry<Global>> + Sync>(
+    rt: &R,
+    alloc: Global,
+    name: Standard,
+    scripts: &[Script<Global>],
+    gate: &G,
+) -> Result<Result<Driven<Global>, DriveError>, Fail> {
+    let model = model_of(alloc, name)?;
+    Ok(drive(rt, alloc, model, scripts, gate))
 }
