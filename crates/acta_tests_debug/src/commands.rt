@@ -3,7 +3,7 @@
 //! ```text
 //! step    back    goto N    run    clear
 //! break like EVENT    break txn T    break object OBJECT    break owed N    break ended T
-//! value OBJECT    status T    owed
+//! value OBJECT    status T    owed    edges
 //! ```
 //!
 //! where the first of the breaks is that on the kind of an event, and the last line asks the machine.
@@ -126,6 +126,10 @@ pub fn told(
         "owed" => {
             let owed = debugger.machine().owed()?.len();
             format!(in alloc; "{owed}")?
+        }
+        "edges" => {
+            let edges = debugger.machine().edges().len();
+            format!(in alloc; "{edges}")?
         }
         _ => Err("a line has no command")?,
     })

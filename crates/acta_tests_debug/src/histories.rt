@@ -1,6 +1,6 @@
 //! Models, and histories: a history is written as text, a kept item a line.
 
-use acta_debug::Debugger;
+use acta_debug::{Debugger, NewError};
 use acta_lang::assemble;
 use acta_models::Standard;
 use acta_objects::ObjectState;
@@ -31,6 +31,15 @@ pub fn items<'h>(
     Ok(items)
 }
 
+/// A debugger on the list, in a function of its own, so that callers need not read all that is known of a new one.
+pub fn opened<'h>(
+    heap: Heap<'h>,
+    model: Model<Heap<'h>>,
+    list: Vec<Kept<Heap<'h>>, Heap<'h>>,
+) -> Result<Debugger<Heap<'h>>, NewError> {
+    Debugger::new(heap, model, list)
+}
+
 /// A debugger on the history that the lines say.
 pub fn debugger<'h>(
     heap: Heap<'h>,
@@ -39,7 +48,7 @@ pub fn debugger<'h>(
 ) -> Result<Debugger<Heap<'h>>, Fail> {
     let model = model_of(heap, name)?;
     let history = items(heap, &model, text)?;
-    Ok(Debugger::new(heap, model, history)?)
+    Ok(opened(heap, model, history)?)
 }
 
 /// The number that a register or a counter has where the debugger stands.

@@ -1,6 +1,7 @@
 //! Which lists are histories: all others are refused at the first place that is another.
 
-use crate::histories::{Heap, items, model_of};
+use crate::commands::play;
+use crate::histories::{Heap, items, model_of, opened};
 use acta_debug::{Debugger, NewError};
 use acta_models::Standard;
 use acta_table::{Dep, Event, Kept, TxnId};
@@ -47,24 +48,14 @@ do 1 n add 1 = done
 do 1 n get = 2
 commit 1";
 
-// Why there is no debugger on the list.
-fn fault<'h>(
-    heap: Heap<'h>,
-    name: Standard,
-    list: Vec<Kept<Heap<'h>>, Heap<'h>>,
-) -> Result<Option<NewError>, Fail> {
-    let model = model_of(heap, name)?;
-    Ok(Debugger::new(heap, model, list).err())
-}
-
 // The list of those lines is refused at that place.
 fn refuse(rt: &impl Abort, heap: Heap<'_>, text: &str) -> Result<(), Fail> {
     let (place, lines) = text.split_once('\n').ok_or("a list has no place")?;
-    let place = place.parse().ok().ok_or("a place is no number")?;
+    let due = place.parse().ok().ok_or("a place is no number")?;
     let model = model_of(heap, Standard::Atomic)?;
     let list = items(heap, &model, lines)?;
-    let found = fault(heap, Standard::Atomic, list)?;
-    assert_eq!(rt; found, Some(NewError::NotAHistory(place)), "at {text}");
+    let found = opened(heap, model, list).err();
+    assert!(rt; found == Some(NewError::NotAHistory(due)), "at {text}");
     Ok(())
 }
 
@@ -80,23 +71,30 @@ fn forms(heap: Heap<'_>, times: u32) -> Result<Vec<Kept<Heap<'_>>, Heap<'_>>, Al
     Ok(list)
 }
 
-// The longest history has 65,536 events; of a longer list the next place is refused.
-fn longest(rt: &impl Abort, heap: Heap<'_>) -> Result<(), Fail> {
+// A debugger on so many such events, or why there is none.
+fn on_forms(heap: Heap<'_>, times: u32) -> Result<Result<Debugger<Heap<'_>>, NewError>, Fail> {
     let model = model_of(heap, Standard::Contingent)?;
-    let mut debugger = Debugger::new(heap, model, forms(heap, 65_536)?)?;
-    assert_eq!(rt; debugger.last(), 65_536);
-    debugger.goto(65_536)?;
-    assert_eq!(rt; debugger.machine().edges().len(), 1);
-    let found = fault(heap, Standard::Contingent, forms(heap, 65_537)?)?;
-    assert_eq!(rt; found, Some(NewError::NotAHistory(65_537)));
-    Ok(())
+    let list = forms(heap, times)?;
+    Ok(opened(heap, model, list))
 }
 
+// What is done on the longest history.
+const LONGEST: &str = "\
+goto 65536 : at 65536
+step : AtEnd at 65536
+edges : 1";
+
+// The longest history has 65,536 events; of a longer list the next place is refused.
 #[test]
 fn lists_that_are_no_histories_and_the_longest(rt: HostRuntime) -> Result<(), Fail> {
     let heap = Refusing::new(rt.alloc());
     for text in OTHERS.split("# ") {
         refuse(&rt, &heap, text)?;
     }
-    longest(&rt, &heap)
+    let mut longest = on_forms(&heap, 65_536)??;
+    assert_eq!(rt; longest.last(), 65_536);
+    play(&rt, rt.alloc(), &mut longest, LONGEST)?;
+    let found = on_forms(&heap, 65_537)?.err();
+    assert_eq!(rt; found, Some(NewError::NotAHistory(65_537)));
+    Ok(())
 }

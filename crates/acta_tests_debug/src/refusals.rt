@@ -1,7 +1,7 @@
 //! Each growth refused in turn: a call answers want of memory, and the debugger stays as it was.
 
 use crate::commands::told;
-use crate::histories::{Heap, debugger, items, model_of, number_in, sums};
+use crate::histories::{Heap, debugger, items, model_of, number_in, opened, sums};
 use acta_debug::{Debugger, NewError};
 use acta_models::Standard;
 use acta_table::ObjId;
@@ -84,7 +84,7 @@ fn new_refused(rt: &impl Abort, heap: Heap<'_>, text: &str, nth: u64) -> Result<
     let model = model_of(heap, Standard::Contingent)?;
     let history = items(heap, &model, text)?;
     heap.refuse(nth);
-    let made = Debugger::new(heap, model, history);
+    let made = opened(heap, model, history);
     let is_whole = heap.is_waiting();
     heap.refuse(0);
     match made {

@@ -1,9 +1,11 @@
 //! Sessions with debuggers: moves, values along the way, and each break.
 
 use crate::commands::play;
-use crate::histories::{debugger, sums};
+use crate::histories::{Heap, debugger, sums};
 use acta_models::Standard;
 use refusing::Refusing;
+use std::alloc::Global;
+use std::process::Abort;
 use std::test::Fail;
 
 // A long history, which is gone over in both directions. A debt is owed behind one place.
@@ -41,50 +43,23 @@ back : at 3
 owed : 0
 goto 4294967295 : OutOfRange at 3";
 
-// Histories, with what is done with a debugger on each. One that splits, delegates and joins: 7 is the end of 1, and
-// not of 2. One that spawns. One that forms edges.
-const SESSIONS: [(Standard, &str, &str); 5] = [
-    (Standard::Atomic, "", EMPTY),
-    (
-        Standard::Atomic,
-        "begin 1 flat\ndo 1 x write 5 = done\ncommit 1",
-        WRITTEN,
-    ),
-    (
-        Standard::SplitJoin,
-        "\
-begin 1 part
-begin 2 part
-do 1 x write 5 = done
-delegate 1 2 1
-do 1 n add 3 = done
-split 1 4 part 2
-join 1 2
-abort 4
-commit 2",
-        PARTED,
-    ),
-    (
-        Standard::Nested,
-        "begin 1 top\nspawn 1 2 sub\ndo 2 s insert 3 = yes\ncommit 2",
-        SPAWNED,
-    ),
-    (
-        Standard::Contingent,
-        "form AD 2 1\nform AD 3 1\nbegin 1 try\nabort 1\nbegin 2 try\nabort 2",
-        OWED,
-    ),
-];
-
-const EMPTY: &str = "\
+// Histories, each under its model and with what is done with a debugger on it. In the third some split, delegate and
+// join, and 7 is the end of 1, and not of 2: each break alone; then some together, of which the lowest number is told;
+// and numbers begin at 1 again. In the last the abort of 1 leaves two aborts owed, and that of 2 one.
+const SESSIONS: &str = "\
+atomic
+--
 step : AtEnd at 0
 back : AtStart at 0
 goto 0 : at 0
 goto 1 : OutOfRange at 0
 break owed 0 : break 1
-run : Finished at 0";
-
-const WRITTEN: &str = "\
+run : Finished at 0
+# atomic
+begin 1 flat
+do 1 x write 5 = done
+commit 1
+--
 break like commit 1 : break 1
 run : Broke { number: 1, place: 3 } at 3
 value x : 5
@@ -97,10 +72,18 @@ step : at 1
 step : at 2
 value x : 5
 step : at 3
-step : AtEnd at 3";
-
-// Each break alone; then some together, of which the lowest number is told; and numbers begin at 1 again.
-const PARTED: &str = "\
+step : AtEnd at 3
+# splitjoin
+begin 1 part
+begin 2 part
+do 1 x write 5 = done
+delegate 1 2 1
+do 1 n add 3 = done
+split 1 4 part 2
+join 1 2
+abort 4
+commit 2
+--
 break like join 1 2 : break 1
 run : Broke { number: 1, place: 7 } at 7
 run : Finished at 9
@@ -147,9 +130,13 @@ run : Broke { number: 3, place: 6 } at 6
 run : Finished at 9
 clear : cleared
 goto 4 : at 4
-run : Finished at 9";
-
-const SPAWNED: &str = "\
+run : Finished at 9
+# nested
+begin 1 top
+spawn 1 2 sub
+do 2 s insert 3 = yes
+commit 2
+--
 break txn 2 : break 1
 break like spawn 1 2 sub : break 2
 run : Broke { number: 1, place: 2 } at 2
@@ -159,10 +146,15 @@ break like begin 1 top : break 1
 break object s : break 2
 run : Broke { number: 1, place: 1 } at 1
 run : Broke { number: 2, place: 3 } at 3
-run : Finished at 4";
-
-// The abort of 1 leaves two aborts owed, and that of 2 one.
-const OWED: &str = "\
+run : Finished at 4
+# contingent
+form AD 2 1
+form AD 3 1
+begin 1 try
+abort 1
+begin 2 try
+abort 2
+--
 break owed 2 : break 1
 run : Broke { number: 1, place: 4 } at 4
 owed : 2
@@ -185,15 +177,38 @@ run : Broke { number: 1, place: 3 } at 3
 run : Broke { number: 1, place: 4 } at 4
 run : Broke { number: 3, place: 6 } at 6";
 
+// The model of that name.
+fn named(name: &str) -> Result<Standard, Fail> {
+    Ok(match name {
+        "atomic" => Standard::Atomic,
+        "contingent" => Standard::Contingent,
+        "nested" => Standard::Nested,
+        "splitjoin" => Standard::SplitJoin,
+        _ => Err("a session has no model")?,
+    })
+}
+
+// Plays what is done on a debugger on the history above it.
+fn session(rt: &impl Abort, alloc: Global, heap: Heap<'_>, text: &str) -> Result<(), Fail> {
+    let (name, rest) = text.split_once('\n').ok_or("a session has one line")?;
+    let (history, lines) = rest.split_once("--\n").ok_or("nothing is done")?;
+    let mut debugger = debugger(heap, named(name)?, history)?;
+    play(rt, alloc, &mut debugger, lines)
+}
+
+// A long session.
+fn over_sums(rt: &impl Abort, alloc: Global, heap: Heap<'_>) -> Result<(), Fail> {
+    let text = sums(alloc, 124)?;
+    let mut debugger = debugger(heap, Standard::Contingent, text.as_str())?;
+    assert_eq!(rt; (debugger.at(), debugger.last()), (0, 130));
+    play(rt, alloc, &mut debugger, OVER_SUMS)
+}
+
 #[test]
 fn each_session(rt: HostRuntime) -> Result<(), Fail> {
-    let (alloc, heap) = (rt.alloc(), Refusing::new(rt.alloc()));
-    for (name, history, lines) in SESSIONS {
-        let mut debugger = debugger(&heap, name, history)?;
-        play(&rt, alloc, &mut debugger, lines)?;
+    let heap = Refusing::new(rt.alloc());
+    for text in SESSIONS.split("\n# ") {
+        session(&rt, rt.alloc(), &heap, text)?;
     }
-    let text = sums(alloc, 124)?;
-    let mut debugger = debugger(&heap, Standard::Contingent, text.as_str())?;
-    assert_eq!(rt; (debugger.at(), debugger.last()), (0, 130));
-    play(&rt, alloc, &mut debugger, OVER_SUMS)
+    over_sums(&rt, rt.alloc(), &heap)
 }
