@@ -29,22 +29,31 @@ fn judged(
     times: u32,
     is_commit: bool,
 ) -> Result<Result<Verdict<Global>, JudgeError>, Fail> {
-    let model = assemble(alloc, Standard::Contingent.text().as_bytes())?;
+    let name = if is_commit {
+        Standard::Atomic
+    } else {
+        Standard::Contingent
+    };
+    let model = assemble(alloc, name.text().as_bytes())?;
     let items = same(alloc, times, is_commit)?;
     Ok(judge(alloc, &model, items.as_slice()))
 }
 
-// The faults of commits of the transaction 1 at each place up to the last, from this one on.
-fn has_faults(rt: &impl Abort, faults: &[Fault], broken: Axiom, first: u32) {
-    let mut place = first;
+// A commit that comes again and again never began at any place, and ends once more at each but the first.
+fn has_faults(rt: &impl Abort, faults: &[Fault], times: u32) {
+    let (mut broken, mut place) = (Axiom::EndedAfterBegun, 0u32);
     for fault in faults {
+        place = place.wrapping_add(1);
+        if place > times {
+            (broken, place) = (Axiom::EndedOnce, 2);
+        }
         let is_due = fault.broken == broken && fault.place == place && fault.by == 1;
         assert!(rt; is_due, "at {place}");
-        place = place.saturating_add(1);
     }
+    assert!(rt; broken == Axiom::EndedOnce && place == times);
 }
 
-// One item more is too long. A commit that comes again and again never began, and ends once more each time.
+// One item more is too long.
 #[test]
 fn long_lists(rt: HostRuntime) -> Result<(), Fail> {
     let longer = judged(rt.alloc(), 65_537, true)?.err();
@@ -52,10 +61,7 @@ fn long_lists(rt: HostRuntime) -> Result<(), Fail> {
     let longest = judged(rt.alloc(), 65_536, false)??;
     assert!(rt; longest.faults.as_slice().is_empty() && longest.owed.as_slice().is_empty());
     let commits = judged(rt.alloc(), 4_096, true)??;
-    let faults = commits.faults.as_slice();
-    assert_eq!(rt; faults.len(), 8_191);
-    let (unbegun, again) = faults.split_at_checked(4_096).ok_or("faults are lacking")?;
-    has_faults(&rt, unbegun, Axiom::EndedAfterBegun, 1);
-    has_faults(&rt, again, Axiom::EndedOnce, 2);
+    assert_eq!(rt; commits.faults.as_slice().len(), 8_191);
+    has_faults(&rt, commits.faults.as_slice(), 4_096);
     Ok(())
 }

@@ -27,7 +27,7 @@ fn play(rt: &impl Abort, alloc: Global, model: &str, lists: &str) -> Result<(), 
     let mut items = Vec::new(alloc);
     for line in lists.lines() {
         if line.starts_with("# ") {
-            items.clear();
+            items = Vec::new(alloc);
         } else if !line.starts_with("? ") {
             items.push(kept(alloc, &models, line)?)?;
             lines_on(rt, alloc, &models.model, items.as_slice(), line)?;

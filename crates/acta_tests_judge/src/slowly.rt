@@ -85,9 +85,8 @@ fn tell_places(
             return Ok(());
         };
         let said = Said::of(item);
-        let before = Before::of(alloc, walk, front.as_slice(), said.asked)?;
         faults.place = faults.place.saturating_add(1);
-        before.tell_all(said, faults)?;
+        Before::of(alloc, walk, front.as_slice(), said.asked)?.tell_all(said, faults)?;
         front.push(said)?;
         walk.step()?;
     }
