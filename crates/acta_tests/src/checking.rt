@@ -122,8 +122,8 @@ fn fault_of_many(
     fault_of(alloc, class, objects.as_str(), classes.as_str())
 }
 
-// The faults of these names; and of one object or class more than there may be, each of one name, so that the next fault
-// is there too.
+// The faults of these names; and of one object or class more than there may be, each of one name, so that the next
+// fault is there too.
 fn have_faults(rt: &impl Abort, alloc: Global, class: &Class<Global>) -> Result<(), Fail> {
     for line in NAMED.lines() {
         let (names, due) = line.split_once(" : ").ok_or("a line has no fault")?;

@@ -52,8 +52,8 @@ fn refuse_each<A: Allocator + Copy, B: Allocator>(
     (None, MOST)
 }
 
-// Takes the event of the line, each growth refused in turn. The line has an event, its answer, and how many growths were
-// refused.
+// Takes the event of the line, each growth refused in turn. The line has an event, its answer, and how many growths
+// were refused.
 fn grow_line<A: Allocator + Copy, B: Allocator>(
     rt: &impl Abort,
     heap: &Refusing<B>,
@@ -151,8 +151,8 @@ begin 5 top
 spawn 5 6 sub
 abort 5";
 
-// Each call that takes memory, how many growths it has, and what it answers with memory, as a number. The conflict set of
-// one with ancestors needs a list of these too.
+// Each call that takes memory, how many growths it has, and what it answers with memory, as a number. The conflict set
+// of one with ancestors needs a list of these too.
 const CALLS: &str = "\
 access set : 1 : 1
 conflicts of root : 1 : 1

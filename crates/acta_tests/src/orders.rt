@@ -100,8 +100,8 @@ fn agrees(
     }
 }
 
-// The machine agrees along one order. Gives whether it refused an event by a rule on dependencies, and whether there was
-// a debt.
+// The machine agrees along one order. Gives whether it refused an event by a rule on dependencies, and whether there
+// was a debt.
 fn along_on(
     rt: &impl Abort,
     alloc: Global,

@@ -142,8 +142,8 @@ no AtStart
 status 0
 ";
 
-/// A debt that is owed behind place 4 and paid at place 5, and sums and elements behind it; breaks of each kind but that
-/// on the kind of an event.
+/// A debt that is owed behind place 4 and paid at place 5, and sums and elements behind it; breaks of each kind but
+/// that on the kind of an event.
 pub const PAID: &str = "\
 $ debug @contingent
 | form SCD 2 1

@@ -150,8 +150,8 @@ fn calls(rt: HostRuntime) -> Result<(), Fail> {
     refuse_each(&rt, &heap, &model, ("image", 10), image.as_slice())
 }
 
-/// Cases of `running` of which each allocation is refused in turn: runs, verdicts, commands to a debugger, images, and a
-/// driven run.
+/// Cases of `running` of which each allocation is refused in turn: runs, verdicts, commands to a debugger, images, and
+/// a driven run.
 pub const RUNS: &str = "\
 $ run @atomic
 | begin 1 flat

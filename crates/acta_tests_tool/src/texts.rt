@@ -64,8 +64,8 @@ fn play(rt: &impl Abort, alloc: Global, rows: &str) -> Result<(), Fail> {
     Ok(())
 }
 
-// Each code alone, as far as it can hold alone, and each two that can hold at one line; then those on too many, the 257th object and the
-// 17th class, alone and with what else can hold there.
+// Each code alone, as far as it can hold alone, and each two that can hold at one line; then those on too many, the
+// 257th object and the 17th class, alone and with what else can hold there.
 const FAULTY: &str = "\
 %class a
 %starts begin
