@@ -3,11 +3,12 @@
 #![tactic(auto)]
 
 ghost use Rattle.std.specs.Prelude.{◌≤◌, length};
+ghost use Rattle.acta_table.specs.declared.limits.TheConstants.{MOST_EVENTS};
 
 use acta_axioms::Walk;
 use acta_lang::assemble;
 use acta_models::Standard;
-use acta_table::{ClassId, Event, Kept, Model, ObjId, Op, OpNo, OpSet, TxnId};
+use acta_table::{ClassId, Event, Kept, MOST_EVENTS, Model, ObjId, Op, OpNo, OpSet, TxnId};
 use anyhow::{Result, anyhow, bail, ensure};
 use std::alloc::{AllocError, Global};
 use std::env;
@@ -152,7 +153,7 @@ fn walked(
     model: &Model<Global>,
     kept: &[Kept<Global>],
 ) -> Result<(usize, usize), AllocError>
-    requires { length kept.now ≤ 65536 }
+    requires { length kept.now ≤ MOST_EVENTS }
 {
     let mut walk = Walk::of(alloc, model, kept)?;
     for _ in kept {
@@ -164,7 +165,10 @@ fn walked(
 // The shape and the number of items that two words ask for.
 fn asked_by(shape: &str, count: &str) -> Result<(Shape, u32)> {
     let count = count.parse::<u32>()?;
-    ensure!(count <= 65_536, "at most 65536 items");
+    ensure!(
+        count as usize <= MOST_EVENTS,
+        "more items than a history may have"
+    );
     match shape_of(shape) {
         Some(shape) => Ok((shape, count)),
         None => bail!("no shape has this name"),
@@ -189,7 +193,7 @@ fn model(alloc: Global, shape: Shape) -> Result<Model<Global>> {
 
 // Walks through the items, and tells how long that took, and what there is in the end.
 fn measure(rt: &HostRuntime, model: &Model<Global>, kept: &[Kept<Global>]) -> Result<()>
-    requires { length kept.now ≤ 65536 }
+    requires { length kept.now ≤ MOST_EVENTS }
 {
     let start = Instant::now(rt)?;
     let (operations, edges) = walked(rt.alloc(), model, kept)?;
@@ -202,6 +206,9 @@ fn main(rt: HostRuntime) -> Result<()> {
     let (shape, count) = asked(&rt)?;
     let model = model(rt.alloc(), shape)?;
     let kept = history(rt.alloc(), shape, count)?;
-    ensure!(kept.len() <= 65_536, "at most 65536 items");
+    ensure!(
+        kept.len() <= MOST_EVENTS,
+        "more items than a history may have"
+    );
     measure(&rt, &model, kept.as_slice())
 }

@@ -3,6 +3,7 @@ use Rattle.std.specs.Prelude.{true, Some, pos, [], ◌∷◌, ◌≡◌, refl}
 use Rattle.acta_table.specs.declared.dep.Dep.TheVariants.{Cd, Bd}
 use Rattle.acta_table.specs.declared.event.Op.TheVariants.{Read, Write, Get, Add, Insert}
 use Rattle.acta_table.specs.declared.event.Ret.TheVariants.{Done, Value, Flag}
+use Rattle.acta_table.specs.declared.limits.TheConstants.{LAST_TXN, TABLE_SIZE}
 use Rattle.acta_table.specs.WellFormed.{bad_number, bad_class, bad_object, same_transaction}
 use Rattle.acta_objects.specs.WellFormed.{bad_operation}
 use Rattle.acta_axioms.specs.declared.fault.Axiom.TheVariants.{BegunOnce, EndedAfterBegun, EndedOnce, OperatesInProgress, FormOfEvent, Allowed, PartiesInProgress, Responsible, HandsWhole, Conflict, Return, Heir, FormedInTime}
@@ -89,7 +90,7 @@ unfolding verdict all_faults owed breaches bad_number bad_class bad_object bad_o
 operated_in_progress = refl
 
 -- form of the event: a number that no transaction has
-numbered_too_high : verdict model (begin 6 0 ∷ begin 4096 0 ∷ []) ≡ found (fault FormOfEvent 2 4096 ∷ [])
+numbered_too_high : verdict model (begin 6 0 ∷ begin TABLE_SIZE 0 ∷ []) ≡ found (fault FormOfEvent 2 TABLE_SIZE ∷ [])
 unfolding verdict all_faults owed breaches bad_number bad_class bad_object bad_operation same_transaction
 numbered_too_high = refl
 
@@ -125,7 +126,7 @@ unfolding verdict all_faults owed breaches bad_number bad_class bad_object bad_o
 ill_formed_in_many_ways = refl
 
 -- the highest number, the last class, the last object, and an edge of one on another
-well_formed : verdict model (begin 4095 5 ∷ operate 4095 2 (Insert (pos 5)) (Flag true) ∷ form Cd 7 6 ∷ [])
+well_formed : verdict model (begin LAST_TXN 5 ∷ operate LAST_TXN 2 (Insert (pos 5)) (Flag true) ∷ form Cd 7 6 ∷ [])
     ≡ faultless
 unfolding verdict all_faults owed breaches bad_number bad_class bad_object bad_operation same_transaction is_false
 well_formed = refl
