@@ -6,7 +6,9 @@ use crate::formulas::{course_of, is_false, payment};
 use crate::walking::follows_machine;
 use acta_axioms::{Course, Places};
 use acta_machine::Machine;
-use acta_table::{ClassId, EdgeNo, Event, Fate, Kept, Model, OpNo, Owed, Scope, Status, TxnId};
+use acta_table::{
+    ClassId, Edge, EdgeNo, Event, Fate, Kept, Missing, Model, OpNo, Owed, Scope, Status, TxnId,
+};
 use std::alloc::{AllocError, Global};
 
 // A place past the last of each history.
@@ -116,25 +118,42 @@ fn shows_view(machine: &Machine<Global>, places: &Places<'_, Global>) -> Result<
     Ok(shows)
 }
 
+// What is owed by the edge.
+fn missing_by(places: &Places<'_, Global>, edge: &Edge) -> Option<Missing> {
+    let (j, i) = (course_of(places, edge.j), course_of(places, edge.i));
+    match payment(edge.kind) {
+        Some(missing) if !j.has_ended() && is_false(edge.kind, j, i) => Some(missing),
+        _ => None,
+    }
+}
+
+// What is owed by the edges of these places.
+fn debts_of(alloc: Global, places: &Places<'_, Global>) -> Result<Vec<Owed>, AllocError> {
+    let mut due = Vec::new(alloc);
+    let mut number = 0u64;
+    for edge in places.edges() {
+        number = number.saturating_add(1);
+        if let Some(missing) = missing_by(places, edge) {
+            let (edge, txn) = (EdgeNo(number), edge.j);
+            due.push(Owed { edge, txn, missing })?;
+        }
+    }
+    Ok(due)
+}
+
+// What the machine says is owed.
+fn owed_by(machine: &Machine<Global>) -> Result<Vec<Owed>, AllocError> {
+    machine.owed()
+}
+
 // The machine shows the edges, and what is owed by them.
 fn shows_edges(
     alloc: Global,
     machine: &Machine<Global>,
     places: &Places<'_, Global>,
 ) -> Result<bool, AllocError> {
-    let mut due = Vec::new(alloc);
-    let mut number = 0u64;
-    for edge in places.edges() {
-        number = number.saturating_add(1);
-        let (j, i) = (course_of(places, edge.j), course_of(places, edge.i));
-        if let Some(missing) = payment(edge.kind) {
-            if !j.has_ended() && is_false(edge.kind, j, i) {
-                let (edge, txn) = (EdgeNo(number), edge.j);
-                due.push(Owed { edge, txn, missing })?;
-            }
-        }
-    }
-    Ok(machine.edges() == places.edges() && machine.owed()?.as_slice() == due.as_slice())
+    let (owed, due) = (owed_by(machine)?, debts_of(alloc, places)?);
+    Ok(machine.edges() == places.edges() && owed.as_slice() == due.as_slice())
 }
 
 // What the machine shows that isn't what these places say.

@@ -103,6 +103,17 @@ pub struct Before<'a> {
     pub due: Option<Ret>,
 }
 
+// Who spawned the one that starts at the place, where the item there says a spawn by one that had begun.
+fn parent_of(places: &Places<'_, Global>, said: &Said<'_>, place: u32) -> Option<TxnId> {
+    if said.kind != EventKind::Spawn {
+        return None;
+    }
+    match places.start(said.first.0) {
+        Some(begun) if begun < place => Some(said.first.0),
+        _ => None,
+    }
+}
+
 // What the places say of the transaction, and what the item at its first start.
 fn txn_of<'a>(
     places: &Places<'_, Global>,
@@ -126,12 +137,7 @@ fn txn_of<'a>(
     if let Some(class) = said.class {
         txn.class = model.class(class);
     }
-    if said.kind == EventKind::Spawn {
-        match places.start(said.first.0) {
-            Some(begun) if begun < place => txn.parent = Some(said.first.0),
-            _ => {}
-        }
-    }
+    txn.parent = parent_of(places, said, place);
     txn
 }
 

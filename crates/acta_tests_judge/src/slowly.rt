@@ -73,6 +73,23 @@ fn tell_clashes(owed: &[Owed], faults: &mut Faults) -> Result<(), AllocError> {
     Ok(())
 }
 
+// The faults at the next place, which the walk has reached, and whose item says this.
+fn tell_place(
+    alloc: Global,
+    walk: &Walk<'_, Global>,
+    front: &[Said<'_>],
+    said: Said<'_>,
+    faults: &mut Faults,
+) -> Result<(), AllocError> {
+    faults.place = faults.place.saturating_add(1);
+    Before::of(alloc, walk, front, said.asked)?.tell_all(said, faults)
+}
+
+// Goes one item further.
+fn step(walk: &mut Walk<'_, Global>) -> Result<(), AllocError> {
+    walk.step()
+}
+
 // The faults at all places, place by place. The walk then stands at the end.
 fn tell_places(
     alloc: Global,
@@ -85,10 +102,9 @@ fn tell_places(
             return Ok(());
         };
         let said = Said::of(item);
-        faults.place = faults.place.saturating_add(1);
-        Before::of(alloc, walk, front.as_slice(), said.asked)?.tell_all(said, faults)?;
+        tell_place(alloc, walk, front.as_slice(), said, faults)?;
         front.push(said)?;
-        walk.step()?;
+        step(walk)?;
     }
     Ok(())
 }

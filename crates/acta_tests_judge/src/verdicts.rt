@@ -8,18 +8,21 @@ use std::alloc::{AllocError, Allocator, Global};
 use std::process::Abort;
 use std::test::Fail;
 
+// Puts a line behind the others.
+fn push_line<A: Allocator>(lines: &mut Vec<u8, A>, line: &[u8]) -> Result<(), AllocError> {
+    lines.extend_from_slice(line)?;
+    Ok(lines.push(b'\n')?)
+}
+
 /// The lines of the verdict.
 pub fn told<A: Allocator + Copy>(alloc: A, verdict: &Verdict<A>) -> Result<Vec<u8, A>, AllocError> {
     let mut lines = Vec::new(alloc);
     for fault in verdict.faults.as_slice() {
         let line = fault_line(alloc, fault.broken.number(), fault.place, fault.by)?;
-        lines.extend_from_slice(line.as_slice())?;
-        lines.push(b'\n')?;
+        push_line(&mut lines, line.as_slice())?;
     }
     for owed in verdict.owed.as_slice() {
-        let line = owed_line(alloc, owed)?;
-        lines.extend_from_slice(line.as_slice())?;
-        lines.push(b'\n')?;
+        push_line(&mut lines, owed_line(alloc, owed)?.as_slice())?;
     }
     Ok(lines)
 }
