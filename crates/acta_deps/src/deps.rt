@@ -42,17 +42,6 @@ fn fresh<A: Allocator>(alloc: A, count: usize) -> Result<Vec<Status, A>, AllocEr
     vec![in alloc; status; count]
 }
 
-// The same items, in memory of their own.
-fn copied<T: Copy, A: Allocator>(alloc: A, items: &[T]) -> Result<Vec<T, A>, AllocError>
-    ensures { IfOk result (λ copied. copied.items ≡ items.now) }
-{
-    let mut copied = Vec::with_capacity(alloc, items.len())?;
-    for item in items {
-        copied.push(*item)?;
-    }
-    Ok(copied)
-}
-
 impl<A: Allocator> Deps<A> {
     /// How a transaction stands (ACTA's significant events, read as a state). A number that no
     /// transaction can have has not begun.
@@ -191,8 +180,8 @@ impl<A: Allocator + Copy> Deps<A> {
         ensures { IfOk result (λ deps. deps ≡ self.now) }
     {
         Ok(Deps {
-            statuses: copied(self.allocator(), &self.statuses)?,
-            edges: copied(self.allocator(), &self.edges)?,
+            statuses: Vec::from_slice(self.allocator(), &self.statuses)?,
+            edges: Vec::from_slice(self.allocator(), &self.edges)?,
         })
     }
 }

@@ -53,11 +53,8 @@ impl<T: Copy, A: Allocator + Copy> Items<T, A> {
     pub fn copy(&self) -> Result<Items<T, A>, AllocError>
         ensures { IfOk result (λ items. items ≡ self.now) }
     {
-        let items = self.as_slice();
-        let mut copied = Vec::with_capacity(self.allocator(), items.len())?;
-        for item in items {
-            copied.push(*item)?;
-        }
-        Ok(Items { items: copied })
+        Ok(Items {
+            items: Vec::from_slice(self.allocator(), self.as_slice())?,
+        })
     }
 }

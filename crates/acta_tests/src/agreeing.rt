@@ -44,26 +44,33 @@ pub fn class_in(history: &[Kept<Global>], t: TxnId) -> Option<ClassId> {
     None
 }
 
+// Whether the class of a transaction leaves its ancestors out of its conflict set.
+fn spares(model: &Model<Global>, history: &[Kept<Global>], t: TxnId) -> bool {
+    let Some(class) = class_in(history, t) else {
+        return false;
+    };
+    let Some(class) = model.class(class) else {
+        return false;
+    };
+    class.scope == Scope::NonAncestors
+}
+
+// The last of t, its parent, that one's parent, and so on, up to u where that is one of them.
+fn up_to(history: &[Kept<Global>], u: TxnId, t: TxnId) -> TxnId {
+    let mut above = t;
+    for _ in history {
+        match parent_in(history, above) {
+            Some(parent) if above != u => above = parent,
+            _ => return above,
+        }
+    }
+    above
+}
+
 // Whether what u holds in progress is in t's conflict set: not what t holds, and not what its parent holds, or that
 // one's parent, and so on, where t's class leaves its ancestors out.
 fn is_against(model: &Model<Global>, history: &[Kept<Global>], u: TxnId, t: TxnId) -> bool {
-    let mut spares = false;
-    if let Some(class) = class_in(history, t) {
-        if let Some(class) = model.class(class) {
-            spares = class.scope == Scope::NonAncestors;
-        }
-    }
-    let mut above = t;
-    for _ in history {
-        if above == u {
-            break;
-        }
-        match parent_in(history, above) {
-            Some(parent) if spares => above = parent,
-            _ => break,
-        }
-    }
-    above != u
+    t != u && !(spares(model, history, t) && up_to(history, u, t) == u)
 }
 
 /// How a transaction stands, by its first places.

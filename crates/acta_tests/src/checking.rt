@@ -1,7 +1,8 @@
 //! What is wrong with parts of models, which no text can say: `assemble` tells the fault of the line. Each is a class
 //! of a text that is altered.
 
-use acta_lang::assemble;
+use crate::expecting::{holds, parted, same, tells};
+use acta_lang::{AsmError, assemble};
 use acta_models::Standard;
 use acta_script::{LineError, read_event};
 use acta_table::{
@@ -13,11 +14,22 @@ use std::alloc::{AllocError, Allocator, Global};
 use std::process::Abort;
 use std::test::Fail;
 
+// A standard model.
+fn standard<A: Allocator + Copy>(alloc: A, name: Standard) -> Result<Model<A>, AsmError> {
+    assemble(alloc, name.text().as_bytes())
+}
+
+// The last class of a model.
+fn last_class<A: Allocator + Copy>(model: &Model<A>) -> Result<Class<A>, Fail> {
+    match model.classes().last() {
+        Some(class) => Ok(class.copy()?),
+        None => Err(Fail::new("a model has a class")),
+    }
+}
+
 // The last class of a standard model.
 fn class_of<A: Allocator + Copy>(alloc: A, name: Standard) -> Result<Class<A>, Fail> {
-    let model = assemble(alloc, name.text().as_bytes())?;
-    let class = model.classes().last().ok_or("a text has a class")?;
-    Ok(class.copy()?)
+    last_class(&standard(alloc, name)?)
 }
 
 fn name_of<A: Allocator>(alloc: A, name: &str) -> Result<Items<u8, A>, AllocError> {
@@ -122,18 +134,30 @@ fn fault_of_many(
     fault_of(alloc, class, objects.as_str(), classes.as_str())
 }
 
+// The fault of the names of the line.
+fn has_fault(
+    rt: &impl Abort,
+    alloc: Global,
+    class: &Class<Global>,
+    line: &str,
+) -> Result<(), Fail> {
+    let (names, due) = parted(line, " : ")?;
+    let (objects, classes) = parted(names, "|")?;
+    let fault = fault_of(alloc, class, objects, classes)?;
+    same(rt, &fault, &due.parse().ok(), line);
+    Ok(())
+}
+
 // The faults of these names; and of one object or class more than there may be, each of one name, so that the next
 // fault is there too.
 fn have_faults(rt: &impl Abort, alloc: Global, class: &Class<Global>) -> Result<(), Fail> {
     for line in NAMED.lines() {
-        let (names, due) = line.split_once(" : ").ok_or("a line has no fault")?;
-        let (objects, classes) = names.split_once('|').ok_or("a line has no classes")?;
-        let fault = fault_of(alloc, class, objects, classes)?;
-        assert_eq!(rt; fault, due.parse().ok(), "at {line}");
+        has_fault(rt, alloc, class, line)?;
     }
-    assert_eq!(rt; fault_of_many(alloc, class, (256, 16))?, Some(4));
-    assert_eq!(rt; fault_of_many(alloc, class, (257, 16))?, Some(3));
-    assert_eq!(rt; fault_of_many(alloc, class, (257, 17))?, Some(2));
+    for (counts, due) in [((256, 16), 4), ((257, 16), 3), ((257, 17), 2)] {
+        let fault = fault_of_many(alloc, class, counts)?;
+        same(rt, &fault, &Some(due), "too many");
+    }
     Ok(())
 }
 
@@ -172,10 +196,8 @@ fn faults_of_kinds(rt: HostRuntime) -> Result<(), Fail> {
         let split = fault_with(rt.alloc(), Standard::SplitJoin, kind)?;
         let spawn = fault_with(rt.alloc(), Standard::Nested, kind)?;
         let loose = fault_with(rt.alloc(), Standard::Recoverable, kind)?;
-        assert!(rt;
-            split == start && spawn == start && loose == policy,
-            "with {kind:?}"
-        );
+        let are_due = split == start && spawn == start && loose == policy;
+        holds(&rt, are_due, kind.word());
     }
     Ok(())
 }
@@ -189,11 +211,7 @@ fn heirs(rt: &impl Abort, alloc: Global, sub: &mut Class<Global>) -> Result<(), 
     ] {
         sub.starts.begin = begin;
         sub.starts.split = split;
-        assert_eq!(rt;
-            fault_of(alloc, sub, "", "class")?,
-            due,
-            "begins: {begin}, splits: {split}"
-        );
+        same(rt, &fault_of(alloc, sub, "", "class")?, &due, "an heir");
     }
     Ok(())
 }
@@ -201,9 +219,14 @@ fn heirs(rt: &impl Abort, alloc: Global, sub: &mut Class<Global>) -> Result<(), 
 // A class depends by at least one kind, or refuses.
 fn policies(rt: &impl Abort, alloc: Global, loose: &mut Class<Global>) -> Result<(), AllocError> {
     loose.policy = Policy::Depend(DepKinds::none());
-    assert_eq!(rt; fault_of(alloc, loose, "", "class")?, Some(8));
+    same(
+        rt,
+        &fault_of(alloc, loose, "", "class")?,
+        &Some(8),
+        "no kind",
+    );
     loose.policy = Policy::Refuse;
-    assert_eq!(rt; fault_of(alloc, loose, "", "class")?, None);
+    same(rt, &fault_of(alloc, loose, "", "class")?, &None, "refuses");
     Ok(())
 }
 
@@ -222,9 +245,16 @@ fn faults_of_classes(rt: HostRuntime) -> Result<(), Fail> {
     Ok(())
 }
 
-// The bits of each kind of event, and no others; and numbers of rules and of faults.
+// Whether the set of this kind has these bits, and no other set has.
+fn has_bits(kind: EventKind, bits: u16) -> bool {
+    let set = Kinds::of(kind);
+    let is_kept = set.bits() == bits && Kinds::from_bits(bits) == Some(set);
+    is_kept && set.has(kind) == (bits != 0) && !Kinds::none().has(kind)
+}
+
+// The bits of each kind of event, and no others.
 #[test]
-fn numbers(rt: HostRuntime) {
+fn bits_of_kinds(rt: HostRuntime) {
     let mut bits = 0u16;
     for kind in [
         EventKind::Begin,
@@ -237,14 +267,15 @@ fn numbers(rt: HostRuntime) {
         EventKind::Commit,
         EventKind::Abort,
     ] {
-        let set = Kinds::of(kind);
-        assert_eq!(rt; set.has(kind), bits != 0, "{kind:?}");
-        assert_eq!(rt; set.bits(), bits, "{kind:?}");
-        assert_eq!(rt; Kinds::from_bits(bits), Some(set), "{kind:?}");
-        assert!(rt; !Kinds::none().has(kind), "{kind:?}");
+        assert!(rt; has_bits(kind, bits), "{kind:?}");
         bits = if bits == 0 { 1 } else { bits.wrapping_mul(2) };
     }
     assert_eq!(rt; Kinds::from_bits(256), None);
+}
+
+// Numbers of rules and of faults, and the kind of an event.
+#[test]
+fn numbers(rt: HostRuntime) {
     let rules = [
         Rule::Full.number(),
         Rule::Conflict.number(),
@@ -257,21 +288,32 @@ fn numbers(rt: HostRuntime) {
     assert_eq!(rt; begin.kind(), EventKind::Begin);
 }
 
+// Whether transactions of the class may commit, and neither split nor begin.
+fn may_commit(class: &Class<Global>) -> bool {
+    let (commit, split) = (
+        class.may.has(EventKind::Commit),
+        class.may.has(EventKind::Split),
+    );
+    commit && !split && !class.may.has(EventKind::Begin)
+}
+
 // The model shows the parts of the standard model of flat transactions.
 fn shows_flat(rt: &impl Abort, model: &Model<Global>) {
-    assert_eq!(rt; (model.objects().len(), model.classes().len()), (4, 1));
+    holds(
+        rt,
+        model.objects().len() == 4 && model.classes().len() == 1,
+        "the lengths",
+    );
     for class in model.classes() {
-        assert_eq!(rt; class.name.as_slice(), b"flat".as_slice());
-        assert!(rt; class.may.has(EventKind::Commit));
-        assert!(rt; !class.may.has(EventKind::Split));
-        assert!(rt; !class.may.has(EventKind::Begin));
+        tells(rt, class.name.as_slice(), "flat", "the name");
+        holds(rt, may_commit(class), "what it may");
     }
 }
 
 // A model shows the parts that were checked, and so does its copy.
 #[test]
 fn a_copy(rt: HostRuntime) -> Result<(), Fail> {
-    let model = assemble(rt.alloc(), Standard::Atomic.text().as_bytes())?;
+    let model = standard(rt.alloc(), Standard::Atomic)?;
     shows_flat(&rt, &model);
     shows_flat(&rt, &model.copy()?);
     Ok(())
@@ -280,7 +322,11 @@ fn a_copy(rt: HostRuntime) -> Result<(), Fail> {
 // The set of some operations, as a copy of it shows them.
 fn has_ops(rt: &impl Abort, set: &OpSet<Global>, due: &[OpNo]) -> Result<(), AllocError> {
     let copied = set.copy()?;
-    assert!(rt; set.as_slice() == due && copied.as_slice() == due);
+    holds(
+        rt,
+        set.as_slice() == due && copied.as_slice() == due,
+        "a set",
+    );
     Ok(())
 }
 
@@ -313,6 +359,17 @@ do 1 n read
 commit 1
 abort 1";
 
+// Whether the line says the event.
+fn is_said(
+    alloc: Global,
+    model: &Model<Global>,
+    event: &Event<Global>,
+    line: &str,
+) -> Result<bool, LineError> {
+    let said = read_event(alloc, model, line.as_bytes())?;
+    Ok(event.is_same(&said))
+}
+
 // Of the lines, the event is that of this one alone.
 fn is_said_once(
     rt: &impl Abort,
@@ -322,11 +379,8 @@ fn is_said_once(
     line: &str,
 ) -> Result<(), LineError> {
     for other in EVENTS.lines() {
-        let said = read_event(alloc, model, other.as_bytes())?;
-        assert!(rt;
-            event.is_same(&said) == (line == other),
-            "at {line} and {other}"
-        );
+        let is_same = is_said(alloc, model, event, other)?;
+        assert_eq!(rt; is_same, line == other, "at {line} and {other}");
     }
     Ok(())
 }
@@ -342,7 +396,7 @@ fn are_said_once(rt: &impl Abort, alloc: Global, model: &Model<Global>) -> Resul
 
 #[test]
 fn events_that_are_the_same(rt: HostRuntime) -> Result<(), Fail> {
-    let model = assemble(rt.alloc(), Standard::SplitJoin.text().as_bytes())?;
+    let model = standard(rt.alloc(), Standard::SplitJoin)?;
     Ok(are_said_once(&rt, rt.alloc(), &model)?)
 }
 
@@ -355,8 +409,8 @@ fn checks_without_memory<A: Allocator + Copy, B: Allocator>(
     let flat = class_of(alloc, Standard::Atomic)?;
     let parts = parts_of(alloc, &flat, "x", "flat")?;
     heap.refuse(1);
-    assert!(rt; Model::check(parts).is_ok());
-    assert!(rt; heap.is_waiting());
+    let is_model = Model::check(parts).is_ok();
+    holds(rt, is_model && heap.is_waiting(), "a model");
     Ok(())
 }
 

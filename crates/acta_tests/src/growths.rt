@@ -1,6 +1,7 @@
 //! Each growth of a call refused in turn: the call answers want of memory, and changes nothing.
 
 use crate::calls::{new_machine, places_of, run_on, take};
+use crate::expecting::{holds, number_of, parted, same, tells};
 use crate::models::PARTING;
 use acta_lang::assemble;
 use acta_machine::Machine;
@@ -8,8 +9,8 @@ use acta_models::Standard;
 use acta_objects::{ObjectState, replay};
 use acta_script::{answer_line, read_event};
 use acta_table::{
-    Answer, Dep, Dependent, Event, Items, Kept, Kind, Model, ObjId, Op, OpNo, OpSet, Ret,
-    StartEdge, StartEdges, Status, TxnId,
+    Answer, Dep, Dependent, Event, Items, Kept, Kind, Model, ObjId, Op, OpNo, OpSet, StartEdge,
+    StartEdges, Status, TxnId,
 };
 use refusing::Refusing;
 use std::alloc::{AllocError, Allocator};
@@ -46,10 +47,22 @@ fn refuse_each<A: Allocator + Copy, B: Allocator>(
             heap.refuse(0);
             return (answer.ok(), nth.saturating_sub(1));
         }
-        assert!(rt; answer.is_err() && shape(machine) == before);
+        holds(rt, answer.is_err() && shape(machine) == before, "a growth");
     }
     heap.refuse(0);
     (None, MOST)
+}
+
+// The answer is the one that is due.
+fn answers<A: Allocator + Copy>(
+    rt: &impl Abort,
+    alloc: A,
+    answer: Option<Answer>,
+    (due, line): (&str, &str),
+) -> Result<(), Fail> {
+    let answer = answer.ok_or("with memory there is an answer")?;
+    tells(rt, answer_line(alloc, &answer)?.as_slice(), due, line);
+    Ok(())
 }
 
 // Takes the event of the line, each growth refused in turn. The line has an event, its answer, and how many growths
@@ -61,14 +74,12 @@ fn grow_line<A: Allocator + Copy, B: Allocator>(
     machine: &mut Machine<A>,
     line: &str,
 ) -> Result<(), Fail> {
-    let (said, due) = line.split_once(" : ").ok_or("a line has no answer")?;
-    let (due, growths) = due.split_once(" : ").ok_or("a line has no growths")?;
+    let (said, due) = parted(line, " : ")?;
+    let (due, growths) = parted(due, " : ")?;
     let event = read_event(alloc, machine.model(), said.as_bytes())?;
     let (answer, refused) = refuse_each(rt, heap, machine, &event);
-    let told = answer_line(alloc, &answer.ok_or("with memory there is an answer")?)?;
-    assert_eq!(rt; told.as_slice(), due.as_bytes(), "at {line}");
-    assert_eq!(rt; Some(refused), growths.parse().ok(), "at {line}");
-    Ok(())
+    same(rt, &Some(refused), &number_of(growths), line);
+    answers(rt, alloc, answer, (due, line))
 }
 
 // Takes the events of the lines on a new machine.
@@ -175,7 +186,7 @@ items : 2 : 1";
 fn numbers(ops: &[OpNo]) -> usize {
     let mut number = 0usize;
     for op in ops {
-        number = number.saturating_mul(10).saturating_add(op.0 as usize);
+        number = number.wrapping_mul(10).wrapping_add(op.0 as usize);
     }
     number
 }
@@ -184,8 +195,8 @@ fn numbers(ops: &[OpNo]) -> usize {
 fn counted<A: Allocator + Copy>(machine: &Machine<A>) -> Result<usize, AllocError> {
     let debts = machine.owed()?.len();
     let (events, edges) = (machine.history().len(), machine.edges().len());
-    let digits = events.saturating_mul(10).saturating_add(edges);
-    Ok(digits.saturating_mul(10).saturating_add(debts))
+    let digits = events.wrapping_mul(10).wrapping_add(edges);
+    Ok(digits.wrapping_mul(10).wrapping_add(debts))
 }
 
 // The same of a copy of the machine.
@@ -200,22 +211,46 @@ fn first_start<A: Allocator + Copy>(alloc: A, machine: &Machine<A>) -> Result<us
     Ok(places.start(ONE).unwrap_or(0) as usize)
 }
 
-// What a copy of a set with one element answers for it.
-fn one_element<A: Allocator + Copy>(alloc: A) -> Result<usize, AllocError> {
+// A set with one element.
+fn with_element<A: Allocator + Copy>(alloc: A) -> Result<ObjectState<A>, AllocError> {
     let mut set = ObjectState::new(alloc, &Kind::Elements);
     set.apply(&Op::Insert(3))?;
-    let found = set.copy()?.apply(&Op::Has(3))?;
-    Ok(usize::from(found == Ret::Flag(true)))
+    Ok(set)
 }
 
-// How many operations a set of four numbers names, one of them twice, as a copy of a delegation has it.
-fn named<A: Allocator + Copy>(alloc: A) -> Result<usize, AllocError> {
+// Whether the set has that element.
+fn has_element<A: Allocator>(set: &ObjectState<A>) -> bool {
+    match set {
+        ObjectState::Elements(members) => members.contains(3),
+        _ => false,
+    }
+}
+
+// What a copy of a set with one element answers for it.
+fn one_element<A: Allocator + Copy>(alloc: A) -> Result<usize, AllocError> {
+    let copied = with_element(alloc)?.copy()?;
+    Ok(usize::from(has_element(&copied)))
+}
+
+// A delegation by a set of four numbers, one of them twice, as it is kept.
+fn delegation<A: Allocator + Copy>(alloc: A) -> Result<Kept<A>, AllocError> {
     let ops = OpSet::of(alloc, &[OpNo(9), OpNo(2), OpNo(9), OpNo(0)])?;
     let (event, ret) = (Event::Delegate(ONE, TxnId(2), ops), None);
-    match (Kept { event, ret }).copy()?.event {
-        Event::Delegate(_, _, ops) => Ok(ops.as_slice().len()),
-        _ => Ok(0),
+    Ok(Kept { event, ret })
+}
+
+// How many operations a delegation names.
+fn operations_in<A: Allocator>(kept: &Kept<A>) -> usize {
+    match &kept.event {
+        Event::Delegate(_, _, ops) => ops.as_slice().len(),
+        _ => 0,
     }
+}
+
+// How many operations a copy of the delegation names.
+fn named<A: Allocator + Copy>(alloc: A) -> Result<usize, AllocError> {
+    let copied = delegation(alloc)?.copy()?;
+    Ok(operations_in(&copied))
 }
 
 // How many edges a set of three has, one of them twice, and a copy of it.
@@ -226,6 +261,18 @@ fn wanted<A: Allocator + Copy>(alloc: A) -> Result<usize, AllocError> {
     let earlier = StartEdge { kind, dependent };
     let edges = StartEdges::of(alloc, &[later, earlier, later])?;
     Ok(edges.copy()?.as_slice().len())
+}
+
+// How many returns a replay of two operations has.
+fn replayed<A: Allocator + Copy>(alloc: A) -> Result<usize, AllocError> {
+    let replayed = replay(alloc, &Kind::Elements, &[Op::Insert(3), Op::Has(3)])?;
+    Ok(replayed.rets.as_slice().len())
+}
+
+// How many items a copy of a list of one has.
+fn one_item<A: Allocator + Copy>(alloc: A) -> Result<usize, AllocError> {
+    let copied = Items::of(Vec::from_slice(alloc, b"x")?).copy()?;
+    Ok(copied.as_slice().len())
 }
 
 // What a call on a machine answers, as a number, or none where it is another call: the numbers of operations, whether
@@ -262,20 +309,10 @@ fn of_model<A: Allocator + Copy>(
         "model copy" => Ok(model.copy()?.classes().len()),
         "new machine" => Ok(new_machine(alloc, model)?.history().len()),
         "element" => one_element(alloc),
-        "replay" => Ok(
-            replay(alloc, &Kind::Elements, &[Op::Insert(3), Op::Has(3)])?
-                .rets
-                .as_slice()
-                .len(),
-        ),
+        "replay" => replayed(alloc),
         "op set" => named(alloc),
         "start edges" => wanted(alloc),
-        "items" => Ok(
-            Items::of(Vec::from_slice(alloc, b"x")?)
-                .copy()?
-                .as_slice()
-                .len(),
-        ),
+        "items" => one_item(alloc),
         _ => Err(AllocError),
     }
 }
@@ -293,6 +330,21 @@ fn answer<A: Allocator + Copy>(
     }
 }
 
+// What the call answers where its nth growth is refused, and whether it has as many.
+fn refused<A: Allocator + Copy, B: Allocator>(
+    heap: &Refusing<B>,
+    alloc: A,
+    machine: &Machine<A>,
+    events: &[Event<A>],
+    (call, nth): (&str, u64),
+) -> (Option<usize>, bool) {
+    heap.refuse(nth);
+    let answer = answer(alloc, machine, events, call).ok();
+    let was_refused = !heap.is_waiting();
+    heap.refuse(0);
+    (answer, was_refused)
+}
+
 // Each growth of the call of the line is refused in turn, until it succeeds: it has as many growths, and answers this.
 fn grow<A: Allocator + Copy, B: Allocator>(
     rt: &impl Abort,
@@ -302,24 +354,18 @@ fn grow<A: Allocator + Copy, B: Allocator>(
     events: &[Event<A>],
     line: &str,
 ) -> Result<(), Fail> {
-    let (call, due) = line.split_once(" : ").ok_or("a line has no growths")?;
-    let (growths, due) = due.split_once(" : ").ok_or("a line has no answer")?;
+    let (call, due) = parted(line, " : ")?;
+    let (growths, due) = parted(due, " : ")?;
     for nth in 1..MOST {
-        heap.refuse(nth);
-        let answer = answer(alloc, machine, events, call);
-        if heap.is_waiting() {
-            heap.refuse(0);
-            assert_eq!(rt;
-                Some(nth.saturating_sub(1)),
-                growths.parse().ok(),
-                "at {line}"
-            );
-            assert_eq!(rt; answer.ok(), due.parse().ok(), "at {line}");
+        let (answer, was_refused) = refused(heap, alloc, machine, events, (call, nth));
+        if !was_refused {
+            same(rt, &Some(nth.wrapping_sub(1)), &number_of(growths), line);
+            same(rt, &answer, &due.parse().ok(), line);
             return Ok(());
         }
-        assert!(rt; answer.is_err(), "growth {nth} at {line}");
+        holds(rt, answer.is_none(), line);
     }
-    Err("a call makes too many allocations")?
+    Err(Fail::new("a call makes too many allocations"))
 }
 
 // The events that are read.

@@ -1,5 +1,6 @@
-//! Tests that cross the crates: histories as text with their answers, lists of events and what their places say, each
-//! refused allocation, and the edges of checked models. The values that they expect were computed by hand.
+//! Tests that cross the crates: histories as text with their answers, lists of events and what their places say, verdicts
+//! on histories, each refused allocation, and the edges of checked models. The values that they expect were computed by
+//! hand.
 #![tactic(auto)]
 
 #[cfg(test)]
@@ -8,12 +9,20 @@ mod agreeing;
 mod calls;
 #[cfg(test)]
 mod checking;
-pub mod formulas;
+#[cfg(test)]
+mod expecting;
+#[cfg(test)]
+mod formulas;
 #[cfg(test)]
 mod growths;
-pub mod histories;
-pub mod lists;
-pub mod models;
+#[cfg(test)]
+mod histories;
+#[cfg(test)]
+mod judging;
+#[cfg(test)]
+mod lists;
+#[cfg(test)]
+mod models;
 #[cfg(test)]
 mod objects;
 #[cfg(test)]

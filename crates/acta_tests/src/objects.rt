@@ -2,13 +2,14 @@
 
 ghost use Rattle.std.specs.Prelude.{◌≡◌, false, [], ◌∷◌, IfOk, OnOk};
 
-use acta_lang::assemble;
+use crate::expecting::{holds, parted};
+use acta_lang::{AsmError, assemble};
 use acta_models::Standard;
 use acta_objects::{
     Counter, ElementSet, Members, ObjectKind, ObjectState, Register, is_of_kind, replay,
 };
 use acta_script::read_kept;
-use acta_table::{Event, Kind, Model, ObjId, Op, Ret};
+use acta_table::{Event, Kept, Kind, Model, ObjId, Op, Ret};
 use std::alloc::{AllocError, Global};
 use std::process::Abort;
 use std::test::Fail;
@@ -51,8 +52,9 @@ fn is_counted(state: &ObjectState<Global>, sum: i64) -> Result<bool, AllocError>
 #[test]
 fn replays_sums(rt: HostRuntime) -> Result<(), Fail> {
     let done = replay(rt.alloc(), &Kind::Counter(0), &[Op::Add(5), Op::Add(7)])?;
-    assert!(rt; is_counted(&done.state, 12)?);
-    assert_eq!(rt; done.rets.as_slice(), [Ret::Done; 2].as_slice());
+    holds(&rt, is_counted(&done.state, 12)?, "a sum");
+    let are_done = done.rets.as_slice() == [Ret::Done; 2].as_slice();
+    holds(&rt, are_done, "what is done");
     Ok(())
 }
 
@@ -69,6 +71,14 @@ do 1 s remove 3 = no
 do 1 s size = 1
 do 1 s read = done";
 
+// The operation that is kept, if it is one, and what it returned.
+fn operation_in(kept: &Kept<Global>) -> Option<(ObjId, Op, Option<Ret>)> {
+    match &kept.event {
+        Event::Operate(_, object, op) => Some((*object, *op, kept.ret)),
+        _ => None,
+    }
+}
+
 // The operation that a kept line says, and what it returned.
 fn operation(
     alloc: Global,
@@ -76,10 +86,7 @@ fn operation(
     line: &str,
 ) -> Result<(ObjId, Op, Option<Ret>), Fail> {
     let kept = read_kept(alloc, model, line.as_bytes())?;
-    match kept.event {
-        Event::Operate(_, object, op) => Ok((object, op, kept.ret)),
-        _ => Err("a line is no operation")?,
-    }
+    Ok(operation_in(&kept).ok_or("a line is no operation")?)
 }
 
 // Does the operations on the set.
@@ -92,20 +99,31 @@ fn keeps(
     for line in ON_A_SET.lines() {
         let (_, op, ret) = operation(alloc, model, line)?;
         let found = ElementSet::apply(members, &op)?;
-        assert!(rt; Some(found) == ret, "at {line}");
+        holds(rt, Some(found) == ret, line);
     }
     Ok(())
 }
 
+// The standard model of flat transactions.
+fn flat(alloc: Global) -> Result<Model<Global>, AsmError> {
+    assemble(alloc, Standard::Atomic.text().as_bytes())
+}
+
+// Whether the set has this one element.
+fn has_alone(members: &Members<Global>, element: i32) -> bool {
+    let mut is_alone = members.len() == 1;
+    for x in members.items() {
+        is_alone &= *x == element;
+    }
+    is_alone
+}
+
 #[test]
 fn keeps_a_set(rt: HostRuntime) -> Result<(), Fail> {
-    let model = assemble(rt.alloc(), Standard::Atomic.text().as_bytes())?;
+    let model = flat(rt.alloc())?;
     let mut members = Members::new(rt.alloc());
     keeps(&rt, rt.alloc(), &model, &mut members)?;
-    let copied = members.copy()?;
-    for x in copied.items() {
-        assert_eq!(rt; *x, -2);
-    }
+    holds(&rt, has_alone(&members.copy()?, -2), "what is left");
     Ok(())
 }
 
@@ -125,46 +143,59 @@ do 1 s has 1, do 1 s has 1 : no
 do 1 s size, do 1 s remove 5 : yes
 do 1 s size, do 1 s has 5 : no";
 
+// Whether two operations of this kind of object conflict in either order, or in neither.
+fn do_conflict(kind: &Kind, p: &Op, q: &Op, due: bool) -> bool {
+    let there = ObjectState::<Global>::conflicts(kind, p, q);
+    let back = ObjectState::<Global>::conflicts(kind, q, p);
+    is_of_kind(kind, p) && is_of_kind(kind, q) && there == due && back == due
+}
+
 // Two operations of a line conflict as it says.
 fn conflict(rt: &impl Abort, alloc: Global, model: &Model<Global>, line: &str) -> Result<(), Fail> {
-    let (pair, due) = line.split_once(" : ").ok_or("a line has no answer")?;
-    let (p, q) = pair.split_once(", ").ok_or("a line has two operations")?;
+    let (pair, due) = parted(line, " : ")?;
+    let (p, q) = parted(pair, ", ")?;
     let (object, p, _) = operation(alloc, model, p)?;
     let (_, q, _) = operation(alloc, model, q)?;
     let kind = model.object(object).ok_or("the model has the object")?.kind;
-    assert!(rt; is_of_kind(&kind, &p) && is_of_kind(&kind, &q), "at {line}");
-    let there = ObjectState::<Global>::conflicts(&kind, &p, &q);
-    let back = ObjectState::<Global>::conflicts(&kind, &q, &p);
-    assert!(rt;
-        there == (due == "yes") && back == (due == "yes"),
-        "at {line}"
-    );
+    holds(rt, do_conflict(&kind, &p, &q, due == "yes"), line);
     Ok(())
 }
 
 #[test]
 fn knows_conflicts(rt: HostRuntime) -> Result<(), Fail> {
-    let model = assemble(rt.alloc(), Standard::Atomic.text().as_bytes())?;
+    let model = flat(rt.alloc())?;
     for line in PAIRS.lines() {
         conflict(&rt, rt.alloc(), &model, line)?;
     }
     Ok(())
 }
 
-// Two operations that commute on a register, on a counter and on a set.
-#[test]
-fn commute(rt: HostRuntime) -> Result<(), Fail> {
+// Two operations that commute on a register.
+fn on_registers() -> Result<bool, AllocError> {
     let (mut one, mut other) = (4, 4);
     let rets = both_orders::<Register>(&mut one, &mut other, &Op::Write(9), &Op::Write(9))?;
-    assert_eq!(rt; (one, other, rets), (9, 9, [(Ret::Done, Ret::Done); 2]));
+    Ok((one, other) == (9, 9) && rets == [(Ret::Done, Ret::Done); 2])
+}
+
+// Two operations that commute on a counter.
+fn on_counters() -> Result<bool, AllocError> {
     let (mut one, mut other) = (4, 4);
     let rets = both_orders::<Counter>(&mut one, &mut other, &Op::Add(2), &Op::Add(-9))?;
-    assert_eq!(rt; (one, other, rets), (-3, -3, [(Ret::Done, Ret::Done); 2]));
-    let mut one = Members::new(rt.alloc());
-    let mut other = Members::new(rt.alloc());
+    Ok((one, other) == (-3, -3) && rets == [(Ret::Done, Ret::Done); 2])
+}
+
+// Two operations that commute on a set.
+fn on_sets(alloc: Global) -> Result<bool, AllocError> {
+    let (mut one, mut other) = (Members::new(alloc), Members::new(alloc));
     let (p, q) = (Op::Insert(2), Op::Remove(5));
     let rets = both_orders::<ElementSet<Global>>(&mut one, &mut other, &p, &q)?;
-    assert_eq!(rt; rets, [(Ret::Flag(true), Ret::Flag(false)); 2]);
-    assert_eq!(rt; (one.len(), other.len()), (1, 1));
+    Ok((one.len(), other.len()) == (1, 1) && rets == [(Ret::Flag(true), Ret::Flag(false)); 2])
+}
+
+#[test]
+fn commute(rt: HostRuntime) -> Result<(), AllocError> {
+    holds(&rt, on_registers()?, "on a register");
+    holds(&rt, on_counters()?, "on a counter");
+    holds(&rt, on_sets(rt.alloc())?, "on a set");
     Ok(())
 }

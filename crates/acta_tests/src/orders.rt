@@ -2,6 +2,7 @@
 //! owes what the formula of its kind says.
 
 use crate::calls::{new_machine, places_of, take};
+use crate::expecting::{holds, same};
 use crate::formulas::{course_of, is_false, payment};
 use acta_axioms::Places;
 use acta_lang::assemble;
@@ -17,18 +18,29 @@ const ONE: TxnId = TxnId(1);
 
 const TWO: TxnId = TxnId(2);
 
+// A copy of the history.
+fn copied(alloc: Global, history: &[Kept<Global>]) -> Result<Vec<Kept<Global>>, AllocError> {
+    let mut copied = Vec::new(alloc);
+    for kept in history {
+        copied.push(kept.copy()?)?;
+    }
+    Ok(copied)
+}
+
+// The event, as it is kept.
+fn kept(event: &Event<Global>) -> Result<Kept<Global>, AllocError> {
+    let event = event.copy()?;
+    Ok(Kept { event, ret: None })
+}
+
 // The history with one more event.
 fn with(
     alloc: Global,
     history: &[Kept<Global>],
     event: &Event<Global>,
 ) -> Result<Vec<Kept<Global>>, AllocError> {
-    let mut longer = Vec::new(alloc);
-    for kept in history {
-        longer.push(kept.copy()?)?;
-    }
-    let event = event.copy()?;
-    longer.push(Kept { event, ret: None })?;
+    let mut longer = copied(alloc, history)?;
+    longer.push(kept(event)?)?;
     Ok(longer)
 }
 
@@ -57,6 +69,16 @@ fn found_after(
     Ok(finding_of(kind, &places))
 }
 
+// Whether the debts are by the first edge what is missing, and no more.
+fn is_due(owed: &[Owed], missing: Option<Missing>) -> bool {
+    let (edge, txn) = (EdgeNo(1), TWO);
+    match (owed, missing) {
+        ([], None) => true,
+        ([debt], Some(missing)) => *debt == Owed { edge, txn, missing },
+        _ => false,
+    }
+}
+
 // The machine owes by its one edge what is missing, and no more.
 fn owes(
     rt: &impl Abort,
@@ -64,11 +86,7 @@ fn owes(
     missing: Option<Missing>,
 ) -> Result<(), AllocError> {
     let owed = machine.owed()?;
-    assert_eq!(rt; owed.len(), usize::from(missing.is_some()));
-    if let (Some(debt), Some(missing)) = (owed.first(), missing) {
-        let (edge, txn) = (EdgeNo(1), TWO);
-        assert!(rt; *debt == Owed { edge, txn, missing });
-    }
+    holds(rt, is_due(&owed, missing), "what is owed");
     Ok(())
 }
 
@@ -86,15 +104,14 @@ fn agrees(
     let (is_broken, missing) = found_after(alloc, model, machine.history(), kind, event)?;
     match take(machine, event)? {
         Answer::Admitted { .. } => {
-            assert!(rt; !is_broken, "admitted under {kind:?}");
+            holds(rt, !is_broken, kind.word());
             owes(rt, machine, missing)?;
             Ok((false, missing.is_some()))
         }
         Answer::Refused { rule, by } => {
             let is_dependency = (17..=27).contains(&rule.number());
-            let is_idle = rule == Rule::NotInProgress;
-            assert!(rt; is_dependency || is_idle, "{rule:?}");
-            assert!(rt; is_idle || (is_broken && by == Some(1)), "{rule:?}");
+            let is_by_one = is_dependency && is_broken && by == Some(1);
+            holds(rt, is_by_one || rule == Rule::NotInProgress, kind.word());
             Ok((is_dependency, false))
         }
     }
@@ -120,6 +137,12 @@ fn along_on(
     Ok((refused, owed))
 }
 
+// Whether there is one edge, of this kind, of the second transaction on the first.
+fn has_one_edge(edges: &[Edge], kind: Dep) -> bool {
+    let (j, i) = (TWO, ONE);
+    edges == [Edge { kind, j, i }].as_slice()
+}
+
 // The same of a new machine with one edge of this kind, of the second transaction on the first.
 fn along(
     rt: &impl Abort,
@@ -131,10 +154,9 @@ fn along(
     let mut machine = new_machine(alloc, model)?;
     let (place, ret) = (1, None);
     let formed = take(&mut machine, &Event::Form(kind, TWO, ONE))?;
-    assert!(rt; formed == Answer::Admitted { place, ret });
+    holds(rt, formed == Answer::Admitted { place, ret }, order);
     let said = along_on(rt, alloc, model, &mut machine, kind, order)?;
-    let (j, i) = (TWO, ONE);
-    assert!(rt; machine.edges() == [Edge { kind, j, i }].as_slice());
+    holds(rt, has_one_edge(machine.edges(), kind), order);
     Ok(said)
 }
 
@@ -187,8 +209,8 @@ fn each_kind_in_each_order(rt: HostRuntime) -> Result<(), Fail> {
     let model = assemble(rt.alloc(), Standard::Contingent.text().as_bytes())?;
     for kind in Dep::ALL {
         let (refused, owed) = through_each_order(&rt, rt.alloc(), &model, kind)?;
-        assert!(rt; refused, "{kind:?} refuses something");
-        assert_eq!(rt; owed, payment(kind).is_some(), "{kind:?} is owed");
+        holds(&rt, refused, kind.word());
+        same(&rt, &owed, &payment(kind).is_some(), kind.word());
     }
     Ok(())
 }

@@ -11,6 +11,7 @@
 //! ```
 
 use crate::calls::places_of;
+use crate::expecting::{holds, parted, tells};
 use crate::lists::by_model;
 use crate::models::Models;
 use crate::showing::{push_edges, txn};
@@ -103,9 +104,8 @@ fn ask(
     items: &[Kept<Global>],
     line: &str,
 ) -> Result<(), Fail> {
-    let (asked, due) = line.split_once(" :").ok_or("a question has no answer")?;
-    let told = said(alloc, model, items, asked)?;
-    assert_eq!(rt; told.as_slice(), due.as_bytes(), "at {line}");
+    let (asked, due) = parted(line, " :")?;
+    tells(rt, said(alloc, model, items, asked)?.as_slice(), due, line);
     Ok(())
 }
 
@@ -126,7 +126,7 @@ fn follow(
     }
     items.push(kept(alloc, &models.wider, line)?)?;
     let follows = follows_places(alloc, &models.model, items.as_slice())?;
-    assert!(rt; follows, "a walk at {line}");
+    holds(rt, follows, line);
     Ok(())
 }
 

@@ -12,6 +12,7 @@
 
 use crate::agreeing::differing;
 use crate::calls::{new_machine, run_on, take};
+use crate::expecting::{holds, parted, same, tells};
 use crate::histories::by_model;
 use crate::models::Models;
 use crate::showing::shown;
@@ -39,7 +40,7 @@ fn shows(
     (asked, due): (&str, &str),
 ) -> Result<(), Fail> {
     let told = shown(alloc, models, machine, asked)?;
-    assert_eq!(rt; told.as_slice(), due.as_bytes(), "at {asked}");
+    tells(rt, told.as_slice(), due, asked);
     Ok(())
 }
 
@@ -75,11 +76,10 @@ impl Played {
         models: &Models<Global>,
         line: &str,
     ) -> Result<(), Fail> {
-        let (said, due) = line.split_once(" : ").ok_or("a line has no answer")?;
-        let told = self.told(alloc, models, said)?;
-        assert_eq!(rt; told.as_slice(), due.as_bytes(), "at {line}");
+        let (said, due) = parted(line, " : ")?;
+        tells(rt, self.told(alloc, models, said)?.as_slice(), due, line);
         let differing = differing(alloc, &models.model, &self.machine)?;
-        assert_eq!(rt; differing, "nothing", "after {line}");
+        same(rt, &differing, &"nothing", line);
         Ok(())
     }
 
@@ -91,7 +91,7 @@ impl Played {
         models: &Models<Global>,
         line: &str,
     ) -> Result<(), Fail> {
-        let (asked, due) = line.split_once(" :").ok_or("a line has no answer")?;
+        let (asked, due) = parted(line, " :")?;
         shows(rt, alloc, models, &self.machine, (asked, due))?;
         shows(rt, alloc, models, &self.machine.copy()?, (asked, due))
     }
@@ -99,8 +99,13 @@ impl Played {
     // A machine that runs the events at once answers the same, and has the same edges.
     fn end(&self, rt: &impl Abort, alloc: Global, model: &Model<Global>) -> Result<(), AllocError> {
         let run = run_on(alloc, model, &self.events)?;
-        assert!(rt; run.answers.as_slice() == self.answers.as_slice());
-        assert!(rt; run.machine.edges() == self.machine.edges());
+        let same = run.answers.as_slice() == self.answers.as_slice();
+        holds(rt, same, "the answers of a run");
+        holds(
+            rt,
+            run.machine.edges() == self.machine.edges(),
+            "the edges of a run",
+        );
         Ok(())
     }
 }
@@ -114,6 +119,11 @@ fn rules_met(answers: &[Answer]) -> u32 {
         }
     }
     met
+}
+
+// Whether the rule of this number was met.
+fn is_met(met: u32, rule: u32) -> bool {
+    met.checked_shr(rule).unwrap_or(0) % 2 == 1
 }
 
 // A line begins a history, asks what the machine shows, or has an event. Gives the rules that a history has met, where
@@ -168,8 +178,7 @@ fn histories_go_as_they_say(rt: HostRuntime) -> Result<(), Fail> {
         met |= play(&rt, rt.alloc(), model, histories)?;
     }
     for rule in 1..=28u32 {
-        let is_met = met.checked_shr(rule).unwrap_or(0) % 2 == 1;
-        assert_eq!(rt; is_met, rule != 1 && rule != 16, "rule {rule}");
+        assert_eq!(rt; is_met(met, rule), rule != 1 && rule != 16, "rule {rule}");
     }
     Ok(())
 }

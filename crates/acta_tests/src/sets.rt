@@ -1,9 +1,9 @@
 //! Operations of which some have ended, while the one that holds them goes on.
 
-use acta_sets::OpTable;
+use crate::expecting::holds;
+use acta_sets::{HeldOp, OpTable};
 use acta_table::{Fate, ObjId, Op, OpNo, TxnId};
 use std::alloc::{AllocError, Global};
-use std::test::Fail;
 
 const ONE: TxnId = TxnId(1);
 
@@ -19,16 +19,28 @@ fn ended(alloc: Global) -> Result<OpTable<Global>, AllocError> {
     Ok(table)
 }
 
+// Whether the first is of 2, the second of 1 and the third of 3, and there are no more.
+fn are_held(operations: &[HeldOp]) -> bool {
+    match operations {
+        [of_two, ended, handed] => {
+            of_two.holder == TxnId(2) && ended.holder == ONE && handed.holder == THREE
+        }
+        _ => false,
+    }
+}
+
+// Whether 3 holds the third operation alone.
+fn holds_third(table: &OpTable<Global>) -> Result<bool, AllocError> {
+    let held = table.access_set(THREE)?;
+    Ok(held.as_slice() == [OpNo(3)].as_slice())
+}
+
 // All that 1 holds in progress goes to 3: neither what 2 holds nor what has ended.
 #[test]
-fn hands_over_what_is_in_progress(rt: HostRuntime) -> Result<(), Fail> {
+fn hands_over_what_is_in_progress(rt: HostRuntime) -> Result<(), AllocError> {
     let mut table = ended(rt.alloc())?;
     table.hand_all(ONE, THREE)?;
-    let [of_two, ended, handed] = table.operations() else {
-        return Err(Fail::new("there are three operations"));
-    };
-    assert!(rt; of_two.holder == TxnId(2) && ended.holder == ONE && handed.holder == THREE);
-    let held = table.access_set(THREE)?;
-    assert_eq!(rt; held.as_slice(), [OpNo(3)].as_slice());
+    holds(&rt, are_held(table.operations()), "the operations");
+    holds(&rt, holds_third(&table)?, "what is handed over");
     Ok(())
 }

@@ -1,6 +1,7 @@
 //! Each growth of a walk's steps refused in turn: a step that is refused leaves the walk where it was.
 
 use crate::calls::walk_of;
+use crate::expecting::{holds, number_of, parted, same};
 use crate::models::{FOLLOWING, LENDING};
 use acta_axioms::Walk;
 use acta_lang::assemble;
@@ -35,10 +36,10 @@ fn step_each<A: Allocator + Copy, B: Allocator>(
         let stepped = walk.step();
         if heap.is_waiting() {
             heap.refuse(0);
-            assert!(rt; stepped.is_ok());
+            holds(rt, stepped.is_ok(), "a step");
             return nth.saturating_sub(1);
         }
-        assert!(rt; stepped.is_err() && counts(walk) == before);
+        holds(rt, stepped.is_err() && counts(walk) == before, "a growth");
     }
     heap.refuse(0);
     MOST
@@ -52,7 +53,7 @@ fn read<A: Allocator + Copy>(
 ) -> Result<Vec<Kept<A>, A>, Fail> {
     let mut kept = Vec::new(alloc);
     for line in text.lines() {
-        let (said, _) = line.split_once(" : ").ok_or("a line has no growths")?;
+        let (said, _) = parted(line, " : ")?;
         let event = read_event(alloc, model, said.as_bytes())?;
         kept.push(Kept { event, ret: None })?;
     }
@@ -68,9 +69,9 @@ fn step_over<A: Allocator + Copy, B: Allocator>(
     text: &str,
 ) -> Result<(), Fail> {
     for line in text.lines() {
-        let (_, growths) = line.split_once(" : ").ok_or("a line has no growths")?;
+        let (_, growths) = parted(line, " : ")?;
         let refused = step_each(rt, heap, walk);
-        assert_eq!(rt; Some(refused), growths.parse().ok(), "at {line}");
+        same(rt, &Some(refused), &number_of(growths), line);
     }
     Ok(())
 }

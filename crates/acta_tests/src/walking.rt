@@ -6,8 +6,8 @@ use crate::calls::{places_of, walk_of};
 use crate::formulas::course_of;
 use acta_axioms::{Places, Walk};
 use acta_machine::Machine;
-use acta_objects::ObjectState;
-use acta_table::{Class, Fate, Kept, Model, ObjId, Op, OpNo, TxnId};
+use acta_objects::{Members, ObjectState};
+use acta_table::{Class, Fate, Kept, Kind, Model, ObjId, Op, OpNo, TxnId};
 use std::alloc::{AllocError, Global};
 
 // How many transactions are asked of, by `asked_txn`.
@@ -50,18 +50,29 @@ fn walked<'a>(
     Ok(walk)
 }
 
+// Whether two sets have the same members.
+fn are_same(p: &Members<Global>, q: &Members<Global>) -> bool {
+    let mut same = p.len() == q.len();
+    for member in p.items() {
+        same &= q.contains(*member);
+    }
+    same
+}
+
+// Whether two values are the same.
+fn is_equal(p: &ObjectState<Global>, q: &ObjectState<Global>) -> bool {
+    match (p, q) {
+        (ObjectState::Register(p), ObjectState::Register(q)) => p == q,
+        (ObjectState::Counter(p), ObjectState::Counter(q)) => p == q,
+        (ObjectState::Elements(p), ObjectState::Elements(q)) => are_same(p, q),
+        _ => false,
+    }
+}
+
 // Whether two values are the same, or there is none of either.
 fn is_same(p: Option<&ObjectState<Global>>, q: Option<&ObjectState<Global>>) -> bool {
     match (p, q) {
-        (Some(ObjectState::Register(p)), Some(ObjectState::Register(q))) => p == q,
-        (Some(ObjectState::Counter(p)), Some(ObjectState::Counter(q))) => p == q,
-        (Some(ObjectState::Elements(p)), Some(ObjectState::Elements(q))) => {
-            let mut same = p.len() == q.len();
-            for member in p.items() {
-                same &= q.contains(*member);
-            }
-            same
-        }
+        (Some(p), Some(q)) => is_equal(p, q),
         (p, q) => p.is_none() && q.is_none(),
     }
 }
@@ -77,6 +88,26 @@ fn same_value(
     Ok(is_same(value.as_ref(), shown.as_ref()))
 }
 
+// Those of the operations with which this one conflicts, on an object of this kind.
+fn conflicting(
+    alloc: Global,
+    walk: &Walk<'_, Global>,
+    others: &[OpNo],
+    kind: &Kind,
+    (object, op): (ObjId, &Op),
+) -> Result<Vec<OpNo>, AllocError> {
+    let mut found = Vec::new(alloc);
+    let mut number = 0u32;
+    for held in walk.operations() {
+        number = number.saturating_add(1);
+        let is_other = others.contains(&OpNo(number)) && held.ob == object;
+        if is_other && ObjectState::<Global>::conflicts(kind, &held.op, op) {
+            found.push(OpNo(number))?;
+        }
+    }
+    Ok(found)
+}
+
 // The walk finds the operations with which a transaction's operation on an object conflicts: those of its conflict set
 // that do.
 fn finds_conflict(
@@ -89,15 +120,7 @@ fn finds_conflict(
     let Some(of) = walk.model().object(object) else {
         return Ok(false);
     };
-    let mut due = Vec::new(alloc);
-    let mut number = 0u32;
-    for held in walk.operations() {
-        number = number.saturating_add(1);
-        let is_other = others.contains(&OpNo(number)) && held.ob == object;
-        if is_other && ObjectState::<Global>::conflicts(&of.kind, &held.op, op) {
-            due.push(OpNo(number))?;
-        }
-    }
+    let due = conflicting(alloc, walk, others, &of.kind, (object, op))?;
     Ok(walk.conflicting(t, object, op)?.as_slice() == due.as_slice())
 }
 

@@ -1,10 +1,12 @@
 //! Runs of `debug`, as cases of `running`, and the lines of its commands.
 
+use crate::expecting::{parted, tells};
 use acta_lang::assemble;
 use acta_models::Standard;
 use acta_script::{LineError, read_command};
 use acta_table::Model;
 use std::alloc::{AllocError, Global};
+use std::process::Abort;
 use std::test::Fail;
 
 // What a line of a command says, or the code of its fault.
@@ -102,18 +104,28 @@ break ended x 1 -> 3
 value X 1 -> 3
 status x 1 -> 3";
 
-// The commands of the texts: a line each, and what it says behind an arrow.
-#[test]
-fn commands(rt: HostRuntime) -> Result<(), Fail> {
-    let model = assemble(rt.alloc(), Standard::SplitJoin.text().as_bytes())?;
+// A row of a text: the line of a command, and what it says behind an arrow.
+fn say(rt: &impl Abort, alloc: Global, model: &Model<Global>, row: &str) -> Result<(), Fail> {
+    let (line, want) = parted(row, " -> ")?;
+    let said = command_said(alloc, model, line.as_bytes())?;
+    tells(rt, said.as_bytes(), want.as_bytes(), row);
+    Ok(())
+}
+
+// The rows of the texts, on this model.
+fn say_all(rt: &impl Abort, alloc: Global, model: &Model<Global>) -> Result<(), Fail> {
     for rows in [SAID, FAULTY] {
         for row in rows.lines() {
-            let (line, want) = row.split_once(" -> ").ok_or("a row has no arrow")?;
-            let said = command_said(rt.alloc(), &model, line.as_bytes())?;
-            assert_eq!(rt; said.as_str(), want, "at {line}");
+            say(rt, alloc, model, row)?;
         }
     }
     Ok(())
+}
+
+#[test]
+fn commands(rt: HostRuntime) -> Result<(), Fail> {
+    let model = assemble(rt.alloc(), Standard::SplitJoin.text().as_bytes())?;
+    say_all(&rt, rt.alloc(), &model)
 }
 
 /// A write that is committed, gone over forward and back.

@@ -1,10 +1,17 @@
 //! Readers and writers that fail, and a reader without end.
 
+use crate::expecting::{counts, holds, tells};
 use acta_models::Standard;
 use acta_tool::{Args, Command, Metered, ModelName, Outcome, ReadFault, Watched, run_tool};
 use std::alloc::{AllocError, Global};
 use std::io;
 use std::io::{ErrorKind, Read, Write};
+use std::process::Abort;
+
+// The text of the model that is run.
+fn text() -> &'static [u8] {
+    Standard::Atomic.text().as_bytes()
+}
 
 // The run of a model's text over this reader and writer.
 fn run<R: Read, W: Write>(alloc: Global, text: &[u8], input: &mut R, output: &mut W) -> Outcome {
@@ -79,83 +86,90 @@ impl Write for Stuck {
 
 const LINE: &[u8] = b"begin 1 flat\n";
 
+// The line is read in pieces of so many bytes, or without end, where this read fails: the run ends so, behind so many
+// reads, and this is told.
+fn expect(
+    rt: &impl Abort,
+    alloc: Global,
+    (piece, is_unending, fails_at): (usize, bool, u32),
+    (due, reads, told): (Outcome, u32, &[u8]),
+    row: &str,
+) {
+    let mut input = Pieces {
+        rest: LINE,
+        piece,
+        is_unending,
+        fails_at,
+        reads: 0,
+    };
+    let mut output = Vec::new(alloc);
+    let ended = run(alloc, text(), &mut input, &mut output);
+    holds(rt, ended == due, row);
+    counts(rt, u64::from(input.reads), u64::from(reads), row);
+    tells(rt, output.as_slice(), told, row);
+}
+
 // Each read fails in turn, of 13 bytes in pieces of 2, and a read that gives none; then none fails.
 #[test]
 fn each_read_fails_in_turn(rt: HostRuntime) {
-    let text = Standard::Atomic.text().as_bytes();
-    for fails_at in 1..10u32 {
-        let (rest, piece, is_unending, reads) = (LINE, 2, false, 0);
-        let mut input = Pieces {
-            rest,
-            piece,
-            is_unending,
-            fails_at,
-            reads,
-        };
-        let mut output = Vec::new(rt.alloc());
-        let status = run(rt.alloc(), text, &mut input, &mut output);
-        let (due, reads, told) = match fails_at {
-            9 => (Outcome::Done, 8, b"ok 1\n".as_slice()),
-            _ => (Outcome::Unread(ReadFault::Device), fails_at, b"".as_slice()),
-        };
-        assert!(rt; status == due, "where read {fails_at} fails");
-        assert_eq!(rt; input.reads, reads, "where read {fails_at} fails");
-        assert_eq!(rt; output.as_slice(), told, "where read {fails_at} fails");
+    for fails_at in 1..9u32 {
+        let due = (Outcome::Unread(ReadFault::Device), fails_at, b"".as_slice());
+        expect(
+            &rt,
+            rt.alloc(),
+            (2, false, fails_at),
+            due,
+            "a read that fails",
+        );
     }
+    let due = (Outcome::Done, 8, b"ok 1\n".as_slice());
+    expect(&rt, rt.alloc(), (2, false, 9), due, "no read that fails");
 }
 
 #[test]
 fn a_reader_without_end(rt: HostRuntime) {
-    let text = Standard::Atomic.text().as_bytes();
-    let (rest, piece, is_unending, fails_at, reads) = (LINE, 1, true, 0, 0);
-    let mut input = Pieces {
-        rest,
-        piece,
-        is_unending,
-        fails_at,
-        reads,
-    };
-    let mut output = Vec::new(rt.alloc());
-    let status = run(rt.alloc(), text, &mut input, &mut output);
-    assert!(rt; status == Outcome::Unread(ReadFault::TooMuch));
-    assert_eq!(rt; input.reads, 16_777_217);
-    assert!(rt; output.is_empty());
+    let due = (
+        Outcome::Unread(ReadFault::TooMuch),
+        16_777_217,
+        b"".as_slice(),
+    );
+    expect(&rt, rt.alloc(), (1, true, 0), due, "a reader without end");
+}
+
+// A writer that takes a write, or takes none, is written to once.
+fn is_stuck(rt: &impl Abort, alloc: Global, takes: bool, row: &str) {
+    let mut input = LINE;
+    let mut output = Stuck { takes, writes: 0 };
+    let ended = run(alloc, text(), &mut input, &mut output);
+    holds(rt, ended == Outcome::Unwritten, row);
+    counts(rt, u64::from(output.writes), 1, row);
 }
 
 #[test]
 fn writers(rt: HostRuntime) {
-    let text = Standard::Atomic.text().as_bytes();
-    for takes in [false, true] {
-        let mut input = LINE;
-        let mut output = Stuck { takes, writes: 0 };
-        let status = run(rt.alloc(), text, &mut input, &mut output);
-        assert!(rt;
-            status == Outcome::Unwritten,
-            "where it takes a write: {takes}"
-        );
-        assert_eq!(rt; output.writes, 1, "where it takes a write: {takes}");
-    }
+    is_stuck(&rt, rt.alloc(), false, "a writer that takes no write");
+    is_stuck(&rt, rt.alloc(), true, "a writer that takes a write");
+}
+
+// How the run of the text over this input ends. Nothing is told.
+fn ends(rt: &impl Abort, alloc: Global, text: &[u8], mut input: &[u8]) -> Outcome {
+    let mut output = Vec::new(alloc);
+    let ended = run(alloc, text, &mut input, &mut output);
+    holds(rt, output.is_empty(), "a long input");
+    ended
 }
 
 // The longest input is answered, and one byte more is not; nor is a model that is as long.
 #[test]
 fn the_longest_input(rt: HostRuntime) -> Result<(), AllocError> {
-    let text = Standard::Atomic.text().as_bytes();
-    let mut bytes = vec![in rt.alloc(); b'#'; 16_777_216]?;
-    let mut output = Vec::new(rt.alloc());
-    let status = run(rt.alloc(), text, &mut bytes.as_slice(), &mut output);
-    assert!(rt; status == Outcome::Done);
-    bytes.push(b'#')?;
     let too_much = Outcome::Unread(ReadFault::TooMuch);
-    let status = run(rt.alloc(), text, &mut bytes.as_slice(), &mut output);
-    assert!(rt; status == too_much);
-    let status = run(
-        rt.alloc(),
-        bytes.as_slice(),
-        &mut b"".as_slice(),
-        &mut output,
-    );
-    assert!(rt; status == too_much);
-    assert!(rt; output.is_empty());
+    let mut bytes = vec![in rt.alloc(); b'#'; 16_777_216]?;
+    let ended = ends(&rt, rt.alloc(), text(), bytes.as_slice());
+    holds(&rt, ended == Outcome::Done, "the longest input");
+    bytes.push(b'#')?;
+    let ended = ends(&rt, rt.alloc(), text(), bytes.as_slice());
+    holds(&rt, ended == too_much, "a longer input");
+    let ended = ends(&rt, rt.alloc(), bytes.as_slice(), b"");
+    holds(&rt, ended == too_much, "a longer model");
     Ok(())
 }

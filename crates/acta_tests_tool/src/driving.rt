@@ -1,6 +1,7 @@
 //! Driven runs of the tool: those of one worker as cases of `running`, and of several by what their lines say; and as
 //! many lines as a book or a judge takes.
 
+use crate::expecting::{counts, holds};
 use crate::running::serve;
 use acta_models::Standard;
 use acta_tool::{Args, Command, ModelName, Outcome};
@@ -201,16 +202,14 @@ fn tells<R: Threads + Wait + Sync + Abort, B: Allocator + Send + Sync>(
     (start, end): (&str, &str),
 ) -> Result<(), AllocError> {
     let (ended, output) = told(rt, alloc, heap, command, (line, count))?;
-    let is_taken = count <= 65_536;
-    let due = if is_taken {
-        Outcome::Done
+    if count <= 65_536 {
+        holds(rt, ended == Outcome::Done, "as many lines as are taken");
     } else {
-        Outcome::Refused
-    };
-    assert!(rt; ended == due, "of {count} lines");
-    assert!(rt; output.starts_with(start.as_bytes()), "of {count} lines");
-    assert!(rt; output.ends_with(end.as_bytes()), "of {count} lines");
-    assert!(rt; is_taken || output.len() == start.len(), "of {count} lines");
+        holds(rt, ended == Outcome::Refused, "too many lines");
+        holds(rt, output.len() == start.len(), "too many lines");
+    }
+    holds(rt, output.starts_with(start.as_bytes()), start);
+    holds(rt, output.ends_with(end.as_bytes()), end);
     Ok(())
 }
 
@@ -267,25 +266,33 @@ fn of_seat(alloc: Global, output: &str, seat: &str) -> Result<String, AllocError
 const THREE: &[u8] =
     b"3 begin 3 flat\n1 begin 1 flat\n2 begin 2 flat\n1 do 1 n add 5\n3 abort 9\n2 do 2 m add 7\n";
 
-// Whichever worker comes first, each hands in its lines in order, and two of them add to what no other touches.
+// The lines are so many, and the last starts and ends with these texts.
+fn ends(rt: &impl Abort, lines: &str, count: u64, (start, end): (&str, &str)) -> Result<(), Fail> {
+    counts(rt, lines.lines().count() as u64, count, lines);
+    let last = lines.lines().last().ok_or("a seat has no line")?;
+    holds(rt, last.starts_with(start) && last.ends_with(end), last);
+    Ok(())
+}
+
+// The lines of each of three seats, of which the first and the second add to what no other touches.
+fn seats_end(rt: &impl Abort, alloc: Global, output: &str) -> Result<(), Fail> {
+    counts(rt, output.lines().count() as u64, 6, output);
+    for (seat, start, end) in [
+        ("1", "1 do 1 n add 5 : ok ", " done"),
+        ("2", "2 do 2 m add 7 : ok ", " done"),
+        ("3", "3 abort 9 : no 7 by 9", " : no 7 by 9"),
+    ] {
+        ends(rt, of_seat(alloc, output, seat)?.as_str(), 2, (start, end))?;
+    }
+    Ok(())
+}
+
+// Whichever worker comes first, each hands in its lines in order.
 #[test]
 fn three_workers(rt: HostRuntime) -> Result<(), Fail> {
     let heap = Refusing::new(rt.alloc());
     let command = Command::Drive { workers: 3 };
     let (ended, output) = told(&rt, rt.alloc(), &heap, command, (THREE, 1))?;
-    assert!(rt; ended == Outcome::Done);
-    let output = str::from_utf8(output.as_slice())?;
-    assert_eq!(rt; output.lines().count(), 6);
-    for (seat, event) in [("1", "1 do 1 n add 5 : ok "), ("2", "2 do 2 m add 7 : ok ")] {
-        let told = of_seat(rt.alloc(), output, seat)?;
-        assert_eq!(rt; told.lines().count(), 2);
-        let last = told.lines().last().ok_or("a seat has no line")?;
-        assert!(rt;
-            last.starts_with(event) && last.ends_with(" done"),
-            "at {last}"
-        );
-    }
-    let told = of_seat(rt.alloc(), output, "3")?;
-    assert!(rt; told.ends_with("3 abort 9 : no 7 by 9\n"), "at {told}");
-    Ok(())
+    holds(&rt, ended == Outcome::Done, "the end of the run");
+    seats_end(&rt, rt.alloc(), str::from_utf8(output.as_slice())?)
 }

@@ -5,6 +5,7 @@ use acta_lang::assemble;
 use acta_models::Standard;
 use acta_tool::images_run_as_their_texts;
 use std::alloc::{AllocError, Global};
+use std::process::Abort;
 use std::test::Fail;
 
 /// Images that are written, and images that are read, good and faulty. A command other than `run` reads no input.
@@ -285,19 +286,37 @@ fn is_spelled_so(alloc: Global, bytes: &[u8]) -> Result<bool, AllocError> {
     }
 }
 
+// Whether the bytes end too early.
+fn is_cut(alloc: Global, bytes: &[u8]) -> bool {
+    matches!(
+        load(alloc, bytes),
+        Err(LoadError::Fault(ImageFault::Truncated))
+    )
+}
+
+// It is so at the place.
+fn holds(rt: &impl Abort, is_so: bool, place: usize) {
+    assert!(rt; is_so, "at {place}");
+}
+
+// The byte at the place may have each other value.
+fn turn(rt: &impl Abort, alloc: Global, image: &mut [u8], place: usize) -> Result<(), Fail> {
+    for _ in 0..256 {
+        let byte = image.get_mut(place).ok_or("an image has no such place")?;
+        *byte = byte.wrapping_add(1);
+        holds(rt, is_spelled_so(alloc, image)?, place);
+    }
+    Ok(())
+}
+
 // Each proper prefix is cut short, and each byte may have each other value.
 #[test]
 fn prefixes_and_bytes(rt: HostRuntime) -> Result<(), Fail> {
     for name in Standard::ALL {
         let mut image = image_of(rt.alloc(), name)?;
         for place in 0..image.len() {
-            let read = load(rt.alloc(), &image[..place]);
-            let is_cut = matches!(read, Err(LoadError::Fault(ImageFault::Truncated)));
-            assert!(rt; is_cut, "at {place}");
-            for _ in 0..256 {
-                image[place] = image[place].wrapping_add(1);
-                assert!(rt; is_spelled_so(rt.alloc(), image.as_slice())?, "at {place}");
-            }
+            holds(&rt, is_cut(rt.alloc(), &image[..place]), place);
+            turn(&rt, rt.alloc(), image.as_mut_slice(), place)?;
         }
     }
     Ok(())

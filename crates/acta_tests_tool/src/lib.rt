@@ -9,6 +9,8 @@ mod devices;
 #[cfg(test)]
 mod driving;
 #[cfg(test)]
+mod expecting;
+#[cfg(test)]
 mod images;
 #[cfg(test)]
 mod judging;

@@ -1,5 +1,6 @@
 //! Lines of events and of kept items, as text: each with what is written for what it says, or with its code.
 
+use crate::expecting::{parted, tells};
 use acta_lang::assemble;
 use acta_models::Standard;
 use acta_script::{LineError, read_event, read_kept, write_event, write_kept};
@@ -8,6 +9,26 @@ use std::alloc::{AllocError, Allocator, Global};
 use std::process::Abort;
 use std::test::Fail;
 
+// What is written for the event that a line says.
+fn event_again<A: Allocator + Copy>(
+    alloc: A,
+    model: &Model<A>,
+    line: &[u8],
+) -> Result<Vec<u8, A>, LineError> {
+    let event = read_event(alloc, model, line)?;
+    Ok(write_event(alloc, model, &event)?)
+}
+
+// What is written for the kept item that a line says.
+fn kept_again<A: Allocator + Copy>(
+    alloc: A,
+    model: &Model<A>,
+    line: &[u8],
+) -> Result<Vec<u8, A>, LineError> {
+    let kept = read_kept(alloc, model, line)?;
+    Ok(write_kept(alloc, model, &kept)?)
+}
+
 /// What is written for the event, or the kept item, that a line says, or the code of its fault.
 pub fn again<A: Allocator + Copy>(
     alloc: A,
@@ -15,20 +36,17 @@ pub fn again<A: Allocator + Copy>(
     line: &[u8],
     is_kept: bool,
 ) -> Result<Vec<u8, A>, AllocError> {
-    let fault = if is_kept {
-        match read_kept(alloc, model, line) {
-            Ok(kept) => return write_kept(alloc, model, &kept),
-            Err(fault) => fault,
-        }
+    let said = if is_kept {
+        kept_again(alloc, model, line)
     } else {
-        match read_event(alloc, model, line) {
-            Ok(event) => return write_event(alloc, model, &event),
-            Err(fault) => fault,
-        }
+        event_again(alloc, model, line)
     };
-    match fault {
-        LineError::Fault(fault) => Vec::from_slice(alloc, &[b'0'.saturating_add(fault.number())]),
-        LineError::Memory => Err(AllocError),
+    match said {
+        Ok(said) => Ok(said),
+        Err(LineError::Fault(fault)) => {
+            Vec::from_slice(alloc, &[b'0'.saturating_add(fault.number())])
+        }
+        Err(LineError::Memory) => Err(AllocError),
     }
 }
 
@@ -160,18 +178,43 @@ commit x = 5 -> 4
 begin 1 nosuch = x -> 4
 begin 1 nosuch = 5 -> 5";
 
-// The lines of the texts, each with what is wanted behind an arrow.
-#[test]
-fn what_lines_say(rt: HostRuntime) -> Result<(), Fail> {
-    let model = assemble(rt.alloc(), Standard::SplitJoin.text().as_bytes())?;
+// A row of a text: a line, with what is wanted behind an arrow.
+fn say(
+    rt: &impl Abort,
+    alloc: Global,
+    model: &Model<Global>,
+    row: &str,
+    is_kept: bool,
+) -> Result<(), Fail> {
+    let (line, want) = parted(row, " -> ")?;
+    let said = again(alloc, model, line.as_bytes(), is_kept)?;
+    tells(rt, said.as_slice(), want.as_bytes(), row);
+    Ok(())
+}
+
+// The rows of the texts, on this model.
+fn say_all(rt: &impl Abort, alloc: Global, model: &Model<Global>) -> Result<(), Fail> {
     for (rows, is_kept) in [(SAID, false), (FAULTY, false), (KEPT, true)] {
         for row in rows.lines() {
-            let (line, want) = row.split_once(" -> ").ok_or("a row has no arrow")?;
-            let said = again(rt.alloc(), &model, line.as_bytes(), is_kept)?;
-            assert_eq!(rt; said.as_slice(), want.as_bytes(), "at {line}");
+            say(rt, alloc, model, row, is_kept)?;
         }
     }
     Ok(())
+}
+
+#[test]
+fn what_lines_say(rt: HostRuntime) -> Result<(), Fail> {
+    let model = assemble(rt.alloc(), Standard::SplitJoin.text().as_bytes())?;
+    say_all(&rt, rt.alloc(), &model)
+}
+
+// The line with so many ones behind it.
+fn longer(alloc: Global, line: &[u8], ones: usize) -> Result<Vec<u8>, AllocError> {
+    let mut longer = Vec::from_slice(alloc, line)?;
+    for _ in 0..ones {
+        longer.push(b'1')?;
+    }
+    Ok(longer)
 }
 
 // The line of an event, with so many ones behind it, has the fault of this code.
@@ -180,34 +223,35 @@ fn says(
     alloc: Global,
     model: &Model<Global>,
     (line, ones): (&[u8], usize),
-    due: u8,
+    (due, row): (&[u8], &str),
 ) -> Result<(), AllocError> {
-    let mut longer = Vec::from_slice(alloc, line)?;
-    for _ in 0..ones {
-        longer.push(b'1')?;
-    }
+    let longer = longer(alloc, line, ones)?;
     let told = again(alloc, model, longer.as_slice(), false)?;
-    assert_eq!(rt;
-        told.as_slice(),
-        [due].as_slice(),
-        "at a line of {ones} ones"
-    );
+    tells(rt, told.as_slice(), due, row);
     Ok(())
 }
 
-// Bytes that no text has belong to words, and long words and numbers are read to their end.
-#[test]
-fn hostile_lines(rt: HostRuntime) -> Result<(), Fail> {
-    let alloc = rt.alloc();
-    let model = assemble(alloc, Standard::Atomic.text().as_bytes())?;
-    for (line, ones, due) in [
-        (b"commit 1\0".as_slice(), 0, b'4'),
-        (b"commit\xff 1", 0, b'2'),
-        (b"begin 1 flat\r", 0, b'5'),
-        (b"", 1_000_000, b'2'),
-        (b"commit ", 400, b'4'),
+// Bytes that no text has belong to words, and long words and numbers are read to their end, on this model.
+fn say_hostile(rt: &impl Abort, alloc: Global, model: &Model<Global>) -> Result<(), AllocError> {
+    for (line, ones, due, row) in [
+        (
+            b"commit 1\0".as_slice(),
+            0,
+            b"4",
+            "a commit with a byte of 0",
+        ),
+        (b"commit\xff 1", 0, b"2", "a commit with a byte of 255"),
+        (b"begin 1 flat\r", 0, b"5", "a beginning with a byte of 13"),
+        (b"", 1_000_000, b"2", "a long word"),
+        (b"commit ", 400, b"4", "a long number"),
     ] {
-        says(&rt, alloc, &model, (line, ones), due)?;
+        says(rt, alloc, model, (line, ones), (due.as_slice(), row))?;
     }
     Ok(())
+}
+
+#[test]
+fn hostile_lines(rt: HostRuntime) -> Result<(), Fail> {
+    let model = assemble(rt.alloc(), Standard::Atomic.text().as_bytes())?;
+    Ok(say_hostile(&rt, rt.alloc(), &model)?)
 }

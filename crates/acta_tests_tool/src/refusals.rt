@@ -1,6 +1,7 @@
 //! Each allocation of a call refused in turn: a call answers want of memory, or what is wanted where it can do without
 //! that one, and nothing else.
 
+use crate::expecting::{holds, number, parted, tells};
 use crate::lines::again;
 use acta_image::{LoadError, load, write_image};
 use acta_lang::{AsmError, assemble, print_model};
@@ -81,6 +82,39 @@ fn told<'h>(
     }
 }
 
+// What the call answers is these bytes, where it answers any. Says whether it does.
+fn answers<'h>(
+    rt: &impl Abort,
+    heap: &'h Refusing<Global>,
+    model: &Model<&'h Refusing<Global>>,
+    call: &str,
+    bytes: &[u8],
+) -> bool {
+    match told(heap, model, call, bytes) {
+        Ok(said) => {
+            tells(rt, said.as_slice(), bytes, call);
+            true
+        }
+        Err(_) => false,
+    }
+}
+
+// Refuses the nth allocation of a call. Says whether none was refused, and then the call answers.
+fn is_whole<'h>(
+    rt: &impl Abort,
+    heap: &'h Refusing<Global>,
+    model: &Model<&'h Refusing<Global>>,
+    (call, nth): (&str, u64),
+    bytes: &[u8],
+) -> bool {
+    heap.refuse(nth);
+    let has_answered = answers(rt, heap, model, call, bytes);
+    let is_whole = heap.is_waiting();
+    heap.refuse(0);
+    holds(rt, has_answered || !is_whole, call);
+    is_whole
+}
+
 // Refuses each allocation of a call in turn, of which there are more than `least`. Where the call finds all its memory
 // it answers these bytes; and so it does where it can do without what was refused, or else `Err`.
 fn refuse_each<'h>(
@@ -91,16 +125,8 @@ fn refuse_each<'h>(
     bytes: &[u8],
 ) -> Result<(), Fail> {
     for nth in 1..MOST {
-        heap.refuse(nth);
-        let said = told(heap, model, call, bytes);
-        let is_whole = heap.is_waiting();
-        heap.refuse(0);
-        match said {
-            Ok(said) => assert_eq!(rt; said.as_slice(), bytes, "of {call}"),
-            Err(_) => assert!(rt; !is_whole, "of {call}"),
-        }
-        if is_whole {
-            assert!(rt; nth > least, "of {call}");
+        if is_whole(rt, heap, model, (call, nth), bytes) {
+            holds(rt, nth > least, call);
             return Ok(());
         }
     }
@@ -119,35 +145,62 @@ refusal 1 : no 28 by 4294967295
 debt 1 : owed 16384 4095 abort
 fault 1 : fault 33 65536 18446744073709551615";
 
-// The calls of the lines, on this model.
-fn refuse_lines<'h>(
+// The call of a line, on this model.
+fn refuse_line<'h>(
     rt: &impl Abort,
+    heap: &'h Refusing<Global>,
+    model: &Model<&'h Refusing<Global>>,
+    row: &str,
+) -> Result<(), Fail> {
+    let (call, line) = parted(row, " : ")?;
+    let (call, least) = parted(call, " ")?;
+    let least = number(least)?;
+    refuse_each(rt, heap, model, (call, least), line.as_bytes())
+}
+
+// The canonical texts of the standard models, one behind the other.
+fn all_texts(alloc: Global) -> Result<Vec<u8>, AllocError> {
+    let mut all = Vec::new(alloc);
+    for name in Standard::ALL {
+        all.extend_from_slice(name.text().as_bytes())?;
+    }
+    Ok(all)
+}
+
+// The image of the nested transactions.
+fn nested_image(alloc: Global) -> Result<Vec<u8>, Fail> {
+    let nested = assemble(alloc, Standard::Nested.text().as_bytes())?;
+    Ok(write_image(alloc, &nested)?)
+}
+
+// All calls, on this model.
+fn refuse_all<'h>(
+    rt: &impl Abort,
+    alloc: Global,
     heap: &'h Refusing<Global>,
     model: &Model<&'h Refusing<Global>>,
 ) -> Result<(), Fail> {
     for row in LINES.lines() {
-        let (call, line) = row.split_once(" : ").ok_or("a row has no line")?;
-        let (call, least) = call.split_once(' ').ok_or("a row has no number")?;
-        let least = least.parse().ok().ok_or("a word is no number")?;
-        refuse_each(rt, heap, model, (call, least), line.as_bytes())?;
+        refuse_line(rt, heap, model, row)?;
     }
-    Ok(())
+    for name in Standard::ALL {
+        refuse_each(rt, heap, model, ("text", 10), name.text().as_bytes())?;
+    }
+    refuse_each(rt, heap, model, ("texts", 50), all_texts(alloc)?.as_slice())?;
+    refuse_each(
+        rt,
+        heap,
+        model,
+        ("image", 10),
+        nested_image(alloc)?.as_slice(),
+    )
 }
 
 #[test]
 fn calls(rt: HostRuntime) -> Result<(), Fail> {
     let heap = Refusing::new(rt.alloc());
     let model = assemble(&heap, Standard::SplitJoin.text().as_bytes())?;
-    refuse_lines(&rt, &heap, &model)?;
-    let mut all = Vec::new(rt.alloc());
-    for name in Standard::ALL {
-        refuse_each(&rt, &heap, &model, ("text", 10), name.text().as_bytes())?;
-        all.extend_from_slice(name.text().as_bytes())?;
-    }
-    refuse_each(&rt, &heap, &model, ("texts", 50), all.as_slice())?;
-    let nested = assemble(rt.alloc(), Standard::Nested.text().as_bytes())?;
-    let image = write_image(rt.alloc(), &nested)?;
-    refuse_each(&rt, &heap, &model, ("image", 10), image.as_slice())
+    refuse_all(&rt, rt.alloc(), &heap, &model)
 }
 
 /// Cases of `running` of which each allocation is refused in turn: runs, verdicts, commands to a debugger, images, and

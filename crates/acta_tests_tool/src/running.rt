@@ -4,6 +4,7 @@
 //! in `status 0 over 20`, can stand that each allocation of the run is refused in turn, and that it makes more than so
 //! many.
 
+use crate::expecting::{holds, number, tells};
 use crate::{debugging, driving, images, judging, refusals, tour};
 use acta_locked::DriveError;
 use acta_tool::{
@@ -89,8 +90,46 @@ pub fn serve<R: Threads + Wait + Sync, B: Allocator + Send + Sync>(
     }
 }
 
-// Runs a case, where this allocation is refused, and compares what it writes and how it ends: where it is cut short, it
-// writes nothing. Gives whether no allocation was refused.
+// The bytes of the model that the words name.
+fn model_of<'a>(args: &Args<'_>, case: &'a Case<'_>) -> &'a [u8] {
+    match args.model {
+        ModelName::Standard(name) => name.text().as_bytes(),
+        ModelName::Path(_) => case.model.as_slice(),
+    }
+}
+
+// Whether the run was cut short by what was refused.
+fn is_short(ended: Outcome) -> bool {
+    matches!(
+        ended,
+        Outcome::Unread(ReadFault::Memory)
+            | Outcome::Undriven(DriveError::Memory | DriveError::NoThread)
+    )
+}
+
+// The exit status is that of the case.
+fn exits(rt: &impl Abort, code: u8, status: &str, command: &str) {
+    assert_eq!(rt; Some(code), status.parse().ok(), "at {command}");
+}
+
+// The run that ended so wrote what is wanted; where it was cut short, it wrote nothing, and an allocation was refused.
+fn expect(
+    rt: &impl Abort,
+    (ended, is_whole): (Outcome, bool),
+    (told, want): (&[u8], &[u8]),
+    status: &str,
+    command: &str,
+) {
+    if is_short(ended) {
+        holds(rt, told.is_empty() && !is_whole, command);
+    } else {
+        tells(rt, told, want, command);
+        exits(rt, exit_status(&Ok(ended)), status, command);
+    }
+}
+
+// Runs a case, where this allocation is refused, and compares what it writes and how it ends. Gives whether no
+// allocation was refused.
 fn is_whole<R: Threads + Wait + Sync + Abort, B: Allocator + Send + Sync>(
     rt: &R,
     alloc: Global,
@@ -99,35 +138,44 @@ fn is_whole<R: Threads + Wait + Sync + Abort, B: Allocator + Send + Sync>(
     case: &Case<'_>,
     nth: u64,
 ) -> bool {
-    let model = match args.model {
-        ModelName::Standard(name) => name.text().as_bytes(),
-        ModelName::Path(_) => case.model.as_slice(),
-    };
+    let (model, want) = (model_of(args, case), case.want.as_slice());
     let mut output = Vec::new(alloc);
     heap.refuse(nth);
     let ended = serve(rt, heap, args, model, case.input.as_slice(), &mut output);
     let is_whole = heap.is_waiting();
     heap.refuse(0);
-    match ended {
-        Outcome::Unread(ReadFault::Memory)
-        | Outcome::Undriven(DriveError::Memory | DriveError::NoThread) => {
-            assert!(rt; output.is_empty() && !is_whole, "at {}", case.command);
-        }
-        _ => {
-            let code = exit_status(&Ok(ended));
-            assert_eq!(rt;
-                output.as_slice(),
-                case.want.as_slice(),
-                "at {}",
-                case.command
-            );
-            assert_eq!(rt; Some(code), status.parse().ok(), "at {}", case.command);
-        }
-    }
+    expect(
+        rt,
+        (ended, is_whole),
+        (output.as_slice(), want),
+        status,
+        case.command,
+    );
     is_whole
 }
 
-// Runs a case, or each allocation of it refused in turn.
+// Runs a case that asks for this, or each allocation of it refused in turn.
+fn run_args<R: Threads + Wait + Sync + Abort, B: Allocator + Send + Sync>(
+    rt: &R,
+    alloc: Global,
+    heap: &Refusing<B>,
+    args: &Args<'_>,
+    case: &Case<'_>,
+    due: &str,
+) -> Result<(), Fail> {
+    let (status, least) = due.split_once(" over ").unwrap_or((due, "0"));
+    let least = number(least)?;
+    for nth in 1..MOST {
+        let refused = if status == due { u64::MAX } else { nth };
+        if is_whole(rt, alloc, heap, (args, status), case, refused) {
+            holds(rt, nth > least, case.command);
+            return Ok(());
+        }
+    }
+    Err("a case makes too many allocations")?
+}
+
+// Runs a case; where its command line asks for nothing, that is how it ends.
 fn run<R: Threads + Wait + Sync + Abort, B: Allocator + Send + Sync>(
     rt: &R,
     alloc: Global,
@@ -135,28 +183,27 @@ fn run<R: Threads + Wait + Sync + Abort, B: Allocator + Send + Sync>(
     case: &Case<'_>,
     due: &str,
 ) -> Result<(), Fail> {
-    let (status, least) = due.split_once(" over ").unwrap_or((due, "0"));
-    let least = least
-        .parse::<u64>()
-        .ok()
-        .ok_or("a case has no number of allocations")?;
     let words = words(alloc, case.command)?;
-    let args = match parse(alloc, words.as_slice()) {
-        Ok(args) => args,
+    match parse(alloc, words.as_slice()) {
+        Ok(args) => run_args(rt, alloc, heap, &args, case, due),
         Err(fault) => {
-            let code = exit_status(&Err(fault));
-            assert_eq!(rt; Some(code), status.parse().ok(), "at {}", case.command);
-            return Ok(());
-        }
-    };
-    for nth in 1..MOST {
-        let refused = if status == due { u64::MAX } else { nth };
-        if is_whole(rt, alloc, heap, (&args, status), case, refused) {
-            assert!(rt; nth > least, "at {}", case.command);
-            return Ok(());
+            exits(rt, exit_status(&Err(fault)), due, case.command);
+            Ok(())
         }
     }
-    Err("a case makes too many allocations")?
+}
+
+// Adds a line to the part of the case that its mark says.
+fn put(case: &mut Case<'_>, (mark, rest): (&str, &str), line: &str) -> Result<(), AllocError> {
+    match mark {
+        "%" => add(&mut case.model, rest),
+        "&" => add_bytes(&mut case.model, rest),
+        "=" => add_bytes(&mut case.want, rest),
+        ">" => add(&mut case.want, rest),
+        "|" => add(&mut case.input, rest),
+        "" => Ok(()),
+        _ => add(&mut case.want, line),
+    }
 }
 
 // Plays the cases of a text.
@@ -171,14 +218,8 @@ fn play<R: Threads + Wait + Sync + Abort, B: Allocator + Send + Sync>(
         let (mark, rest) = line.split_once(' ').unwrap_or((line, ""));
         match mark {
             "$" => case = case_of(alloc, rest),
-            "%" => add(&mut case.model, rest)?,
-            "&" => add_bytes(&mut case.model, rest)?,
-            "=" => add_bytes(&mut case.want, rest)?,
-            ">" => add(&mut case.want, rest)?,
-            "|" => add(&mut case.input, rest)?,
             "status" => run(rt, alloc, heap, &case, rest)?,
-            "" => {}
-            _ => add(&mut case.want, line)?,
+            _ => put(&mut case, (mark, rest), line)?,
         }
     }
     Ok(())
@@ -505,8 +546,22 @@ fn cases(rt: HostRuntime) -> Result<(), Fail> {
     ] {
         play(&rt, rt.alloc(), &heap, cases)?;
     }
-    assert_eq!(rt; exit_status(&Ok(Outcome::Done)), 0);
-    assert_eq!(rt; exit_status(&Ok(Outcome::Refused)), 1);
-    assert_eq!(rt; exit_status(&Ok(Outcome::Unwritten)), 3);
     Ok(())
+}
+
+#[test]
+fn exit_statuses(rt: HostRuntime) {
+    exits(&rt, exit_status(&Ok(Outcome::Done)), "0", "what is done");
+    exits(
+        &rt,
+        exit_status(&Ok(Outcome::Refused)),
+        "1",
+        "what is refused",
+    );
+    exits(
+        &rt,
+        exit_status(&Ok(Outcome::Unwritten)),
+        "3",
+        "what is unwritten",
+    );
 }

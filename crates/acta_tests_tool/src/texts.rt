@@ -2,44 +2,90 @@
 //! `good`. `*COUNT` is before what stands so many times, with its number at `#`, and lines for what is between `;`, and
 //! `+COUNT` before what stands so many times in one line.
 
+use crate::expecting::{counts, number, parted, tells};
 use acta_lang::{AsmError, assemble, print_model};
 use acta_models::{Standard, load_all};
+use acta_table::Model;
 use std::alloc::{AllocError, Global};
 use std::process::Abort;
 use std::test::Fail;
 
-// The line and the code at which the text fails, or `good`.
-fn judged(alloc: Global, text: &[u8]) -> Result<String, AllocError> {
+// The line and the code at which the text fails, where it does.
+fn fault_of(alloc: Global, text: &[u8]) -> Result<Option<(usize, u8)>, AllocError> {
     match assemble(alloc, text) {
-        Ok(_) => String::from_str(alloc, "good"),
-        Err(AsmError::Fault(fault)) => {
-            let (line, code) = (fault.line, fault.code.number());
-            format!(in alloc; "{line} {code}")
-        }
+        Ok(_) => Ok(None),
+        Err(AsmError::Fault(fault)) => Ok(Some((fault.line, fault.code.number()))),
         Err(AsmError::Memory) => Err(AllocError),
     }
 }
 
+// The line and the code at which the text fails, or `good`.
+fn judged(alloc: Global, text: &[u8]) -> Result<String, AllocError> {
+    match fault_of(alloc, text)? {
+        Some((line, code)) => format!(in alloc; "{line} {code}"),
+        None => String::from_str(alloc, "good"),
+    }
+}
+
+// The row is where the text fails, or `good`.
+fn expect(rt: &impl Abort, alloc: Global, text: &[u8], row: &str) -> Result<(), AllocError> {
+    let judged = judged(alloc, text)?;
+    tells(rt, judged.as_bytes(), row.as_bytes(), row);
+    Ok(())
+}
+
+// Adds a line to a text.
+fn add(text: &mut Vec<u8>, line: &str) -> Result<(), AllocError> {
+    text.extend_from_slice(line.as_bytes())?;
+    text.push(b'\n')?;
+    Ok(())
+}
+
+// Adds what stands before a number, the number, and what is behind it.
+fn add_named(
+    alloc: Global,
+    text: &mut Vec<u8>,
+    (head, tail): (&str, &str),
+    number: u64,
+) -> Result<(), AllocError> {
+    let named = format!(in alloc; "{head}{number}")?;
+    text.extend_from_slice(named.as_bytes())?;
+    for line in tail.split(';') {
+        add(text, line)?;
+    }
+    Ok(())
+}
+
 // Adds what stands so many times: `COUNT TEXT`, where the text has its number at `#`, and lines between `;`.
 fn add_numbered(alloc: Global, text: &mut Vec<u8>, row: &str) -> Result<(), Fail> {
-    let (count, row) = row.split_once(' ').ok_or("a row has no count")?;
-    let (head, tail) = row.split_once('#').ok_or("a row has no number")?;
-    for number in 0..count.parse::<u32>().ok().ok_or("a count is no number")? {
-        let named = format!(in alloc; "{head}{number}")?;
-        text.extend_from_slice(named.as_bytes())?;
-        for line in tail.split(';') {
-            text.extend_from_slice(line.as_bytes())?;
-            text.push(b'\n')?;
-        }
+    let (count, row) = parted(row, " ")?;
+    let parts = parted(row, "#")?;
+    for n in 0..number(count)? {
+        add_named(alloc, text, parts, n)?;
     }
     Ok(())
 }
 
 // The same, where the text stands in one line, as it is.
 fn add_repeated(text: &mut Vec<u8>, row: &str) -> Result<(), Fail> {
-    let (count, row) = row.split_once(' ').ok_or("a row has no count")?;
-    for _ in 0..count.parse::<u32>().ok().ok_or("a count is no number")? {
+    let (count, row) = parted(row, " ")?;
+    for _ in 0..number(count)? {
         text.extend_from_slice(row.as_bytes())?;
+    }
+    Ok(())
+}
+
+// Plays a row of a text.
+fn play_row(rt: &impl Abort, alloc: Global, text: &mut Vec<u8>, row: &str) -> Result<(), Fail> {
+    if let Some(line) = row.strip_prefix('%') {
+        add(text, line)?;
+    } else if let Some(numbered) = row.strip_prefix('*') {
+        add_numbered(alloc, text, numbered)?;
+    } else if let Some(repeated) = row.strip_prefix('+') {
+        add_repeated(text, repeated)?;
+    } else if !row.is_empty() {
+        expect(rt, alloc, text.as_slice(), row)?;
+        text.clear();
     }
     Ok(())
 }
@@ -48,18 +94,7 @@ fn add_repeated(text: &mut Vec<u8>, row: &str) -> Result<(), Fail> {
 fn play(rt: &impl Abort, alloc: Global, rows: &str) -> Result<(), Fail> {
     let mut text = Vec::new(alloc);
     for row in rows.lines() {
-        if let Some(line) = row.strip_prefix('%') {
-            text.extend_from_slice(line.as_bytes())?;
-            text.push(b'\n')?;
-        } else if let Some(numbered) = row.strip_prefix('*') {
-            add_numbered(alloc, &mut text, numbered)?;
-        } else if let Some(repeated) = row.strip_prefix('+') {
-            add_repeated(&mut text, repeated)?;
-        } else if !row.is_empty() {
-            let judged = judged(alloc, text.as_slice())?;
-            assert_eq!(rt; judged.as_str(), row, "at {row}");
-            text.clear();
-        }
+        play_row(rt, alloc, &mut text, row)?;
     }
     Ok(())
 }
@@ -493,12 +528,22 @@ fn texts(rt: HostRuntime) -> Result<(), Fail> {
         play(&rt, rt.alloc(), rows)?;
     }
     for text in [b"class a\r\n".as_slice(), b"class \0"] {
-        assert_eq!(rt; judged(rt.alloc(), text)?.as_str(), "1 1");
+        expect(&rt, rt.alloc(), text, "1 1")?;
     }
+    expect(&rt, rt.alloc(), b"class a\nstarts\x80 begin", "2 1")?;
     let comment = vec![in rt.alloc(); b'#'; 16_777_216]?;
-    assert_eq!(rt; judged(rt.alloc(), comment.as_slice())?.as_str(), "1 9");
-    let text = b"class a\nstarts\x80 begin";
-    assert_eq!(rt; judged(rt.alloc(), text)?.as_str(), "2 1");
+    Ok(expect(&rt, rt.alloc(), comment.as_slice(), "1 9")?)
+}
+
+// The model is printed as this text.
+fn is_printed(
+    rt: &impl Abort,
+    alloc: Global,
+    model: &Model<Global>,
+    text: &str,
+) -> Result<(), AllocError> {
+    let printed = print_model(alloc, model)?;
+    tells(rt, printed.as_slice(), text.as_bytes(), "a standard model");
     Ok(())
 }
 
@@ -506,10 +551,9 @@ fn texts(rt: HostRuntime) -> Result<(), Fail> {
 #[test]
 fn standard_texts_are_canonical(rt: HostRuntime) -> Result<(), Fail> {
     let models = load_all(rt.alloc())?;
-    assert_eq!(rt; models.len(), 5);
+    counts(&rt, models.len() as u64, 5, "all models");
     for (name, model) in Standard::ALL.iter().zip(models.iter()) {
-        let printed = print_model(rt.alloc(), model)?;
-        assert_eq!(rt; printed.as_slice(), name.text().as_bytes());
+        is_printed(&rt, rt.alloc(), model, name.text())?;
     }
     Ok(())
 }

@@ -1,0 +1,139 @@
+//! A slow judge: it asks the places before each item, tells each axiom over what they answer, and at the end asks the
+//! formula of each edge. It is the definitions once more, and knows nothing of how the judge keeps what it has seen.
+
+use crate::formulas::{course_of, is_false, payment};
+use crate::judging::asking::{Before, Said};
+use crate::judging::telling::Faults;
+use acta_axioms::{Axiom, Course, Places, Walk};
+use acta_judge::Verdict;
+use acta_table::{Dep, Edge, EdgeNo, Items, Kept, MOST_EVENTS, Missing, Model, Owed};
+use std::alloc::{AllocError, Global};
+use std::collections::BTreeSet;
+
+// Where a formula of the kind that is false and not owed became so.
+fn place_of(kind: Dep, j: Course, i: Course) -> Option<u32> {
+    match kind {
+        Dep::Cd | Dep::Wcd => i.commit,
+        Dep::Scd => i.commit.max(j.end()),
+        Dep::Ad | Dep::Wd | Dep::Cmd => i.abort.max(j.end()),
+        Dep::Td => j.decided(),
+        Dep::Ed => i.commit.max(j.start).max(j.end()),
+        Dep::Bd | Dep::Sd | Dep::Bcd | Dep::Bad => j.start,
+    }
+}
+
+// Where the formula of the edge is false and not owed, and what is owed by it.
+fn settled(places: &Places<'_, Global>, edge: &Edge) -> (Option<u32>, Option<Missing>) {
+    let (j, i) = (course_of(places, edge.j), course_of(places, edge.i));
+    if !is_false(edge.kind, j, i) {
+        return (None, None);
+    }
+    match payment(edge.kind) {
+        Some(missing) if !j.has_ended() => (None, Some(missing)),
+        _ => (place_of(edge.kind, j, i), None),
+    }
+}
+
+// Tells the faults by edges, and gives what is owed, by edge number.
+fn tell_edges(
+    alloc: Global,
+    places: &Places<'_, Global>,
+    faults: &mut Faults,
+) -> Result<Vec<Owed>, AllocError> {
+    let mut owed = Vec::new(alloc);
+    let mut number = 0u64;
+    for edge in places.edges() {
+        number = number.saturating_add(1);
+        let (place, missing) = settled(places, edge);
+        if let Some(place) = place {
+            faults.place = place;
+            faults.tell(Axiom::Dependency(edge.kind), true, number)?;
+        }
+        if let Some(missing) = missing {
+            owed.push(Owed {
+                edge: EdgeNo(number),
+                txn: edge.j,
+                missing,
+            })?;
+        }
+    }
+    Ok(owed)
+}
+
+// Who owes both a commit and an abort.
+fn tell_clashes(owed: &[Owed], faults: &mut Faults) -> Result<(), AllocError> {
+    for one in owed {
+        for other in owed {
+            let is_clash = one.txn == other.txn
+                && one.missing == Missing::Commit
+                && other.missing == Missing::Abort;
+            faults.tell(Axiom::Clash, is_clash, u64::from(one.txn.0))?;
+        }
+    }
+    Ok(())
+}
+
+// The faults at the next place, which the walk has reached, and whose item says this.
+fn tell_place(
+    alloc: Global,
+    walk: &Walk<'_, Global>,
+    front: &[Said<'_>],
+    said: Said<'_>,
+    faults: &mut Faults,
+) -> Result<(), AllocError> {
+    faults.place = faults.place.saturating_add(1);
+    Before::of(alloc, walk, front, said.asked)?.tell_all(said, faults)
+}
+
+// Goes one item further.
+fn step(walk: &mut Walk<'_, Global>) -> Result<(), AllocError> {
+    walk.step()
+}
+
+// The faults at all places, place by place. The walk then stands at the end.
+fn tell_places(
+    alloc: Global,
+    walk: &mut Walk<'_, Global>,
+    faults: &mut Faults,
+) -> Result<(), AllocError> {
+    let mut front = Vec::new(alloc);
+    for _ in 0..MOST_EVENTS {
+        let Some(item) = walk.next() else {
+            return Ok(());
+        };
+        let said = Said::of(item);
+        tell_place(alloc, walk, front.as_slice(), said, faults)?;
+        front.push(said)?;
+        step(walk)?;
+    }
+    Ok(())
+}
+
+/// The verdict on the list, slowly.
+pub fn judged_slowly(
+    alloc: Global,
+    model: &Model<Global>,
+    kept: &[Kept<Global>],
+) -> Result<Verdict<Global>, AllocError> {
+    if kept.len() > MOST_EVENTS {
+        return Err(AllocError);
+    }
+    let mut walk = Walk::of(alloc, model, kept)?;
+    let mut faults = Faults {
+        found: BTreeSet::new(alloc),
+        place: 0,
+    };
+    tell_places(alloc, &mut walk, &mut faults)?;
+    let places = Places::of(alloc, model, kept)?;
+    let owed = tell_edges(alloc, &places, &mut faults)?;
+    faults.place = kept.len() as u32;
+    tell_clashes(owed.as_slice(), &mut faults)?;
+    let mut listed = Vec::new(alloc);
+    for fault in faults.found.iter() {
+        listed.push(*fault)?;
+    }
+    Ok(Verdict {
+        faults: Items::of(listed),
+        owed: Items::of(owed),
+    })
+}

@@ -1,0 +1,275 @@
+//! The axioms at a place, each told over what stands before and what the item says.
+
+use crate::judging::asking::{Before, Done, Part, Said, Txn};
+use acta_axioms::{Axiom, Fault};
+use acta_objects::ObjectState;
+use acta_table::{
+    AtCommit, Dep, EventKind, Extent, Fate, Kind, LAST_TXN, ObjId, Op, OpNo, Policy, Scope, TxnId,
+};
+use std::alloc::{AllocError, Global};
+use std::collections::BTreeSet;
+
+/// Faults in their order, each once.
+#[derive(Drop)]
+pub struct Faults {
+    pub found: BTreeSet<Fault, Global>,
+    /// The place at which they are told.
+    pub place: u32,
+}
+
+impl Faults {
+    /// The fault of this axiom at the place, where it is broken.
+    pub fn tell(&mut self, broken: Axiom, is_broken: bool, by: u64) -> Result<(), AllocError> {
+        if is_broken {
+            let place = self.place;
+            self.found.insert(Fault { broken, place, by })?;
+        }
+        Ok(())
+    }
+
+    // Who starts, operates, ends or takes part where it cannot.
+    fn tell_part(&mut self, txn: Txn<'_>, part: Part) -> Result<(), AllocError> {
+        let (course, by) = (txn.course, u64::from(txn.number.0));
+        let is_idle = !course.is_in_progress();
+        match part {
+            Part::Starts => self.tell(Axiom::BegunOnce, course.has_begun(), by),
+            Part::Operates => self.tell(Axiom::OperatesInProgress, is_idle, by),
+            Part::TakesPart => self.tell(Axiom::PartiesInProgress, is_idle, by),
+            Part::Ends => {
+                self.tell(Axiom::EndedAfterBegun, !course.has_begun(), by)?;
+                self.tell(Axiom::EndedOnce, course.has_ended(), by)
+            }
+            Part::IsNamed => Ok(()),
+        }
+    }
+}
+
+fn is_bad(t: TxnId) -> bool {
+    t.0 == 0 || t.0 > LAST_TXN
+}
+
+impl<'a> Before<'a> {
+    // The kind of the object, where the operation is of it.
+    fn kind_for(&self, object: ObjId, op: Op) -> Option<Kind> {
+        let kind = self.model.object(object)?.kind;
+        let suits = match op {
+            Op::Read | Op::Write(_) => matches!(kind, Kind::Register(_)),
+            Op::Get | Op::Add(_) => matches!(kind, Kind::Counter(_)),
+            _ => matches!(kind, Kind::Elements),
+        };
+        if suits { Some(kind) } else { None }
+    }
+
+    // Whether the item breaks the form of events.
+    fn is_ill_formed(&self, said: Said<'_>) -> bool {
+        if let Some((object, op)) = said.asked {
+            if self.kind_for(object, op).is_none() {
+                return true;
+            }
+        }
+        if let Some(class) = said.class {
+            if self.model.class(class).is_none() {
+                return true;
+            }
+        }
+        let t = said.first.0;
+        is_bad(t)
+            || match said.second {
+                Some((u, _)) => u == t || is_bad(u),
+                None => false,
+            }
+    }
+
+    // Whether the transaction's class may do such events.
+    fn may(&self, t: TxnId, kind: EventKind) -> bool {
+        match self.txn(t).class {
+            Some(class) => class.may.has(kind),
+            None => true,
+        }
+    }
+
+    // Whether some class may form edges, and those of the two transactions may.
+    fn may_form(&self, j: TxnId, i: TxnId) -> bool {
+        for class in self.model.classes() {
+            if class.may.has(EventKind::Form) {
+                return self.may(j, EventKind::Form) && self.may(i, EventKind::Form);
+            }
+        }
+        false
+    }
+
+    // Whether the class that is named, if one is, starts so.
+    fn starts(&self, said: Said<'_>) -> bool {
+        let Some(id) = said.class else {
+            return true;
+        };
+        let Some(class) = self.model.class(id) else {
+            return true;
+        };
+        match said.kind {
+            EventKind::Begin => class.starts.begin,
+            EventKind::Spawn => class.starts.spawned,
+            _ => class.starts.split,
+        }
+    }
+
+    // Whether the classes may do what the item does.
+    fn is_allowed(&self, said: Said<'_>) -> bool {
+        let t = said.first.0;
+        let does = match said.kind {
+            EventKind::Begin => true,
+            EventKind::Form => match said.second {
+                Some((u, _)) => self.may_form(t, u),
+                None => false,
+            },
+            kind => self.may(t, kind),
+        };
+        does && self.starts(said)
+    }
+
+    // Whether the first has spawned the second, or one that has, and so on.
+    fn is_ancestor(&self, u: TxnId, t: TxnId) -> bool {
+        let mut next = self.txn(t).parent;
+        for _ in &self.txns {
+            match next {
+                Some(v) if v == u => return true,
+                Some(v) => next = self.txn(v).parent,
+                None => return false,
+            }
+        }
+        false
+    }
+
+    // Whether another holds the operation in progress, who is not spared by the transaction's class.
+    fn is_of_others(&self, txn: Txn<'_>, scope: Scope, done: Done) -> bool {
+        let Some(u) = done.holder else {
+            return false;
+        };
+        done.fate == Some(Fate::InProgress)
+            && u != txn.number
+            && !(scope == Scope::NonAncestors && self.is_ancestor(u, txn.number))
+    }
+
+    // The operations that one conflicts with whose class refuses it.
+    fn tell_conflicts(&self, said: Said<'_>, faults: &mut Faults) -> Result<(), AllocError> {
+        let txn = self.txn(said.first.0);
+        let (Some((object, op)), Some(class)) = (said.asked, txn.class) else {
+            return Ok(());
+        };
+        let Some(kind) = self.kind_for(object, op) else {
+            return Ok(());
+        };
+        let mut number = 0u64;
+        for done in &self.done {
+            number = number.wrapping_add(1);
+            if done.object == object && self.kind_for(object, done.op).is_some() {
+                let is_broken = matches!(class.policy, Policy::Refuse)
+                    && ObjectState::<Global>::conflicts(&kind, &done.op, &op)
+                    && self.is_of_others(txn, class.scope, *done);
+                faults.tell(Axiom::Conflict, is_broken, number)?;
+            }
+        }
+        Ok(())
+    }
+
+    // What is handed over and not held, and what one keeps back that has to hand over all.
+    fn tell_handed(
+        &self,
+        txn: Txn<'_>,
+        handed: &[OpNo],
+        faults: &mut Faults,
+    ) -> Result<(), AllocError> {
+        let is_whole = match txn.class {
+            Some(class) => class.extent == Extent::Whole,
+            None => false,
+        };
+        let mut held = Vec::new(*self.done.allocator());
+        let mut number = OpNo(0);
+        for done in &self.done {
+            number = OpNo(number.0.wrapping_add(1));
+            if done.holder == Some(txn.number) && done.fate == Some(Fate::InProgress) {
+                held.push(number)?;
+                let is_kept = is_whole && !handed.contains(&number);
+                faults.tell(Axiom::HandsWhole, is_kept, u64::from(number.0))?;
+            }
+        }
+        for number in handed {
+            faults.tell(
+                Axiom::Responsible,
+                !held.contains(number),
+                u64::from(number.0),
+            )?;
+        }
+        Ok(())
+    }
+
+    // A commit to a parent that is not there, or not in progress.
+    fn tell_heir(&self, txn: Txn<'_>, faults: &mut Faults) -> Result<(), AllocError> {
+        let is_handed = match txn.class {
+            Some(class) => class.at_commit == AtCommit::ToParent,
+            None => false,
+        };
+        match txn.parent {
+            Some(u) => {
+                let is_idle = !self.txn(u).course.is_in_progress();
+                faults.tell(Axiom::Heir, is_handed && is_idle, u64::from(u.0))
+            }
+            None => faults.tell(Axiom::Heir, is_handed, 0),
+        }
+    }
+
+    // An edge that is formed too late, as the smaller number of those that are too far on tells.
+    fn tell_late(
+        &self,
+        kind: Dep,
+        j: TxnId,
+        i: TxnId,
+        faults: &mut Faults,
+    ) -> Result<(), AllocError> {
+        if kind.is_begin_kind() {
+            let has_begun = self.txn(j).course.has_begun();
+            return faults.tell(Axiom::FormedInTime, has_begun, u64::from(j.0));
+        }
+        let (low, high) = if i.0 < j.0 { (i, j) } else { (j, i) };
+        let late = if self.txn(low).course.has_ended() {
+            low
+        } else {
+            high
+        };
+        let is_late = self.txn(late).course.has_ended();
+        faults.tell(Axiom::FormedInTime, is_late, u64::from(late.0))
+    }
+
+    // A return that is not the one due.
+    fn tell_return(&self, said: Said<'_>, faults: &mut Faults) -> Result<(), AllocError> {
+        let Some((object, op)) = said.asked else {
+            return faults.tell(Axiom::Return, said.ret.is_some(), 0);
+        };
+        let number = (self.done.len() as u64).saturating_add(1);
+        let is_known = self.kind_for(object, op).is_some();
+        faults.tell(Axiom::Return, is_known && said.ret != self.due, number)
+    }
+
+    /// All faults at the place.
+    pub fn tell_all(&self, said: Said<'_>, faults: &mut Faults) -> Result<(), AllocError> {
+        let (t, part) = said.first;
+        let (txn, by) = (self.txn(t), u64::from(t.0));
+        faults.tell_part(txn, part)?;
+        if let Some((u, part)) = said.second {
+            faults.tell_part(self.txn(u), part)?;
+            if let Some(kind) = said.edge {
+                self.tell_late(kind, t, u, faults)?;
+            }
+        }
+        faults.tell(Axiom::FormOfEvent, self.is_ill_formed(said), by)?;
+        faults.tell(Axiom::Allowed, !self.is_allowed(said), by)?;
+        if let Some(handed) = said.handed {
+            self.tell_handed(txn, handed, faults)?;
+        }
+        if said.kind == EventKind::Commit {
+            self.tell_heir(txn, faults)?;
+        }
+        self.tell_conflicts(said, faults)?;
+        self.tell_return(said, faults)
+    }
+}

@@ -1,0 +1,58 @@
+//! Verdicts as lines, held against those of a slow judge.
+
+use crate::expecting::same;
+use crate::judging::slowly::judged_slowly;
+use acta_judge::{Verdict, judge};
+use acta_script::{fault_line, owed_line};
+use acta_table::{Kept, Model};
+use std::alloc::{AllocError, Allocator, Global};
+use std::process::Abort;
+use std::test::Fail;
+
+// Puts a line behind the others.
+fn push_line<A: Allocator>(lines: &mut Vec<u8, A>, line: &[u8]) -> Result<(), AllocError> {
+    lines.extend_from_slice(line)?;
+    Ok(lines.push(b'\n')?)
+}
+
+/// The lines of the verdict.
+pub fn told<A: Allocator + Copy>(alloc: A, verdict: &Verdict<A>) -> Result<Vec<u8, A>, AllocError> {
+    let mut lines = Vec::new(alloc);
+    for fault in verdict.faults.as_slice() {
+        let line = fault_line(alloc, fault.broken.number(), fault.place, fault.by)?;
+        push_line(&mut lines, line.as_slice())?;
+    }
+    for owed in verdict.owed.as_slice() {
+        push_line(&mut lines, owed_line(alloc, owed)?.as_slice())?;
+    }
+    Ok(lines)
+}
+
+/// The lines of the verdict on the items. They are those of a slow judge.
+pub fn lines_on(
+    rt: &impl Abort,
+    alloc: Global,
+    model: &Model<Global>,
+    items: &[Kept<Global>],
+    at: &str,
+) -> Result<Vec<u8>, Fail> {
+    let lines = told(alloc, &judge(alloc, model, items)?)?;
+    let slowly = told(alloc, &judged_slowly(alloc, model, items)?)?;
+    same(rt, &lines.as_slice(), &slowly.as_slice(), at);
+    Ok(lines)
+}
+
+/// Judges the items, and then without the first, without the first two, and so on, which leaves few histories legal.
+/// Gives the lines of the verdict on all.
+pub fn lines_of_all(
+    rt: &impl Abort,
+    alloc: Global,
+    model: &Model<Global>,
+    items: &[Kept<Global>],
+    at: &str,
+) -> Result<Vec<u8>, Fail> {
+    for n in 1..items.len() {
+        lines_on(rt, alloc, model, &items[n..], at)?;
+    }
+    lines_on(rt, alloc, model, items, at)
+}

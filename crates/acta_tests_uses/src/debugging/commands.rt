@@ -1,0 +1,193 @@
+//! What a debugger does at a command, as words. A command is one of
+//!
+//! ```text
+//! step    back    goto N    run    clear
+//! break like EVENT    break txn T    break object OBJECT    break owed N    break ended T
+//! value OBJECT    status T    owed    edges
+//! ```
+//!
+//! where the first of the breaks is that on the kind of an event, and the last line asks the machine.
+
+use crate::debugging::histories::{Heap, number_in};
+use crate::expecting::{parted, same};
+use acta_debug::{Break, Debugger, MoveError};
+use acta_table::{EventKind, ObjId, TxnId};
+use std::alloc::{AllocError, Global};
+use std::process::Abort;
+use std::test::Fail;
+
+// The number that a word says.
+fn number(word: &str) -> Result<u32, Fail> {
+    Ok(word.parse().ok().ok_or("a word is no number")?)
+}
+
+fn txn(word: &str) -> Result<TxnId, Fail> {
+    Ok(TxnId(word.parse().ok().ok_or("a word is no transaction")?))
+}
+
+// The object of that name, in each of the standard models.
+fn object(name: &str) -> Result<ObjId, Fail> {
+    Ok(match name {
+        "x" => ObjId(0),
+        "n" => ObjId(1),
+        "m" => ObjId(2),
+        "s" => ObjId(3),
+        _ => Err("a word is no object")?,
+    })
+}
+
+// The kind of the event that the words say.
+fn kind(event: &str) -> Result<EventKind, Fail> {
+    let (word, _) = event.split_once(' ').ok_or("an event has one word")?;
+    Ok(match word {
+        "begin" => EventKind::Begin,
+        "spawn" => EventKind::Spawn,
+        "split" => EventKind::Split,
+        "join" => EventKind::Join,
+        "delegate" => EventKind::Delegate,
+        "form" => EventKind::Form,
+        "do" => EventKind::Operate,
+        "commit" => EventKind::Commit,
+        "abort" => EventKind::Abort,
+        _ => Err("a word is no event")?,
+    })
+}
+
+// The break that the words say.
+fn break_of(words: &str) -> Result<Break, Fail> {
+    let (word, rest) = words.split_once(' ').ok_or("a break has one word")?;
+    Ok(match word {
+        "like" => Break::Kind(kind(rest)?),
+        "txn" => Break::Touches(txn(rest)?),
+        "object" => Break::Object(object(rest)?),
+        "owed" => Break::OwedAtLeast(number(rest)?),
+        "ended" => Break::Ended(txn(rest)?),
+        _ => Err("a break of no kind")?,
+    })
+}
+
+// How a move ended, and where the debugger then stands.
+fn moved(alloc: Global, done: Result<(), MoveError>, at: u32) -> Result<String, AllocError> {
+    match done {
+        Ok(()) => format!(in alloc; "at {at}"),
+        Err(error) => format!(in alloc; "{error:?} at {at}"),
+    }
+}
+
+// Runs on, and tells where it stopped, and where the debugger then stands.
+fn ran(alloc: Global, debugger: &mut Debugger<Heap<'_>>) -> Result<String, AllocError> {
+    let stop = debugger.run();
+    let at = debugger.at();
+    match stop {
+        Ok(stop) => format!(in alloc; "{stop:?} at {at}"),
+        Err(AllocError) => moved(alloc, Err(MoveError::Memory), at),
+    }
+}
+
+// A step, a step back, or a move to a place, as the words say.
+fn gone(
+    debugger: &mut Debugger<Heap<'_>>,
+    word: &str,
+    rest: &str,
+) -> Result<Result<(), MoveError>, Fail> {
+    Ok(match word {
+        "step" => debugger.step(),
+        "back" => debugger.back(),
+        _ => debugger.goto(number(rest)?),
+    })
+}
+
+// Adds a break, and tells its number.
+fn broken(
+    alloc: Global,
+    debugger: &mut Debugger<Heap<'_>>,
+    one: Break,
+) -> Result<String, AllocError> {
+    match debugger.add_break(one) {
+        Ok(number) => format!(in alloc; "break {number}"),
+        Err(AllocError) => moved(alloc, Err(MoveError::Memory), debugger.at()),
+    }
+}
+
+// How many events are owed.
+fn owed(debugger: &Debugger<Heap<'_>>) -> Result<usize, AllocError> {
+    Ok(debugger.machine().owed()?.len())
+}
+
+// What the machine shows.
+fn shown(
+    alloc: Global,
+    debugger: &Debugger<Heap<'_>>,
+    word: &str,
+    rest: &str,
+) -> Result<String, Fail> {
+    Ok(match word {
+        "value" => {
+            let value = number_in(debugger, object(rest)?)?.ok_or("an object has no number")?;
+            format!(in alloc; "{value}")?
+        }
+        "status" => {
+            let status = debugger.machine().status(txn(rest)?);
+            format!(in alloc; "{status:?}")?
+        }
+        "owed" => {
+            let owed = owed(debugger)?;
+            format!(in alloc; "{owed}")?
+        }
+        "edges" => {
+            let edges = debugger.machine().edges().len();
+            format!(in alloc; "{edges}")?
+        }
+        _ => Err("a line has no command")?,
+    })
+}
+
+/// What the debugger does at the command, or what its machine shows. What lacks memory is told too.
+pub fn told(
+    alloc: Global,
+    debugger: &mut Debugger<Heap<'_>>,
+    command: &str,
+) -> Result<String, Fail> {
+    let (word, rest) = command.split_once(' ').unwrap_or((command, ""));
+    Ok(match word {
+        "step" | "back" | "goto" => {
+            let done = gone(debugger, word, rest)?;
+            moved(alloc, done, debugger.at())?
+        }
+        "run" => ran(alloc, debugger)?,
+        "clear" => {
+            debugger.clear_breaks();
+            format!(in alloc; "cleared")?
+        }
+        "break" => broken(alloc, debugger, break_of(rest)?)?,
+        _ => shown(alloc, debugger, word, rest)?,
+    })
+}
+
+// Plays the line, which has a command, and what is told of it.
+fn play_line(
+    rt: &impl Abort,
+    alloc: Global,
+    debugger: &mut Debugger<Heap<'_>>,
+    line: &str,
+) -> Result<(), Fail> {
+    let (command, due) = parted(line, " : ")?;
+    let text = told(alloc, debugger, command)?;
+    same(rt, &text.as_str(), &due, line);
+    let (history, at) = (debugger.machine().history().len(), debugger.at());
+    same(rt, &history, &(at as usize), line);
+    Ok(())
+}
+
+/// Plays the lines on the debugger, one after another.
+pub fn play(
+    rt: &impl Abort,
+    alloc: Global,
+    debugger: &mut Debugger<Heap<'_>>,
+    lines: &str,
+) -> Result<(), Fail> {
+    for line in lines.lines() {
+        play_line(rt, alloc, debugger, line)?;
+    }
+    Ok(())
+}

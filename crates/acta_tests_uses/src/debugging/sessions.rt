@@ -1,0 +1,227 @@
+//! Sessions with debuggers: moves, values along the way, and each break.
+
+use crate::debugging::commands::play;
+use crate::debugging::histories::{Heap, debugger, on_sums};
+use crate::expecting::{parted, same};
+use acta_models::Standard;
+use refusing::Refusing;
+use std::alloc::Global;
+use std::process::Abort;
+use std::test::Fail;
+
+// A long history, which is gone over in both directions. A debt is owed behind one place.
+const OVER_SUMS: &str = "\
+value n : 0
+back : AtStart at 0
+goto 130 : at 130
+value n : 124
+step : AtEnd at 130
+back : at 129
+value n : 123
+goto 64 : at 64
+value n : 58
+goto 131 : OutOfRange at 64
+goto 0 : at 0
+value n : 0
+status 3 : NotBegun
+back : AtStart at 0
+break owed 1 : break 1
+run : Broke { number: 1, place: 4 } at 4
+owed : 1
+status 1 : Committed
+status 2 : InProgress
+run : Finished at 130
+value n : 124
+run : Finished at 130
+goto 3 : at 3
+owed : 0
+run : Broke { number: 1, place: 4 } at 4
+step : at 5
+owed : 0
+back : at 4
+owed : 1
+back : at 3
+owed : 0
+goto 4294967295 : OutOfRange at 3";
+
+// Histories, each under its model and with what is done with a debugger on it. In the third some split, delegate and
+// join, and 7 is the end of 1, and not of 2: each break alone; then some together, of which the lowest number is told;
+// and numbers begin at 1 again. In the last the abort of 1 leaves two aborts owed, and that of 2 one.
+const SESSIONS: &str = "\
+atomic
+--
+step : AtEnd at 0
+back : AtStart at 0
+goto 0 : at 0
+goto 1 : OutOfRange at 0
+break owed 0 : break 1
+run : Finished at 0
+# atomic
+begin 1 flat
+do 1 x write 5 = done
+commit 1
+--
+break like commit 1 : break 1
+run : Broke { number: 1, place: 3 } at 3
+value x : 5
+back : at 2
+goto 1 : at 1
+value x : 0
+back : at 0
+back : AtStart at 0
+step : at 1
+step : at 2
+value x : 5
+step : at 3
+step : AtEnd at 3
+# splitjoin
+begin 1 part
+begin 2 part
+do 1 x write 5 = done
+delegate 1 2 1
+do 1 n add 3 = done
+split 1 4 part 2
+join 1 2
+abort 4
+commit 2
+--
+break like join 1 2 : break 1
+run : Broke { number: 1, place: 7 } at 7
+run : Finished at 9
+clear : cleared
+goto 0 : at 0
+break txn 2 : break 1
+run : Broke { number: 1, place: 2 } at 2
+run : Broke { number: 1, place: 4 } at 4
+run : Broke { number: 1, place: 7 } at 7
+run : Broke { number: 1, place: 9 } at 9
+clear : cleared
+goto 0 : at 0
+break txn 4 : break 1
+run : Broke { number: 1, place: 6 } at 6
+run : Broke { number: 1, place: 8 } at 8
+run : Finished at 9
+clear : cleared
+goto 0 : at 0
+break object n : break 1
+run : Broke { number: 1, place: 5 } at 5
+run : Finished at 9
+clear : cleared
+goto 0 : at 0
+break ended 2 : break 1
+run : Broke { number: 1, place: 9 } at 9
+goto 0 : at 0
+break ended 1 : break 2
+run : Broke { number: 2, place: 7 } at 7
+break ended 4 : break 3
+run : Broke { number: 3, place: 8 } at 8
+run : Broke { number: 1, place: 9 } at 9
+clear : cleared
+goto 2 : at 2
+break object x : break 1
+break like do 1 x read : break 2
+run : Broke { number: 1, place: 3 } at 3
+run : Broke { number: 2, place: 5 } at 5
+break like split 1 2 part - : break 3
+break like delegate 1 2 - : break 4
+goto 3 : at 3
+run : Broke { number: 4, place: 4 } at 4
+run : Broke { number: 2, place: 5 } at 5
+run : Broke { number: 3, place: 6 } at 6
+run : Finished at 9
+clear : cleared
+goto 4 : at 4
+run : Finished at 9
+# nested
+begin 1 top
+spawn 1 2 sub
+do 2 s insert 3 = yes
+commit 2
+--
+break txn 2 : break 1
+break like spawn 1 2 sub : break 2
+run : Broke { number: 1, place: 2 } at 2
+clear : cleared
+goto 0 : at 0
+break like begin 1 top : break 1
+break object s : break 2
+run : Broke { number: 1, place: 1 } at 1
+run : Broke { number: 2, place: 3 } at 3
+run : Finished at 4
+# contingent
+form AD 2 1
+form AD 3 1
+begin 1 try
+abort 1
+begin 2 try
+abort 2
+--
+break owed 2 : break 1
+run : Broke { number: 1, place: 4 } at 4
+owed : 2
+run : Broke { number: 1, place: 5 } at 5
+run : Finished at 6
+owed : 1
+break owed 0 : break 2
+goto 3 : at 3
+run : Broke { number: 1, place: 4 } at 4
+goto 5 : at 5
+run : Broke { number: 2, place: 6 } at 6
+clear : cleared
+goto 0 : at 0
+break txn 1 : break 1
+break like form CD 2 1 : break 2
+run : Broke { number: 1, place: 1 } at 1
+run : Broke { number: 1, place: 2 } at 2
+break like abort 1 : break 3
+run : Broke { number: 1, place: 3 } at 3
+run : Broke { number: 1, place: 4 } at 4
+run : Broke { number: 3, place: 6 } at 6";
+
+// The model of that name.
+fn named(name: &str) -> Result<Standard, Fail> {
+    Ok(match name {
+        "atomic" => Standard::Atomic,
+        "contingent" => Standard::Contingent,
+        "nested" => Standard::Nested,
+        "splitjoin" => Standard::SplitJoin,
+        _ => Err("a session has no model")?,
+    })
+}
+
+// Plays the lines on a debugger on the history.
+fn played(
+    rt: &impl Abort,
+    alloc: Global,
+    heap: Heap<'_>,
+    name: Standard,
+    history: &str,
+    lines: &str,
+) -> Result<(), Fail> {
+    let mut debugger = debugger(heap, name, history)?;
+    play(rt, alloc, &mut debugger, lines)
+}
+
+// Plays what is done on a debugger on the history above it.
+fn session(rt: &impl Abort, alloc: Global, heap: Heap<'_>, text: &str) -> Result<(), Fail> {
+    let (name, rest) = parted(text, "\n")?;
+    let (history, lines) = parted(rest, "--\n")?;
+    played(rt, alloc, heap, named(name)?, history, lines)
+}
+
+// A long session.
+fn over_sums(rt: &impl Abort, alloc: Global, heap: Heap<'_>) -> Result<(), Fail> {
+    let mut debugger = on_sums(alloc, heap, 124)?;
+    let ends = (debugger.at(), debugger.last());
+    same(rt, &ends, &(0, 130), "the start");
+    play(rt, alloc, &mut debugger, OVER_SUMS)
+}
+
+#[test]
+fn each_session(rt: HostRuntime) -> Result<(), Fail> {
+    let heap = Refusing::new(rt.alloc());
+    for text in SESSIONS.split("\n# ") {
+        session(&rt, rt.alloc(), &heap, text)?;
+    }
+    over_sums(&rt, rt.alloc(), &heap)
+}

@@ -1,0 +1,12 @@
+//! Tests of the locked book: workers in threads of their own who meet at gates, the faults of a driven run, a full
+//! book, both kinds of desk, many workers over standard models, and each refused growth of a book.
+
+mod books;
+mod crowds;
+mod desks;
+mod faults;
+mod full;
+mod gates;
+mod meetings;
+mod refusals;
+mod scripts;

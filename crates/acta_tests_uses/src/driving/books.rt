@@ -1,0 +1,128 @@
+//! What is asked of entries: whether they are the same, whether they are a seat's part of a book and answer its script,
+//! how they are answered, and whether a machine of its own answers them again.
+
+use crate::expecting::same;
+use acta_locked::{Book, Entry, Report, Script, TakeError};
+use acta_machine::Machine;
+use acta_script::answer_line;
+use acta_table::{Answer, Event, Model};
+use std::alloc::{AllocError, Allocator, Global};
+use std::process::Abort;
+
+/// Whether the two lists have the same entries, in order.
+pub fn are_same(entries: &[Entry<Global>], others: &[Entry<Global>]) -> bool {
+    if entries.len() != others.len() {
+        return false;
+    }
+    for k in 0..entries.len() {
+        if !entries[k].is_same(&others[k]) {
+            return false;
+        }
+    }
+    true
+}
+
+// Whether the entries of this seat are those of the report, in order, and their events are the script.
+fn is_part(
+    entries: &[Entry<Global>],
+    seat: u8,
+    script: &Script<Global>,
+    report: &Report<Global>,
+) -> bool {
+    let (events, told) = (script.as_slice(), report.entries.as_slice());
+    if report.seat != seat || told.len() != events.len() {
+        return false;
+    }
+    let mut next = 0;
+    for entry in entries {
+        if entry.seat == seat {
+            if next >= events.len() || !entry.event.is_same(&events[next]) {
+                return false;
+            }
+            if !entry.is_same(&told[next]) {
+                return false;
+            }
+            next += 1;
+        }
+    }
+    next == events.len()
+}
+
+/// Whether each seat's report is its part of the entries and answers its script.
+pub fn are_parts(
+    entries: &[Entry<Global>],
+    scripts: &[Script<Global>],
+    reports: &[Report<Global>],
+) -> bool {
+    if reports.len() != scripts.len() || scripts.len() > 16 {
+        return false;
+    }
+    for k in 0..scripts.len() {
+        if !is_part(entries, k as u8 + 1, &scripts[k], &reports[k]) {
+            return false;
+        }
+    }
+    true
+}
+
+/// The answers of the entries, a line each.
+pub fn answers(alloc: Global, entries: &[Entry<Global>]) -> Result<Vec<u8>, AllocError> {
+    let mut lines = Vec::new(alloc);
+    for entry in entries {
+        lines.extend_from_slice(answer_line(alloc, &entry.answer)?.as_slice())?;
+        lines.push(b'\n')?;
+    }
+    Ok(lines)
+}
+
+/// The answers of the entries are these lines.
+pub fn are_answered(
+    rt: &impl Abort,
+    alloc: Global,
+    entries: &[Entry<Global>],
+    due: &str,
+) -> Result<(), AllocError> {
+    let lines = answers(alloc, entries)?;
+    same(rt, &lines.as_slice(), &due.as_bytes(), "the answers");
+    Ok(())
+}
+
+// Whether the machine takes the event with this answer.
+fn takes(
+    machine: &mut Machine<Global>,
+    event: &Event<Global>,
+    answer: &Answer,
+) -> Result<bool, AllocError> {
+    let found = machine.take(event)?;
+    Ok(found == *answer)
+}
+
+/// How many of the entries were refused, where the entries are numbered from 1, and a new machine on the model answers
+/// each event as its entry says.
+pub fn replayed(
+    alloc: Global,
+    model: Model<Global>,
+    entries: &[Entry<Global>],
+) -> Result<Option<u32>, AllocError> {
+    let mut machine = Machine::new(alloc, model)?;
+    let (mut number, mut refused) = (0u32, 0u32);
+    for entry in entries {
+        number = number.wrapping_add(1);
+        if !takes(&mut machine, &entry.event, &entry.answer)? || entry.number != number {
+            return Ok(None);
+        }
+        if matches!(entry.answer, Answer::Refused { .. }) {
+            refused = refused.wrapping_add(1);
+        }
+    }
+    Ok(Some(refused))
+}
+
+/// Takes the event of the first seat, in a function of its own, so that callers need not read all that is known of the
+/// entry.
+pub fn taken<A: Allocator + Copy>(
+    book: &mut Book<A>,
+    event: Event<A>,
+) -> Result<Entry<A>, TakeError> {
+    book.take(1, event)
+}

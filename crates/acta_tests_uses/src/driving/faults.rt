@@ -1,0 +1,67 @@
+//! Why a drive has no result: the faults of its scripts, and a gate that gives up.
+
+use crate::driving::gates::Stopping;
+use crate::driving::scripts::{ADDITIONS, fault_of, scripts};
+use crate::expecting::same;
+use acta_locked::{DriveError, OpenGate, Script};
+use acta_models::Standard;
+use acta_table::{Event, TxnId};
+use std::alloc::{AllocError, Global};
+use std::process::Abort;
+use std::sync::Wait;
+use std::test::Fail;
+use std::thread::Threads;
+
+// The script that commits the first transaction so often.
+fn commits(alloc: Global, times: usize) -> Result<Script<Global>, AllocError> {
+    let mut events = Vec::with_capacity(alloc, times)?;
+    for _ in 0..times {
+        events.push(Event::Commit(TxnId(1)))?;
+    }
+    Ok(Script::of(events))
+}
+
+// Scripts of so many such commits each.
+fn all_commits(alloc: Global, calls: &[usize]) -> Result<Vec<Script<Global>>, AllocError> {
+    let mut scripts = Vec::new(alloc);
+    for times in calls {
+        scripts.push(commits(alloc, *times)?)?;
+    }
+    Ok(scripts)
+}
+
+// Scripts of so many commits each are not run, for this reason.
+fn are_barred<R: Threads + Wait + Sync + Abort>(
+    rt: &R,
+    alloc: Global,
+    calls: &[usize],
+    why: DriveError,
+) -> Result<(), Fail> {
+    let scripts = all_commits(alloc, calls)?;
+    let found = fault_of(rt, alloc, Standard::Atomic, scripts.as_slice(), &OpenGate)?;
+    same(rt, &found, &Some(why), "barred scripts");
+    Ok(())
+}
+
+// The second worker gives up before its first call.
+fn gives_up<R: Threads + Wait + Sync + Abort>(rt: &R, alloc: Global) -> Result<(), Fail> {
+    let scripts = scripts(alloc, &ADDITIONS)?;
+    let gate = Stopping { seat: 2, call: 1 };
+    let found = fault_of(rt, alloc, Standard::Atomic, scripts.as_slice(), &gate)?;
+    same(
+        rt,
+        &found,
+        &Some(DriveError::GaveUp(2)),
+        "a gate that gives up",
+    );
+    Ok(())
+}
+
+#[test]
+fn drives_that_have_no_result(rt: HostRuntime) -> Result<(), Fail> {
+    let alloc = rt.alloc();
+    are_barred(&rt, alloc, &[], DriveError::NoWorker)?;
+    are_barred(&rt, alloc, &[1; 17], DriveError::TooManyWorkers)?;
+    are_barred(&rt, alloc, &[32_768, 32_769], DriveError::TooManyEvents)?;
+    gives_up(&rt, alloc)
+}

@@ -1,0 +1,113 @@
+//! Two workers who meet: both are in the midst of their scripts at once, and the book has the calls of both.
+
+use crate::driving::books::{are_answered, are_parts};
+use crate::driving::gates::{Meeting, Place};
+use crate::driving::scripts::{ADDITIONS, driven, scripts};
+use crate::expecting::{holds, same};
+use acta_locked::{Driven, Entry, Script};
+use acta_machine::Machine;
+use acta_models::Standard;
+use acta_objects::ObjectState;
+use acta_table::ObjId;
+use std::alloc::{AllocError, Global};
+use std::process::Abort;
+use std::sync::Wait;
+use std::test::Fail;
+use std::thread::Threads;
+
+// The positions of the objects x, n and m in the model.
+const X: ObjId = ObjId(0);
+
+const N: ObjId = ObjId(1);
+
+const M: ObjId = ObjId(2);
+
+// The number that a register or a counter has.
+fn number_in(machine: &Machine<Global>, ob: ObjId) -> Result<Option<i64>, AllocError> {
+    Ok(match machine.value(ob)? {
+        Some(ObjectState::Register(value)) => Some(i64::from(value)),
+        Some(ObjectState::Counter(value)) => Some(value),
+        _ => None,
+    })
+}
+
+// Drives two scripts, whose workers meet. Says whether the gate was shown what the book has.
+fn shown_at<R: Threads + Wait + Sync>(
+    rt: &R,
+    alloc: Global,
+    place: Place,
+    scripts: &[Script<Global>],
+) -> Result<(Driven<Global>, bool), Fail> {
+    let gate = Meeting::new(rt, alloc, place);
+    let driven = driven(rt, alloc, Standard::Atomic, scripts, &gate)?;
+    let is_shown = gate.has_shown(driven.book.entries());
+    Ok((driven, is_shown))
+}
+
+// Drives two scripts, whose workers meet. The gate was shown what the book has, each report is its seat's part, and the
+// answers are these lines.
+fn meet_at<R: Threads + Wait + Sync + Abort>(
+    rt: &R,
+    alloc: Global,
+    place: Place,
+    scripts: &[Script<Global>],
+    lines: &str,
+) -> Result<Driven<Global>, Fail> {
+    let (driven, is_shown) = shown_at(rt, alloc, place, scripts)?;
+    let entries = driven.book.entries();
+    let has_parts = are_parts(entries, scripts, driven.reports.as_slice());
+    holds(rt, is_shown && has_parts, lines);
+    are_answered(rt, alloc, entries, lines)?;
+    Ok(driven)
+}
+
+// Seat 1 adds to n and seat 2 to m. The book has their begins before their operations, and all are admitted.
+fn add_both<R: Threads + Wait + Sync + Abort>(rt: &R, alloc: Global) -> Result<(), Fail> {
+    let scripts = scripts(alloc, &ADDITIONS)?;
+    let lines = "ok 1\nok 2\nok 3 done\nok 4 done\n";
+    let driven = meet_at(rt, alloc, Place::BeforeSecond, scripts.as_slice(), lines)?;
+    let machine = driven.book.machine();
+    let found = (number_in(machine, N)?, number_in(machine, M)?);
+    same(rt, &found, &(Some(5), Some(7)), "both add");
+    Ok(())
+}
+
+// The seat of the first of two writes, where the other is of the other seat.
+fn first_writer(entries: &[Entry<Global>]) -> Option<u8> {
+    if entries.len() != 4 {
+        return None;
+    }
+    match (entries[2].seat, entries[3].seat) {
+        (1, 2) => Some(1),
+        (2, 1) => Some(2),
+        _ => None,
+    }
+}
+
+// Both write to x: the first of the writes is admitted, the second is refused by it, and x has the value of the first.
+fn write_both<R: Threads + Wait + Sync + Abort>(rt: &R, alloc: Global) -> Result<(), Fail> {
+    let scripts = scripts(
+        alloc,
+        &[
+            "begin 1 flat\ndo 1 x write 5",
+            "begin 2 flat\ndo 2 x write 6",
+        ],
+    )?;
+    let lines = "ok 1\nok 2\nok 3 done\nno 14 by 1\n";
+    let driven = meet_at(rt, alloc, Place::AfterFirst, scripts.as_slice(), lines)?;
+    let first = first_writer(driven.book.entries()).ok_or("the writes are not of both seats")?;
+    let value = number_in(driven.book.machine(), X)?;
+    same(
+        rt,
+        &value,
+        &Some(i64::from(first).wrapping_add(4)),
+        "both write",
+    );
+    Ok(())
+}
+
+#[test]
+fn two_workers_meet(rt: HostRuntime) -> Result<(), Fail> {
+    add_both(&rt, rt.alloc())?;
+    write_both(&rt, rt.alloc())
+}
