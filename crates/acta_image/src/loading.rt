@@ -114,14 +114,14 @@ fn magic(bytes: &[u8]) -> Result<(&[u8], &[u8]), LoadError>
     ensures field { Gives (λ x. (x.0.now, x.1.now)) result (read_magic bytes.now) }
     ensures sure { IfErr result (λ e. is_fault e ≡ true) }
 {
-    let magic = b"ACTA";
-    if bytes[..bytes.len().min(4)] != magic[..bytes.len().min(4)] {
+    let begun = &bytes[..bytes.len().min(4)];
+    if !b"ACTA".starts_with(begun) {
         return Err(LoadError::Fault(ImageFault::Magic));
     }
-    if bytes.len() < 4 {
+    if begun.len() < 4 {
         return Err(LoadError::Fault(ImageFault::Truncated));
     }
-    Ok((magic, &bytes[4..]))
+    Ok((begun, &bytes[4..]))
 }
 
 // The version.

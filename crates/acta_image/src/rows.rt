@@ -15,21 +15,7 @@ use std::alloc::Allocator;
 fn kind_of(code: u8) -> Option<Dep>
     ensures { result ≡ slice_get all_kinds code }
 {
-    match code {
-        0 => Some(Dep::Cd),
-        1 => Some(Dep::Scd),
-        2 => Some(Dep::Ad),
-        3 => Some(Dep::Wd),
-        4 => Some(Dep::Td),
-        5 => Some(Dep::Ed),
-        6 => Some(Dep::Cmd),
-        7 => Some(Dep::Bd),
-        8 => Some(Dep::Sd),
-        9 => Some(Dep::Bcd),
-        10 => Some(Dep::Bad),
-        11 => Some(Dep::Wcd),
-        _ => None,
-    }
+    Dep::ALL.get(usize::from(code)).copied()
 }
 
 // Who depends, by its code.

@@ -154,9 +154,13 @@ fn have_faults(rt: &impl Abort, alloc: Global, class: &Class<Global>) -> Result<
     for line in NAMED.lines() {
         has_fault(rt, alloc, class, line)?;
     }
-    for (counts, due) in [((256, 16), 4), ((257, 16), 3), ((257, 17), 2)] {
+    for (counts, due, line) in [
+        ((256, 16), 4, "256 objects and 16 classes"),
+        ((257, 16), 3, "257 objects and 16 classes"),
+        ((257, 17), 2, "257 objects and 17 classes"),
+    ] {
         let fault = fault_of_many(alloc, class, counts)?;
-        same(rt, &fault, &Some(due), "too many");
+        same(rt, &fault, &Some(due), line);
     }
     Ok(())
 }
@@ -204,14 +208,14 @@ fn faults_of_kinds(rt: HostRuntime) -> Result<(), Fail> {
 
 // One that commits to its parent has one: it doesn't begin, and isn't split off.
 fn heirs(rt: &impl Abort, alloc: Global, sub: &mut Class<Global>) -> Result<(), AllocError> {
-    for (begin, split, due) in [
-        (false, false, None),
-        (true, false, Some(7)),
-        (false, true, Some(7)),
+    for (begin, split, due, heir) in [
+        (false, false, None, "an heir that is spawned alone"),
+        (true, false, Some(7), "an heir that begins"),
+        (false, true, Some(7), "an heir that is split off"),
     ] {
         sub.starts.begin = begin;
         sub.starts.split = split;
-        same(rt, &fault_of(alloc, sub, "", "class")?, &due, "an heir");
+        same(rt, &fault_of(alloc, sub, "", "class")?, &due, heir);
     }
     Ok(())
 }

@@ -9,7 +9,7 @@ use acta_models::{Standard, load_all};
 use acta_script::{answer_line, fault_line, owed_line};
 use acta_table::{Answer, EdgeNo, Missing, Model, Owed, Ret, Rule, TxnId};
 use refusing::Refusing;
-use std::alloc::{AllocError, Global};
+use std::alloc::{AllocError, Allocator, Global};
 use std::process::Abort;
 use std::test::Fail;
 
@@ -17,80 +17,75 @@ use std::test::Fail;
 const MOST: u64 = 400;
 
 // What a call answers, in memory that may be refused.
-type Told<'h> = Result<Vec<u8, &'h Refusing<Global>>, AllocError>;
+type Told<A> = Result<Vec<u8, A>, AllocError>;
 
 // The canonical text of what a text means.
-fn text_again<'h>(heap: &'h Refusing<Global>, text: &[u8]) -> Told<'h> {
-    match assemble(heap, text) {
-        Ok(model) => print_model(heap, &model),
+fn text_again<A: Allocator + Copy>(alloc: A, text: &[u8]) -> Told<A> {
+    match assemble(alloc, text) {
+        Ok(model) => print_model(alloc, &model),
         Err(AsmError::Memory) => Err(AllocError),
-        Err(AsmError::Fault(_)) => Vec::from_slice(heap, b"a fault"),
+        Err(AsmError::Fault(_)) => Vec::from_slice(alloc, b"a fault"),
     }
 }
 
 // The canonical texts of the standard models, one behind the other.
-fn all_printed<'h>(heap: &'h Refusing<Global>) -> Told<'h> {
-    let mut text = Vec::new(heap);
-    for model in &load_all(heap)? {
-        text.extend_from_slice(print_model(heap, model)?.as_slice())?;
+fn all_printed<A: Allocator + Copy>(alloc: A) -> Told<A> {
+    let mut text = Vec::new(alloc);
+    for model in &load_all(alloc)? {
+        text.extend_from_slice(print_model(alloc, model)?.as_slice())?;
     }
     Ok(text)
 }
 
 // The image of what is loaded from an image.
-fn image_again<'h>(heap: &'h Refusing<Global>, image: &[u8]) -> Told<'h> {
-    match load(heap, image) {
-        Ok(model) => write_image(heap, &model),
+fn image_again<A: Allocator + Copy>(alloc: A, image: &[u8]) -> Told<A> {
+    match load(alloc, image) {
+        Ok(model) => write_image(alloc, &model),
         Err(LoadError::Memory) => Err(AllocError),
-        Err(LoadError::Fault(_)) => Vec::from_slice(heap, b"a fault"),
+        Err(LoadError::Fault(_)) => Vec::from_slice(alloc, b"a fault"),
     }
 }
 
 // The line of an answer, of a refusal, of a debt or of a fault.
-fn line_of<'h>(heap: &'h Refusing<Global>, call: &str) -> Told<'h> {
+fn line_of<A: Allocator + Copy>(alloc: A, call: &str) -> Told<A> {
     match call {
         "answer" => {
             let ret = Some(Ret::Value(-9_223_372_036_854_775_808));
-            answer_line(heap, &Answer::Admitted { place: 65_536, ret })
+            answer_line(alloc, &Answer::Admitted { place: 65_536, ret })
         }
         "refusal" => {
             let (rule, by) = (Rule::NoHeir, Some(4_294_967_295));
-            answer_line(heap, &Answer::Refused { rule, by })
+            answer_line(alloc, &Answer::Refused { rule, by })
         }
         "debt" => {
             let (edge, txn, missing) = (EdgeNo(16_384), TxnId(4095), Missing::Abort);
-            owed_line(heap, &Owed { edge, txn, missing })
+            owed_line(alloc, &Owed { edge, txn, missing })
         }
-        _ => fault_line(heap, 33, 65_536, 18_446_744_073_709_551_615),
+        _ => fault_line(alloc, 33, 65_536, 18_446_744_073_709_551_615),
     }
 }
 
 // What a call makes of these bytes, or without them, which is these bytes.
-fn told<'h>(
-    heap: &'h Refusing<Global>,
-    model: &Model<&'h Refusing<Global>>,
-    call: &str,
-    bytes: &[u8],
-) -> Told<'h> {
+fn told<A: Allocator + Copy>(alloc: A, model: &Model<A>, call: &str, bytes: &[u8]) -> Told<A> {
     match call {
-        "text" => text_again(heap, bytes),
-        "texts" => all_printed(heap),
-        "image" => image_again(heap, bytes),
-        "event" => again(heap, model, bytes, false),
-        "kept" => again(heap, model, bytes, true),
-        _ => line_of(heap, call),
+        "text" => text_again(alloc, bytes),
+        "texts" => all_printed(alloc),
+        "image" => image_again(alloc, bytes),
+        "event" => again(alloc, model, bytes, false),
+        "kept" => again(alloc, model, bytes, true),
+        _ => line_of(alloc, call),
     }
 }
 
 // What the call answers is these bytes, where it answers any. Says whether it does.
-fn answers<'h>(
+fn answers<A: Allocator + Copy>(
     rt: &impl Abort,
-    heap: &'h Refusing<Global>,
-    model: &Model<&'h Refusing<Global>>,
+    alloc: A,
+    model: &Model<A>,
     call: &str,
     bytes: &[u8],
 ) -> bool {
-    match told(heap, model, call, bytes) {
+    match told(alloc, model, call, bytes) {
         Ok(said) => {
             tells(rt, said.as_slice(), bytes, call);
             true
@@ -100,15 +95,16 @@ fn answers<'h>(
 }
 
 // Refuses the nth allocation of a call. Says whether none was refused, and then the call answers.
-fn is_whole<'h>(
+fn is_whole<A: Allocator + Copy>(
     rt: &impl Abort,
-    heap: &'h Refusing<Global>,
-    model: &Model<&'h Refusing<Global>>,
+    heap: &Refusing<Global>,
+    alloc: A,
+    model: &Model<A>,
     (call, nth): (&str, u64),
     bytes: &[u8],
 ) -> bool {
     heap.refuse(nth);
-    let has_answered = answers(rt, heap, model, call, bytes);
+    let has_answered = answers(rt, alloc, model, call, bytes);
     let is_whole = heap.is_waiting();
     heap.refuse(0);
     holds(rt, has_answered || !is_whole, call);
@@ -117,15 +113,16 @@ fn is_whole<'h>(
 
 // Refuses each allocation of a call in turn, of which there are more than `least`. Where the call finds all its memory
 // it answers these bytes; and so it does where it can do without what was refused, or else `Err`.
-fn refuse_each<'h>(
+fn refuse_each<A: Allocator + Copy>(
     rt: &impl Abort,
-    heap: &'h Refusing<Global>,
-    model: &Model<&'h Refusing<Global>>,
+    heap: &Refusing<Global>,
+    alloc: A,
+    model: &Model<A>,
     (call, least): (&str, u64),
     bytes: &[u8],
 ) -> Result<(), Fail> {
     for nth in 1..MOST {
-        if is_whole(rt, heap, model, (call, nth), bytes) {
+        if is_whole(rt, heap, alloc, model, (call, nth), bytes) {
             holds(rt, nth > least, call);
             return Ok(());
         }
@@ -146,16 +143,17 @@ debt 1 : owed 16384 4095 abort
 fault 1 : fault 33 65536 18446744073709551615";
 
 // The call of a line, on this model.
-fn refuse_line<'h>(
+fn refuse_line<A: Allocator + Copy>(
     rt: &impl Abort,
-    heap: &'h Refusing<Global>,
-    model: &Model<&'h Refusing<Global>>,
+    heap: &Refusing<Global>,
+    alloc: A,
+    model: &Model<A>,
     row: &str,
 ) -> Result<(), Fail> {
     let (call, line) = parted(row, " : ")?;
     let (call, least) = parted(call, " ")?;
     let least = number(least)?;
-    refuse_each(rt, heap, model, (call, least), line.as_bytes())
+    refuse_each(rt, heap, alloc, model, (call, least), line.as_bytes())
 }
 
 // The canonical texts of the standard models, one behind the other.
@@ -173,34 +171,41 @@ fn nested_image(alloc: Global) -> Result<Vec<u8>, Fail> {
     Ok(write_image(alloc, &nested)?)
 }
 
-// All calls, on this model.
-fn refuse_all<'h>(
+// The calls of all lines, on this model.
+fn refuse_lines<A: Allocator + Copy>(
     rt: &impl Abort,
-    alloc: Global,
-    heap: &'h Refusing<Global>,
-    model: &Model<&'h Refusing<Global>>,
+    heap: &Refusing<Global>,
+    alloc: A,
+    model: &Model<A>,
 ) -> Result<(), Fail> {
     for row in LINES.lines() {
-        refuse_line(rt, heap, model, row)?;
+        refuse_line(rt, heap, alloc, model, row)?;
     }
     for name in Standard::ALL {
-        refuse_each(rt, heap, model, ("text", 10), name.text().as_bytes())?;
+        let text = name.text().as_bytes();
+        refuse_each(rt, heap, alloc, model, ("text", 10), text)?;
     }
-    refuse_each(rt, heap, model, ("texts", 50), all_texts(alloc)?.as_slice())?;
-    refuse_each(
-        rt,
-        heap,
-        model,
-        ("image", 10),
-        nested_image(alloc)?.as_slice(),
-    )
+    Ok(())
+}
+
+// All calls, with memory that is `heap`, and with other memory for what they are to answer.
+fn refuse_all<A: Allocator + Copy>(
+    rt: &impl Abort,
+    other: Global,
+    heap: &Refusing<Global>,
+    alloc: A,
+) -> Result<(), Fail> {
+    let model = assemble(alloc, Standard::SplitJoin.text().as_bytes())?;
+    refuse_lines(rt, heap, alloc, &model)?;
+    let (texts, image) = (all_texts(other)?, nested_image(other)?);
+    refuse_each(rt, heap, alloc, &model, ("texts", 50), texts.as_slice())?;
+    refuse_each(rt, heap, alloc, &model, ("image", 10), image.as_slice())
 }
 
 #[test]
 fn calls(rt: HostRuntime) -> Result<(), Fail> {
     let heap = Refusing::new(rt.alloc());
-    let model = assemble(&heap, Standard::SplitJoin.text().as_bytes())?;
-    refuse_all(&rt, rt.alloc(), &heap, &model)
+    refuse_all(&rt, rt.alloc(), &heap, &heap)
 }
 
 /// Cases of `running` of which each allocation is refused in turn: runs, verdicts, commands to a debugger, images, and

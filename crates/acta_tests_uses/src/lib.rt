@@ -8,3 +8,5 @@ mod debugging;
 mod driving;
 #[cfg(test)]
 mod expecting;
+#[cfg(test)]
+mod machines;

@@ -35,6 +35,18 @@ fn copied<A: Allocator + Copy>(alloc: A, items: &[Kept<A>]) -> Result<Vec<Kept<A
     Ok(copies)
 }
 
+// What a run of the events keeps.
+fn kept_of<A: Allocator + Copy>(
+    alloc: A,
+    model: &Model<A>,
+    events: &[Event<A>],
+) -> Result<Vec<Kept<A>, A>, AllocError>
+    ensures { IfOk result (λ history. history.items ≡ (run_state model.now events.now).kept) }
+{
+    let run = Machine::run(alloc, model.copy()?, events)?;
+    copied(alloc, run.machine.history())
+}
+
 // A debugger on what a run of the events keeps: a machine's history is one, so the debugger accepts it.
 fn debugger_on<A: Allocator + Copy>(
     alloc: A,
@@ -43,8 +55,7 @@ fn debugger_on<A: Allocator + Copy>(
 ) -> Result<Debugger<A>, AllocError>
     ensures { IfOk result (λ debugger. debugger ≡ opened model (run_state model events.now).kept) }
 {
-    let run = Machine::run(alloc, model.copy()?, events)?;
-    let history = copied(alloc, run.machine.history())?;
+    let history = kept_of(alloc, &model, events)?;
     kept_histories::<A>();
     match Debugger::new(alloc, model, history) {
         Ok(debugger) => Ok(debugger),

@@ -8,12 +8,9 @@ use acta_lang::assemble;
 use acta_models::Standard;
 use acta_table::Model;
 use refusing::Refusing;
-use std::alloc::Global;
+use std::alloc::{Allocator, Global};
 use std::process::Abort;
 use std::test::Fail;
-
-// What the judge allocates from.
-type Heap<'h> = &'h Refusing<Global>;
 
 // More allocations than any of these calls makes.
 const MOST: u64 = 4_000;
@@ -66,20 +63,21 @@ owed 3 2 abort",
 ];
 
 // Judges the list, the nth allocation refused; where it came, the answer is want of memory. Says whether it came.
-fn refused<'h>(
+fn refused<A: Allocator + Copy>(
     rt: &impl Abort,
-    heap: Heap<'h>,
-    model: &Model<Heap<'h>>,
-    judged: &Judged<Heap<'h>>,
+    heap: &Refusing<Global>,
+    alloc: A,
+    model: &Model<A>,
+    judged: &Judged<A>,
     nth: u64,
 ) -> Result<bool, Fail> {
     heap.refuse(nth);
-    let made = judge(heap, model, judged.items.as_slice());
+    let made = judge(alloc, model, judged.items.as_slice());
     let is_whole = heap.is_waiting();
     heap.refuse(0);
     match made {
         Ok(verdict) => {
-            let lines = told(heap, &verdict)?;
+            let lines = told(alloc, &verdict)?;
             let is_due = lines.as_slice() == judged.due.as_str().as_bytes();
             holds(rt, is_whole && is_due, "a verdict");
         }
@@ -90,11 +88,17 @@ fn refused<'h>(
 
 // Judges what the lines say, its first allocation refused, then the second, and so on, until none is. Says how many
 // were.
-fn refuse_each(rt: &impl Abort, heap: Heap<'_>, name: Standard, lines: &str) -> Result<u64, Fail> {
-    let model = assemble(heap, name.text().as_bytes())?;
-    let judged = Judged::read(heap, &model, lines)?;
+fn refuse_each<A: Allocator + Copy>(
+    rt: &impl Abort,
+    heap: &Refusing<Global>,
+    alloc: A,
+    name: Standard,
+    lines: &str,
+) -> Result<u64, Fail> {
+    let model = assemble(alloc, name.text().as_bytes())?;
+    let judged = Judged::read(alloc, &model, lines)?;
     for nth in 1..MOST {
-        if !refused(rt, heap, &model, &judged, nth)? {
+        if !refused(rt, heap, alloc, &model, &judged, nth)? {
             return Ok(nth.wrapping_sub(1));
         }
     }
@@ -105,7 +109,7 @@ fn refuse_each(rt: &impl Abort, heap: Heap<'_>, name: Standard, lines: &str) -> 
 fn a_judge_for_whom_there_is_no_memory(rt: HostRuntime) -> Result<(), Fail> {
     let heap = Refusing::new(rt.alloc());
     for (name, lines, least) in HISTORIES {
-        let refused = refuse_each(&rt, &heap, name, lines)?;
+        let refused = refuse_each(&rt, &heap, &heap, name, lines)?;
         assert!(rt; refused >= least, "only {refused} at {lines}");
     }
     Ok(())

@@ -5,15 +5,10 @@ use crate::judging::slowly::judged_slowly;
 use acta_judge::{Verdict, judge};
 use acta_script::{fault_line, owed_line};
 use acta_table::{Kept, Model};
+use acta_words::push_line;
 use std::alloc::{AllocError, Allocator, Global};
 use std::process::Abort;
 use std::test::Fail;
-
-// Puts a line behind the others.
-fn push_line<A: Allocator>(lines: &mut Vec<u8, A>, line: &[u8]) -> Result<(), AllocError> {
-    lines.extend_from_slice(line)?;
-    Ok(lines.push(b'\n')?)
-}
 
 /// The lines of the verdict.
 pub fn told<A: Allocator + Copy>(alloc: A, verdict: &Verdict<A>) -> Result<Vec<u8, A>, AllocError> {

@@ -8,11 +8,11 @@
 //!
 //! where the first of the breaks is that on the kind of an event, and the last line asks the machine.
 
-use crate::debugging::histories::{Heap, number_in};
 use crate::expecting::{parted, same};
+use crate::machines::number_in;
 use acta_debug::{Break, Debugger, MoveError};
 use acta_table::{EventKind, ObjId, TxnId};
-use std::alloc::{AllocError, Global};
+use std::alloc::{AllocError, Allocator, Global};
 use std::process::Abort;
 use std::test::Fail;
 
@@ -75,7 +75,10 @@ fn moved(alloc: Global, done: Result<(), MoveError>, at: u32) -> Result<String, 
 }
 
 // Runs on, and tells where it stopped, and where the debugger then stands.
-fn ran(alloc: Global, debugger: &mut Debugger<Heap<'_>>) -> Result<String, AllocError> {
+fn ran<A: Allocator + Copy>(
+    alloc: Global,
+    debugger: &mut Debugger<A>,
+) -> Result<String, AllocError> {
     let stop = debugger.run();
     let at = debugger.at();
     match stop {
@@ -85,8 +88,8 @@ fn ran(alloc: Global, debugger: &mut Debugger<Heap<'_>>) -> Result<String, Alloc
 }
 
 // A step, a step back, or a move to a place, as the words say.
-fn gone(
-    debugger: &mut Debugger<Heap<'_>>,
+fn gone<A: Allocator + Copy>(
+    debugger: &mut Debugger<A>,
     word: &str,
     rest: &str,
 ) -> Result<Result<(), MoveError>, Fail> {
@@ -98,9 +101,9 @@ fn gone(
 }
 
 // Adds a break, and tells its number.
-fn broken(
+fn broken<A: Allocator + Copy>(
     alloc: Global,
-    debugger: &mut Debugger<Heap<'_>>,
+    debugger: &mut Debugger<A>,
     one: Break,
 ) -> Result<String, AllocError> {
     match debugger.add_break(one) {
@@ -110,20 +113,22 @@ fn broken(
 }
 
 // How many events are owed.
-fn owed(debugger: &Debugger<Heap<'_>>) -> Result<usize, AllocError> {
+fn owed<A: Allocator + Copy>(debugger: &Debugger<A>) -> Result<usize, AllocError> {
     Ok(debugger.machine().owed()?.len())
 }
 
 // What the machine shows.
-fn shown(
+fn shown<A: Allocator + Copy>(
     alloc: Global,
-    debugger: &Debugger<Heap<'_>>,
+    debugger: &Debugger<A>,
     word: &str,
     rest: &str,
 ) -> Result<String, Fail> {
     Ok(match word {
         "value" => {
-            let value = number_in(debugger, object(rest)?)?.ok_or("an object has no number")?;
+            let value = number_in(debugger.machine(), object(rest)?)?.ok_or(
+                "an object has no number",
+            )?;
             format!(in alloc; "{value}")?
         }
         "status" => {
@@ -143,9 +148,9 @@ fn shown(
 }
 
 /// What the debugger does at the command, or what its machine shows. What lacks memory is told too.
-pub fn told(
+pub fn told<A: Allocator + Copy>(
     alloc: Global,
-    debugger: &mut Debugger<Heap<'_>>,
+    debugger: &mut Debugger<A>,
     command: &str,
 ) -> Result<String, Fail> {
     let (word, rest) = command.split_once(' ').unwrap_or((command, ""));
@@ -165,10 +170,10 @@ pub fn told(
 }
 
 // Plays the line, which has a command, and what is told of it.
-fn play_line(
+fn play_line<A: Allocator + Copy>(
     rt: &impl Abort,
     alloc: Global,
-    debugger: &mut Debugger<Heap<'_>>,
+    debugger: &mut Debugger<A>,
     line: &str,
 ) -> Result<(), Fail> {
     let (command, due) = parted(line, " : ")?;
@@ -180,10 +185,10 @@ fn play_line(
 }
 
 /// Plays the lines on the debugger, one after another.
-pub fn play(
+pub fn play<A: Allocator + Copy>(
     rt: &impl Abort,
     alloc: Global,
-    debugger: &mut Debugger<Heap<'_>>,
+    debugger: &mut Debugger<A>,
     lines: &str,
 ) -> Result<(), Fail> {
     for line in lines.lines() {

@@ -1,29 +1,19 @@
-//! Models, and histories: a history is written as text, a kept item a line.
+//! Histories: a history is written as text, a kept item a line.
 
+use crate::machines::model_of;
 use acta_debug::{Debugger, NewError};
-use acta_lang::assemble;
 use acta_models::Standard;
-use acta_objects::ObjectState;
 use acta_script::read_kept;
-use acta_table::{Kept, Model, ObjId};
-use refusing::Refusing;
-use std::alloc::{AllocError, Global};
+use acta_table::{Kept, Model};
+use std::alloc::{AllocError, Allocator, Global};
 use std::test::Fail;
 
-/// What debuggers allocate from.
-pub type Heap<'h> = &'h Refusing<Global>;
-
-/// The standard model of that name.
-pub fn model_of(heap: Heap<'_>, name: Standard) -> Result<Model<Heap<'_>>, Fail> {
-    Ok(assemble(heap, name.text().as_bytes())?)
-}
-
 /// The items that the lines say, in the words of the model.
-pub fn items<'h>(
-    heap: Heap<'h>,
-    model: &Model<Heap<'h>>,
+pub fn items<A: Allocator + Copy>(
+    heap: A,
+    model: &Model<A>,
     text: &str,
-) -> Result<Vec<Kept<Heap<'h>>, Heap<'h>>, Fail> {
+) -> Result<Vec<Kept<A>, A>, Fail> {
     let mut items = Vec::new(heap);
     for line in text.lines() {
         items.push(read_kept(heap, model, line.as_bytes())?)?;
@@ -32,32 +22,23 @@ pub fn items<'h>(
 }
 
 /// A debugger on the list, in a function of its own, so that callers need not read all that is known of a new one.
-pub fn opened<'h>(
-    heap: Heap<'h>,
-    model: Model<Heap<'h>>,
-    list: Vec<Kept<Heap<'h>>, Heap<'h>>,
-) -> Result<Debugger<Heap<'h>>, NewError> {
+pub fn opened<A: Allocator + Copy>(
+    heap: A,
+    model: Model<A>,
+    list: Vec<Kept<A>, A>,
+) -> Result<Debugger<A>, NewError> {
     Debugger::new(heap, model, list)
 }
 
 /// A debugger on the history that the lines say.
-pub fn debugger<'h>(
-    heap: Heap<'h>,
+pub fn debugger<A: Allocator + Copy>(
+    heap: A,
     name: Standard,
     text: &str,
-) -> Result<Debugger<Heap<'h>>, Fail> {
+) -> Result<Debugger<A>, Fail> {
     let model = model_of(heap, name)?;
     let history = items(heap, &model, text)?;
     Ok(opened(heap, model, history)?)
-}
-
-/// The number that a register or a counter has where the debugger stands.
-pub fn number_in(debugger: &Debugger<Heap<'_>>, ob: ObjId) -> Result<Option<i64>, AllocError> {
-    Ok(match debugger.machine().value(ob)? {
-        Some(ObjectState::Register(value)) => Some(i64::from(value)),
-        Some(ObjectState::Counter(value)) => Some(value),
-        _ => None,
-    })
 }
 
 // A debt of 2, which is owed behind place 4 and paid at place 5, and a third that begins.
@@ -80,7 +61,11 @@ pub fn sums(alloc: Global, times: u32) -> Result<String, AllocError> {
 }
 
 /// A debugger on these.
-pub fn on_sums<'h>(alloc: Global, heap: Heap<'h>, times: u32) -> Result<Debugger<Heap<'h>>, Fail> {
+pub fn on_sums<A: Allocator + Copy>(
+    alloc: Global,
+    heap: A,
+    times: u32,
+) -> Result<Debugger<A>, Fail> {
     let text = sums(alloc, times)?;
     debugger(heap, Standard::Contingent, text.as_str())
 }

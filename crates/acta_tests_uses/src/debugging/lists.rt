@@ -1,13 +1,14 @@
 //! Which lists are histories: all others are refused at the first place that is another.
 
 use crate::debugging::commands::play;
-use crate::debugging::histories::{Heap, items, model_of, opened};
+use crate::debugging::histories::{items, opened};
 use crate::expecting::{parted, same};
+use crate::machines::model_of;
 use acta_debug::{Debugger, NewError};
 use acta_models::Standard;
 use acta_table::{Dep, Event, Kept, Model, TxnId};
 use refusing::Refusing;
-use std::alloc::{AllocError, Global};
+use std::alloc::{AllocError, Allocator, Global};
 use std::process::Abort;
 use std::test::Fail;
 
@@ -57,14 +58,14 @@ fn parts(text: &str) -> Result<(u32, &str), Fail> {
 }
 
 // Why there is no debugger on the list of those lines.
-fn refusal(heap: Heap<'_>, lines: &str) -> Result<Option<NewError>, Fail> {
+fn refusal<A: Allocator + Copy>(heap: A, lines: &str) -> Result<Option<NewError>, Fail> {
     let model = model_of(heap, Standard::Atomic)?;
     let list = items(heap, &model, lines)?;
     Ok(opened(heap, model, list).err())
 }
 
 // The list of that text is refused at its place.
-fn refuse(rt: &impl Abort, heap: Heap<'_>, text: &str) -> Result<(), Fail> {
+fn refuse<A: Allocator + Copy>(rt: &impl Abort, heap: A, text: &str) -> Result<(), Fail> {
     let (due, lines) = parts(text)?;
     let found = refusal(heap, lines)?;
     same(rt, &found, &Some(NewError::NotAHistory(due)), text);
@@ -72,7 +73,7 @@ fn refuse(rt: &impl Abort, heap: Heap<'_>, text: &str) -> Result<(), Fail> {
 }
 
 // So many times one edge is formed, which stays one edge.
-fn forms(heap: Heap<'_>, times: u32) -> Result<Vec<Kept<Heap<'_>>, Heap<'_>>, AllocError> {
+fn forms<A: Allocator + Copy>(heap: A, times: u32) -> Result<Vec<Kept<A>, A>, AllocError> {
     let mut list = Vec::new(heap);
     for _ in 0..times {
         list.push(Kept {
@@ -84,11 +85,11 @@ fn forms(heap: Heap<'_>, times: u32) -> Result<Vec<Kept<Heap<'_>>, Heap<'_>>, Al
 }
 
 // A debugger on so many such events, or why there is none.
-fn on_forms<'h>(
-    heap: Heap<'h>,
-    model: Model<Heap<'h>>,
+fn on_forms<A: Allocator + Copy>(
+    heap: A,
+    model: Model<A>,
     times: u32,
-) -> Result<Debugger<Heap<'h>>, NewError> {
+) -> Result<Debugger<A>, NewError> {
     let list = forms(heap, times)?;
     opened(heap, model, list)
 }
@@ -100,7 +101,7 @@ step : AtEnd at 65536
 edges : 1";
 
 // The longest history has 65,536 events.
-fn longest(rt: &impl Abort, alloc: Global, heap: Heap<'_>) -> Result<(), Fail> {
+fn longest<A: Allocator + Copy>(rt: &impl Abort, alloc: Global, heap: A) -> Result<(), Fail> {
     let model = model_of(heap, Standard::Contingent)?;
     let mut debugger = on_forms(heap, model, 65_536)?;
     same(rt, &debugger.last(), &65_536, "the longest");
@@ -108,7 +109,7 @@ fn longest(rt: &impl Abort, alloc: Global, heap: Heap<'_>) -> Result<(), Fail> {
 }
 
 // Why there is no debugger on a list of one event more.
-fn longer(heap: Heap<'_>) -> Result<Option<NewError>, Fail> {
+fn longer<A: Allocator + Copy>(heap: A) -> Result<Option<NewError>, Fail> {
     let model = model_of(heap, Standard::Contingent)?;
     Ok(on_forms(heap, model, 65_537).err())
 }

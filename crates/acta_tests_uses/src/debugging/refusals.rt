@@ -1,13 +1,14 @@
 //! Each growth refused in turn: a call answers want of memory, and the debugger stays as it was.
 
 use crate::debugging::commands::told;
-use crate::debugging::histories::{Heap, items, model_of, number_in, on_sums, opened, sums};
+use crate::debugging::histories::{items, on_sums, opened, sums};
 use crate::expecting::{holds, parted, same};
+use crate::machines::{model_of, number_in};
 use acta_debug::{Debugger, NewError};
 use acta_models::Standard;
 use acta_table::{Kept, Model, ObjId};
 use refusing::Refusing;
-use std::alloc::{AllocError, Global};
+use std::alloc::{AllocError, Allocator, Global};
 use std::process::Abort;
 use std::test::Fail;
 
@@ -27,42 +28,42 @@ run : Broke { number: 1, place: 6 } at 6 : 0
 run : Finished at 70 : 64";
 
 // The counter n, where the debugger stands.
-fn sum(debugger: &Debugger<Heap<'_>>) -> Result<Option<i64>, AllocError> {
-    number_in(debugger, ObjId(1))
+fn sum<A: Allocator + Copy>(debugger: &Debugger<A>) -> Result<Option<i64>, AllocError> {
+    number_in(debugger.machine(), ObjId(1))
 }
 
 // Where the debugger stands, and the counter n there.
-fn stand(debugger: &Debugger<Heap<'_>>) -> Result<(u32, Option<i64>), AllocError> {
+fn stand<A: Allocator + Copy>(debugger: &Debugger<A>) -> Result<(u32, Option<i64>), AllocError> {
     Ok((debugger.at(), sum(debugger)?))
 }
 
 // Does what the command says, the nth allocation refused. Gives what is told, and whether the allocation never came.
-fn told_at<'h>(
+fn told_at<A: Allocator + Copy>(
     alloc: Global,
-    heap: Heap<'h>,
-    debugger: &mut Debugger<Heap<'h>>,
+    refusing: &Refusing<Global>,
+    debugger: &mut Debugger<A>,
     command: &str,
     nth: u64,
 ) -> Result<(String, bool), Fail> {
-    heap.refuse(nth);
+    refusing.refuse(nth);
     let text = told(alloc, debugger, command)?;
-    let is_whole = heap.is_waiting();
-    heap.refuse(0);
+    let is_whole = refusing.is_waiting();
+    refusing.refuse(0);
     Ok((text, is_whole))
 }
 
 // Does what the command says, the nth allocation refused; where it came, want of memory is told, and the debugger
 // stands where it stood. Gives what is told where it did not come.
-fn refused<'h>(
+fn refused<A: Allocator + Copy>(
     rt: &impl Abort,
     alloc: Global,
-    heap: Heap<'h>,
-    debugger: &mut Debugger<Heap<'h>>,
+    refusing: &Refusing<Global>,
+    debugger: &mut Debugger<A>,
     command: &str,
     nth: u64,
 ) -> Result<Option<String>, Fail> {
     let stood = stand(debugger)?;
-    let (text, is_whole) = told_at(alloc, heap, debugger, command, nth)?;
+    let (text, is_whole) = told_at(alloc, refusing, debugger, command, nth)?;
     if is_whole {
         return Ok(Some(text));
     }
@@ -72,10 +73,10 @@ fn refused<'h>(
 }
 
 // What is told, and the value of n behind it, as the line has them.
-fn tells(
+fn tells<A: Allocator + Copy>(
     rt: &impl Abort,
     alloc: Global,
-    debugger: &Debugger<Heap<'_>>,
+    debugger: &Debugger<A>,
     text: &str,
     due: &str,
     line: &str,
@@ -87,16 +88,16 @@ fn tells(
 }
 
 // Does what the line says, the first allocation refused, then the second, and so on, until none is.
-fn refuse_each<'h>(
+fn refuse_each<A: Allocator + Copy>(
     rt: &impl Abort,
     alloc: Global,
-    heap: Heap<'h>,
-    debugger: &mut Debugger<Heap<'h>>,
+    refusing: &Refusing<Global>,
+    debugger: &mut Debugger<A>,
     line: &str,
 ) -> Result<(), Fail> {
     let (command, due) = parted(line, " : ")?;
     for nth in 1..MOST {
-        if let Some(text) = refused(rt, alloc, heap, debugger, command, nth)? {
+        if let Some(text) = refused(rt, alloc, refusing, debugger, command, nth)? {
             holds(rt, nth > 1, line);
             return tells(rt, alloc, debugger, text.as_str(), due, line);
         }
@@ -105,30 +106,41 @@ fn refuse_each<'h>(
 }
 
 // The last place of a debugger on the history, or why there is none.
-fn last_of<'h>(
-    heap: Heap<'h>,
-    model: Model<Heap<'h>>,
-    history: Vec<Kept<Heap<'h>>, Heap<'h>>,
+fn last_of<A: Allocator + Copy>(
+    heap: A,
+    model: Model<A>,
+    history: Vec<Kept<A>, A>,
 ) -> Result<u32, NewError> {
     Ok(opened(heap, model, history)?.last())
 }
 
 // Makes a debugger on the history, the nth allocation refused. Gives its last place, or why there is none, and whether
 // the allocation never came.
-fn last_at(heap: Heap<'_>, text: &str, nth: u64) -> Result<(Result<u32, NewError>, bool), Fail> {
+fn last_at<A: Allocator + Copy>(
+    refusing: &Refusing<Global>,
+    heap: A,
+    text: &str,
+    nth: u64,
+) -> Result<(Result<u32, NewError>, bool), Fail> {
     let model = model_of(heap, Standard::Contingent)?;
     let history = items(heap, &model, text)?;
-    heap.refuse(nth);
+    refusing.refuse(nth);
     let last = last_of(heap, model, history);
-    let is_whole = heap.is_waiting();
-    heap.refuse(0);
+    let is_whole = refusing.is_waiting();
+    refusing.refuse(0);
     Ok((last, is_whole))
 }
 
 // Makes a debugger on the history, the nth allocation refused; where it came, there is none, for want of memory. Says
 // whether it came.
-fn new_refused(rt: &impl Abort, heap: Heap<'_>, text: &str, nth: u64) -> Result<bool, Fail> {
-    let (last, is_whole) = last_at(heap, text, nth)?;
+fn new_refused<A: Allocator + Copy>(
+    rt: &impl Abort,
+    refusing: &Refusing<Global>,
+    heap: A,
+    text: &str,
+    nth: u64,
+) -> Result<bool, Fail> {
+    let (last, is_whole) = last_at(refusing, heap, text, nth)?;
     let due = if is_whole {
         Ok(16)
     } else {
@@ -139,9 +151,14 @@ fn new_refused(rt: &impl Abort, heap: Heap<'_>, text: &str, nth: u64) -> Result<
 }
 
 // Makes a debugger, its first allocation refused, then the second, and so on, until none is. Says how many were.
-fn new_refused_each(rt: &impl Abort, heap: Heap<'_>, text: &str) -> Result<u64, Fail> {
+fn new_refused_each<A: Allocator + Copy>(
+    rt: &impl Abort,
+    refusing: &Refusing<Global>,
+    heap: A,
+    text: &str,
+) -> Result<u64, Fail> {
     for nth in 1..MOST {
-        if !new_refused(rt, heap, text, nth)? {
+        if !new_refused(rt, refusing, heap, text, nth)? {
             return Ok(nth.wrapping_sub(1));
         }
     }
@@ -149,20 +166,35 @@ fn new_refused_each(rt: &impl Abort, heap: Heap<'_>, text: &str) -> Result<u64, 
 }
 
 // There is no memory for a new debugger.
-fn new_each(rt: &impl Abort, alloc: Global, heap: Heap<'_>) -> Result<(), Fail> {
+fn new_each<A: Allocator + Copy>(
+    rt: &impl Abort,
+    alloc: Global,
+    refusing: &Refusing<Global>,
+    heap: A,
+) -> Result<(), Fail> {
     let text = sums(alloc, 10)?;
-    let refused = new_refused_each(rt, heap, text.as_str())?;
+    let refused = new_refused_each(rt, refusing, heap, text.as_str())?;
     holds(rt, refused > 9, "a new debugger");
+    Ok(())
+}
+
+// For no command of a debugger that allocates from `heap`, which is `refusing`, is there memory.
+fn refuse_calls<A: Allocator + Copy>(
+    rt: &impl Abort,
+    alloc: Global,
+    refusing: &Refusing<Global>,
+    heap: A,
+) -> Result<(), Fail> {
+    let mut debugger = on_sums(alloc, heap, 64)?;
+    for line in CALLS.lines() {
+        refuse_each(rt, alloc, refusing, &mut debugger, line)?;
+    }
     Ok(())
 }
 
 #[test]
 fn a_debugger_for_which_there_is_no_memory(rt: HostRuntime) -> Result<(), Fail> {
-    let (alloc, heap) = (rt.alloc(), Refusing::new(rt.alloc()));
-    new_each(&rt, alloc, &heap)?;
-    let mut debugger = on_sums(alloc, &heap, 64)?;
-    for line in CALLS.lines() {
-        refuse_each(&rt, alloc, &heap, &mut debugger, line)?;
-    }
-    Ok(())
+    let heap = Refusing::new(rt.alloc());
+    new_each(&rt, rt.alloc(), &heap, &heap)?;
+    refuse_calls(&rt, rt.alloc(), &heap, &heap)
 }

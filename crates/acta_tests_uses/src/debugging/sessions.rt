@@ -1,11 +1,11 @@
 //! Sessions with debuggers: moves, values along the way, and each break.
 
 use crate::debugging::commands::play;
-use crate::debugging::histories::{Heap, debugger, on_sums};
+use crate::debugging::histories::{debugger, on_sums};
 use crate::expecting::{parted, same};
 use acta_models::Standard;
 use refusing::Refusing;
-use std::alloc::Global;
+use std::alloc::{Allocator, Global};
 use std::process::Abort;
 use std::test::Fail;
 
@@ -190,10 +190,10 @@ fn named(name: &str) -> Result<Standard, Fail> {
 }
 
 // Plays the lines on a debugger on the history.
-fn played(
+fn played<A: Allocator + Copy>(
     rt: &impl Abort,
     alloc: Global,
-    heap: Heap<'_>,
+    heap: A,
     name: Standard,
     history: &str,
     lines: &str,
@@ -203,14 +203,19 @@ fn played(
 }
 
 // Plays what is done on a debugger on the history above it.
-fn session(rt: &impl Abort, alloc: Global, heap: Heap<'_>, text: &str) -> Result<(), Fail> {
+fn session<A: Allocator + Copy>(
+    rt: &impl Abort,
+    alloc: Global,
+    heap: A,
+    text: &str,
+) -> Result<(), Fail> {
     let (name, rest) = parted(text, "\n")?;
     let (history, lines) = parted(rest, "--\n")?;
     played(rt, alloc, heap, named(name)?, history, lines)
 }
 
 // A long session.
-fn over_sums(rt: &impl Abort, alloc: Global, heap: Heap<'_>) -> Result<(), Fail> {
+fn over_sums<A: Allocator + Copy>(rt: &impl Abort, alloc: Global, heap: A) -> Result<(), Fail> {
     let mut debugger = on_sums(alloc, heap, 124)?;
     let ends = (debugger.at(), debugger.last());
     same(rt, &ends, &(0, 130), "the start");

@@ -6,11 +6,11 @@ use acta_locked::{Book, Entry, Report, Script, TakeError};
 use acta_machine::Machine;
 use acta_script::answer_line;
 use acta_table::{Answer, Event, Model};
-use std::alloc::{AllocError, Allocator, Global};
+use std::alloc::{AllocError, Allocator};
 use std::process::Abort;
 
 /// Whether the two lists have the same entries, in order.
-pub fn are_same(entries: &[Entry<Global>], others: &[Entry<Global>]) -> bool {
+pub fn are_same<A: Allocator>(entries: &[Entry<A>], others: &[Entry<A>]) -> bool {
     if entries.len() != others.len() {
         return false;
     }
@@ -23,11 +23,11 @@ pub fn are_same(entries: &[Entry<Global>], others: &[Entry<Global>]) -> bool {
 }
 
 // Whether the entries of this seat are those of the report, in order, and their events are the script.
-fn is_part(
-    entries: &[Entry<Global>],
+fn is_part<A: Allocator>(
+    entries: &[Entry<A>],
     seat: u8,
-    script: &Script<Global>,
-    report: &Report<Global>,
+    script: &Script<A>,
+    report: &Report<A>,
 ) -> bool {
     let (events, told) = (script.as_slice(), report.entries.as_slice());
     if report.seat != seat || told.len() != events.len() {
@@ -49,10 +49,10 @@ fn is_part(
 }
 
 /// Whether each seat's report is its part of the entries and answers its script.
-pub fn are_parts(
-    entries: &[Entry<Global>],
-    scripts: &[Script<Global>],
-    reports: &[Report<Global>],
+pub fn are_parts<A: Allocator>(
+    entries: &[Entry<A>],
+    scripts: &[Script<A>],
+    reports: &[Report<A>],
 ) -> bool {
     if reports.len() != scripts.len() || scripts.len() > 16 {
         return false;
@@ -66,7 +66,10 @@ pub fn are_parts(
 }
 
 /// The answers of the entries, a line each.
-pub fn answers(alloc: Global, entries: &[Entry<Global>]) -> Result<Vec<u8>, AllocError> {
+pub fn answers<A: Allocator + Copy>(
+    alloc: A,
+    entries: &[Entry<A>],
+) -> Result<Vec<u8, A>, AllocError> {
     let mut lines = Vec::new(alloc);
     for entry in entries {
         lines.extend_from_slice(answer_line(alloc, &entry.answer)?.as_slice())?;
@@ -76,10 +79,10 @@ pub fn answers(alloc: Global, entries: &[Entry<Global>]) -> Result<Vec<u8>, Allo
 }
 
 /// The answers of the entries are these lines.
-pub fn are_answered(
+pub fn are_answered<A: Allocator + Copy>(
     rt: &impl Abort,
-    alloc: Global,
-    entries: &[Entry<Global>],
+    alloc: A,
+    entries: &[Entry<A>],
     due: &str,
 ) -> Result<(), AllocError> {
     let lines = answers(alloc, entries)?;
@@ -88,9 +91,9 @@ pub fn are_answered(
 }
 
 // Whether the machine takes the event with this answer.
-fn takes(
-    machine: &mut Machine<Global>,
-    event: &Event<Global>,
+fn takes<A: Allocator + Copy>(
+    machine: &mut Machine<A>,
+    event: &Event<A>,
     answer: &Answer,
 ) -> Result<bool, AllocError> {
     let found = machine.take(event)?;
@@ -99,10 +102,10 @@ fn takes(
 
 /// How many of the entries were refused, where the entries are numbered from 1, and a new machine on the model answers
 /// each event as its entry says.
-pub fn replayed(
-    alloc: Global,
-    model: Model<Global>,
-    entries: &[Entry<Global>],
+pub fn replayed<A: Allocator + Copy>(
+    alloc: A,
+    model: Model<A>,
+    entries: &[Entry<A>],
 ) -> Result<Option<u32>, AllocError> {
     let mut machine = Machine::new(alloc, model)?;
     let (mut number, mut refused) = (0u32, 0u32);

@@ -2,12 +2,13 @@
 //! each part of the book answers its script.
 
 use crate::driving::books::{are_parts, replayed};
-use crate::driving::scripts::{driven, model_of};
+use crate::driving::scripts::driven;
 use crate::expecting::holds;
+use crate::machines::model_of;
 use acta_locked::{Driven, Entry, OpenGate, Script};
 use acta_models::Standard;
 use acta_table::{ClassId, Event, ObjId, Op, TxnId};
-use std::alloc::{AllocError, Global};
+use std::alloc::{AllocError, Allocator};
 use std::process::Abort;
 use std::sync::Wait;
 use std::test::Fail;
@@ -20,7 +21,7 @@ const ROUNDS: u16 = 256;
 
 // An operation: mostly additions, which are not in conflict, and else one that may be. A calm one conflicts with no
 // other of these scripts.
-fn operation(t: TxnId, is_calm: bool, mix: u16) -> Event<Global> {
+fn operation<A: Allocator>(t: TxnId, is_calm: bool, mix: u16) -> Event<A> {
     let (x, n, m, s) = (ObjId(0), ObjId(1), ObjId(2), ObjId(3));
     let (object, op) = match mix % 13 {
         _ if is_calm => (m, Op::Add(3)),
@@ -38,7 +39,7 @@ fn operation(t: TxnId, is_calm: bool, mix: u16) -> Event<Global> {
 // A step of a round. Each round has a transaction of its own, but the last, whose number is used again: it begins, in
 // every other round operates, tries to commit, and then to abort. What else it does is refused: it begins twice, and
 // commits and aborts where it has ended. From the calm round on no operation conflicts with another's.
-fn step_of(seat: u16, round: u16, calm: u16, step: u16) -> Event<Global> {
+fn step_of<A: Allocator>(seat: u16, round: u16, calm: u16, step: u16) -> Event<A> {
     let first = seat.wrapping_sub(1).wrapping_mul(255);
     let t = TxnId(first.wrapping_add(round % 255).wrapping_add(1));
     match step {
@@ -52,7 +53,7 @@ fn step_of(seat: u16, round: u16, calm: u16, step: u16) -> Event<Global> {
 }
 
 // The script of a seat: 4,096 events.
-fn script_of(alloc: Global, seat: u16, calm: u16) -> Result<Script<Global>, AllocError> {
+fn script_of<A: Allocator + Copy>(alloc: A, seat: u16, calm: u16) -> Result<Script<A>, AllocError> {
     let mut events = Vec::new(alloc);
     for round in 0..ROUNDS {
         for step in 0..16u16 {
@@ -62,7 +63,7 @@ fn script_of(alloc: Global, seat: u16, calm: u16) -> Result<Script<Global>, Allo
     Ok(Script::of(events))
 }
 
-fn all_scripts(alloc: Global, calm: u16) -> Result<Vec<Script<Global>>, AllocError> {
+fn all_scripts<A: Allocator + Copy>(alloc: A, calm: u16) -> Result<Vec<Script<A>, A>, AllocError> {
     let mut scripts = Vec::new(alloc);
     for seat in 1..=WORKERS {
         scripts.push(script_of(alloc, seat, calm)?)?;
@@ -71,16 +72,16 @@ fn all_scripts(alloc: Global, calm: u16) -> Result<Vec<Script<Global>>, AllocErr
 }
 
 // Whether the book is full, and each report is its seat's part.
-fn is_full(driven: &Driven<Global>, scripts: &[Script<Global>]) -> bool {
+fn is_full<A: Allocator>(driven: &Driven<A>, scripts: &[Script<A>]) -> bool {
     let entries = driven.book.entries();
     entries.len() == 65_536 && are_parts(entries, scripts, driven.reports.as_slice())
 }
 
 // How many of the entries were refused; none is told where another machine answers differently.
-fn refused_of(
-    alloc: Global,
+fn refused_of<A: Allocator + Copy>(
+    alloc: A,
     name: Standard,
-    entries: &[Entry<Global>],
+    entries: &[Entry<A>],
 ) -> Result<Option<u32>, Fail> {
     let model = model_of(alloc, name)?;
     Ok(replayed(alloc, model, entries)?)
@@ -95,11 +96,11 @@ fn are_some(rt: &impl Abort, refused: u32) {
 }
 
 // The book is full, some of its entries were refused and some were not, and it is told by its own machine.
-fn is_told<R: Threads + Wait + Sync + Abort>(
+fn is_told<A: Allocator + Copy + Send + Sync, R: Threads + Wait + Sync + Abort>(
     rt: &R,
-    alloc: Global,
+    alloc: A,
     name: Standard,
-    scripts: &[Script<Global>],
+    scripts: &[Script<A>],
 ) -> Result<(), Fail> {
     let driven = driven(rt, alloc, name, scripts, &OpenGate)?;
     holds(rt, is_full(&driven, scripts), "a full book");
@@ -109,9 +110,9 @@ fn is_told<R: Threads + Wait + Sync + Abort>(
 }
 
 // A drive of all workers.
-fn crowd<R: Threads + Wait + Sync + Abort>(
+fn crowd<A: Allocator + Copy + Send + Sync, R: Threads + Wait + Sync + Abort>(
     rt: &R,
-    alloc: Global,
+    alloc: A,
     name: Standard,
     calm: u16,
 ) -> Result<(), Fail> {

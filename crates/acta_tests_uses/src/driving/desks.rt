@@ -1,11 +1,12 @@
 //! One script at either desk: a worker with a book of its own and the one worker of a drive get the same entries.
 
 use crate::driving::books::{are_answered, are_same};
-use crate::driving::scripts::{driven, model_of, scripts};
+use crate::driving::scripts::{driven, scripts};
 use crate::expecting::holds;
+use crate::machines::model_of;
 use acta_locked::{Driven, Entry, OpenGate, PlainDesk, Report, Script, WorkError, work};
 use acta_models::Standard;
-use std::alloc::Global;
+use std::alloc::Allocator;
 use std::process::Abort;
 use std::sync::Wait;
 use std::test::Fail;
@@ -42,36 +43,36 @@ no 7 by 2
 ";
 
 // A desk with a book of its own.
-fn plain_desk(alloc: Global) -> Result<PlainDesk<Global>, Fail> {
+fn plain_desk<A: Allocator + Copy>(alloc: A) -> Result<PlainDesk<A>, Fail> {
     let model = model_of(alloc, Standard::Atomic)?;
     Ok(PlainDesk::new(alloc, 1, model)?)
 }
 
 // What the worker at the desk reports.
-fn reported(
-    alloc: Global,
-    desk: &mut PlainDesk<Global>,
-    one: &Script<Global>,
-) -> Result<Report<Global>, WorkError> {
+fn reported<A: Allocator + Copy>(
+    alloc: A,
+    desk: &mut PlainDesk<A>,
+    one: &Script<A>,
+) -> Result<Report<A>, WorkError> {
     work(alloc, desk, one, &OpenGate)
 }
 
 // Works at the desk, and says whether the report is that of the first seat, and its book's entries.
-fn is_reported(
-    alloc: Global,
-    desk: &mut PlainDesk<Global>,
-    one: &Script<Global>,
+fn is_reported<A: Allocator + Copy>(
+    alloc: A,
+    desk: &mut PlainDesk<A>,
+    one: &Script<A>,
 ) -> Result<bool, WorkError> {
     let report = reported(alloc, desk, one)?;
     Ok(report.seat == 1 && are_same(report.entries.as_slice(), desk.book.entries()))
 }
 
 // A worker at a desk with a book of its own: its report is the book's entries, which are answered as the lines say.
-fn worked_alone(
+fn worked_alone<A: Allocator + Copy>(
     rt: &impl Abort,
-    alloc: Global,
-    one: &Script<Global>,
-) -> Result<PlainDesk<Global>, Fail> {
+    alloc: A,
+    one: &Script<A>,
+) -> Result<PlainDesk<A>, Fail> {
     let mut desk = plain_desk(alloc)?;
     let is_so = is_reported(alloc, &mut desk, one)?;
     holds(rt, is_so, "the report of one worker");
@@ -80,17 +81,17 @@ fn worked_alone(
 }
 
 // Whether the drive has one report, and its entries and the book's are these.
-fn has_driven(driven: &Driven<Global>, entries: &[Entry<Global>]) -> bool {
+fn has_driven<A: Allocator>(driven: &Driven<A>, entries: &[Entry<A>]) -> bool {
     let (found, reports) = (driven.book.entries(), driven.reports.as_slice());
     are_same(entries, found) && reports.len() == 1 && are_same(reports[0].entries.as_slice(), found)
 }
 
 // The one worker of a drive of the same script gets the same.
-fn are_both<R: Threads + Wait + Sync + Abort>(
+fn are_both<A: Allocator + Copy + Send + Sync, R: Threads + Wait + Sync + Abort>(
     rt: &R,
-    alloc: Global,
-    scripts: &[Script<Global>],
-    desk: &PlainDesk<Global>,
+    alloc: A,
+    scripts: &[Script<A>],
+    desk: &PlainDesk<A>,
 ) -> Result<(), Fail> {
     let driven = driven(rt, alloc, Standard::Atomic, scripts, &OpenGate)?;
     holds(rt, has_driven(&driven, desk.book.entries()), "both desks");
@@ -98,7 +99,10 @@ fn are_both<R: Threads + Wait + Sync + Abort>(
 }
 
 // The script at either desk.
-fn both<R: Threads + Wait + Sync + Abort>(rt: &R, alloc: Global) -> Result<(), Fail> {
+fn both<A: Allocator + Copy + Send + Sync, R: Threads + Wait + Sync + Abort>(
+    rt: &R,
+    alloc: A,
+) -> Result<(), Fail> {
     let scripts = scripts(alloc, &[CALLS])?;
     let one = scripts.as_slice().first().ok_or("there is no script")?;
     let desk = worked_alone(rt, alloc, one)?;

@@ -6,14 +6,14 @@ use crate::expecting::same;
 use acta_locked::{DriveError, OpenGate, Script};
 use acta_models::Standard;
 use acta_table::{Event, TxnId};
-use std::alloc::{AllocError, Global};
+use std::alloc::{AllocError, Allocator};
 use std::process::Abort;
 use std::sync::Wait;
 use std::test::Fail;
 use std::thread::Threads;
 
 // The script that commits the first transaction so often.
-fn commits(alloc: Global, times: usize) -> Result<Script<Global>, AllocError> {
+fn commits<A: Allocator + Copy>(alloc: A, times: usize) -> Result<Script<A>, AllocError> {
     let mut events = Vec::with_capacity(alloc, times)?;
     for _ in 0..times {
         events.push(Event::Commit(TxnId(1)))?;
@@ -22,7 +22,10 @@ fn commits(alloc: Global, times: usize) -> Result<Script<Global>, AllocError> {
 }
 
 // Scripts of so many such commits each.
-fn all_commits(alloc: Global, calls: &[usize]) -> Result<Vec<Script<Global>>, AllocError> {
+fn all_commits<A: Allocator + Copy>(
+    alloc: A,
+    calls: &[usize],
+) -> Result<Vec<Script<A>, A>, AllocError> {
     let mut scripts = Vec::new(alloc);
     for times in calls {
         scripts.push(commits(alloc, *times)?)?;
@@ -31,9 +34,9 @@ fn all_commits(alloc: Global, calls: &[usize]) -> Result<Vec<Script<Global>>, Al
 }
 
 // Scripts of so many commits each are not run, for this reason.
-fn are_barred<R: Threads + Wait + Sync + Abort>(
+fn are_barred<A: Allocator + Copy + Send + Sync, R: Threads + Wait + Sync + Abort>(
     rt: &R,
-    alloc: Global,
+    alloc: A,
     calls: &[usize],
     why: DriveError,
 ) -> Result<(), Fail> {
@@ -44,7 +47,10 @@ fn are_barred<R: Threads + Wait + Sync + Abort>(
 }
 
 // The second worker gives up before its first call.
-fn gives_up<R: Threads + Wait + Sync + Abort>(rt: &R, alloc: Global) -> Result<(), Fail> {
+fn gives_up<A: Allocator + Copy + Send + Sync, R: Threads + Wait + Sync + Abort>(
+    rt: &R,
+    alloc: A,
+) -> Result<(), Fail> {
     let scripts = scripts(alloc, &ADDITIONS)?;
     let gate = Stopping { seat: 2, call: 1 };
     let found = fault_of(rt, alloc, Standard::Atomic, scripts.as_slice(), &gate)?;

@@ -1,12 +1,12 @@
 //! A full book: it has 65,536 entries, of which none needs to be admitted, and takes no more.
 
 use crate::driving::books::taken;
-use crate::driving::scripts::model_of;
 use crate::expecting::{holds, same};
+use crate::machines::model_of;
 use acta_locked::{Book, TakeError};
 use acta_models::Standard;
 use acta_table::{Answer, Event, Rule, TxnId};
-use std::alloc::Global;
+use std::alloc::Allocator;
 use std::process::Abort;
 use std::test::Fail;
 
@@ -20,13 +20,13 @@ fn is_due(answer: &Answer) -> bool {
 }
 
 // Commits a transaction that has not begun, and says whether it is refused for that, under this number.
-fn is_refused(book: &mut Book<Global>, number: u32) -> Result<bool, TakeError> {
+fn is_refused<A: Allocator + Copy>(book: &mut Book<A>, number: u32) -> Result<bool, TakeError> {
     let entry = taken(book, Event::Commit(TxnId(1)))?;
     Ok(entry.number == number && entry.seat == 1 && is_due(&entry.answer))
 }
 
 // Fills the book with such calls.
-fn fill(rt: &impl Abort, book: &mut Book<Global>) -> Result<(), TakeError> {
+fn fill<A: Allocator + Copy>(rt: &impl Abort, book: &mut Book<A>) -> Result<(), TakeError> {
     for number in 1..65_537u32 {
         let is_so = is_refused(book, number)?;
         assert!(rt; is_so, "call {number}");
@@ -35,22 +35,27 @@ fn fill(rt: &impl Abort, book: &mut Book<Global>) -> Result<(), TakeError> {
 }
 
 // Whether the book is full of refusals.
-fn is_full(book: &Book<Global>) -> bool {
+fn is_full<A: Allocator>(book: &Book<A>) -> bool {
     book.entries().len() == 65_536 && book.machine().history().is_empty()
 }
 
 // A book on the flat model.
-fn flat_book(alloc: Global) -> Result<Book<Global>, Fail> {
+fn flat_book<A: Allocator + Copy>(alloc: A) -> Result<Book<A>, Fail> {
     let model = model_of(alloc, Standard::Atomic)?;
     Ok(Book::new(alloc, model)?)
 }
 
+// A full book takes no more.
+fn is_filled<A: Allocator + Copy>(rt: &impl Abort, alloc: A) -> Result<(), Fail> {
+    let mut book = flat_book(alloc)?;
+    fill(rt, &mut book)?;
+    let more = taken(&mut book, Event::Commit(TxnId(1))).err();
+    same(rt, &more, &Some(TakeError::BookFull), "one call more");
+    holds(rt, is_full(&book), "the full book");
+    Ok(())
+}
+
 #[test]
 fn a_full_book_takes_no_more(rt: HostRuntime) -> Result<(), Fail> {
-    let mut book = flat_book(rt.alloc())?;
-    fill(&rt, &mut book)?;
-    let more = taken(&mut book, Event::Commit(TxnId(1))).err();
-    same(&rt, &more, &Some(TakeError::BookFull), "one call more");
-    holds(&rt, is_full(&book), "the full book");
-    Ok(())
+    is_filled(&rt, rt.alloc())
 }

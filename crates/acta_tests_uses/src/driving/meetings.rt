@@ -4,12 +4,11 @@ use crate::driving::books::{are_answered, are_parts};
 use crate::driving::gates::{Meeting, Place};
 use crate::driving::scripts::{ADDITIONS, driven, scripts};
 use crate::expecting::{holds, same};
+use crate::machines::number_in;
 use acta_locked::{Driven, Entry, Script};
-use acta_machine::Machine;
 use acta_models::Standard;
-use acta_objects::ObjectState;
 use acta_table::ObjId;
-use std::alloc::{AllocError, Global};
+use std::alloc::Global;
 use std::process::Abort;
 use std::sync::Wait;
 use std::test::Fail;
@@ -21,15 +20,6 @@ const X: ObjId = ObjId(0);
 const N: ObjId = ObjId(1);
 
 const M: ObjId = ObjId(2);
-
-// The number that a register or a counter has.
-fn number_in(machine: &Machine<Global>, ob: ObjId) -> Result<Option<i64>, AllocError> {
-    Ok(match machine.value(ob)? {
-        Some(ObjectState::Register(value)) => Some(i64::from(value)),
-        Some(ObjectState::Counter(value)) => Some(value),
-        _ => None,
-    })
-}
 
 // Drives two scripts, whose workers meet. Says whether the gate was shown what the book has.
 fn shown_at<R: Threads + Wait + Sync>(

@@ -1,8 +1,9 @@
 //! Each allocation refused in turn: a book stays as it was, and a driven run says why it has no result.
 
 use crate::driving::books::taken;
-use crate::driving::scripts::{ADDITIONS, model_of, script, scripts};
+use crate::driving::scripts::{ADDITIONS, script, scripts};
 use crate::expecting::{holds, same};
+use crate::machines::model_of;
 use acta_locked::{Book, DriveError, Driven, OpenGate, Script, TakeError, drive};
 use acta_models::Standard;
 use acta_table::Event;
@@ -106,10 +107,14 @@ fn take_calls<A: Allocator + Copy, B: Allocator>(
 }
 
 // Takes all calls. The book in the end has them all, and its machine all but the third.
-fn take_all<B: Allocator>(rt: &impl Abort, heap: &Refusing<B>) -> Result<u64, Fail> {
-    let model = model_of(heap, Standard::SplitJoin)?;
-    let calls = script(heap, &model, CALLS)?;
-    let mut book = Book::new(heap, model)?;
+fn take_all<A: Allocator + Copy, B: Allocator>(
+    rt: &impl Abort,
+    heap: &Refusing<B>,
+    alloc: A,
+) -> Result<u64, Fail> {
+    let model = model_of(alloc, Standard::SplitJoin)?;
+    let calls = script(alloc, &model, CALLS)?;
+    let mut book = Book::new(alloc, model)?;
     let refused = take_calls(rt, heap, &mut book, calls.as_slice())?;
     holds(rt, stands(&book, 10, 9), "the book in the end");
     Ok(refused)
@@ -122,15 +127,16 @@ fn entries_of<A: Allocator>(driven: Result<Driven<A>, DriveError>) -> Result<usi
 
 // Drives the scripts, the nth allocation refused. Gives how many entries the book has, or why there is none, and
 // whether the allocation never came.
-fn drive_refused<'h, B: Allocator + Send + Sync, R: Threads + Wait + Sync>(
+fn drive_refused<A: Allocator + Copy + Send + Sync, R: Threads + Wait + Sync, B: Allocator>(
     rt: &R,
-    heap: &'h Refusing<B>,
-    scripts: &[Script<&'h Refusing<B>>],
+    heap: &Refusing<B>,
+    alloc: A,
+    scripts: &[Script<A>],
     nth: u64,
 ) -> Result<(Result<usize, DriveError>, bool), Fail> {
-    let model = model_of(heap, Standard::Atomic)?;
+    let model = model_of(alloc, Standard::Atomic)?;
     heap.refuse(nth);
-    let driven = drive(rt, heap, model, scripts, &OpenGate);
+    let driven = drive(rt, alloc, model, scripts, &OpenGate);
     let is_whole = heap.is_waiting();
     heap.refuse(0);
     Ok((entries_of(driven), is_whole))
@@ -147,19 +153,28 @@ fn is_due(found: Result<usize, DriveError>, is_whole: bool) -> bool {
 }
 
 // Drives two scripts, the first allocation refused, then the second, and so on, until none is.
-fn drive_each<B: Allocator + Send + Sync, R: Threads + Wait + Sync + Abort>(
+fn drive_each<A: Allocator + Copy + Send + Sync, R: Threads + Wait + Sync + Abort, B: Allocator>(
     rt: &R,
     heap: &Refusing<B>,
+    alloc: A,
 ) -> Result<u64, Fail> {
-    let scripts = scripts(heap, &ADDITIONS)?;
+    let scripts = scripts(alloc, &ADDITIONS)?;
     for nth in 1..MOST {
-        let (found, is_whole) = drive_refused(rt, heap, scripts.as_slice(), nth)?;
+        let (found, is_whole) = drive_refused(rt, heap, alloc, scripts.as_slice(), nth)?;
         holds(rt, is_due(found, is_whole), "a drive");
         if is_whole {
             return Ok(nth.wrapping_sub(1));
         }
     }
     Err(Fail::new("a call makes too many allocations"))
+}
+
+// Drives them with an allocator that may be shared by threads, since the one inside it may.
+fn refuse_drives<B: Allocator + Send + Sync, R: Threads + Wait + Sync + Abort>(
+    rt: &R,
+    heap: &Refusing<B>,
+) -> Result<u64, Fail> {
+    drive_each(rt, heap, heap)
 }
 
 // That so many growths were refused, and more than these.
@@ -170,9 +185,9 @@ fn are_more(rt: &impl Abort, refused: u64, few: u64, growths: &str) {
 #[test]
 fn books_and_drives_that_cannot_grow(rt: HostRuntime) -> Result<(), Fail> {
     let heap = Refusing::new(rt.alloc());
-    let refused = take_all(&rt, &heap)?;
+    let refused = take_all(&rt, &heap, &heap)?;
     are_more(&rt, refused, 10, "growths of a book");
-    let refused = drive_each(&rt, &heap)?;
+    let refused = refuse_drives(&rt, &heap)?;
     are_more(&rt, refused, 8, "growths of a drive");
     Ok(())
 }

@@ -1,22 +1,17 @@
-//! Models and scripts, and their drives: a script is written as text, an event a line.
+//! Scripts, and their drives: a script is written as text, an event a line.
 
-use acta_lang::assemble;
+use crate::machines::model_of;
 use acta_locked::{DriveError, Driven, Entry, Gate, Script, drive};
 use acta_models::Standard;
 use acta_script::read_event;
 use acta_table::Model;
-use std::alloc::{Allocator, Global};
+use std::alloc::Allocator;
 use std::sync::Wait;
 use std::test::Fail;
 use std::thread::Threads;
 
 /// Two scripts: seat 1 adds to n and seat 2 to m.
 pub const ADDITIONS: [&str; 2] = ["begin 1 flat\ndo 1 n add 5", "begin 2 flat\ndo 2 m add 7"];
-
-/// The standard model of that name.
-pub fn model_of<A: Allocator + Copy>(alloc: A, name: Standard) -> Result<Model<A>, Fail> {
-    Ok(assemble(alloc, name.text().as_bytes())?)
-}
 
 /// The script that the text says, in the words of the model.
 pub fn script<A: Allocator + Copy>(
@@ -42,34 +37,36 @@ pub fn scripts<A: Allocator + Copy>(alloc: A, texts: &[&str]) -> Result<Vec<Scri
 }
 
 // A drive, in a function of its own, so that callers need not read all that is known of its result.
-fn run<R: Threads + Wait + Sync, G: Gate<Entry<Global>> + Sync>(
+fn run<A: Allocator + Copy + Send + Sync, R: Threads + Wait + Sync, G: Gate<Entry<A>> + Sync>(
     rt: &R,
-    alloc: Global,
-    model: Model<Global>,
-    scripts: &[Script<Global>],
+    alloc: A,
+    model: Model<A>,
+    scripts: &[Script<A>],
     gate: &G,
-) -> Result<Driven<Global>, DriveError> {
+) -> Result<Driven<A>, DriveError> {
     drive(rt, alloc, model, scripts, gate)
 }
 
 /// A drive of the scripts over a book of the standard model.
-pub fn driven<R: Threads + Wait + Sync, G: Gate<Entry<Global>> + Sync>(
-    rt: &R,
-    alloc: Global,
-    name: Standard,
-    scripts: &[Script<Global>],
-    gate: &G,
-) -> Result<Driven<Global>, Fail> {
+pub fn driven<
+    A: Allocator + Copy + Send + Sync,
+    R: Threads + Wait + Sync,
+    G: Gate<Entry<A>> + Sync,
+>(rt: &R, alloc: A, name: Standard, scripts: &[Script<A>], gate: &G) -> Result<Driven<A>, Fail> {
     let model = model_of(alloc, name)?;
     Ok(run(rt, alloc, model, scripts, gate)?)
 }
 
 /// Why such a drive has no result.
-pub fn fault_of<R: Threads + Wait + Sync, G: Gate<Entry<Global>> + Sync>(
+pub fn fault_of<
+    A: Allocator + Copy + Send + Sync,
+    R: Threads + Wait + Sync,
+    G: Gate<Entry<A>> + Sync,
+>(
     rt: &R,
-    alloc: Global,
+    alloc: A,
     name: Standard,
-    scripts: &[Script<Global>],
+    scripts: &[Script<A>],
     gate: &G,
 ) -> Result<Option<DriveError>, Fail> {
     let model = model_of(alloc, name)?;
