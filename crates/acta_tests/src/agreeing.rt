@@ -9,7 +9,7 @@ use acta_machine::Machine;
 use acta_table::{
     ClassId, Edge, EdgeNo, Event, Fate, Kept, Missing, Model, OpNo, Owed, Scope, Status, TxnId,
 };
-use std::alloc::{AllocError, Global};
+use std::alloc::{AllocError, Allocator};
 
 // A place past the last of each history.
 const END: u32 = 20;
@@ -21,7 +21,7 @@ const TXNS: u16 = 7;
 const OPS: u32 = 8;
 
 /// The transaction that spawned another, by the events that were kept.
-pub fn parent_in(history: &[Kept<Global>], child: TxnId) -> Option<TxnId> {
+pub fn parent_in<A: Allocator + Copy>(history: &[Kept<A>], child: TxnId) -> Option<TxnId> {
     for kept in history {
         match &kept.event {
             Event::Spawn(t, c, _) if *c == child => return Some(*t),
@@ -32,7 +32,7 @@ pub fn parent_in(history: &[Kept<Global>], child: TxnId) -> Option<TxnId> {
 }
 
 /// The class that the start of a transaction names.
-pub fn class_in(history: &[Kept<Global>], t: TxnId) -> Option<ClassId> {
+pub fn class_in<A: Allocator + Copy>(history: &[Kept<A>], t: TxnId) -> Option<ClassId> {
     for kept in history {
         match &kept.event {
             Event::Begin(u, class) if *u == t => return Some(*class),
@@ -45,7 +45,7 @@ pub fn class_in(history: &[Kept<Global>], t: TxnId) -> Option<ClassId> {
 }
 
 // Whether the class of a transaction leaves its ancestors out of its conflict set.
-fn spares(model: &Model<Global>, history: &[Kept<Global>], t: TxnId) -> bool {
+fn spares<A: Allocator + Copy>(model: &Model<A>, history: &[Kept<A>], t: TxnId) -> bool {
     let Some(class) = class_in(history, t) else {
         return false;
     };
@@ -56,7 +56,7 @@ fn spares(model: &Model<Global>, history: &[Kept<Global>], t: TxnId) -> bool {
 }
 
 // The last of t, its parent, that one's parent, and so on, up to u where that is one of them.
-fn up_to(history: &[Kept<Global>], u: TxnId, t: TxnId) -> TxnId {
+fn up_to<A: Allocator + Copy>(history: &[Kept<A>], u: TxnId, t: TxnId) -> TxnId {
     let mut above = t;
     for _ in history {
         match parent_in(history, above) {
@@ -69,7 +69,12 @@ fn up_to(history: &[Kept<Global>], u: TxnId, t: TxnId) -> TxnId {
 
 // Whether what u holds in progress is in t's conflict set: not what t holds, and not what its parent holds, or that
 // one's parent, and so on, where t's class leaves its ancestors out.
-fn is_against(model: &Model<Global>, history: &[Kept<Global>], u: TxnId, t: TxnId) -> bool {
+fn is_against<A: Allocator + Copy>(
+    model: &Model<A>,
+    history: &[Kept<A>],
+    u: TxnId,
+    t: TxnId,
+) -> bool {
     t != u && !(spares(model, history, t) && up_to(history, u, t) == u)
 }
 
@@ -89,10 +94,10 @@ pub fn status_by(course: Course) -> Status {
 }
 
 // The machine shows how a transaction stands, and its sets, operation by operation.
-fn shows_txn(
-    model: &Model<Global>,
-    machine: &Machine<Global>,
-    places: &Places<'_, Global>,
+fn shows_txn<A: Allocator + Copy>(
+    model: &Model<A>,
+    machine: &Machine<A>,
+    places: &Places<'_, A>,
     t: TxnId,
 ) -> Result<bool, AllocError> {
     let access = machine.access_set(t)?;
@@ -111,7 +116,10 @@ fn shows_txn(
 }
 
 // The machine shows the view, which with the access sets says what became of each operation.
-fn shows_view(machine: &Machine<Global>, places: &Places<'_, Global>) -> Result<bool, AllocError> {
+fn shows_view<A: Allocator + Copy>(
+    machine: &Machine<A>,
+    places: &Places<'_, A>,
+) -> Result<bool, AllocError> {
     let view = machine.view_set()?;
     let mut shows = true;
     for number in 1..OPS {
@@ -126,7 +134,7 @@ fn shows_view(machine: &Machine<Global>, places: &Places<'_, Global>) -> Result<
 }
 
 // What is owed by the edge.
-fn missing_by(places: &Places<'_, Global>, edge: &Edge) -> Option<Missing> {
+fn missing_by<A: Allocator + Copy>(places: &Places<'_, A>, edge: &Edge) -> Option<Missing> {
     let (j, i) = (course_of(places, edge.j), course_of(places, edge.i));
     match payment(edge.kind) {
         Some(missing) if !j.has_ended() && is_false(edge.kind, j, i) => Some(missing),
@@ -135,7 +143,10 @@ fn missing_by(places: &Places<'_, Global>, edge: &Edge) -> Option<Missing> {
 }
 
 // What is owed by the edges of these places.
-fn debts_of(alloc: Global, places: &Places<'_, Global>) -> Result<Vec<Owed>, AllocError> {
+fn debts_of<A: Allocator + Copy>(
+    alloc: A,
+    places: &Places<'_, A>,
+) -> Result<Vec<Owed, A>, AllocError> {
     let mut due = Vec::new(alloc);
     let mut number = 0u64;
     for edge in places.edges() {
@@ -149,26 +160,26 @@ fn debts_of(alloc: Global, places: &Places<'_, Global>) -> Result<Vec<Owed>, All
 }
 
 // What the machine says is owed.
-fn owed_by(machine: &Machine<Global>) -> Result<Vec<Owed>, AllocError> {
+fn owed_by<A: Allocator + Copy>(machine: &Machine<A>) -> Result<Vec<Owed, A>, AllocError> {
     machine.owed()
 }
 
 // The machine shows the edges, and what is owed by them.
-fn shows_edges(
-    alloc: Global,
-    machine: &Machine<Global>,
-    places: &Places<'_, Global>,
+fn shows_edges<A: Allocator + Copy>(
+    alloc: A,
+    machine: &Machine<A>,
+    places: &Places<'_, A>,
 ) -> Result<bool, AllocError> {
     let (owed, due) = (owed_by(machine)?, debts_of(alloc, places)?);
     Ok(machine.edges() == places.edges() && owed.as_slice() == due.as_slice())
 }
 
 // What the machine shows that isn't what these places say.
-fn differing_from(
-    alloc: Global,
-    model: &Model<Global>,
-    machine: &Machine<Global>,
-    places: &Places<'_, Global>,
+fn differing_from<A: Allocator + Copy>(
+    alloc: A,
+    model: &Model<A>,
+    machine: &Machine<A>,
+    places: &Places<'_, A>,
 ) -> Result<&'static str, AllocError> {
     for number in 1..TXNS {
         if !shows_txn(model, machine, places, TxnId(number))? {
@@ -185,10 +196,10 @@ fn differing_from(
 }
 
 /// What the machine shows that isn't what the places of its history say.
-pub fn differing(
-    alloc: Global,
-    model: &Model<Global>,
-    machine: &Machine<Global>,
+pub fn differing<A: Allocator + Copy>(
+    alloc: A,
+    model: &Model<A>,
+    machine: &Machine<A>,
 ) -> Result<&'static str, AllocError> {
     if !follows_machine(alloc, machine)? {
         return Ok("a walk");

@@ -10,7 +10,7 @@ use acta_machine::Machine;
 use acta_models::Standard;
 use acta_script::read_event;
 use acta_table::{Answer, Dep, Edge, EdgeNo, Event, Kept, Missing, Model, Owed, Rule, TxnId};
-use std::alloc::{AllocError, Global};
+use std::alloc::{AllocError, Allocator};
 use std::process::Abort;
 use std::test::Fail;
 
@@ -19,7 +19,10 @@ const ONE: TxnId = TxnId(1);
 const TWO: TxnId = TxnId(2);
 
 // A copy of the history.
-fn copied(alloc: Global, history: &[Kept<Global>]) -> Result<Vec<Kept<Global>>, AllocError> {
+fn copied<A: Allocator + Copy>(
+    alloc: A,
+    history: &[Kept<A>],
+) -> Result<Vec<Kept<A>, A>, AllocError> {
     let mut copied = Vec::new(alloc);
     for kept in history {
         copied.push(kept.copy()?)?;
@@ -28,24 +31,24 @@ fn copied(alloc: Global, history: &[Kept<Global>]) -> Result<Vec<Kept<Global>>, 
 }
 
 // The event, as it is kept.
-fn kept(event: &Event<Global>) -> Result<Kept<Global>, AllocError> {
+fn kept<A: Allocator + Copy>(event: &Event<A>) -> Result<Kept<A>, AllocError> {
     let event = event.copy()?;
     Ok(Kept { event, ret: None })
 }
 
 // The history with one more event.
-fn with(
-    alloc: Global,
-    history: &[Kept<Global>],
-    event: &Event<Global>,
-) -> Result<Vec<Kept<Global>>, AllocError> {
+fn with<A: Allocator + Copy>(
+    alloc: A,
+    history: &[Kept<A>],
+    event: &Event<A>,
+) -> Result<Vec<Kept<A>, A>, AllocError> {
     let mut longer = copied(alloc, history)?;
     longer.push(kept(event)?)?;
     Ok(longer)
 }
 
 // What the places of a history say of the one edge in it: whether it is broken, and what is owed by it.
-fn finding_of(kind: Dep, places: &Places<'_, Global>) -> (bool, Option<Missing>) {
+fn finding_of<A: Allocator + Copy>(kind: Dep, places: &Places<'_, A>) -> (bool, Option<Missing>) {
     let (j, i) = (course_of(places, TWO), course_of(places, ONE));
     if !is_false(kind, j, i) {
         return (false, None);
@@ -57,12 +60,12 @@ fn finding_of(kind: Dep, places: &Places<'_, Global>) -> (bool, Option<Missing>)
 }
 
 // What would be found in the history of the machine, were the event added.
-fn found_after(
-    alloc: Global,
-    model: &Model<Global>,
-    history: &[Kept<Global>],
+fn found_after<A: Allocator + Copy>(
+    alloc: A,
+    model: &Model<A>,
+    history: &[Kept<A>],
     kind: Dep,
-    event: &Event<Global>,
+    event: &Event<A>,
 ) -> Result<(bool, Option<Missing>), AllocError> {
     let longer = with(alloc, history, event)?;
     let places = places_of(alloc, model, longer.as_slice())?;
@@ -80,9 +83,9 @@ fn is_due(owed: &[Owed], missing: Option<Missing>) -> bool {
 }
 
 // The machine owes by its one edge what is missing, and no more.
-fn owes(
+fn owes<A: Allocator + Copy>(
     rt: &impl Abort,
-    machine: &Machine<Global>,
+    machine: &Machine<A>,
     missing: Option<Missing>,
 ) -> Result<(), AllocError> {
     let owed = machine.owed()?;
@@ -93,13 +96,13 @@ fn owes(
 // A machine with one edge takes an event, and what it says is what the places of its history say: an answer by a
 // rule on dependencies exactly where the edge would be broken, and the debt. Gives whether it refused so, and
 // whether there is a debt.
-fn agrees(
+fn agrees<A: Allocator + Copy>(
     rt: &impl Abort,
-    alloc: Global,
-    model: &Model<Global>,
-    machine: &mut Machine<Global>,
+    alloc: A,
+    model: &Model<A>,
+    machine: &mut Machine<A>,
     kind: Dep,
-    event: &Event<Global>,
+    event: &Event<A>,
 ) -> Result<(bool, bool), AllocError> {
     let (is_broken, missing) = found_after(alloc, model, machine.history(), kind, event)?;
     match take(machine, event)? {
@@ -119,11 +122,11 @@ fn agrees(
 
 // The machine agrees along one order. Gives whether it refused an event by a rule on dependencies, and whether there
 // was a debt.
-fn along_on(
+fn along_on<A: Allocator + Copy>(
     rt: &impl Abort,
-    alloc: Global,
-    model: &Model<Global>,
-    machine: &mut Machine<Global>,
+    alloc: A,
+    model: &Model<A>,
+    machine: &mut Machine<A>,
     kind: Dep,
     order: &str,
 ) -> Result<(bool, bool), Fail> {
@@ -144,10 +147,10 @@ fn has_one_edge(edges: &[Edge], kind: Dep) -> bool {
 }
 
 // The same of a new machine with one edge of this kind, of the second transaction on the first.
-fn along(
+fn along<A: Allocator + Copy>(
     rt: &impl Abort,
-    alloc: Global,
-    model: &Model<Global>,
+    alloc: A,
+    model: &Model<A>,
     kind: Dep,
     order: &str,
 ) -> Result<(bool, bool), Fail> {
@@ -161,10 +164,10 @@ fn along(
 }
 
 // Machines with an edge of one kind agree along each order.
-fn through_each_order(
+fn through_each_order<A: Allocator + Copy>(
     rt: &impl Abort,
-    alloc: Global,
-    model: &Model<Global>,
+    alloc: A,
+    model: &Model<A>,
     kind: Dep,
 ) -> Result<(bool, bool), Fail> {
     let (mut refused, mut owed) = (false, false);

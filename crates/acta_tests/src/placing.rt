@@ -20,12 +20,16 @@ use acta_axioms::Places;
 use acta_script::read_event;
 use acta_table::{Event, Fate, Kept, Model, OpNo, Ret, TxnId};
 use acta_words::{push_natural, push_word, read_u32};
-use std::alloc::Global;
+use std::alloc::Allocator;
 use std::process::Abort;
 use std::test::Fail;
 
 // Writes who holds an operation after so many places, if anyone, and what became of it: `OP at N` asks for it.
-fn push_standing(line: &mut Vec<u8>, places: &Places<'_, Global>, asked: &str) -> Result<(), Fail> {
+fn push_standing<A: Allocator + Copy>(
+    line: &mut Vec<u8, A>,
+    places: &Places<'_, A>,
+    asked: &str,
+) -> Result<(), Fail> {
     let (op, n) = asked
         .split_once(" at ")
         .ok_or("an operation is asked of at a place")?;
@@ -44,9 +48,9 @@ fn push_standing(line: &mut Vec<u8>, places: &Places<'_, Global>, asked: &str) -
 }
 
 // Writes the first place of the event of a transaction that the word names.
-fn push_place(
-    line: &mut Vec<u8>,
-    places: &Places<'_, Global>,
+fn push_place<A: Allocator + Copy>(
+    line: &mut Vec<u8, A>,
+    places: &Places<'_, A>,
     word: &str,
     t: TxnId,
 ) -> Result<(), Fail> {
@@ -64,7 +68,11 @@ fn push_place(
 }
 
 // Writes what the places say of what is asked.
-fn push_said(line: &mut Vec<u8>, places: &Places<'_, Global>, asked: &str) -> Result<(), Fail> {
+fn push_said<A: Allocator + Copy>(
+    line: &mut Vec<u8, A>,
+    places: &Places<'_, A>,
+    asked: &str,
+) -> Result<(), Fail> {
     let (word, rest) = asked.split_once(' ').unwrap_or((asked, ""));
     match word {
         "op" => push_standing(line, places, rest),
@@ -74,12 +82,12 @@ fn push_said(line: &mut Vec<u8>, places: &Places<'_, Global>, asked: &str) -> Re
 }
 
 // What the places of the items say of what is asked.
-fn said(
-    alloc: Global,
-    model: &Model<Global>,
-    items: &[Kept<Global>],
+fn said<A: Allocator + Copy>(
+    alloc: A,
+    model: &Model<A>,
+    items: &[Kept<A>],
     asked: &str,
-) -> Result<Vec<u8>, Fail> {
+) -> Result<Vec<u8, A>, Fail> {
     let places = places_of(alloc, model, items)?;
     let mut line = Vec::new(alloc);
     push_said(&mut line, &places, asked)?;
@@ -87,7 +95,7 @@ fn said(
 }
 
 // Reads the event of a line, as it is kept; the places don't look at what an operation returned.
-fn kept(alloc: Global, model: &Model<Global>, line: &str) -> Result<Kept<Global>, Fail> {
+fn kept<A: Allocator + Copy>(alloc: A, model: &Model<A>, line: &str) -> Result<Kept<A>, Fail> {
     let event = read_event(alloc, model, line.as_bytes())?;
     let ret = match event {
         Event::Operate(_, _, _) => Some(Ret::Done),
@@ -97,11 +105,11 @@ fn kept(alloc: Global, model: &Model<Global>, line: &str) -> Result<Kept<Global>
 }
 
 // The places of the items say what the line does.
-fn ask(
+fn ask<A: Allocator + Copy>(
     rt: &impl Abort,
-    alloc: Global,
-    model: &Model<Global>,
-    items: &[Kept<Global>],
+    alloc: A,
+    model: &Model<A>,
+    items: &[Kept<A>],
     line: &str,
 ) -> Result<(), Fail> {
     let (asked, due) = parted(line, " :")?;
@@ -110,11 +118,11 @@ fn ask(
 }
 
 // A line begins a list, asks something of it, or puts an event behind it.
-fn follow(
+fn follow<A: Allocator + Copy>(
     rt: &impl Abort,
-    alloc: Global,
-    models: &Models<Global>,
-    items: &mut Vec<Kept<Global>>,
+    alloc: A,
+    models: &Models<A>,
+    items: &mut Vec<Kept<A>, A>,
     line: &str,
 ) -> Result<(), Fail> {
     if line.starts_with("# ") {
@@ -131,7 +139,12 @@ fn follow(
 }
 
 // Goes through the lists of the model that the text means.
-fn expect(rt: &impl Abort, alloc: Global, model: &str, lists: &str) -> Result<(), Fail> {
+fn expect<A: Allocator + Copy>(
+    rt: &impl Abort,
+    alloc: A,
+    model: &str,
+    lists: &str,
+) -> Result<(), Fail> {
     let models = Models::of(alloc, model)?;
     let mut items = Vec::new(alloc);
     for line in lists.lines() {

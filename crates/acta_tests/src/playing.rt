@@ -19,24 +19,24 @@ use crate::showing::shown;
 use acta_machine::Machine;
 use acta_script::{answer_line, read_event};
 use acta_table::{Answer, Event, Model};
-use std::alloc::{AllocError, Global};
+use std::alloc::{AllocError, Allocator};
 use std::process::Abort;
 use std::test::Fail;
 
 // A history as far as it was played.
 #[derive(Drop)]
-struct Played {
-    machine: Machine<Global>,
-    events: Vec<Event<Global>>,
-    answers: Vec<Answer>,
+struct Played<A: Allocator> {
+    machine: Machine<A>,
+    events: Vec<Event<A>, A>,
+    answers: Vec<Answer, A>,
 }
 
 // The machine shows what is due where it is asked.
-fn shows(
+fn shows<A: Allocator + Copy>(
     rt: &impl Abort,
-    alloc: Global,
-    models: &Models<Global>,
-    machine: &Machine<Global>,
+    alloc: A,
+    models: &Models<A>,
+    machine: &Machine<A>,
     (asked, due): (&str, &str),
 ) -> Result<(), Fail> {
     let told = shown(alloc, models, machine, asked)?;
@@ -44,9 +44,9 @@ fn shows(
     Ok(())
 }
 
-impl Played {
+impl<A: Allocator + Copy> Played<A> {
     // Nothing of a history.
-    fn new(alloc: Global, model: &Model<Global>) -> Result<Played, AllocError> {
+    fn new(alloc: A, model: &Model<A>) -> Result<Played<A>, AllocError> {
         Ok(Played {
             machine: new_machine(alloc, model)?,
             events: Vec::new(alloc),
@@ -55,12 +55,7 @@ impl Played {
     }
 
     // What the machine answers the event that is said, as a line.
-    fn told(
-        &mut self,
-        alloc: Global,
-        models: &Models<Global>,
-        said: &str,
-    ) -> Result<Vec<u8>, Fail> {
+    fn told(&mut self, alloc: A, models: &Models<A>, said: &str) -> Result<Vec<u8, A>, Fail> {
         let event = read_event(alloc, &models.wider, said.as_bytes())?;
         let answer = take(&mut self.machine, &event)?;
         self.events.push(event)?;
@@ -72,8 +67,8 @@ impl Played {
     fn take(
         &mut self,
         rt: &impl Abort,
-        alloc: Global,
-        models: &Models<Global>,
+        alloc: A,
+        models: &Models<A>,
         line: &str,
     ) -> Result<(), Fail> {
         let (said, due) = parted(line, " : ")?;
@@ -84,20 +79,14 @@ impl Played {
     }
 
     // The machine, and a copy of it, show what the line says.
-    fn ask(
-        &self,
-        rt: &impl Abort,
-        alloc: Global,
-        models: &Models<Global>,
-        line: &str,
-    ) -> Result<(), Fail> {
+    fn ask(&self, rt: &impl Abort, alloc: A, models: &Models<A>, line: &str) -> Result<(), Fail> {
         let (asked, due) = parted(line, " :")?;
         shows(rt, alloc, models, &self.machine, (asked, due))?;
         shows(rt, alloc, models, &self.machine.copy()?, (asked, due))
     }
 
     // A machine that runs the events at once answers the same, and has the same edges.
-    fn end(&self, rt: &impl Abort, alloc: Global, model: &Model<Global>) -> Result<(), AllocError> {
+    fn end(&self, rt: &impl Abort, alloc: A, model: &Model<A>) -> Result<(), AllocError> {
         let run = run_on(alloc, model, &self.events)?;
         let same = run.answers.as_slice() == self.answers.as_slice();
         holds(rt, same, "the answers of a run");
@@ -128,11 +117,11 @@ fn is_met(met: u32, rule: u32) -> bool {
 
 // A line begins a history, asks what the machine shows, or has an event. Gives the rules that a history has met, where
 // it is over.
-fn follow(
+fn follow<A: Allocator + Copy>(
     rt: &impl Abort,
-    alloc: Global,
-    models: &Models<Global>,
-    played: &mut Played,
+    alloc: A,
+    models: &Models<A>,
+    played: &mut Played<A>,
     line: &str,
 ) -> Result<u32, Fail> {
     if line.starts_with("# ") {
@@ -149,10 +138,10 @@ fn follow(
 }
 
 // Plays the histories on these models. Gives the rules that they met.
-fn play_on(
+fn play_on<A: Allocator + Copy>(
     rt: &impl Abort,
-    alloc: Global,
-    models: &Models<Global>,
+    alloc: A,
+    models: &Models<A>,
     histories: &str,
 ) -> Result<u32, Fail> {
     let mut played = Played::new(alloc, &models.model)?;
@@ -165,7 +154,12 @@ fn play_on(
 }
 
 // Plays the histories of the model that the text means.
-fn play(rt: &impl Abort, alloc: Global, model: &str, histories: &str) -> Result<u32, Fail> {
+fn play<A: Allocator + Copy>(
+    rt: &impl Abort,
+    alloc: A,
+    model: &str,
+    histories: &str,
+) -> Result<u32, Fail> {
     let models = Models::of(alloc, model)?;
     play_on(rt, alloc, &models, histories)
 }

@@ -3,14 +3,14 @@
 use crate::expecting::holds;
 use acta_sets::{HeldOp, OpTable};
 use acta_table::{Fate, ObjId, Op, OpNo, TxnId};
-use std::alloc::{AllocError, Global};
+use std::alloc::{AllocError, Allocator};
 
 const ONE: TxnId = TxnId(1);
 
 const THREE: TxnId = TxnId(3);
 
 // An operation of 2, and two of 1, of which the first has ended.
-fn ended(alloc: Global) -> Result<OpTable<Global>, AllocError> {
+fn ended<A: Allocator + Copy>(alloc: A) -> Result<OpTable<A>, AllocError> {
     let mut table = OpTable::new(alloc);
     table.add(TxnId(2), ObjId(0), Op::Get)?;
     table.add(ONE, ObjId(0), Op::Get)?;
@@ -30,7 +30,7 @@ fn are_held(operations: &[HeldOp]) -> bool {
 }
 
 // Whether 3 holds the third operation alone.
-fn holds_third(table: &OpTable<Global>) -> Result<bool, AllocError> {
+fn holds_third<A: Allocator + Copy>(table: &OpTable<A>) -> Result<bool, AllocError> {
     let held = table.access_set(THREE)?;
     Ok(held.as_slice() == [OpNo(3)].as_slice())
 }

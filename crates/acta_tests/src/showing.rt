@@ -6,10 +6,10 @@ use acta_objects::ObjectState;
 use acta_script::owed_line;
 use acta_table::{Edge, ObjId, OpNo, Status, TxnId};
 use acta_words::{push_integer, push_natural, push_word, read_u16};
-use std::alloc::{AllocError, Global};
+use std::alloc::{AllocError, Allocator};
 use std::test::Fail;
 
-fn push_ops(line: &mut Vec<u8>, ops: &[OpNo]) -> Result<(), AllocError> {
+fn push_ops<A: Allocator + Copy>(line: &mut Vec<u8, A>, ops: &[OpNo]) -> Result<(), AllocError> {
     for op in ops {
         push_natural(line, u64::from(op.0))?;
     }
@@ -17,7 +17,10 @@ fn push_ops(line: &mut Vec<u8>, ops: &[OpNo]) -> Result<(), AllocError> {
 }
 
 /// Writes the edges: of each its kind, the one that depends, and the one that it depends on.
-pub fn push_edges(line: &mut Vec<u8>, edges: &[Edge]) -> Result<(), AllocError> {
+pub fn push_edges<A: Allocator + Copy>(
+    line: &mut Vec<u8, A>,
+    edges: &[Edge],
+) -> Result<(), AllocError> {
     for edge in edges {
         push_word(line, edge.kind.word().as_bytes())?;
         push_natural(line, u64::from(edge.j.0))?;
@@ -27,10 +30,10 @@ pub fn push_edges(line: &mut Vec<u8>, edges: &[Edge]) -> Result<(), AllocError> 
 }
 
 // Writes what is owed.
-fn push_debts(
-    alloc: Global,
-    line: &mut Vec<u8>,
-    machine: &Machine<Global>,
+fn push_debts<A: Allocator + Copy>(
+    alloc: A,
+    line: &mut Vec<u8, A>,
+    machine: &Machine<A>,
 ) -> Result<(), AllocError> {
     for debt in &machine.owed()? {
         push_word(line, &owed_line(alloc, debt)?)?;
@@ -39,7 +42,10 @@ fn push_debts(
 }
 
 // Writes a value of an object, where there is one: its number, or what is in the set.
-fn push_value(line: &mut Vec<u8>, value: Option<&ObjectState<Global>>) -> Result<(), AllocError> {
+fn push_value<A: Allocator + Copy>(
+    line: &mut Vec<u8, A>,
+    value: Option<&ObjectState<A>>,
+) -> Result<(), AllocError> {
     match value {
         Some(ObjectState::Register(value)) => push_integer(line, i64::from(*value)),
         Some(ObjectState::Counter(value)) => push_integer(line, *value),
@@ -69,9 +75,9 @@ pub fn txn(word: &str) -> Result<TxnId, Fail> {
 }
 
 // Writes what the machine shows of a transaction.
-fn push_of_txn(
-    line: &mut Vec<u8>,
-    machine: &Machine<Global>,
+fn push_of_txn<A: Allocator + Copy>(
+    line: &mut Vec<u8, A>,
+    machine: &Machine<A>,
     word: &str,
     t: TxnId,
 ) -> Result<(), Fail> {
@@ -84,7 +90,7 @@ fn push_of_txn(
 }
 
 // The object of this name.
-fn object_of(models: &Models<Global>, name: &str) -> Result<ObjId, Fail> {
+fn object_of<A: Allocator + Copy>(models: &Models<A>, name: &str) -> Result<ObjId, Fail> {
     let mut number = 0u16;
     for object in models.wider.objects() {
         if object.name.as_slice() == name.as_bytes() {
@@ -96,20 +102,20 @@ fn object_of(models: &Models<Global>, name: &str) -> Result<ObjId, Fail> {
 }
 
 // Writes the value of an object.
-fn push_object(
-    line: &mut Vec<u8>,
-    machine: &Machine<Global>,
+fn push_object<A: Allocator + Copy>(
+    line: &mut Vec<u8, A>,
+    machine: &Machine<A>,
     object: ObjId,
 ) -> Result<(), AllocError> {
     push_value(line, machine.value(object)?.as_ref())
 }
 
 // Writes what the machine shows of what is asked.
-fn push_shown(
-    alloc: Global,
-    line: &mut Vec<u8>,
-    models: &Models<Global>,
-    machine: &Machine<Global>,
+fn push_shown<A: Allocator + Copy>(
+    alloc: A,
+    line: &mut Vec<u8, A>,
+    models: &Models<A>,
+    machine: &Machine<A>,
     asked: &str,
 ) -> Result<(), Fail> {
     let (word, rest) = asked.split_once(' ').unwrap_or((asked, ""));
@@ -124,12 +130,12 @@ fn push_shown(
 
 /// What the machine shows of what is asked: `status T`, `access T`, `conflict T`, `view`, `value OBJECT`, `edges`,
 /// `owed`.
-pub fn shown(
-    alloc: Global,
-    models: &Models<Global>,
-    machine: &Machine<Global>,
+pub fn shown<A: Allocator + Copy>(
+    alloc: A,
+    models: &Models<A>,
+    machine: &Machine<A>,
     asked: &str,
-) -> Result<Vec<u8>, Fail> {
+) -> Result<Vec<u8, A>, Fail> {
     let mut line = Vec::new(alloc);
     push_shown(alloc, &mut line, models, machine, asked)?;
     Ok(line)

@@ -6,11 +6,11 @@ use acta_table::{
     AtCommit, Class, Dep, DepKinds, Dependent, EventKind, Extent, Items, Kind, Kinds, Model,
     Object, Parts, Policy, Scope, StartEdge, StartEdges, Starts,
 };
-use std::alloc::{AllocError, Global};
+use std::alloc::{AllocError, Allocator};
 use std::test::Fail;
 
 // The objects `x`, `n`, `m`, `s`.
-fn objects(alloc: Global) -> Result<Vec<Object<Global>>, AllocError> {
+fn objects<A: Allocator + Copy>(alloc: A) -> Result<Vec<Object<A>, A>, AllocError> {
     let mut objects = Vec::new(alloc);
     for name in [b'x', b'n', b'm', b's'] {
         let kind = match name {
@@ -25,7 +25,7 @@ fn objects(alloc: Global) -> Result<Vec<Object<Global>>, AllocError> {
 }
 
 // A class that may begin, operate, commit and abort, and these kinds of event.
-fn class(alloc: Global, name: &str, more: Kinds) -> Result<Class<Global>, AllocError> {
+fn class<A: Allocator + Copy>(alloc: A, name: &str, more: Kinds) -> Result<Class<A>, AllocError> {
     Ok(Class {
         name: Items::of(Vec::from_slice(alloc, name.as_bytes())?),
         starts: Starts {
@@ -48,7 +48,7 @@ fn class(alloc: Global, name: &str, more: Kinds) -> Result<Class<Global>, AllocE
 
 // The class `sub` of nested transactions that are spawned, and commit to their parents. A parent that commits does so
 // after its children, and one that aborts takes with it those that have not committed.
-fn sub(alloc: Global) -> Result<Class<Global>, AllocError> {
+fn sub<A: Allocator + Copy>(alloc: A) -> Result<Class<A>, AllocError> {
     let (kind, dependent) = (Dep::Cd, Dependent::Starter);
     let after = StartEdge { kind, dependent };
     let (kind, dependent) = (Dep::Wd, Dependent::Started);
@@ -66,7 +66,7 @@ fn sub(alloc: Global) -> Result<Class<Global>, AllocError> {
 // with none of its ancestors, of which it has none; `part`, which may be split off, and hands over as much as it likes;
 // `loose`, of those whose operations conflict, which end only after those that they depend on, and abort with them; and
 // `try`, which may also form edges.
-fn beginning(alloc: Global, name: Standard) -> Result<Class<Global>, AllocError> {
+fn beginning<A: Allocator + Copy>(alloc: A, name: Standard) -> Result<Class<A>, AllocError> {
     let (word, more) = match name {
         Standard::Atomic => ("flat", Kinds::none()),
         Standard::Nested => ("top", Kinds::of(EventKind::Spawn)),
@@ -95,7 +95,7 @@ fn beginning(alloc: Global, name: Standard) -> Result<Class<Global>, AllocError>
 }
 
 // The canonical text of a standard model, by its parts.
-fn text_of(alloc: Global, name: Standard) -> Result<Vec<u8>, Fail> {
+fn text_of<A: Allocator + Copy>(alloc: A, name: Standard) -> Result<Vec<u8, A>, Fail> {
     let mut classes = Vec::new(alloc);
     classes.push(beginning(alloc, name)?)?;
     if name == Standard::Nested {

@@ -8,7 +8,7 @@ use acta_axioms::{Places, Walk};
 use acta_machine::Machine;
 use acta_objects::{Members, ObjectState};
 use acta_table::{Class, Fate, Kept, Kind, Model, ObjId, Op, OpNo, TxnId};
-use std::alloc::{AllocError, Global};
+use std::alloc::{AllocError, Allocator};
 
 // How many transactions are asked of, by `asked_txn`.
 const TXNS: u16 = 12;
@@ -38,11 +38,11 @@ fn asked_op(number: u8) -> (ObjId, Op) {
 }
 
 // A walk that has taken all items of the list.
-fn walked<'a>(
-    alloc: Global,
-    model: &'a Model<Global>,
-    kept: &'a [Kept<Global>],
-) -> Result<Walk<'a, Global>, AllocError> {
+fn walked<'a, A: Allocator + Copy>(
+    alloc: A,
+    model: &'a Model<A>,
+    kept: &'a [Kept<A>],
+) -> Result<Walk<'a, A>, AllocError> {
     let mut walk = walk_of(alloc, model, kept)?;
     for _ in kept {
         walk.step()?;
@@ -51,7 +51,7 @@ fn walked<'a>(
 }
 
 // Whether two sets have the same members.
-fn are_same(p: &Members<Global>, q: &Members<Global>) -> bool {
+fn are_same<A: Allocator + Copy>(p: &Members<A>, q: &Members<A>) -> bool {
     let mut same = p.len() == q.len();
     for member in p.items() {
         same &= q.contains(*member);
@@ -60,7 +60,7 @@ fn are_same(p: &Members<Global>, q: &Members<Global>) -> bool {
 }
 
 // Whether two values are the same.
-fn is_equal(p: &ObjectState<Global>, q: &ObjectState<Global>) -> bool {
+fn is_equal<A: Allocator + Copy>(p: &ObjectState<A>, q: &ObjectState<A>) -> bool {
     match (p, q) {
         (ObjectState::Register(p), ObjectState::Register(q)) => p == q,
         (ObjectState::Counter(p), ObjectState::Counter(q)) => p == q,
@@ -70,7 +70,7 @@ fn is_equal(p: &ObjectState<Global>, q: &ObjectState<Global>) -> bool {
 }
 
 // Whether two values are the same, or there is none of either.
-fn is_same(p: Option<&ObjectState<Global>>, q: Option<&ObjectState<Global>>) -> bool {
+fn is_same<A: Allocator + Copy>(p: Option<&ObjectState<A>>, q: Option<&ObjectState<A>>) -> bool {
     match (p, q) {
         (Some(p), Some(q)) => is_equal(p, q),
         (p, q) => p.is_none() && q.is_none(),
@@ -78,9 +78,9 @@ fn is_same(p: Option<&ObjectState<Global>>, q: Option<&ObjectState<Global>>) -> 
 }
 
 // The machine and the walk show the same value of the object.
-fn same_value(
-    walk: &Walk<'_, Global>,
-    machine: &Machine<Global>,
+fn same_value<A: Allocator + Copy>(
+    walk: &Walk<'_, A>,
+    machine: &Machine<A>,
     object: ObjId,
 ) -> Result<bool, AllocError> {
     let shown = machine.value(object)?;
@@ -89,19 +89,19 @@ fn same_value(
 }
 
 // Those of the operations with which this one conflicts, on an object of this kind.
-fn conflicting(
-    alloc: Global,
-    walk: &Walk<'_, Global>,
+fn conflicting<A: Allocator + Copy>(
+    alloc: A,
+    walk: &Walk<'_, A>,
     others: &[OpNo],
     kind: &Kind,
     (object, op): (ObjId, &Op),
-) -> Result<Vec<OpNo>, AllocError> {
+) -> Result<Vec<OpNo, A>, AllocError> {
     let mut found = Vec::new(alloc);
     let mut number = 0u32;
     for held in walk.operations() {
         number = number.saturating_add(1);
         let is_other = others.contains(&OpNo(number)) && held.ob == object;
-        if is_other && ObjectState::<Global>::conflicts(kind, &held.op, op) {
+        if is_other && ObjectState::<A>::conflicts(kind, &held.op, op) {
             found.push(OpNo(number))?;
         }
     }
@@ -110,9 +110,9 @@ fn conflicting(
 
 // The walk finds the operations with which a transaction's operation on an object conflicts: those of its conflict set
 // that do.
-fn finds_conflict(
-    alloc: Global,
-    walk: &Walk<'_, Global>,
+fn finds_conflict<A: Allocator + Copy>(
+    alloc: A,
+    walk: &Walk<'_, A>,
     t: TxnId,
     others: &[OpNo],
     (object, op): (ObjId, &Op),
@@ -125,8 +125,8 @@ fn finds_conflict(
 }
 
 // The walk names the class with which a transaction started, and its parent, as the history has them.
-fn knows(walk: &Walk<'_, Global>, history: &[Kept<Global>], t: TxnId) -> bool {
-    let mut class: Option<&Class<Global>> = None;
+fn knows<A: Allocator + Copy>(walk: &Walk<'_, A>, history: &[Kept<A>], t: TxnId) -> bool {
+    let mut class: Option<&Class<A>> = None;
     if let Some(named) = class_in(history, t) {
         class = walk.model().class(named);
     }
@@ -138,9 +138,9 @@ fn knows(walk: &Walk<'_, Global>, history: &[Kept<Global>], t: TxnId) -> bool {
 }
 
 // The machine and the walk show the same access set.
-fn same_access(
-    walk: &Walk<'_, Global>,
-    machine: &Machine<Global>,
+fn same_access<A: Allocator + Copy>(
+    walk: &Walk<'_, A>,
+    machine: &Machine<A>,
     t: TxnId,
 ) -> Result<bool, AllocError> {
     let access = walk.access_set(t)?;
@@ -149,9 +149,9 @@ fn same_access(
 }
 
 // The walk finds conflicts among the operations of a transaction's conflict set.
-fn finds_conflicts(
-    alloc: Global,
-    walk: &Walk<'_, Global>,
+fn finds_conflicts<A: Allocator + Copy>(
+    alloc: A,
+    walk: &Walk<'_, A>,
     t: TxnId,
     others: &[OpNo],
 ) -> Result<bool, AllocError> {
@@ -165,10 +165,10 @@ fn finds_conflicts(
 }
 
 // The machine and the walk show the same conflict set, and the walk finds conflicts in it.
-fn same_conflicts(
-    alloc: Global,
-    walk: &Walk<'_, Global>,
-    machine: &Machine<Global>,
+fn same_conflicts<A: Allocator + Copy>(
+    alloc: A,
+    walk: &Walk<'_, A>,
+    machine: &Machine<A>,
     t: TxnId,
 ) -> Result<bool, AllocError> {
     let others = walk.conflict_set(t)?;
@@ -180,10 +180,10 @@ fn same_conflicts(
 }
 
 // The machine and the walk show the same values, and the same of each transaction.
-fn same_as_machine(
-    alloc: Global,
-    walk: &Walk<'_, Global>,
-    machine: &Machine<Global>,
+fn same_as_machine<A: Allocator + Copy>(
+    alloc: A,
+    walk: &Walk<'_, A>,
+    machine: &Machine<A>,
 ) -> Result<bool, AllocError> {
     let mut same = walk.edges() == machine.edges();
     for number in 0..4 {
@@ -200,13 +200,16 @@ fn same_as_machine(
 }
 
 /// Whether a walk through the machine's history shows what the machine does.
-pub fn follows_machine(alloc: Global, machine: &Machine<Global>) -> Result<bool, AllocError> {
+pub fn follows_machine<A: Allocator + Copy>(
+    alloc: A,
+    machine: &Machine<A>,
+) -> Result<bool, AllocError> {
     let walk = walked(alloc, machine.model(), machine.history())?;
     same_as_machine(alloc, &walk, machine)
 }
 
 // The walk's operations stand as the places say at the end of the list.
-fn same_operations(walk: &Walk<'_, Global>, places: &Places<'_, Global>) -> bool {
+fn same_operations<A: Allocator + Copy>(walk: &Walk<'_, A>, places: &Places<'_, A>) -> bool {
     let end = walk.front().len() as u32;
     let mut same = true;
     let mut number = 0u32;
@@ -220,9 +223,9 @@ fn same_operations(walk: &Walk<'_, Global>, places: &Places<'_, Global>) -> bool
 }
 
 // The places and the walk say the same of a transaction: its course, and the operations that it holds in progress.
-fn same_course(
-    walk: &Walk<'_, Global>,
-    places: &Places<'_, Global>,
+fn same_course<A: Allocator + Copy>(
+    walk: &Walk<'_, A>,
+    places: &Places<'_, A>,
     t: TxnId,
 ) -> Result<bool, AllocError> {
     let end = walk.front().len() as u32;
@@ -238,7 +241,10 @@ fn same_course(
 }
 
 // The places and the walk say the same.
-fn same_places(walk: &Walk<'_, Global>, places: &Places<'_, Global>) -> Result<bool, AllocError> {
+fn same_places<A: Allocator + Copy>(
+    walk: &Walk<'_, A>,
+    places: &Places<'_, A>,
+) -> Result<bool, AllocError> {
     let mut same = walk.edges() == places.edges() && same_operations(walk, places);
     for number in 0..TXNS {
         same &= same_course(walk, places, asked_txn(number))?;
@@ -247,10 +253,10 @@ fn same_places(walk: &Walk<'_, Global>, places: &Places<'_, Global>) -> Result<b
 }
 
 /// Whether a walk through any list shows what the places of the list say.
-pub fn follows_places(
-    alloc: Global,
-    model: &Model<Global>,
-    kept: &[Kept<Global>],
+pub fn follows_places<A: Allocator + Copy>(
+    alloc: A,
+    model: &Model<A>,
+    kept: &[Kept<A>],
 ) -> Result<bool, AllocError> {
     let walk = walked(alloc, model, kept)?;
     let places = places_of(alloc, model, walk.front())?;

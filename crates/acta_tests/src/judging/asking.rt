@@ -6,7 +6,7 @@ use acta_axioms::{Course, Places, Walk};
 use acta_table::{
     Class, ClassId, Dep, Event, EventKind, Fate, Kept, Model, ObjId, Op, OpNo, Ret, TxnId,
 };
-use std::alloc::{AllocError, Global};
+use std::alloc::{AllocError, Allocator};
 
 // A place that no list has: all places of a list are asked of by it.
 const END: u32 = 100_000;
@@ -35,7 +35,7 @@ pub struct Said<'a> {
 }
 
 // Who is named by the event, the one in front and the other, each with what it does.
-fn named(event: &Event<Global>) -> ((TxnId, Part), Option<(TxnId, Part)>) {
+fn named<A: Allocator>(event: &Event<A>) -> ((TxnId, Part), Option<(TxnId, Part)>) {
     match event {
         Event::Begin(t, _) => ((*t, Part::Starts), None),
         Event::Spawn(t, u, _) | Event::Split(t, u, _, _) => {
@@ -51,7 +51,7 @@ fn named(event: &Event<Global>) -> ((TxnId, Part), Option<(TxnId, Part)>) {
 
 impl<'a> Said<'a> {
     /// What the item says.
-    pub fn of(item: &'a Kept<Global>) -> Said<'a> {
+    pub fn of<A: Allocator>(item: &'a Kept<A>) -> Said<'a> {
         let event = &item.event;
         let (first, second) = named(event);
         let (mut asked, mut edge, mut handed) = (None, None, None);
@@ -78,10 +78,10 @@ impl<'a> Said<'a> {
 
 /// A transaction: its first places, the class with which it started, and who spawned it, where that one had begun.
 #[derive(Clone, Copy)]
-pub struct Txn<'a> {
+pub struct Txn<'a, A: Allocator> {
     pub number: TxnId,
     pub course: Course,
-    pub class: Option<&'a Class<Global>>,
+    pub class: Option<&'a Class<A>>,
     pub parent: Option<TxnId>,
 }
 
@@ -96,15 +96,19 @@ pub struct Done {
 
 /// What stands before a place, and the return that is due there.
 #[derive(Drop)]
-pub struct Before<'a> {
-    pub model: &'a Model<Global>,
-    pub txns: Vec<Txn<'a>>,
-    pub done: Vec<Done>,
+pub struct Before<'a, A: Allocator> {
+    pub model: &'a Model<A>,
+    pub txns: Vec<Txn<'a, A>, A>,
+    pub done: Vec<Done, A>,
     pub due: Option<Ret>,
 }
 
 // Who spawned the one that starts at the place, where the item there says a spawn by one that had begun.
-fn parent_of(places: &Places<'_, Global>, said: &Said<'_>, place: u32) -> Option<TxnId> {
+fn parent_of<A: Allocator + Copy>(
+    places: &Places<'_, A>,
+    said: &Said<'_>,
+    place: u32,
+) -> Option<TxnId> {
     if said.kind != EventKind::Spawn {
         return None;
     }
@@ -115,12 +119,12 @@ fn parent_of(places: &Places<'_, Global>, said: &Said<'_>, place: u32) -> Option
 }
 
 // What the places say of the transaction, and what the item at its first start.
-fn txn_of<'a>(
-    places: &Places<'_, Global>,
-    model: &'a Model<Global>,
+fn txn_of<'a, A: Allocator + Copy>(
+    places: &Places<'_, A>,
+    model: &'a Model<A>,
     front: &[Said<'_>],
     number: TxnId,
-) -> Txn<'a> {
+) -> Txn<'a, A> {
     let course = course_of(places, number);
     let mut txn = Txn {
         number,
@@ -142,12 +146,12 @@ fn txn_of<'a>(
 }
 
 // All transactions that are named, as the places say.
-fn txns_of<'a>(
-    alloc: Global,
-    places: &Places<'_, Global>,
-    model: &'a Model<Global>,
+fn txns_of<'a, A: Allocator + Copy>(
+    alloc: A,
+    places: &Places<'_, A>,
+    model: &'a Model<A>,
     front: &[Said<'_>],
-) -> Result<Vec<Txn<'a>>, AllocError> {
+) -> Result<Vec<Txn<'a, A>, A>, AllocError> {
     let mut txns = Vec::new(alloc);
     for said in front {
         txns.push(txn_of(places, model, front, said.first.0))?;
@@ -159,11 +163,11 @@ fn txns_of<'a>(
 }
 
 // All operations, in order, as the places say.
-fn done_of(
-    alloc: Global,
-    places: &Places<'_, Global>,
+fn done_of<A: Allocator + Copy>(
+    alloc: A,
+    places: &Places<'_, A>,
     front: &[Said<'_>],
-) -> Result<Vec<Done>, AllocError> {
+) -> Result<Vec<Done, A>, AllocError> {
     let mut done = Vec::new(alloc);
     let mut number = OpNo(0);
     for said in front {
@@ -181,15 +185,15 @@ fn done_of(
     Ok(done)
 }
 
-impl<'a> Before<'a> {
+impl<'a, A: Allocator + Copy> Before<'a, A> {
     /// What stands before the place that the walk has reached, where the items in front say this, and the one there
     /// asks for an operation, or for none.
     pub fn of(
-        alloc: Global,
-        walk: &Walk<'a, Global>,
+        alloc: A,
+        walk: &Walk<'a, A>,
         front: &[Said<'_>],
         asked: Option<(ObjId, Op)>,
-    ) -> Result<Before<'a>, AllocError> {
+    ) -> Result<Before<'a, A>, AllocError> {
         let model = walk.model();
         let places = Places::of(alloc, model, walk.front())?;
         let due = match asked {
@@ -205,7 +209,7 @@ impl<'a> Before<'a> {
     }
 
     /// The transaction, of which nothing is known where none is named so.
-    pub fn txn(&self, number: TxnId) -> Txn<'a> {
+    pub fn txn(&self, number: TxnId) -> Txn<'a, A> {
         for txn in &self.txns {
             if txn.number == number {
                 return *txn;

@@ -5,7 +5,7 @@ use crate::judging::reading::Judged;
 use crate::judging::verdicts::lines_of_all;
 use crate::models::{DELEGATING, Models, PARTING, UNTIED};
 use acta_models::Standard;
-use std::alloc::Global;
+use std::alloc::Allocator;
 use std::process::Abort;
 use std::test::Fail;
 
@@ -526,10 +526,10 @@ fn alone_in(due: &str) -> Option<u8> {
 }
 
 // The verdict on the list is the one that is due. Gives the axiom that is broken, where only one is, and once.
-fn expect(
+fn expect<A: Allocator + Copy>(
     rt: &impl Abort,
-    alloc: Global,
-    models: &Models<Global>,
+    alloc: A,
+    models: &Models<A>,
     list: &str,
 ) -> Result<Option<u8>, Fail> {
     let (title, lines) = list.split_once('\n').unwrap_or((list, ""));
@@ -544,12 +544,12 @@ fn expect(
 }
 
 // The same of each list of a model, with each axiom that is broken alone.
-fn play(
+fn play<A: Allocator + Copy>(
     rt: &impl Abort,
-    alloc: Global,
+    alloc: A,
     model: &str,
     lists: &str,
-    alone: &mut Vec<u8>,
+    alone: &mut Vec<u8, A>,
 ) -> Result<(), Fail> {
     let models = Models::of(alloc, model)?;
     for list in lists.split("# ") {

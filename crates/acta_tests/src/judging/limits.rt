@@ -6,12 +6,16 @@ use acta_judge::{JudgeError, Verdict, judge};
 use acta_lang::assemble;
 use acta_models::Standard;
 use acta_table::{Dep, Event, Kept, TxnId};
-use std::alloc::{AllocError, Global};
+use std::alloc::{AllocError, Allocator};
 use std::process::Abort;
 use std::test::Fail;
 
 // So many times the same event, that of the transaction 1.
-fn repeated(alloc: Global, times: u32, is_commit: bool) -> Result<Vec<Kept<Global>>, AllocError> {
+fn repeated<A: Allocator + Copy>(
+    alloc: A,
+    times: u32,
+    is_commit: bool,
+) -> Result<Vec<Kept<A>, A>, AllocError> {
     let mut items = Vec::new(alloc);
     for _ in 0..times {
         let event = if is_commit {
@@ -25,11 +29,11 @@ fn repeated(alloc: Global, times: u32, is_commit: bool) -> Result<Vec<Kept<Globa
 }
 
 // What the judge says of so many commits, or of so many times one edge.
-fn judged(
-    alloc: Global,
+fn judged<A: Allocator + Copy>(
+    alloc: A,
     times: u32,
     is_commit: bool,
-) -> Result<Result<Verdict<Global>, JudgeError>, Fail> {
+) -> Result<Result<Verdict<A>, JudgeError>, Fail> {
     let name = if is_commit {
         Standard::Atomic
     } else {

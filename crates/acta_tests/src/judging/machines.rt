@@ -9,12 +9,12 @@ use acta_judge::Verdict;
 use acta_machine::Machine;
 use acta_script::read_event;
 use acta_table::Items;
-use std::alloc::{AllocError, Global};
+use std::alloc::{AllocError, Allocator};
 use std::process::Abort;
 use std::test::Fail;
 
 // The lines of a verdict with no fault, by which is owed what the machine does.
-fn due(alloc: Global, machine: &Machine<Global>) -> Result<Vec<u8>, AllocError> {
+fn due<A: Allocator + Copy>(alloc: A, machine: &Machine<A>) -> Result<Vec<u8, A>, AllocError> {
     let owed = Items::of(machine.owed()?);
     told(
         alloc,
@@ -26,11 +26,11 @@ fn due(alloc: Global, machine: &Machine<Global>) -> Result<Vec<u8>, AllocError> 
 }
 
 // The machine takes the event of the line; its history has no fault, and owes what the machine does.
-fn step(
+fn step<A: Allocator + Copy>(
     rt: &impl Abort,
-    alloc: Global,
-    models: &Models<Global>,
-    machine: &mut Machine<Global>,
+    alloc: A,
+    models: &Models<A>,
+    machine: &mut Machine<A>,
     line: &str,
 ) -> Result<(), Fail> {
     let (said, _) = parted(line, " : ")?;
@@ -43,7 +43,12 @@ fn step(
 
 // Plays the histories of the model that the text means: a line begins one, asks what the machine shows, or has an event
 // and its answer.
-fn play(rt: &impl Abort, alloc: Global, model: &str, histories: &str) -> Result<(), Fail> {
+fn play<A: Allocator + Copy>(
+    rt: &impl Abort,
+    alloc: A,
+    model: &str,
+    histories: &str,
+) -> Result<(), Fail> {
     let models = Models::of(alloc, model)?;
     let mut machine = new_machine(alloc, &models.model)?;
     for line in histories.lines() {

@@ -5,12 +5,12 @@ use crate::lists::by_model;
 use crate::models::Models;
 use acta_script::read_event;
 use acta_table::{EventKind, Kept, Ret};
-use std::alloc::Global;
+use std::alloc::Allocator;
 use std::process::Abort;
 use std::test::Fail;
 
 // The event as it is kept. Each operation returns the same, so that some returns are not those due.
-fn kept(alloc: Global, models: &Models<Global>, line: &str) -> Result<Kept<Global>, Fail> {
+fn kept<A: Allocator + Copy>(alloc: A, models: &Models<A>, line: &str) -> Result<Kept<A>, Fail> {
     let event = read_event(alloc, &models.wider, line.as_bytes())?;
     let ret = if event.kind() == EventKind::Operate {
         Some(Ret::Done)
@@ -22,7 +22,12 @@ fn kept(alloc: Global, models: &Models<Global>, line: &str) -> Result<Kept<Globa
 
 // Goes through the lists of the model that the text means: a line begins one, asks something of it, or puts an event
 // behind it, with which it is judged.
-fn play(rt: &impl Abort, alloc: Global, model: &str, lists: &str) -> Result<(), Fail> {
+fn play<A: Allocator + Copy>(
+    rt: &impl Abort,
+    alloc: A,
+    model: &str,
+    lists: &str,
+) -> Result<(), Fail> {
     let models = Models::of(alloc, model)?;
     let mut items = Vec::new(alloc);
     for line in lists.lines() {

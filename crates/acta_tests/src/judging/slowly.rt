@@ -7,7 +7,7 @@ use crate::judging::telling::Faults;
 use acta_axioms::{Axiom, Course, Places, Walk};
 use acta_judge::Verdict;
 use acta_table::{Dep, Edge, EdgeNo, Items, Kept, MOST_EVENTS, Missing, Model, Owed};
-use std::alloc::{AllocError, Global};
+use std::alloc::{AllocError, Allocator};
 use std::collections::BTreeSet;
 
 // Where a formula of the kind that is false and not owed became so.
@@ -23,7 +23,10 @@ fn place_of(kind: Dep, j: Course, i: Course) -> Option<u32> {
 }
 
 // Where the formula of the edge is false and not owed, and what is owed by it.
-fn settled(places: &Places<'_, Global>, edge: &Edge) -> (Option<u32>, Option<Missing>) {
+fn settled<A: Allocator + Copy>(
+    places: &Places<'_, A>,
+    edge: &Edge,
+) -> (Option<u32>, Option<Missing>) {
     let (j, i) = (course_of(places, edge.j), course_of(places, edge.i));
     if !is_false(edge.kind, j, i) {
         return (None, None);
@@ -35,11 +38,11 @@ fn settled(places: &Places<'_, Global>, edge: &Edge) -> (Option<u32>, Option<Mis
 }
 
 // Tells the faults by edges, and gives what is owed, by edge number.
-fn tell_edges(
-    alloc: Global,
-    places: &Places<'_, Global>,
-    faults: &mut Faults,
-) -> Result<Vec<Owed>, AllocError> {
+fn tell_edges<A: Allocator + Copy>(
+    alloc: A,
+    places: &Places<'_, A>,
+    faults: &mut Faults<A>,
+) -> Result<Vec<Owed, A>, AllocError> {
     let mut owed = Vec::new(alloc);
     let mut number = 0u64;
     for edge in places.edges() {
@@ -61,7 +64,10 @@ fn tell_edges(
 }
 
 // Who owes both a commit and an abort.
-fn tell_clashes(owed: &[Owed], faults: &mut Faults) -> Result<(), AllocError> {
+fn tell_clashes<A: Allocator + Copy>(
+    owed: &[Owed],
+    faults: &mut Faults<A>,
+) -> Result<(), AllocError> {
     for one in owed {
         for other in owed {
             let is_clash = one.txn == other.txn
@@ -74,27 +80,27 @@ fn tell_clashes(owed: &[Owed], faults: &mut Faults) -> Result<(), AllocError> {
 }
 
 // The faults at the next place, which the walk has reached, and whose item says this.
-fn tell_place(
-    alloc: Global,
-    walk: &Walk<'_, Global>,
+fn tell_place<A: Allocator + Copy>(
+    alloc: A,
+    walk: &Walk<'_, A>,
     front: &[Said<'_>],
     said: Said<'_>,
-    faults: &mut Faults,
+    faults: &mut Faults<A>,
 ) -> Result<(), AllocError> {
     faults.place = faults.place.saturating_add(1);
     Before::of(alloc, walk, front, said.asked)?.tell_all(said, faults)
 }
 
 // Goes one item further.
-fn step(walk: &mut Walk<'_, Global>) -> Result<(), AllocError> {
+fn step<A: Allocator + Copy>(walk: &mut Walk<'_, A>) -> Result<(), AllocError> {
     walk.step()
 }
 
 // The faults at all places, place by place. The walk then stands at the end.
-fn tell_places(
-    alloc: Global,
-    walk: &mut Walk<'_, Global>,
-    faults: &mut Faults,
+fn tell_places<A: Allocator + Copy>(
+    alloc: A,
+    walk: &mut Walk<'_, A>,
+    faults: &mut Faults<A>,
 ) -> Result<(), AllocError> {
     let mut front = Vec::new(alloc);
     for _ in 0..MOST_EVENTS {
@@ -110,11 +116,11 @@ fn tell_places(
 }
 
 /// The verdict on the list, slowly.
-pub fn judged_slowly(
-    alloc: Global,
-    model: &Model<Global>,
-    kept: &[Kept<Global>],
-) -> Result<Verdict<Global>, AllocError> {
+pub fn judged_slowly<A: Allocator + Copy>(
+    alloc: A,
+    model: &Model<A>,
+    kept: &[Kept<A>],
+) -> Result<Verdict<A>, AllocError> {
     if kept.len() > MOST_EVENTS {
         return Err(AllocError);
     }

@@ -6,18 +6,18 @@ use acta_objects::ObjectState;
 use acta_table::{
     AtCommit, Dep, EventKind, Extent, Fate, Kind, LAST_TXN, ObjId, Op, OpNo, Policy, Scope, TxnId,
 };
-use std::alloc::{AllocError, Global};
+use std::alloc::{AllocError, Allocator};
 use std::collections::BTreeSet;
 
 /// Faults in their order, each once.
 #[derive(Drop)]
-pub struct Faults {
-    pub found: BTreeSet<Fault, Global>,
+pub struct Faults<A: Allocator> {
+    pub found: BTreeSet<Fault, A>,
     /// The place at which they are told.
     pub place: u32,
 }
 
-impl Faults {
+impl<A: Allocator + Copy> Faults<A> {
     /// The fault of this axiom at the place, where it is broken.
     pub fn tell(&mut self, broken: Axiom, is_broken: bool, by: u64) -> Result<(), AllocError> {
         if is_broken {
@@ -28,7 +28,7 @@ impl Faults {
     }
 
     // Who starts, operates, ends or takes part where it cannot.
-    fn tell_part(&mut self, txn: Txn<'_>, part: Part) -> Result<(), AllocError> {
+    fn tell_part(&mut self, txn: Txn<'_, A>, part: Part) -> Result<(), AllocError> {
         let (course, by) = (txn.course, u64::from(txn.number.0));
         let is_idle = !course.is_in_progress();
         match part {
@@ -48,7 +48,7 @@ fn is_bad(t: TxnId) -> bool {
     t.0 == 0 || t.0 > LAST_TXN
 }
 
-impl<'a> Before<'a> {
+impl<'a, A: Allocator + Copy> Before<'a, A> {
     // The kind of the object, where the operation is of it.
     fn kind_for(&self, object: ObjId, op: Op) -> Option<Kind> {
         let kind = self.model.object(object)?.kind;
@@ -141,7 +141,7 @@ impl<'a> Before<'a> {
     }
 
     // Whether another holds the operation in progress, who is not spared by the transaction's class.
-    fn is_of_others(&self, txn: Txn<'_>, scope: Scope, done: Done) -> bool {
+    fn is_of_others(&self, txn: Txn<'_, A>, scope: Scope, done: Done) -> bool {
         let Some(u) = done.holder else {
             return false;
         };
@@ -151,7 +151,7 @@ impl<'a> Before<'a> {
     }
 
     // The operations that one conflicts with whose class refuses it.
-    fn tell_conflicts(&self, said: Said<'_>, faults: &mut Faults) -> Result<(), AllocError> {
+    fn tell_conflicts(&self, said: Said<'_>, faults: &mut Faults<A>) -> Result<(), AllocError> {
         let txn = self.txn(said.first.0);
         let (Some((object, op)), Some(class)) = (said.asked, txn.class) else {
             return Ok(());
@@ -164,7 +164,7 @@ impl<'a> Before<'a> {
             number = number.wrapping_add(1);
             if done.object == object && self.kind_for(object, done.op).is_some() {
                 let is_broken = matches!(class.policy, Policy::Refuse)
-                    && ObjectState::<Global>::conflicts(&kind, &done.op, &op)
+                    && ObjectState::<A>::conflicts(&kind, &done.op, &op)
                     && self.is_of_others(txn, class.scope, *done);
                 faults.tell(Axiom::Conflict, is_broken, number)?;
             }
@@ -175,9 +175,9 @@ impl<'a> Before<'a> {
     // What is handed over and not held, and what one keeps back that has to hand over all.
     fn tell_handed(
         &self,
-        txn: Txn<'_>,
+        txn: Txn<'_, A>,
         handed: &[OpNo],
-        faults: &mut Faults,
+        faults: &mut Faults<A>,
     ) -> Result<(), AllocError> {
         let is_whole = match txn.class {
             Some(class) => class.extent == Extent::Whole,
@@ -204,7 +204,7 @@ impl<'a> Before<'a> {
     }
 
     // A commit to a parent that is not there, or not in progress.
-    fn tell_heir(&self, txn: Txn<'_>, faults: &mut Faults) -> Result<(), AllocError> {
+    fn tell_heir(&self, txn: Txn<'_, A>, faults: &mut Faults<A>) -> Result<(), AllocError> {
         let is_handed = match txn.class {
             Some(class) => class.at_commit == AtCommit::ToParent,
             None => false,
@@ -224,7 +224,7 @@ impl<'a> Before<'a> {
         kind: Dep,
         j: TxnId,
         i: TxnId,
-        faults: &mut Faults,
+        faults: &mut Faults<A>,
     ) -> Result<(), AllocError> {
         if kind.is_begin_kind() {
             let has_begun = self.txn(j).course.has_begun();
@@ -241,7 +241,7 @@ impl<'a> Before<'a> {
     }
 
     // A return that is not the one due.
-    fn tell_return(&self, said: Said<'_>, faults: &mut Faults) -> Result<(), AllocError> {
+    fn tell_return(&self, said: Said<'_>, faults: &mut Faults<A>) -> Result<(), AllocError> {
         let Some((object, op)) = said.asked else {
             return faults.tell(Axiom::Return, said.ret.is_some(), 0);
         };
@@ -251,7 +251,7 @@ impl<'a> Before<'a> {
     }
 
     /// All faults at the place.
-    pub fn tell_all(&self, said: Said<'_>, faults: &mut Faults) -> Result<(), AllocError> {
+    pub fn tell_all(&self, said: Said<'_>, faults: &mut Faults<A>) -> Result<(), AllocError> {
         let (t, part) = said.first;
         let (txn, by) = (self.txn(t), u64::from(t.0));
         faults.tell_part(txn, part)?;

@@ -6,7 +6,7 @@ use acta_judge::{Verdict, judge};
 use acta_script::{fault_line, owed_line};
 use acta_table::{Kept, Model};
 use acta_words::push_line;
-use std::alloc::{AllocError, Allocator, Global};
+use std::alloc::{AllocError, Allocator};
 use std::process::Abort;
 use std::test::Fail;
 
@@ -24,13 +24,13 @@ pub fn told<A: Allocator + Copy>(alloc: A, verdict: &Verdict<A>) -> Result<Vec<u
 }
 
 /// The lines of the verdict on the items. They are those of a slow judge.
-pub fn lines_on(
+pub fn lines_on<A: Allocator + Copy>(
     rt: &impl Abort,
-    alloc: Global,
-    model: &Model<Global>,
-    items: &[Kept<Global>],
+    alloc: A,
+    model: &Model<A>,
+    items: &[Kept<A>],
     at: &str,
-) -> Result<Vec<u8>, Fail> {
+) -> Result<Vec<u8, A>, Fail> {
     let lines = told(alloc, &judge(alloc, model, items)?)?;
     let slowly = told(alloc, &judged_slowly(alloc, model, items)?)?;
     same(rt, &lines.as_slice(), &slowly.as_slice(), at);
@@ -39,13 +39,13 @@ pub fn lines_on(
 
 /// Judges the items, and then without the first, without the first two, and so on, which leaves few histories legal.
 /// Gives the lines of the verdict on all.
-pub fn lines_of_all(
+pub fn lines_of_all<A: Allocator + Copy>(
     rt: &impl Abort,
-    alloc: Global,
-    model: &Model<Global>,
-    items: &[Kept<Global>],
+    alloc: A,
+    model: &Model<A>,
+    items: &[Kept<A>],
     at: &str,
-) -> Result<Vec<u8>, Fail> {
+) -> Result<Vec<u8, A>, Fail> {
     for n in 1..items.len() {
         lines_on(rt, alloc, model, &items[n..], at)?;
     }
