@@ -1,7 +1,7 @@
 //! Gates of the tests: one at which two workers meet, and one that is false at one place.
 
 use acta_locked::{Entry, Gate};
-use std::alloc::Global;
+use std::alloc::Allocator;
 use std::sync::atomic::{AtomicU64, Ordering};
 use std::sync::{Mutex, Wait};
 use std::thread;
@@ -32,17 +32,17 @@ pub enum Place {
 
 /// A gate at which seats 1 and 2 meet, and which keeps the entries that it is shown.
 #[derive(Drop)]
-pub struct Meeting<'a, R: Wait> {
+pub struct Meeting<'a, R: Wait, A: Allocator> {
     rt: &'a R,
     place: Place,
     first: AtomicU64,
     second: AtomicU64,
-    shown: Mutex<Vec<Entry<Global>>>,
+    shown: Mutex<Vec<Entry<A>, A>>,
 }
 
-impl<'a, R: Wait> Meeting<'a, R> {
+impl<'a, R: Wait, A: Allocator + Copy> Meeting<'a, R, A> {
     /// A gate at which nobody has come yet.
-    pub fn new(rt: &'a R, alloc: Global, place: Place) -> Meeting<'a, R> {
+    pub fn new(rt: &'a R, alloc: A, place: Place) -> Meeting<'a, R, A> {
         Meeting {
             rt,
             place,
@@ -62,7 +62,7 @@ impl<'a, R: Wait> Meeting<'a, R> {
     }
 
     /// Whether the gate was shown these entries, each once, and no others.
-    pub fn has_shown(&self, entries: &[Entry<Global>]) -> bool {
+    pub fn has_shown(&self, entries: &[Entry<A>]) -> bool {
         let shown = self.shown.lock(self.rt);
         for entry in entries {
             let mut times = 0u64;
@@ -79,12 +79,12 @@ impl<'a, R: Wait> Meeting<'a, R> {
     }
 }
 
-impl<'a, R: Wait> Gate<Entry<Global>> for Meeting<'a, R> {
+impl<'a, R: Wait, A: Allocator + Copy> Gate<Entry<A>> for Meeting<'a, R, A> {
     fn before(&self, seat: u8, call: usize) -> bool {
         self.place != Place::BeforeSecond || call != 2 || self.meets(seat)
     }
 
-    fn after(&self, seat: u8, call: usize, entry: &Entry<Global>) -> bool {
+    fn after(&self, seat: u8, call: usize, entry: &Entry<A>) -> bool {
         let Ok(kept) = entry.copy() else {
             return false;
         };

@@ -8,7 +8,7 @@ use crate::machines::number_in;
 use acta_locked::{Driven, Entry, Script};
 use acta_models::Standard;
 use acta_table::ObjId;
-use std::alloc::Global;
+use std::alloc::Allocator;
 use std::process::Abort;
 use std::sync::Wait;
 use std::test::Fail;
@@ -22,12 +22,12 @@ const N: ObjId = ObjId(1);
 const M: ObjId = ObjId(2);
 
 // Drives two scripts, whose workers meet. Says whether the gate was shown what the book has.
-fn shown_at<R: Threads + Wait + Sync>(
+fn shown_at<A: Allocator + Copy + Send + Sync, R: Threads + Wait + Sync>(
     rt: &R,
-    alloc: Global,
+    alloc: A,
     place: Place,
-    scripts: &[Script<Global>],
-) -> Result<(Driven<Global>, bool), Fail> {
+    scripts: &[Script<A>],
+) -> Result<(Driven<A>, bool), Fail> {
     let gate = Meeting::new(rt, alloc, place);
     let driven = driven(rt, alloc, Standard::Atomic, scripts, &gate)?;
     let is_shown = gate.has_shown(driven.book.entries());
@@ -36,13 +36,13 @@ fn shown_at<R: Threads + Wait + Sync>(
 
 // Drives two scripts, whose workers meet. The gate was shown what the book has, each report is its seat's part, and the
 // answers are these lines.
-fn meet_at<R: Threads + Wait + Sync + Abort>(
+fn meet_at<A: Allocator + Copy + Send + Sync, R: Threads + Wait + Sync + Abort>(
     rt: &R,
-    alloc: Global,
+    alloc: A,
     place: Place,
-    scripts: &[Script<Global>],
+    scripts: &[Script<A>],
     lines: &str,
-) -> Result<Driven<Global>, Fail> {
+) -> Result<Driven<A>, Fail> {
     let (driven, is_shown) = shown_at(rt, alloc, place, scripts)?;
     let entries = driven.book.entries();
     let has_parts = are_parts(entries, scripts, driven.reports.as_slice());
@@ -52,7 +52,10 @@ fn meet_at<R: Threads + Wait + Sync + Abort>(
 }
 
 // Seat 1 adds to n and seat 2 to m. The book has their begins before their operations, and all are admitted.
-fn add_both<R: Threads + Wait + Sync + Abort>(rt: &R, alloc: Global) -> Result<(), Fail> {
+fn add_both<A: Allocator + Copy + Send + Sync, R: Threads + Wait + Sync + Abort>(
+    rt: &R,
+    alloc: A,
+) -> Result<(), Fail> {
     let scripts = scripts(alloc, &ADDITIONS)?;
     let lines = "ok 1\nok 2\nok 3 done\nok 4 done\n";
     let driven = meet_at(rt, alloc, Place::BeforeSecond, scripts.as_slice(), lines)?;
@@ -63,7 +66,7 @@ fn add_both<R: Threads + Wait + Sync + Abort>(rt: &R, alloc: Global) -> Result<(
 }
 
 // The seat of the first of two writes, where the other is of the other seat.
-fn first_writer(entries: &[Entry<Global>]) -> Option<u8> {
+fn first_writer<A: Allocator>(entries: &[Entry<A>]) -> Option<u8> {
     if entries.len() != 4 {
         return None;
     }
@@ -75,7 +78,10 @@ fn first_writer(entries: &[Entry<Global>]) -> Option<u8> {
 }
 
 // Both write to x: the first of the writes is admitted, the second is refused by it, and x has the value of the first.
-fn write_both<R: Threads + Wait + Sync + Abort>(rt: &R, alloc: Global) -> Result<(), Fail> {
+fn write_both<A: Allocator + Copy + Send + Sync, R: Threads + Wait + Sync + Abort>(
+    rt: &R,
+    alloc: A,
+) -> Result<(), Fail> {
     let scripts = scripts(
         alloc,
         &[
