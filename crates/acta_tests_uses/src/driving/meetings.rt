@@ -77,18 +77,18 @@ fn first_writer<A: Allocator>(entries: &[Entry<A>]) -> Option<u8> {
     }
 }
 
+// Two scripts that write to x.
+const WRITES: [&str; 2] = [
+    "begin 1 flat\ndo 1 x write 5",
+    "begin 2 flat\ndo 2 x write 6",
+];
+
 // Both write to x: the first of the writes is admitted, the second is refused by it, and x has the value of the first.
 fn write_both<A: Allocator + Copy + Send + Sync, R: Threads + Wait + Sync + Abort>(
     rt: &R,
     alloc: A,
 ) -> Result<(), Fail> {
-    let scripts = scripts(
-        alloc,
-        &[
-            "begin 1 flat\ndo 1 x write 5",
-            "begin 2 flat\ndo 2 x write 6",
-        ],
-    )?;
+    let scripts = scripts(alloc, &WRITES)?;
     let lines = "ok 1\nok 2\nok 3 done\nno 14 by 1\n";
     let driven = meet_at(rt, alloc, Place::AfterFirst, scripts.as_slice(), lines)?;
     let first = first_writer(driven.book.entries()).ok_or("the writes are not of both seats")?;
