@@ -83,6 +83,21 @@ fn grow_line<A: Allocator + Copy, B: Allocator>(
 }
 
 // Takes the events of the lines on a new machine.
+fn grow_on<A: Allocator + Copy, B: Allocator>(
+    rt: &impl Abort,
+    heap: &Refusing<B>,
+    alloc: A,
+    model: &Model<A>,
+    text: &str,
+) -> Result<(), Fail> {
+    let mut machine = new_machine(alloc, model)?;
+    for line in text.lines() {
+        grow_line(rt, heap, alloc, &mut machine, line)?;
+    }
+    Ok(())
+}
+
+// The same of the model that the text means.
 fn grow_each<A: Allocator + Copy, B: Allocator>(
     rt: &impl Abort,
     heap: &Refusing<B>,
@@ -91,11 +106,7 @@ fn grow_each<A: Allocator + Copy, B: Allocator>(
     text: &str,
 ) -> Result<(), Fail> {
     let model = assemble(alloc, model.as_bytes())?;
-    let mut machine = new_machine(alloc, &model)?;
-    for line in text.lines() {
-        grow_line(rt, heap, alloc, &mut machine, line)?;
-    }
-    Ok(())
+    grow_on(rt, heap, alloc, &model, text)
 }
 
 // Of the history, of the edges, and of the set of those who would owe an abort.

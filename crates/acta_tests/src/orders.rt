@@ -146,7 +146,20 @@ fn has_one_edge(edges: &[Edge], kind: Dep) -> bool {
     edges == [Edge { kind, j, i }].as_slice()
 }
 
-// The same of a new machine with one edge of this kind, of the second transaction on the first.
+// An edge of this kind is formed, of the second transaction on the first.
+fn form<A: Allocator + Copy>(
+    rt: &impl Abort,
+    machine: &mut Machine<A>,
+    kind: Dep,
+    order: &str,
+) -> Result<(), AllocError> {
+    let (place, ret) = (1, None);
+    let formed = take(machine, &Event::Form(kind, TWO, ONE))?;
+    holds(rt, formed == Answer::Admitted { place, ret }, order);
+    Ok(())
+}
+
+// The same as `along_on`, of a new machine with one edge of this kind, of the second transaction on the first.
 fn along<A: Allocator + Copy>(
     rt: &impl Abort,
     alloc: A,
@@ -155,9 +168,7 @@ fn along<A: Allocator + Copy>(
     order: &str,
 ) -> Result<(bool, bool), Fail> {
     let mut machine = new_machine(alloc, model)?;
-    let (place, ret) = (1, None);
-    let formed = take(&mut machine, &Event::Form(kind, TWO, ONE))?;
-    holds(rt, formed == Answer::Admitted { place, ret }, order);
+    form(rt, &mut machine, kind, order)?;
     let said = along_on(rt, alloc, model, &mut machine, kind, order)?;
     holds(rt, has_one_edge(machine.edges(), kind), order);
     Ok(said)

@@ -185,7 +185,34 @@ fn done_of<A: Allocator + Copy>(
     Ok(done)
 }
 
+// The return that is due where the walk stands, if an operation is asked for.
+fn due_of<A: Allocator + Copy>(
+    walk: &Walk<'_, A>,
+    asked: Option<(ObjId, Op)>,
+) -> Result<Option<Ret>, AllocError> {
+    match asked {
+        Some((object, op)) => walk.return_due(object, &op),
+        None => Ok(None),
+    }
+}
+
 impl<'a, A: Allocator + Copy> Before<'a, A> {
+    // What the places show, where the items say this.
+    fn shown(
+        alloc: A,
+        places: &Places<'_, A>,
+        model: &'a Model<A>,
+        front: &[Said<'_>],
+        due: Option<Ret>,
+    ) -> Result<Before<'a, A>, AllocError> {
+        Ok(Before {
+            model,
+            txns: txns_of(alloc, places, model, front)?,
+            done: done_of(alloc, places, front)?,
+            due,
+        })
+    }
+
     /// What stands before the place that the walk has reached, where the items in front say this, and the one there
     /// asks for an operation, or for none.
     pub fn of(
@@ -195,17 +222,9 @@ impl<'a, A: Allocator + Copy> Before<'a, A> {
         asked: Option<(ObjId, Op)>,
     ) -> Result<Before<'a, A>, AllocError> {
         let model = walk.model();
+        let due = due_of(walk, asked)?;
         let places = Places::of(alloc, model, walk.front())?;
-        let due = match asked {
-            Some((object, op)) => walk.return_due(object, &op)?,
-            None => None,
-        };
-        Ok(Before {
-            model,
-            txns: txns_of(alloc, &places, model, front)?,
-            done: done_of(alloc, &places, front)?,
-            due,
-        })
+        Before::shown(alloc, &places, model, front, due)
     }
 
     /// The transaction, of which nothing is known where none is named so.

@@ -41,8 +41,37 @@ fn step<A: Allocator + Copy>(
     Ok(())
 }
 
-// Plays the histories of the model that the text means: a line begins one, asks what the machine shows, or has an event
-// and its answer.
+// Does what a line says: it begins a history, asks what the machine shows, or has an event and its answer.
+fn follow<A: Allocator + Copy>(
+    rt: &impl Abort,
+    alloc: A,
+    models: &Models<A>,
+    machine: &mut Machine<A>,
+    line: &str,
+) -> Result<(), Fail> {
+    if line.starts_with("# ") {
+        *machine = new_machine(alloc, &models.model)?;
+    } else if !line.starts_with("? ") {
+        step(rt, alloc, models, machine, line)?;
+    }
+    Ok(())
+}
+
+// Plays the histories on these models.
+fn play_on<A: Allocator + Copy>(
+    rt: &impl Abort,
+    alloc: A,
+    models: &Models<A>,
+    histories: &str,
+) -> Result<(), Fail> {
+    let mut machine = new_machine(alloc, &models.model)?;
+    for line in histories.lines() {
+        follow(rt, alloc, models, &mut machine, line)?;
+    }
+    Ok(())
+}
+
+// Plays the histories of the model that the text means.
 fn play<A: Allocator + Copy>(
     rt: &impl Abort,
     alloc: A,
@@ -50,15 +79,7 @@ fn play<A: Allocator + Copy>(
     histories: &str,
 ) -> Result<(), Fail> {
     let models = Models::of(alloc, model)?;
-    let mut machine = new_machine(alloc, &models.model)?;
-    for line in histories.lines() {
-        if line.starts_with("# ") {
-            machine = new_machine(alloc, &models.model)?;
-        } else if !line.starts_with("? ") {
-            step(rt, alloc, &models, &mut machine, line)?;
-        }
-    }
-    Ok(())
+    play_on(rt, alloc, &models, histories)
 }
 
 #[test]

@@ -20,8 +20,38 @@ fn kept<A: Allocator + Copy>(alloc: A, models: &Models<A>, line: &str) -> Result
     Ok(Kept { event, ret })
 }
 
-// Goes through the lists of the model that the text means: a line begins one, asks something of it, or puts an event
-// behind it, with which it is judged.
+// Does what a line says: it begins a list, asks something of it, or puts an event behind it, with which it is judged.
+fn follow<A: Allocator + Copy>(
+    rt: &impl Abort,
+    alloc: A,
+    models: &Models<A>,
+    items: &mut Vec<Kept<A>, A>,
+    line: &str,
+) -> Result<(), Fail> {
+    if line.starts_with("# ") {
+        items.clear();
+    } else if !line.starts_with("? ") {
+        items.push(kept(alloc, models, line)?)?;
+        lines_on(rt, alloc, &models.model, items.as_slice(), line)?;
+    }
+    Ok(())
+}
+
+// Goes through the lists on these models.
+fn play_on<A: Allocator + Copy>(
+    rt: &impl Abort,
+    alloc: A,
+    models: &Models<A>,
+    lists: &str,
+) -> Result<(), Fail> {
+    let mut items = Vec::new(alloc);
+    for line in lists.lines() {
+        follow(rt, alloc, models, &mut items, line)?;
+    }
+    Ok(())
+}
+
+// Goes through the lists of the model that the text means.
 fn play<A: Allocator + Copy>(
     rt: &impl Abort,
     alloc: A,
@@ -29,16 +59,7 @@ fn play<A: Allocator + Copy>(
     lists: &str,
 ) -> Result<(), Fail> {
     let models = Models::of(alloc, model)?;
-    let mut items = Vec::new(alloc);
-    for line in lists.lines() {
-        if line.starts_with("# ") {
-            items = Vec::new(alloc);
-        } else if !line.starts_with("? ") {
-            items.push(kept(alloc, &models, line)?)?;
-            lines_on(rt, alloc, &models.model, items.as_slice(), line)?;
-        }
-    }
-    Ok(())
+    play_on(rt, alloc, &models, lists)
 }
 
 #[test]

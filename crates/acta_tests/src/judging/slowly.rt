@@ -1,10 +1,11 @@
 //! A slow judge: it asks the places before each item, tells each axiom over what they answer, and at the end asks the
 //! formula of each edge. It is the definitions once more, and knows nothing of how the judge keeps what it has seen.
 
+use crate::calls::{places_of, walk_of};
 use crate::formulas::{course_of, is_false, payment};
 use crate::judging::asking::{Before, Said};
 use crate::judging::telling::Faults;
-use acta_axioms::{Axiom, Course, Places, Walk};
+use acta_axioms::{Axiom, Course, Fault, Places, Walk};
 use acta_judge::Verdict;
 use acta_table::{Dep, Edge, EdgeNo, Items, Kept, MOST_EVENTS, Missing, Model, Owed};
 use std::alloc::{AllocError, Allocator};
@@ -115,31 +116,54 @@ fn tell_places<A: Allocator + Copy>(
     Ok(())
 }
 
+// Tells the faults at all places of the list.
+fn tell_walked<A: Allocator + Copy>(
+    alloc: A,
+    model: &Model<A>,
+    kept: &[Kept<A>],
+    faults: &mut Faults<A>,
+) -> Result<(), AllocError> {
+    let mut walk = walk_of(alloc, model, kept)?;
+    tell_places(alloc, &mut walk, faults)
+}
+
+// Tells the faults by the list's edges, and gives what is owed, by edge number.
+fn tell_owed<A: Allocator + Copy>(
+    alloc: A,
+    model: &Model<A>,
+    kept: &[Kept<A>],
+    faults: &mut Faults<A>,
+) -> Result<Vec<Owed, A>, AllocError> {
+    let places = places_of(alloc, model, kept)?;
+    tell_edges(alloc, &places, faults)
+}
+
+// The faults, in order.
+fn listed<A: Allocator + Copy>(alloc: A, faults: &Faults<A>) -> Result<Vec<Fault, A>, AllocError> {
+    let mut listed = Vec::new(alloc);
+    for fault in faults.found.iter() {
+        listed.push(*fault)?;
+    }
+    Ok(listed)
+}
+
 /// The verdict on the list, slowly.
 pub fn judged_slowly<A: Allocator + Copy>(
     alloc: A,
     model: &Model<A>,
     kept: &[Kept<A>],
 ) -> Result<Verdict<A>, AllocError> {
-    if kept.len() > MOST_EVENTS {
-        return Err(AllocError);
-    }
-    let mut walk = Walk::of(alloc, model, kept)?;
     let mut faults = Faults {
         found: BTreeSet::new(alloc),
         place: 0,
     };
-    tell_places(alloc, &mut walk, &mut faults)?;
-    let places = Places::of(alloc, model, kept)?;
-    let owed = tell_edges(alloc, &places, &mut faults)?;
-    faults.place = kept.len() as u32;
+    tell_walked(alloc, model, kept, &mut faults)?;
+    let last = faults.place;
+    let owed = tell_owed(alloc, model, kept, &mut faults)?;
+    faults.place = last;
     tell_clashes(owed.as_slice(), &mut faults)?;
-    let mut listed = Vec::new(alloc);
-    for fault in faults.found.iter() {
-        listed.push(*fault)?;
-    }
     Ok(Verdict {
-        faults: Items::of(listed),
+        faults: Items::of(listed(alloc, &faults)?),
         owed: Items::of(owed),
     })
 }
