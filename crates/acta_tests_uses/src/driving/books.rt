@@ -100,18 +100,16 @@ fn takes<A: Allocator + Copy>(
     Ok(found == *answer)
 }
 
-/// How many of the entries were refused, where the entries are numbered from 1, and a new machine on the model answers
-/// each event as its entry says.
-pub fn replayed<A: Allocator + Copy>(
-    alloc: A,
-    model: Model<A>,
+// How many of the entries were refused, where the entries are numbered from 1, and the machine answers each event as
+// its entry says.
+fn replayed_on<A: Allocator + Copy>(
+    machine: &mut Machine<A>,
     entries: &[Entry<A>],
 ) -> Result<Option<u32>, AllocError> {
-    let mut machine = Machine::new(alloc, model)?;
     let (mut number, mut refused) = (0u32, 0u32);
     for entry in entries {
         number = number.wrapping_add(1);
-        if !takes(&mut machine, &entry.event, &entry.answer)? || entry.number != number {
+        if !takes(machine, &entry.event, &entry.answer)? || entry.number != number {
             return Ok(None);
         }
         if matches!(entry.answer, Answer::Refused { .. }) {
@@ -119,6 +117,16 @@ pub fn replayed<A: Allocator + Copy>(
         }
     }
     Ok(Some(refused))
+}
+
+/// The same of a new machine on the model.
+pub fn replayed<A: Allocator + Copy>(
+    alloc: A,
+    model: Model<A>,
+    entries: &[Entry<A>],
+) -> Result<Option<u32>, AllocError> {
+    let mut machine = Machine::new(alloc, model)?;
+    replayed_on(&mut machine, entries)
 }
 
 /// Takes the event of the first seat, in a function of its own, so that callers need not read all that is known of the

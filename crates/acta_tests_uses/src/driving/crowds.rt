@@ -96,17 +96,28 @@ fn are_some(rt: &impl Abort, refused: u32) {
 }
 
 // The book is full, some of its entries were refused and some were not, and it is told by its own machine.
-fn is_told<A: Allocator + Copy + Send + Sync, R: Threads + Wait + Sync + Abort>(
+fn is_told<A: Allocator + Copy>(
+    rt: &impl Abort,
+    alloc: A,
+    name: Standard,
+    scripts: &[Script<A>],
+    driven: &Driven<A>,
+) -> Result<(), Fail> {
+    holds(rt, is_full(driven, scripts), "a full book");
+    let refused = refused_of(alloc, name, driven.book.entries())?.ok_or("answers differ")?;
+    are_some(rt, refused);
+    Ok(())
+}
+
+// A drive of these scripts.
+fn drive_all<A: Allocator + Copy + Send + Sync, R: Threads + Wait + Sync + Abort>(
     rt: &R,
     alloc: A,
     name: Standard,
     scripts: &[Script<A>],
 ) -> Result<(), Fail> {
     let driven = driven(rt, alloc, name, scripts, &OpenGate)?;
-    holds(rt, is_full(&driven, scripts), "a full book");
-    let refused = refused_of(alloc, name, driven.book.entries())?.ok_or("answers differ")?;
-    are_some(rt, refused);
-    Ok(())
+    is_told(rt, alloc, name, scripts, &driven)
 }
 
 // A drive of all workers.
@@ -117,7 +128,7 @@ fn crowd<A: Allocator + Copy + Send + Sync, R: Threads + Wait + Sync + Abort>(
     calm: u16,
 ) -> Result<(), Fail> {
     let scripts = all_scripts(alloc, calm)?;
-    is_told(rt, alloc, name, scripts.as_slice())
+    drive_all(rt, alloc, name, scripts.as_slice())
 }
 
 #[test]

@@ -5,7 +5,8 @@ use crate::driving::gates::{Meeting, Place};
 use crate::driving::scripts::{ADDITIONS, driven, scripts};
 use crate::expecting::{holds, same};
 use crate::machines::number_in;
-use acta_locked::{Driven, Entry, Script};
+use acta_locked::{Book, Driven, Entry, Script};
+use acta_machine::Machine;
 use acta_models::Standard;
 use acta_table::ObjId;
 use std::alloc::Allocator;
@@ -51,18 +52,33 @@ fn meet_at<A: Allocator + Copy + Send + Sync, R: Threads + Wait + Sync + Abort>(
     Ok(driven)
 }
 
+// The same of the scripts that the texts say.
+fn meet<A: Allocator + Copy + Send + Sync, R: Threads + Wait + Sync + Abort>(
+    rt: &R,
+    alloc: A,
+    place: Place,
+    texts: &[&str],
+    lines: &str,
+) -> Result<Driven<A>, Fail> {
+    let scripts = scripts(alloc, texts)?;
+    meet_at(rt, alloc, place, scripts.as_slice(), lines)
+}
+
+// Both have added.
+fn has_sums<A: Allocator + Copy>(rt: &impl Abort, machine: &Machine<A>) -> Result<(), Fail> {
+    let found = (number_in(machine, N)?, number_in(machine, M)?);
+    same(rt, &found, &(Some(5), Some(7)), "both add");
+    Ok(())
+}
+
 // Seat 1 adds to n and seat 2 to m. The book has their begins before their operations, and all are admitted.
 fn add_both<A: Allocator + Copy + Send + Sync, R: Threads + Wait + Sync + Abort>(
     rt: &R,
     alloc: A,
 ) -> Result<(), Fail> {
-    let scripts = scripts(alloc, &ADDITIONS)?;
     let lines = "ok 1\nok 2\nok 3 done\nok 4 done\n";
-    let driven = meet_at(rt, alloc, Place::BeforeSecond, scripts.as_slice(), lines)?;
-    let machine = driven.book.machine();
-    let found = (number_in(machine, N)?, number_in(machine, M)?);
-    same(rt, &found, &(Some(5), Some(7)), "both add");
-    Ok(())
+    let driven = meet(rt, alloc, Place::BeforeSecond, &ADDITIONS, lines)?;
+    has_sums(rt, driven.book.machine())
 }
 
 // The seat of the first of two writes, where the other is of the other seat.
@@ -83,16 +99,10 @@ const WRITES: [&str; 2] = [
     "begin 2 flat\ndo 2 x write 6",
 ];
 
-// Both write to x: the first of the writes is admitted, the second is refused by it, and x has the value of the first.
-fn write_both<A: Allocator + Copy + Send + Sync, R: Threads + Wait + Sync + Abort>(
-    rt: &R,
-    alloc: A,
-) -> Result<(), Fail> {
-    let scripts = scripts(alloc, &WRITES)?;
-    let lines = "ok 1\nok 2\nok 3 done\nno 14 by 1\n";
-    let driven = meet_at(rt, alloc, Place::AfterFirst, scripts.as_slice(), lines)?;
-    let first = first_writer(driven.book.entries()).ok_or("the writes are not of both seats")?;
-    let value = number_in(driven.book.machine(), X)?;
+// The object x has the value of the first of the writes.
+fn has_first<A: Allocator + Copy>(rt: &impl Abort, book: &Book<A>) -> Result<(), Fail> {
+    let first = first_writer(book.entries()).ok_or("the writes are not of both seats")?;
+    let value = number_in(book.machine(), X)?;
     same(
         rt,
         &value,
@@ -100,6 +110,16 @@ fn write_both<A: Allocator + Copy + Send + Sync, R: Threads + Wait + Sync + Abor
         "both write",
     );
     Ok(())
+}
+
+// Both write to x: the first of the writes is admitted, the second is refused by it, and x has the value of the first.
+fn write_both<A: Allocator + Copy + Send + Sync, R: Threads + Wait + Sync + Abort>(
+    rt: &R,
+    alloc: A,
+) -> Result<(), Fail> {
+    let lines = "ok 1\nok 2\nok 3 done\nno 14 by 1\n";
+    let driven = meet(rt, alloc, Place::AfterFirst, &WRITES, lines)?;
+    has_first(rt, &driven.book)
 }
 
 #[test]

@@ -26,14 +26,23 @@ pub fn script<A: Allocator + Copy>(
     Ok(Script::of(events))
 }
 
+// The scripts that the texts say of the model.
+fn scripts_of<A: Allocator + Copy>(
+    alloc: A,
+    model: &Model<A>,
+    texts: &[&str],
+) -> Result<Vec<Script<A>, A>, Fail> {
+    let mut scripts = Vec::new(alloc);
+    for text in texts {
+        scripts.push(script(alloc, model, text)?)?;
+    }
+    Ok(scripts)
+}
+
 /// The scripts that the texts say.
 pub fn scripts<A: Allocator + Copy>(alloc: A, texts: &[&str]) -> Result<Vec<Script<A>, A>, Fail> {
     let model = model_of(alloc, Standard::Atomic)?;
-    let mut scripts = Vec::new(alloc);
-    for text in texts {
-        scripts.push(script(alloc, &model, text)?)?;
-    }
-    Ok(scripts)
+    scripts_of(alloc, &model, texts)
 }
 
 // A drive, in a function of its own, so that callers need not read all that is known of its result.
