@@ -6,7 +6,7 @@ use crate::expecting::{holds, same};
 use crate::machines::model_of;
 use acta_locked::{Book, DriveError, Driven, OpenGate, Script, TakeError, drive};
 use acta_models::Standard;
-use acta_table::{Event, Model};
+use acta_table::Event;
 use refusing::Refusing;
 use std::alloc::Allocator;
 use std::process::Abort;
@@ -107,20 +107,6 @@ fn take_calls<A: Allocator + Copy, B: Allocator>(
 }
 
 // Takes all calls. The book in the end has them all, and its machine all but the third.
-fn take_in_book<A: Allocator + Copy, B: Allocator>(
-    rt: &impl Abort,
-    heap: &Refusing<B>,
-    alloc: A,
-    model: Model<A>,
-    calls: &[Event<A>],
-) -> Result<u64, Fail> {
-    let mut book = Book::new(alloc, model)?;
-    let refused = take_calls(rt, heap, &mut book, calls)?;
-    holds(rt, stands(&book, 10, 9), "the book in the end");
-    Ok(refused)
-}
-
-// The same of calls that are read.
 fn take_all<A: Allocator + Copy, B: Allocator>(
     rt: &impl Abort,
     heap: &Refusing<B>,
@@ -128,7 +114,10 @@ fn take_all<A: Allocator + Copy, B: Allocator>(
 ) -> Result<u64, Fail> {
     let model = model_of(alloc, Standard::SplitJoin)?;
     let calls = script(alloc, &model, CALLS)?;
-    take_in_book(rt, heap, alloc, model, calls.as_slice())
+    let mut book = Book::new(alloc, model)?;
+    let refused = take_calls(rt, heap, &mut book, calls.as_slice())?;
+    holds(rt, stands(&book, 10, 9), "the book in the end");
+    Ok(refused)
 }
 
 // How many entries the book of a drive has.
