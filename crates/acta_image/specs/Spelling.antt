@@ -43,11 +43,11 @@ abbrev pub class_bytes : {A : Type 0} → Class A → List ℕ
 class_bytes c =
     byte (length c.name) ++ (c.name ++ (choices c ++ (rows_bytes c.spawn_edges ++ rows_bytes c.split_edges)))
 
--- the image: the magic, the version 1, how many classes and how many objects, the objects, the classes
+-- what an image begins with: the magic, the version 1, how many classes and how many objects
+abbrev pub head : ℕ → ℕ → List ℕ
+head classes objects = magic ++ (byte 1 ++ (byte classes ++ to_be_bytes w16 objects))
+
+-- the image: what it begins with, the objects, the classes
 unfoldable pub image : {A : Type 0} → Parts A → List ℕ
 image m =
-    magic ++ (byte 1
-    ++ (byte (length m.classes)
-    ++ (to_be_bytes w16 (length m.objects)
-    ++ (flat_map object_bytes m.objects
-    ++ flat_map class_bytes m.classes))))
+    head (length m.classes) (length m.objects) ++ (flat_map object_bytes m.objects ++ flat_map class_bytes m.classes)

@@ -7,7 +7,7 @@ ghost use Rattle.acta_image.specs.Claims.{IsWhy};
 ghost use Rattle.acta_image.specs.declared.fault.ImageFault.{ImageFault};
 ghost use Rattle.acta_image.specs.declared.fault.ImageFault.TheVariants.{Version};
 ghost use Rattle.acta_image.specs.declared.fault.LoadError.TheVariants as error;
-ghost use Rattle.acta_image.specs.Reading.{byte_in, field_or, loaded, read_class, read_header, read_items, read_magic, read_object, read_parts};
+ghost use Rattle.acta_image.specs.Reading.{byte_in, field_or, finished, loaded, read_class, read_header, read_items, read_magic, read_object, read_parts};
 ghost use Rattle.acta_image.specs.Spelling.{image};
 ghost use Rattle.acta_image.specs.inside.Gives.{Gives, is_fault};
 
@@ -163,6 +163,30 @@ fn parts<A: Allocator + Copy>(alloc: A, bytes: &[u8]) -> Result<(Parts<A>, &[u8]
     Ok((Parts { objects, classes }, rest))
 }
 
+// The model of the parts that were read from an image of this size, behind which these bytes are left.
+fn finish<A: Allocator>(size: usize, parts: Parts<A>, rest: &[u8]) -> Result<Model<A>, LoadError>
+    ensures { Gives (λ m. m) result (finished size (parts, rest.now)) }
+{
+    if !rest.is_empty() {
+        let offset = size.saturating_sub(rest.len());
+        return Err(LoadError::Fault(ImageFault::Trailing(offset)));
+    }
+    match Model::check(parts) {
+        Ok(model) => Ok(model),
+        Err(fault) => Err(LoadError::Fault(ImageFault::Model(fault))),
+    }
+}
+
+// The model that the bytes are read as.
+#[tactic(auto, unfolding(crate::specs::Reading::loaded))]
+fn read<A: Allocator + Copy>(alloc: A, bytes: &[u8]) -> Result<Model<A>, LoadError>
+    ensures model { Gives (λ m. m) result (loaded bytes.now) }
+    ensures early { (e : ImageFault) → read_header (length bytes.now) bytes.now ≡ Err e → result ≡ Err (error.Fault e) }
+{
+    let (parts, rest) = parts(alloc, bytes)?;
+    finish(bytes.len(), parts, rest)
+}
+
 // Bytes that are read as a model are its image, and the image of a model is read as the model.
 fn read_alike<A: Allocator>(alloc: &A, bytes: &[u8])
     ensures spelled { (m : Parts A) → loaded bytes.now ≡ Ok m → image m ≡ bytes.now }
@@ -171,7 +195,6 @@ fn read_alike<A: Allocator>(alloc: &A, bytes: &[u8])
 
 /// The model whose image the bytes are (the format is ours). `Fault` with the first fault of bytes that are no image;
 /// `Memory` where there is none, which is found out only behind the magic, the version and the counts.
-#[tactic(auto, unfolding(crate::specs::Reading::loaded))]
 pub fn load<A: Allocator + Copy>(alloc: A, bytes: &[u8]) -> Result<Model<A>, LoadError>
     ensures ok { IfOk result (λ model. loaded bytes.now ≡ Ok model) }
     ensures fault { IfErr result (IsWhy (loaded {A = A} bytes.now)) }
@@ -180,13 +203,5 @@ pub fn load<A: Allocator + Copy>(alloc: A, bytes: &[u8]) -> Result<Model<A>, Loa
     ensures only { (m : Parts A) → AreOfModel m → image m ≡ bytes.now → loaded bytes.now ≡ Ok m }
 {
     read_alike(&alloc, bytes);
-    let (parts, rest) = parts(alloc, bytes)?;
-    if !rest.is_empty() {
-        let offset = bytes.len().saturating_sub(rest.len());
-        return Err(LoadError::Fault(ImageFault::Trailing(offset)));
-    }
-    match Model::check(parts) {
-        Ok(model) => Ok(model),
-        Err(fault) => Err(LoadError::Fault(ImageFault::Model(fault))),
-    }
+    read(alloc, bytes)
 }

@@ -3,7 +3,7 @@
 ghost use Rattle.std.specs.Prelude.{◌≡◌, ◌++◌, ◌∷◌, ◌≤◌, length, Ok, IfOk, OnOk};
 ghost use Rattle.std.specs.List.{All, flat_map};
 ghost use Rattle.acta_image.specs.Reading.{loaded};
-ghost use Rattle.acta_image.specs.Spelling.{choices, class_bytes, image, object_bytes, row_bytes, rows_bytes};
+ghost use Rattle.acta_image.specs.Spelling.{choices, class_bytes, head, image, object_bytes, row_bytes, rows_bytes};
 
 use crate::codes::{
     commit_code, dependent_code, extent_code, first_bits, object_code, policy_bits, policy_code,
@@ -106,6 +106,31 @@ fn push_classes<A: Allocator>(
     Ok(())
 }
 
+// Appends the magic, the version, and how many classes and how many objects there are.
+fn push_head<A: Allocator>(
+    image: &mut Vec<u8, A>,
+    classes: u8,
+    objects: u16,
+) -> Result<(), AllocError>
+    ensures { OnOk result (image.new.items ≡ image.old.items ++ head classes objects) }
+{
+    let [high, low] = objects.to_be_bytes();
+    image.extend_from_slice(&[b'A', b'C', b'T', b'A', 1, classes, high, low])
+}
+
+// Appends the image of a model with names that are short.
+#[tactic(auto, unfolding(crate::specs::Spelling::image))]
+fn push_model<A: Allocator>(bytes: &mut Vec<u8, A>, model: &Model<A>) -> Result<(), AllocError>
+    requires objects { All (λ object. length object.name ≤ LONGEST_NAME) model.now.objects }
+    requires classes { All (λ class. length class.name ≤ LONGEST_NAME) model.now.classes }
+    ensures { OnOk result (bytes.new.items ≡ bytes.old.items ++ image model.now) }
+{
+    let (classes, objects) = (model.classes(), model.objects());
+    push_head(bytes, classes.len() as u8, objects.len() as u16)?;
+    push_objects(bytes, objects)?;
+    push_classes(bytes, classes)
+}
+
 // The image of a model is loaded as the model, and its names are short.
 fn known<A: Allocator>(model: &Model<A>)
     ensures again { loaded (image model.now) ≡ Ok model.now }
@@ -117,7 +142,6 @@ fn known<A: Allocator>(model: &Model<A>)
 
 /// The image of the model (the format is ours): the one list of bytes that `load` reads as this model. `Err` where
 /// there is no memory.
-#[tactic(auto, unfolding(crate::specs::Spelling::image))]
 pub fn write_image<A: Allocator + Copy>(
     alloc: A,
     model: &Model<A>,
@@ -127,10 +151,6 @@ pub fn write_image<A: Allocator + Copy>(
 {
     known(model);
     let mut bytes = Vec::new(alloc);
-    bytes.extend_from_slice(b"ACTA\x01")?;
-    bytes.push(model.classes().len() as u8)?;
-    bytes.extend_from_slice(&(model.objects().len() as u16).to_be_bytes())?;
-    push_objects(&mut bytes, model.objects())?;
-    push_classes(&mut bytes, model.classes())?;
+    push_model(&mut bytes, model)?;
     Ok(bytes)
 }
