@@ -192,9 +192,11 @@ fn model(alloc: Global, shape: Shape) -> Result<Model<Global>> {
 }
 
 // Walks through the items, and tells how long that took, and what there is in the end.
-fn measure(rt: &HostRuntime, model: &Model<Global>, kept: &[Kept<Global>]) -> Result<()>
-    requires { length kept.now ≤ MOST_EVENTS }
-{
+fn measure(rt: &HostRuntime, model: &Model<Global>, kept: &[Kept<Global>]) -> Result<()> {
+    ensure!(
+        kept.len() <= MOST_EVENTS,
+        "more items than a history may have"
+    );
     let start = Instant::now(rt)?;
     let (operations, edges) = walked(rt.alloc(), model, kept)?;
     eprintln!(rt; "{} us", start.elapsed(rt)?.as_micros())?;
@@ -206,9 +208,5 @@ fn main(rt: HostRuntime) -> Result<()> {
     let (shape, count) = asked(&rt)?;
     let model = model(rt.alloc(), shape)?;
     let kept = history(rt.alloc(), shape, count)?;
-    ensure!(
-        kept.len() <= MOST_EVENTS,
-        "more items than a history may have"
-    );
     measure(&rt, &model, kept.as_slice())
 }
