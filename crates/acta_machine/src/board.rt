@@ -135,12 +135,16 @@ impl<A: Allocator + Copy> Board<A> {
         ensures operations { IfOk result (λ board. board.operations ≡ self.now.operations) }
     {
         let alloc = self.allocator();
+        let origins = Vec::from_slice(alloc, &self.origins)?;
+        let operations = self.operations.copy()?;
+        let deps = self.deps.copy()?;
+        let kept = copy_all(alloc, &self.kept)?;
         Ok(Board {
             model: self.model.copy()?,
-            deps: self.deps.copy()?,
-            origins: Vec::from_slice(alloc, &self.origins)?,
-            operations: self.operations.copy()?,
-            kept: copy_all(alloc, &self.kept)?,
+            deps,
+            origins,
+            operations,
+            kept,
         })
     }
 }

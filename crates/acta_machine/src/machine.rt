@@ -7,7 +7,7 @@ ghost use Rattle.acta_axioms.specs.Edges as edges_by_places;
 ghost use Rattle.acta_axioms.specs.Legal as debts_by_places;
 ghost use Rattle.acta_axioms.specs.Operations as by_places;
 ghost use Rattle.acta_machine.specs.Places.{FollowsPlaces, op_numbers, value_at};
-ghost use Rattle.acta_machine.specs.Table.{fresh, answer_to, after, run_answers, run_state, status_in, value_in, access_set_in, conflict_set_in, view_set_in, edges_in, debts_in};
+ghost use Rattle.acta_machine.specs.Table.{fresh, answer_to, answers_to, after, after_all, run_answers, run_state, status_in, value_in, access_set_in, conflict_set_in, view_set_in, edges_in, debts_in};
 
 use crate::board::{Board, Origin};
 use acta_deps::Deps;
@@ -110,14 +110,22 @@ impl<A: Allocator + Copy> Machine<A> {
         ensures follows { IfOk result (λ run. FollowsPlaces run.machine) }
     {
         let mut machine = Machine::new(alloc, model)?;
+        let answers = machine.take_all(alloc, events)?;
+        Ok(Run { answers, machine })
+    }
+
+    // Takes the events, in order.
+    fn take_all(&mut self, alloc: A, events: &[Event<A>]) -> Result<Items<Answer, A>, AllocError>
+        requires { FollowsPlaces self.old }
+        ensures answers { IfOk result (λ answers. answers ≡ answers_to self.old events.now) }
+        ensures machine { OnOk result (self.new ≡ after_all self.old events.now) }
+        ensures follows { OnOk result (FollowsPlaces self.new) }
+    {
         let mut answers = Vec::new(alloc);
         for event in events {
-            answers.push(machine.take(event)?)?;
+            answers.push(self.take(event)?)?;
         }
-        Ok(Run {
-            answers: Items::of(answers),
-            machine,
-        })
+        Ok(Items::of(answers))
     }
 
     /// The value of an object: what its operations that are not aborted leave, replayed in order from the
