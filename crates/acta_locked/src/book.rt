@@ -2,7 +2,7 @@
 
 ghost use Rattle.std.specs.Prelude.{◌≡◌, ◌<◌, [], Err, length, true, false, Decides, IfOk, OnErr, OnOk};
 ghost use Rattle.acta_machine.specs.Places.{FollowsPlaces};
-ghost use Rattle.acta_machine.specs.Table.{debts_in};
+ghost use Rattle.acta_machine.specs.Table.{after, answer_to, debts_in};
 ghost use Rattle.acta_locked.specs.Books.{IsRun, entered, entry_of, no_entries, state_of};
 ghost use Rattle.acta_locked.specs.declared.book.TakeError.TheVariants.{Memory};
 
@@ -91,6 +91,22 @@ impl<A: Allocator> std::marker::Model for Book<A> {
     ghost invariant = { λ b. IsMachineOf b.machine (record { model = b.machine.model; entries = b.entries.items }) };
 }
 
+// What the machine answers the event, with a copy of the event, which is made first.
+fn answered<A: Allocator + Copy>(
+    machine: &mut Machine<A>,
+    event: &Event<A>,
+) -> Result<(Event<A>, Answer), AllocError>
+    ensures event { IfOk result (λ r. r.0 ≡ event.now) }
+    ensures answer { IfOk result (λ r. r.1 ≡ answer_to machine.old event.now) }
+    ensures ok { OnOk result (machine.new ≡ after machine.old event.now) }
+    ensures err { OnErr result (machine.new ≡ machine.old) }
+    ensures follows { OnOk result (FollowsPlaces machine.new) }
+{
+    let copied = event.copy()?;
+    let answer = machine.take(event)?;
+    Ok((copied, answer))
+}
+
 impl<A: Allocator + Copy> Book<A> {
     /// A book on the model, with no entry (ours). `Err` where there is no memory.
     pub fn new(alloc: A, model: Model<A>) -> Result<Book<A>, AllocError>
@@ -112,6 +128,9 @@ impl<A: Allocator + Copy> Book<A> {
         ensures run { IsRun self.new }
         ensures barred { length self.old.entries ≡ MOST_EVENTS → result ≡ Err TakeError.BookFull }
     {
+        if self.is_full() {
+            return Err(TakeError::BookFull);
+        }
         let (number, answer) = self.enter(seat, &event)?;
         Ok(Entry {
             number,
@@ -125,32 +144,28 @@ impl<A: Allocator + Copy> Book<A> {
     fn is_full(&self) -> bool
         ensures full { result ≡ true → length self.now.entries ≡ MOST_EVENTS }
         ensures room { result ≡ false → length self.now.entries < MOST_EVENTS }
+        ensures run { IsRun self.now }
     {
         self.entries.len() >= MOST_EVENTS
     }
 
     // Has the machine answer the event, and enters it: the number and the answer of the entry. The room is made first,
     // so that an error leaves the book as it was.
-    fn enter(&mut self, seat: u8, event: &Event<A>) -> Result<(u32, Answer), TakeError>
+    fn enter(&mut self, seat: u8, event: &Event<A>) -> Result<(u32, Answer), AllocError>
+        requires room { length self.old.entries < MOST_EVENTS }
         ensures entry { IfOk result (λ r.
             record { number = r.0; seat = seat; event = event.now; answer = r.1 } ≡ entry_of self.old seat event.now) }
         ensures ok { OnOk result (self.new ≡ entered self.old (entry_of self.old seat event.now)) }
         ensures err { OnErr result (self.new ≡ self.old) }
-        ensures full { result ≡ Err TakeError.BookFull → length self.old.entries ≡ MOST_EVENTS }
         ensures run { IsRun self.new }
-        ensures barred { length self.old.entries ≡ MOST_EVENTS → result ≡ Err TakeError.BookFull }
     {
-        if self.is_full() {
-            return Err(TakeError::BookFull);
-        }
         self.entries.reserve(1)?;
-        let kept = event.copy()?;
-        let answer = self.machine.take(event)?;
+        let (event, answer) = answered(&mut self.machine, event)?;
         let number = self.entries.len() as u32 + 1;
         let Ok(()) = self.entries.push(Entry {
             number,
             seat,
-            event: kept,
+            event,
             answer,
         })
         else {
