@@ -1,12 +1,15 @@
 //! What an item says, and what stands before it, asked of the places of the items in front: of each transaction and of
 //! each operation. A slow judge tells the axioms over these answers alone.
 
+use crate::calls::places_of;
+use crate::expecting::made;
 use crate::formulas::course_of;
 use acta_axioms::{Course, Places, Walk};
 use acta_table::{
     Class, ClassId, Dep, Event, EventKind, Fate, Kept, Model, ObjId, Op, OpNo, Ret, TxnId,
 };
-use std::alloc::{AllocError, Allocator};
+use std::alloc::Allocator;
+use std::process::Abort;
 
 // A place that no list has: all places of a list are asked of by it.
 const END: u32 = 100_000;
@@ -147,84 +150,76 @@ fn txn_of<'a, A: Allocator + Copy>(
 
 // All transactions that are named, as the places say.
 fn txns_of<'a, A: Allocator + Copy>(
+    rt: &impl Abort,
     alloc: A,
     places: &Places<'_, A>,
     model: &'a Model<A>,
     front: &[Said<'_>],
-) -> Result<Vec<Txn<'a, A>, A>, AllocError> {
+) -> Vec<Txn<'a, A>, A> {
     let mut txns = Vec::new(alloc);
     for said in front {
-        txns.push(txn_of(places, model, front, said.first.0))?;
+        let txn = txn_of(places, model, front, said.first.0);
+        made(rt, txns.push(txn), "a transaction");
         if let Some((u, _)) = said.second {
-            txns.push(txn_of(places, model, front, u))?;
+            let txn = txn_of(places, model, front, u);
+            made(rt, txns.push(txn), "a transaction");
         }
     }
-    Ok(txns)
+    txns
 }
 
 // All operations, in order, as the places say.
 fn done_of<A: Allocator + Copy>(
+    rt: &impl Abort,
     alloc: A,
     places: &Places<'_, A>,
     front: &[Said<'_>],
-) -> Result<Vec<Done, A>, AllocError> {
+) -> Vec<Done, A> {
     let mut done = Vec::new(alloc);
     let mut number = OpNo(0);
     for said in front {
         if let Some((object, op)) = said.asked {
             number = OpNo(number.0.wrapping_add(1));
-            let (holder, fate) = (places.holder(number, END), places.fate(number, END));
-            done.push(Done {
+            let one = Done {
                 object,
                 op,
-                holder,
-                fate,
-            })?;
+                holder: places.holder(number, END),
+                fate: places.fate(number, END),
+            };
+            made(rt, done.push(one), "an operation");
         }
     }
-    Ok(done)
+    done
 }
 
 // The return that is due where the walk stands, if an operation is asked for.
 fn due_of<A: Allocator + Copy>(
+    rt: &impl Abort,
     walk: &Walk<'_, A>,
     asked: Option<(ObjId, Op)>,
-) -> Result<Option<Ret>, AllocError> {
-    match asked {
-        Some((object, op)) => walk.return_due(object, &op),
-        None => Ok(None),
-    }
+) -> Option<Ret> {
+    let (object, op) = asked?;
+    made(rt, walk.return_due(object, &op), "a return")
 }
 
 impl<'a, A: Allocator + Copy> Before<'a, A> {
-    // What the places show, where the items say this.
-    fn shown(
-        alloc: A,
-        places: &Places<'_, A>,
-        model: &'a Model<A>,
-        front: &[Said<'_>],
-        due: Option<Ret>,
-    ) -> Result<Before<'a, A>, AllocError> {
-        Ok(Before {
-            model,
-            txns: txns_of(alloc, places, model, front)?,
-            done: done_of(alloc, places, front)?,
-            due,
-        })
-    }
-
     /// What stands before the place that the walk has reached, where the items in front say this, and the one there
     /// asks for an operation, or for none.
     pub fn of(
+        rt: &impl Abort,
         alloc: A,
         walk: &Walk<'a, A>,
         front: &[Said<'_>],
         asked: Option<(ObjId, Op)>,
-    ) -> Result<Before<'a, A>, AllocError> {
+    ) -> Before<'a, A> {
         let model = walk.model();
-        let due = due_of(walk, asked)?;
-        let places = Places::of(alloc, model, walk.front())?;
-        Before::shown(alloc, &places, model, front, due)
+        let places = made(rt, places_of(alloc, model, walk.front()), "places");
+        Before {
+            model,
+            txns: txns_of(rt, alloc, &places, model, front),
+            done: done_of(rt, alloc, &places, front),
+            due: due_of(rt, walk, asked),
+        }
     }
 
     /// The transaction, of which nothing is known where none is named so.

@@ -1,13 +1,15 @@
 //! The axioms at a place, each told over what stands before and what the item says.
 
+use crate::expecting::made;
 use crate::judging::asking::{Before, Done, Part, Said, Txn};
 use acta_axioms::{Axiom, Fault};
 use acta_objects::ObjectState;
 use acta_table::{
     AtCommit, Dep, EventKind, Extent, Fate, Kind, LAST_TXN, ObjId, Op, OpNo, Policy, Scope, TxnId,
 };
-use std::alloc::{AllocError, Allocator};
+use std::alloc::Allocator;
 use std::collections::BTreeSet;
+use std::process::Abort;
 
 /// Faults in their order, each once.
 #[derive(Drop)]
@@ -18,28 +20,35 @@ pub struct Faults<A: Allocator> {
 }
 
 impl<A: Allocator + Copy> Faults<A> {
+    /// The fault of this axiom at a place.
+    pub fn tell_at(&mut self, rt: &impl Abort, place: u32, broken: Axiom, by: u64) {
+        made(
+            rt,
+            self.found.insert(Fault { broken, place, by }),
+            "a fault",
+        );
+    }
+
     /// The fault of this axiom at the place, where it is broken.
-    pub fn tell(&mut self, broken: Axiom, is_broken: bool, by: u64) -> Result<(), AllocError> {
+    pub fn tell(&mut self, rt: &impl Abort, broken: Axiom, is_broken: bool, by: u64) {
         if is_broken {
-            let place = self.place;
-            self.found.insert(Fault { broken, place, by })?;
+            self.tell_at(rt, self.place, broken, by);
         }
-        Ok(())
     }
 
     // Who starts, operates, ends or takes part where it cannot.
-    fn tell_part(&mut self, txn: Txn<'_, A>, part: Part) -> Result<(), AllocError> {
+    fn tell_part(&mut self, rt: &impl Abort, txn: Txn<'_, A>, part: Part) {
         let (course, by) = (txn.course, u64::from(txn.number.0));
         let is_idle = !course.is_in_progress();
         match part {
-            Part::Starts => self.tell(Axiom::BegunOnce, course.has_begun(), by),
-            Part::Operates => self.tell(Axiom::OperatesInProgress, is_idle, by),
-            Part::TakesPart => self.tell(Axiom::PartiesInProgress, is_idle, by),
+            Part::Starts => self.tell(rt, Axiom::BegunOnce, course.has_begun(), by),
+            Part::Operates => self.tell(rt, Axiom::OperatesInProgress, is_idle, by),
+            Part::TakesPart => self.tell(rt, Axiom::PartiesInProgress, is_idle, by),
             Part::Ends => {
-                self.tell(Axiom::EndedAfterBegun, !course.has_begun(), by)?;
-                self.tell(Axiom::EndedOnce, course.has_ended(), by)
+                self.tell(rt, Axiom::EndedAfterBegun, !course.has_begun(), by);
+                self.tell(rt, Axiom::EndedOnce, course.has_ended(), by);
             }
-            Part::IsNamed => Ok(()),
+            Part::IsNamed => {}
         }
     }
 }
@@ -151,13 +160,13 @@ impl<'a, A: Allocator + Copy> Before<'a, A> {
     }
 
     // The operations that one conflicts with whose class refuses it.
-    fn tell_conflicts(&self, said: Said<'_>, faults: &mut Faults<A>) -> Result<(), AllocError> {
+    fn tell_conflicts(&self, rt: &impl Abort, said: Said<'_>, faults: &mut Faults<A>) {
         let txn = self.txn(said.first.0);
         let (Some((object, op)), Some(class)) = (said.asked, txn.class) else {
-            return Ok(());
+            return;
         };
         let Some(kind) = self.kind_for(object, op) else {
-            return Ok(());
+            return;
         };
         let mut number = 0u64;
         for done in &self.done {
@@ -166,69 +175,65 @@ impl<'a, A: Allocator + Copy> Before<'a, A> {
                 let is_broken = matches!(class.policy, Policy::Refuse)
                     && ObjectState::<A>::conflicts(&kind, &done.op, &op)
                     && self.is_of_others(txn, class.scope, *done);
-                faults.tell(Axiom::Conflict, is_broken, number)?;
+                faults.tell(rt, Axiom::Conflict, is_broken, number);
             }
         }
-        Ok(())
     }
 
-    // What is handed over and not held, and what one keeps back that has to hand over all.
-    fn tell_handed(
-        &self,
-        txn: Txn<'_, A>,
-        handed: &[OpNo],
-        faults: &mut Faults<A>,
-    ) -> Result<(), AllocError> {
+    // Whether the transaction holds the operation in progress.
+    fn is_held(&self, t: TxnId, number: OpNo) -> bool {
+        match self.done.get((number.0 as usize).wrapping_sub(1)) {
+            Some(done) => done.holder == Some(t) && done.fate == Some(Fate::InProgress),
+            None => false,
+        }
+    }
+
+    // What is handed over and not held.
+    fn tell_handed(&self, rt: &impl Abort, t: TxnId, handed: &[OpNo], faults: &mut Faults<A>) {
+        for number in handed {
+            let is_missing = !self.is_held(t, *number);
+            faults.tell(rt, Axiom::Responsible, is_missing, u64::from(number.0));
+        }
+    }
+
+    // What one keeps back that has to hand over all.
+    fn tell_kept(&self, rt: &impl Abort, txn: Txn<'_, A>, handed: &[OpNo], faults: &mut Faults<A>) {
         let is_whole = match txn.class {
             Some(class) => class.extent == Extent::Whole,
             None => false,
         };
-        let mut held = Vec::new(*self.done.allocator());
         let mut number = OpNo(0);
-        for done in &self.done {
+        for _ in &self.done {
             number = OpNo(number.0.wrapping_add(1));
-            if done.holder == Some(txn.number) && done.fate == Some(Fate::InProgress) {
-                held.push(number)?;
-                let is_kept = is_whole && !handed.contains(&number);
-                faults.tell(Axiom::HandsWhole, is_kept, u64::from(number.0))?;
-            }
-        }
-        for number in handed {
+            let is_kept = self.is_held(txn.number, number) && !handed.contains(&number);
             faults.tell(
-                Axiom::Responsible,
-                !held.contains(number),
+                rt,
+                Axiom::HandsWhole,
+                is_whole && is_kept,
                 u64::from(number.0),
-            )?;
+            );
         }
-        Ok(())
     }
 
     // A commit to a parent that is not there, or not in progress.
-    fn tell_heir(&self, txn: Txn<'_, A>, faults: &mut Faults<A>) -> Result<(), AllocError> {
+    fn tell_heir(&self, rt: &impl Abort, txn: Txn<'_, A>, faults: &mut Faults<A>) {
         let is_handed = match txn.class {
             Some(class) => class.at_commit == AtCommit::ToParent,
             None => false,
         };
-        match txn.parent {
-            Some(u) => {
-                let is_idle = !self.txn(u).course.is_in_progress();
-                faults.tell(Axiom::Heir, is_handed && is_idle, u64::from(u.0))
-            }
-            None => faults.tell(Axiom::Heir, is_handed, 0),
-        }
+        let (is_idle, by) = match txn.parent {
+            Some(u) => (!self.txn(u).course.is_in_progress(), u64::from(u.0)),
+            None => (true, 0),
+        };
+        faults.tell(rt, Axiom::Heir, is_handed && is_idle, by);
     }
 
     // An edge that is formed too late, as the smaller number of those that are too far on tells.
-    fn tell_late(
-        &self,
-        kind: Dep,
-        j: TxnId,
-        i: TxnId,
-        faults: &mut Faults<A>,
-    ) -> Result<(), AllocError> {
+    fn tell_late(&self, rt: &impl Abort, kind: Dep, j: TxnId, i: TxnId, faults: &mut Faults<A>) {
         if kind.is_begin_kind() {
             let has_begun = self.txn(j).course.has_begun();
-            return faults.tell(Axiom::FormedInTime, has_begun, u64::from(j.0));
+            faults.tell(rt, Axiom::FormedInTime, has_begun, u64::from(j.0));
+            return;
         }
         let (low, high) = if i.0 < j.0 { (i, j) } else { (j, i) };
         let late = if self.txn(low).course.has_ended() {
@@ -237,39 +242,49 @@ impl<'a, A: Allocator + Copy> Before<'a, A> {
             high
         };
         let is_late = self.txn(late).course.has_ended();
-        faults.tell(Axiom::FormedInTime, is_late, u64::from(late.0))
+        faults.tell(rt, Axiom::FormedInTime, is_late, u64::from(late.0));
     }
 
     // A return that is not the one due.
-    fn tell_return(&self, said: Said<'_>, faults: &mut Faults<A>) -> Result<(), AllocError> {
-        let Some((object, op)) = said.asked else {
-            return faults.tell(Axiom::Return, said.ret.is_some(), 0);
+    fn tell_return(&self, rt: &impl Abort, said: Said<'_>, faults: &mut Faults<A>) {
+        let (is_broken, by) = match said.asked {
+            Some((object, op)) => {
+                let is_known = self.kind_for(object, op).is_some();
+                let number = (self.done.len() as u64).saturating_add(1);
+                (is_known && said.ret != self.due, number)
+            }
+            None => (said.ret.is_some(), 0),
         };
-        let number = (self.done.len() as u64).saturating_add(1);
-        let is_known = self.kind_for(object, op).is_some();
-        faults.tell(Axiom::Return, is_known && said.ret != self.due, number)
+        faults.tell(rt, Axiom::Return, is_broken, by);
+    }
+
+    // What the transactions that are named can't do, and an edge that is formed too late.
+    fn tell_parts(&self, rt: &impl Abort, said: Said<'_>, faults: &mut Faults<A>) {
+        let (t, part) = said.first;
+        faults.tell_part(rt, self.txn(t), part);
+        if let Some((u, part)) = said.second {
+            faults.tell_part(rt, self.txn(u), part);
+            if let Some(kind) = said.edge {
+                self.tell_late(rt, kind, t, u, faults);
+            }
+        }
     }
 
     /// All faults at the place.
-    pub fn tell_all(&self, said: Said<'_>, faults: &mut Faults<A>) -> Result<(), AllocError> {
-        let (t, part) = said.first;
-        let (txn, by) = (self.txn(t), u64::from(t.0));
-        faults.tell_part(txn, part)?;
-        if let Some((u, part)) = said.second {
-            faults.tell_part(self.txn(u), part)?;
-            if let Some(kind) = said.edge {
-                self.tell_late(kind, t, u, faults)?;
-            }
-        }
-        faults.tell(Axiom::FormOfEvent, self.is_ill_formed(said), by)?;
-        faults.tell(Axiom::Allowed, !self.is_allowed(said), by)?;
+    pub fn tell_all(&self, rt: &impl Abort, said: Said<'_>, faults: &mut Faults<A>) {
+        let t = said.first.0;
+        let by = u64::from(t.0);
+        self.tell_parts(rt, said, faults);
+        faults.tell(rt, Axiom::FormOfEvent, self.is_ill_formed(said), by);
+        faults.tell(rt, Axiom::Allowed, !self.is_allowed(said), by);
         if let Some(handed) = said.handed {
-            self.tell_handed(txn, handed, faults)?;
+            self.tell_handed(rt, t, handed, faults);
+            self.tell_kept(rt, self.txn(t), handed, faults);
         }
         if said.kind == EventKind::Commit {
-            self.tell_heir(txn, faults)?;
+            self.tell_heir(rt, self.txn(t), faults);
         }
-        self.tell_conflicts(said, faults)?;
-        self.tell_return(said, faults)
+        self.tell_conflicts(rt, said, faults);
+        self.tell_return(rt, said, faults);
     }
 }
