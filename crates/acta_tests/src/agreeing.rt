@@ -1,7 +1,7 @@
 //! What a machine shows against what the places of its history say: how each transaction stands, its access set and its
 //! conflict set, the view, the edges, who holds each operation and what became of it, and what is owed.
 
-use crate::calls::places_of;
+use crate::calls::{owed_by, places_of};
 use crate::expecting::made;
 use crate::formulas::{course_of, is_false, payment};
 use crate::walking::follows_machine;
@@ -171,7 +171,7 @@ fn shows_edges<A: Allocator + Copy>(
     machine: &Machine<A>,
     places: &Places<'_, A>,
 ) -> bool {
-    let owed = made(rt, machine.owed(), "debts");
+    let owed = made(rt, owed_by(machine), "debts");
     let due = debts_of(rt, alloc, places);
     machine.edges() == places.edges() && owed.as_slice() == due.as_slice()
 }

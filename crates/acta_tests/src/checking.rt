@@ -2,9 +2,8 @@
 //! of a text that is altered.
 
 use crate::expecting::{holds, made, parted, same, tells};
-use crate::models::model_of;
+use crate::models::{event_of, model_of};
 use acta_models::Standard;
-use acta_script::read_event;
 use acta_table::{
     Class, ClassId, Dep, DepKinds, Dependent, Event, EventKind, Items, Kind, Kinds, Model,
     ModelFault, Object, OpNo, OpSet, Parts, Policy, Rule, StartEdge, StartEdges, TxnId,
@@ -249,7 +248,7 @@ fn bits_of_kinds(rt: HostRuntime) {
         assert!(rt; has_bits(kind, bits), "{kind:?}");
         bits = if bits == 0 { 1 } else { bits.wrapping_mul(2) };
     }
-    assert_eq!(rt; Kinds::from_bits(256), None);
+    same(&rt, &Kinds::from_bits(256), &None, "no kind");
 }
 
 // Numbers of rules and of faults, and the kind of an event.
@@ -260,11 +259,14 @@ fn numbers(rt: HostRuntime) {
         Rule::Conflict.number(),
         Rule::NoHeir.number(),
     ];
-    assert_eq!(rt; rules, [1, 14, 28]);
-    assert_eq!(rt; ModelFault::NoClass.number(), 1);
-    assert_eq!(rt; ModelFault::BadPolicyKind.number(), 8);
+    same(&rt, &rules, &[1, 14, 28], "rules");
+    let faults = [
+        ModelFault::NoClass.number(),
+        ModelFault::BadPolicyKind.number(),
+    ];
+    same(&rt, &faults, &[1, 8], "faults");
     let begin: Event<Global> = Event::Begin(TxnId(1), ClassId(0));
-    assert_eq!(rt; begin.kind(), EventKind::Begin);
+    same(&rt, &begin.kind(), &EventKind::Begin, "a kind");
 }
 
 // Whether transactions of the class may commit, and neither split nor begin.
@@ -302,8 +304,8 @@ fn a_copy(rt: HostRuntime) {
 fn has_ops(rt: &impl Abort, alloc: Global, ops: &[OpNo], due: &[OpNo]) {
     let set = made(rt, OpSet::of(alloc, ops), "a set");
     let copied = made(rt, set.copy(), "a copy");
-    holds(rt, set.as_slice() == due, "a set");
-    holds(rt, copied.as_slice() == due, "a copy");
+    same(rt, &set.as_slice(), &due, "a set");
+    same(rt, &copied.as_slice(), &due, "a copy");
 }
 
 // A set of operations has each once, ascending.
@@ -334,17 +336,23 @@ do 1 n read
 commit 1
 abort 1";
 
-// The event that the line says.
-fn said(rt: &impl Abort, alloc: Global, model: &Model<Global>, line: &str) -> Event<Global> {
-    made(rt, read_event(alloc, model, line.as_bytes()), line)
+// Whether the line says the event.
+fn is_said(
+    rt: &impl Abort,
+    alloc: Global,
+    model: &Model<Global>,
+    event: &Event<Global>,
+    line: &str,
+) -> bool {
+    event.is_same(&event_of(rt, alloc, model, line))
 }
 
 // Of the lines, the event of this one is that of this one alone.
 fn is_said_once(rt: &impl Abort, alloc: Global, model: &Model<Global>, line: &str) {
-    let event = said(rt, alloc, model, line);
+    let event = event_of(rt, alloc, model, line);
     for other in EVENTS.lines() {
-        let is_same = event.is_same(&said(rt, alloc, model, other));
-        assert_eq!(rt; is_same, line == other, "at {line} and {other}");
+        let is_same = is_said(rt, alloc, model, &event, other);
+        same(rt, &is_same, &(line == other), other);
     }
 }
 

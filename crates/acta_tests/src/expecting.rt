@@ -22,7 +22,7 @@ pub fn same<T: PartialEq + Debug>(rt: &impl Abort, found: &T, due: &T, line: &st
 
 /// What was told are the bytes of what is due, at this line.
 pub fn tells(rt: &impl Abort, told: &[u8], due: &str, line: &str) {
-    assert_eq!(rt; told, due.as_bytes(), "at {line}");
+    same(rt, &told, &due.as_bytes(), line);
 }
 
 /// What stands before and behind the first of these words in a line.

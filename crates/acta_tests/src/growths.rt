@@ -1,12 +1,12 @@
 //! Each growth of a call refused in turn: the call answers want of memory, and changes nothing.
 
-use crate::calls::{new_machine, places_of, run_on, take};
+use crate::calls::{copy_of, new_machine, owed_by, places_of, run_on, take};
 use crate::expecting::{holds, made, number_of, parted, same, tells};
-use crate::models::{PARTING, model_of};
+use crate::models::{PARTING, event_of, model_of};
 use acta_machine::Machine;
 use acta_models::Standard;
 use acta_objects::{ObjectState, replay};
-use acta_script::{answer_line, read_event};
+use acta_script::answer_line;
 use acta_table::{
     Answer, Dep, Dependent, Event, Items, Kept, Kind, Model, ObjId, Op, OpNo, OpSet, StartEdge,
     StartEdges, Status, TxnId,
@@ -61,11 +61,7 @@ fn grow_line<A: Allocator + Copy, B: Allocator>(
 ) {
     let (said, due) = parted(rt, line, " : ");
     let (due, growths) = parted(rt, due, " : ");
-    let event = made(
-        rt,
-        read_event(alloc, machine.model(), said.as_bytes()),
-        line,
-    );
+    let event = event_of(rt, alloc, machine.model(), said);
     let (answer, refused) = refuse_each(rt, heap, machine, &event);
     same(rt, &Some(refused), &number_of(growths), line);
     let told = made(rt, answer_line(alloc, &answer), line);
@@ -181,7 +177,7 @@ fn numbers(ops: &[OpNo]) -> usize {
 
 // How many events, edges and debts the machine shows, as digits.
 fn counted<A: Allocator + Copy>(machine: &Machine<A>) -> Result<usize, AllocError> {
-    let debts = machine.owed()?.len();
+    let debts = owed_by(machine)?.len();
     let (events, edges) = (machine.history().len(), machine.edges().len());
     let digits = events.wrapping_mul(10).wrapping_add(edges);
     Ok(digits.wrapping_mul(10).wrapping_add(debts))
@@ -189,8 +185,7 @@ fn counted<A: Allocator + Copy>(machine: &Machine<A>) -> Result<usize, AllocErro
 
 // The same of a copy of the machine.
 fn copied<A: Allocator + Copy>(machine: &Machine<A>) -> Result<usize, AllocError> {
-    let copy = machine.copy()?;
-    counted(&copy)
+    counted(&copy_of(machine)?)
 }
 
 // Where the first transaction starts, by an index of the history.
@@ -276,7 +271,7 @@ fn of_machine<A: Allocator + Copy>(
         "conflicts of child" => numbers(&machine.conflict_set(TxnId(3))?),
         "view set" => numbers(&machine.view_set()?),
         "value" => usize::from(machine.value(ObjId(3))?.is_some()),
-        "owed" => machine.owed()?.len(),
+        "owed" => owed_by(machine)?.len(),
         "machine copy" => copied(machine)?,
         "first start" => first_start(alloc, machine)?,
         _ => return Ok(None),
@@ -360,7 +355,7 @@ fn grow<A: Allocator + Copy, B: Allocator>(
 fn read<A: Allocator + Copy>(rt: &impl Abort, alloc: A, model: &Model<A>) -> Vec<Event<A>, A> {
     let mut events = Vec::new(alloc);
     for line in READ.lines() {
-        let event = made(rt, read_event(alloc, model, line.as_bytes()), line);
+        let event = event_of(rt, alloc, model, line);
         made(rt, events.push(event), line);
     }
     events

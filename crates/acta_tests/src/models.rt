@@ -1,8 +1,9 @@
-//! The models of the histories, as texts.
+//! The models of the histories, as texts, and what is read of texts and lines.
 
 use crate::expecting::made;
 use acta_lang::assemble;
-use acta_table::Model;
+use acta_script::read_event;
+use acta_table::{Event, Model};
 use std::alloc::Allocator;
 use std::process::Abort;
 
@@ -208,6 +209,16 @@ pub struct Models<A: Allocator> {
 /// The model that the text means.
 pub fn model_of<A: Allocator + Copy>(rt: &impl Abort, alloc: A, text: &str) -> Model<A> {
     made(rt, assemble(alloc, text.as_bytes()), "a model")
+}
+
+/// The event that the line says.
+pub fn event_of<A: Allocator + Copy>(
+    rt: &impl Abort,
+    alloc: A,
+    model: &Model<A>,
+    line: &str,
+) -> Event<A> {
+    made(rt, read_event(alloc, model, line.as_bytes()), line)
 }
 
 impl<A: Allocator + Copy> Models<A> {

@@ -1,14 +1,13 @@
 //! Two transactions and one edge between them, through each order of their starts and ends: the machine refuses and
 //! owes what the formula of its kind says.
 
-use crate::calls::{new_machine, places_of, take};
+use crate::calls::{new_machine, owed_by, places_of, take};
 use crate::expecting::{holds, made, same};
 use crate::formulas::{course_of, is_false, payment};
-use crate::models::model_of;
+use crate::models::{event_of, model_of};
 use acta_axioms::Places;
 use acta_machine::Machine;
 use acta_models::Standard;
-use acta_script::read_event;
 use acta_table::{Answer, Dep, Edge, EdgeNo, Event, Kept, Missing, Model, Owed, Rule, TxnId};
 use std::alloc::Allocator;
 use std::process::Abort;
@@ -86,7 +85,7 @@ fn agrees<A: Allocator + Copy>(
     let (is_broken, missing) = found_after(rt, alloc, machine, kind, event);
     match made(rt, take(machine, event), "an answer") {
         Answer::Admitted { .. } => {
-            let owed = made(rt, machine.owed(), "debts");
+            let owed = made(rt, owed_by(machine), "debts");
             holds(rt, !is_broken, kind.word());
             holds(rt, is_due(&owed, missing), "what is owed");
             (false, missing.is_some())
@@ -133,7 +132,7 @@ fn along<A: Allocator + Copy>(
     let (mut refused, mut owed) = (false, false);
     let mut machine = formed(rt, alloc, model, kind, order);
     for said in order.split(", ") {
-        let event = made(rt, read_event(alloc, model, said.as_bytes()), said);
+        let event = event_of(rt, alloc, model, said);
         let said = agrees(rt, alloc, &mut machine, kind, &event);
         refused |= said.0;
         owed |= said.1;

@@ -13,11 +13,10 @@
 use crate::calls::places_of;
 use crate::expecting::{holds, made, parted, tells};
 use crate::lists::by_model;
-use crate::models::Models;
+use crate::models::{Models, event_of};
 use crate::showing::{put_edges, put_number, put_word, txn};
 use crate::walking::follows_places;
 use acta_axioms::Places;
-use acta_script::read_event;
 use acta_table::{Event, Fate, Kept, Model, OpNo, Ret, TxnId};
 use acta_words::read_u32;
 use std::alloc::Allocator;
@@ -102,7 +101,7 @@ fn ask<A: Allocator + Copy>(
 
 // Reads the event of a line, as it is kept; the places don't look at what an operation returned.
 fn kept<A: Allocator + Copy>(rt: &impl Abort, alloc: A, model: &Model<A>, line: &str) -> Kept<A> {
-    let event = made(rt, read_event(alloc, model, line.as_bytes()), line);
+    let event = event_of(rt, alloc, model, line);
     let ret = match event {
         Event::Operate(_, _, _) => Some(Ret::Done),
         _ => None,

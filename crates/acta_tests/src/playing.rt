@@ -11,13 +11,13 @@
 //! a history at once answers them as one after another.
 
 use crate::agreeing::differing;
-use crate::calls::{new_machine, run_on, take};
+use crate::calls::{copy_of, new_machine, run_on, take};
 use crate::expecting::{holds, made, parted, same, tells};
 use crate::histories::by_model;
-use crate::models::Models;
+use crate::models::{Models, event_of};
 use crate::showing::shown;
 use acta_machine::Machine;
-use acta_script::{answer_line, read_event};
+use acta_script::answer_line;
 use acta_table::{Answer, Event, Model};
 use std::alloc::Allocator;
 use std::process::Abort;
@@ -55,7 +55,7 @@ impl<A: Allocator + Copy> Played<A> {
     // The machine answers the event of the line as it says, and shows what the places of its history say.
     fn take(&mut self, rt: &impl Abort, alloc: A, models: &Models<A>, line: &str) {
         let (said, due) = parted(rt, line, " : ");
-        let event = made(rt, read_event(alloc, &models.wider, said.as_bytes()), line);
+        let event = event_of(rt, alloc, &models.wider, said);
         let answer = made(rt, take(&mut self.machine, &event), line);
         made(rt, self.events.push(event), line);
         made(rt, self.answers.push(answer), line);
@@ -68,7 +68,7 @@ impl<A: Allocator + Copy> Played<A> {
     // The machine, and a copy of it, show what the line says.
     fn ask(&self, rt: &impl Abort, alloc: A, models: &Models<A>, line: &str) {
         let asked = parted(rt, line, " :");
-        let copied = made(rt, self.machine.copy(), "a copy");
+        let copied = made(rt, copy_of(&self.machine), "a copy");
         shows(rt, alloc, models, &self.machine, asked);
         shows(rt, alloc, models, &copied, asked);
     }

@@ -1,5 +1,6 @@
 //! What a machine shows, as words: each word has a space before it, and no word is nothing.
 
+use crate::calls::owed_by;
 use crate::expecting::made;
 use crate::models::Models;
 use acta_machine::Machine;
@@ -47,7 +48,7 @@ fn put_debts<A: Allocator + Copy>(
     line: &mut Vec<u8, A>,
     machine: &Machine<A>,
 ) {
-    for debt in &made(rt, machine.owed(), "debts") {
+    for debt in &made(rt, owed_by(machine), "debts") {
         let owed = made(rt, owed_line(alloc, debt), "a debt");
         made(rt, push_word(line, &owed), "a debt");
     }

@@ -2,9 +2,8 @@
 
 use crate::calls::walk_of;
 use crate::expecting::{holds, made, number_of, parted, same};
-use crate::models::{FOLLOWING, LENDING, model_of};
+use crate::models::{FOLLOWING, LENDING, event_of, model_of};
 use acta_axioms::Walk;
-use acta_script::read_event;
 use acta_table::{Kept, Model};
 use refusing::Refusing;
 use std::alloc::Allocator;
@@ -53,14 +52,28 @@ fn read<A: Allocator + Copy>(
     let mut kept = Vec::new(alloc);
     for line in text.lines() {
         let (said, _) = parted(rt, line, " : ");
-        let event = made(rt, read_event(alloc, model, said.as_bytes()), line);
+        let event = event_of(rt, alloc, model, said);
         made(rt, kept.push(Kept { event, ret: None }), line);
     }
     kept
 }
 
-// Steps through the events of the lines, each growth refused in turn: behind each event stands how many growths the
-// step over it has.
+// Steps over the events of the lines, each growth refused in turn: behind each event stands how many growths the step
+// over it has.
+fn step_over<A: Allocator + Copy, B: Allocator>(
+    rt: &impl Abort,
+    heap: &Refusing<B>,
+    walk: &mut Walk<'_, A>,
+    text: &str,
+) {
+    for line in text.lines() {
+        let (_, growths) = parted(rt, line, " : ");
+        let refused = step_each(rt, heap, walk);
+        same(rt, &Some(refused), &number_of(growths), line);
+    }
+}
+
+// Steps through the list that the text means.
 fn steps<A: Allocator + Copy, B: Allocator>(
     rt: &impl Abort,
     heap: &Refusing<B>,
@@ -71,11 +84,7 @@ fn steps<A: Allocator + Copy, B: Allocator>(
     let model = model_of(rt, alloc, model);
     let kept = read(rt, alloc, &model, text);
     let mut walk = made(rt, walk_of(alloc, &model, kept.as_slice()), "a walk");
-    for line in text.lines() {
-        let (_, growths) = parted(rt, line, " : ");
-        let refused = step_each(rt, heap, &mut walk);
-        same(rt, &Some(refused), &number_of(growths), line);
-    }
+    step_over(rt, heap, &mut walk, text);
 }
 
 // Of the operations; for an operation with edges, of the set of those whom it depends on, of the edges that are due,

@@ -1,13 +1,12 @@
 //! Each history that a machine keeps is judged without a fault, and owes what the machine does.
 
-use crate::calls::{new_machine, take};
+use crate::calls::{new_machine, owed_by, take};
 use crate::expecting::{made, parted, same};
 use crate::histories::by_model;
 use crate::judging::verdicts::{lines_of_all, told};
-use crate::models::Models;
+use crate::models::{Models, event_of};
 use acta_judge::Verdict;
 use acta_machine::Machine;
-use acta_script::read_event;
 use acta_table::Items;
 use std::alloc::Allocator;
 use std::process::Abort;
@@ -16,7 +15,7 @@ use std::process::Abort;
 fn due<A: Allocator + Copy>(rt: &impl Abort, alloc: A, machine: &Machine<A>) -> Vec<u8, A> {
     let verdict = Verdict {
         faults: Items::new(alloc),
-        owed: Items::of(made(rt, machine.owed(), "debts")),
+        owed: Items::of(made(rt, owed_by(machine), "debts")),
     };
     told(rt, alloc, &verdict)
 }
@@ -30,7 +29,7 @@ fn step<A: Allocator + Copy>(
     line: &str,
 ) {
     let (said, _) = parted(rt, line, " : ");
-    let event = made(rt, read_event(alloc, &models.wider, said.as_bytes()), line);
+    let event = event_of(rt, alloc, &models.wider, said);
     made(rt, take(machine, &event), line);
     let lines = lines_of_all(rt, alloc, machine.model(), machine.history(), line);
     same(
@@ -41,17 +40,27 @@ fn step<A: Allocator + Copy>(
     );
 }
 
-// Plays the histories of the model that the text means. A line begins a history, asks what the machine shows, or has an
-// event and its answer.
+// Does what a line says: it begins a history, asks what the machine shows, or has an event and its answer.
+fn follow<A: Allocator + Copy>(
+    rt: &impl Abort,
+    alloc: A,
+    models: &Models<A>,
+    machine: &mut Machine<A>,
+    line: &str,
+) {
+    if line.starts_with("# ") {
+        *machine = made(rt, new_machine(alloc, &models.model), line);
+    } else if !line.starts_with("? ") {
+        step(rt, alloc, models, machine, line);
+    }
+}
+
+// Plays the histories of the model that the text means.
 fn play<A: Allocator + Copy>(rt: &impl Abort, alloc: A, model: &str, histories: &str) {
     let models = Models::of(rt, alloc, model);
     let mut machine = made(rt, new_machine(alloc, &models.model), "a machine");
     for line in histories.lines() {
-        if line.starts_with("# ") {
-            machine = made(rt, new_machine(alloc, &models.model), line);
-        } else if !line.starts_with("? ") {
-            step(rt, alloc, &models, &mut machine, line);
-        }
+        follow(rt, alloc, &models, &mut machine, line);
     }
 }
 

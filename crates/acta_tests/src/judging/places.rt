@@ -3,15 +3,14 @@
 use crate::expecting::made;
 use crate::judging::verdicts::lines_on;
 use crate::lists::by_model;
-use crate::models::Models;
-use acta_script::read_event;
+use crate::models::{Models, event_of};
 use acta_table::{EventKind, Kept, Model, Ret};
 use std::alloc::Allocator;
 use std::process::Abort;
 
 // The event as it is kept. Each operation returns the same, so that some returns are not those due.
 fn kept<A: Allocator + Copy>(rt: &impl Abort, alloc: A, model: &Model<A>, line: &str) -> Kept<A> {
-    let event = made(rt, read_event(alloc, model, line.as_bytes()), line);
+    let event = event_of(rt, alloc, model, line);
     let ret = if event.kind() == EventKind::Operate {
         Some(Ret::Done)
     } else {
@@ -20,18 +19,28 @@ fn kept<A: Allocator + Copy>(rt: &impl Abort, alloc: A, model: &Model<A>, line: 
     Kept { event, ret }
 }
 
-// Goes through the lists of the model that the text means. A line begins a list, asks something of it, or puts an event
-// behind it, with which it is judged.
+// Does what a line says: it begins a list, asks something of it, or puts an event behind it, with which it is judged.
+fn follow<A: Allocator + Copy>(
+    rt: &impl Abort,
+    alloc: A,
+    models: &Models<A>,
+    items: &mut Vec<Kept<A>, A>,
+    line: &str,
+) {
+    if line.starts_with("# ") {
+        items.clear();
+    } else if !line.starts_with("? ") {
+        made(rt, items.push(kept(rt, alloc, &models.wider, line)), line);
+        lines_on(rt, alloc, &models.model, items.as_slice(), line);
+    }
+}
+
+// Goes through the lists of the model that the text means.
 fn play<A: Allocator + Copy>(rt: &impl Abort, alloc: A, model: &str, lists: &str) {
     let models = Models::of(rt, alloc, model);
     let mut items = Vec::new(alloc);
     for line in lists.lines() {
-        if line.starts_with("# ") {
-            items.clear();
-        } else if !line.starts_with("? ") {
-            made(rt, items.push(kept(rt, alloc, &models.wider, line)), line);
-            lines_on(rt, alloc, &models.model, items.as_slice(), line);
-        }
+        follow(rt, alloc, &models, &mut items, line);
     }
 }
 

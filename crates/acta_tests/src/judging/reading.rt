@@ -21,19 +21,26 @@ pub struct Judged<A: Allocator> {
 }
 
 impl<A: Allocator + Copy> Judged<A> {
-    /// What the lines say, in the words of the model. A line is of the verdict, or a kept item.
-    pub fn read(rt: &impl Abort, alloc: A, model: &Model<A>, lines: &str) -> Judged<A> {
-        let mut items = Vec::new(alloc);
-        let mut due = String::new(alloc);
-        for line in lines.lines() {
-            if line.starts_with("fault ") || line.starts_with("owed ") {
-                made(rt, due.push_str(line), line);
-                made(rt, due.push_str("\n"), line);
-            } else {
-                let kept = made(rt, read_kept(alloc, model, line.as_bytes()), line);
-                made(rt, items.push(kept), line);
-            }
+    // One line more: of the verdict, or a kept item.
+    fn push(&mut self, rt: &impl Abort, alloc: A, model: &Model<A>, line: &str) {
+        if line.starts_with("fault ") || line.starts_with("owed ") {
+            made(rt, self.due.push_str(line), line);
+            made(rt, self.due.push_str("\n"), line);
+        } else {
+            let kept = made(rt, read_kept(alloc, model, line.as_bytes()), line);
+            made(rt, self.items.push(kept), line);
         }
-        Judged { items, due }
+    }
+
+    /// What the lines say, in the words of the model.
+    pub fn read(rt: &impl Abort, alloc: A, model: &Model<A>, lines: &str) -> Judged<A> {
+        let mut judged = Judged {
+            items: Vec::new(alloc),
+            due: String::new(alloc),
+        };
+        for line in lines.lines() {
+            judged.push(rt, alloc, model, line);
+        }
+        judged
     }
 }

@@ -6,11 +6,10 @@ use crate::expecting::made;
 use crate::formulas::{course_of, is_false, payment};
 use crate::judging::asking::{Before, Said};
 use crate::judging::telling::Faults;
-use acta_axioms::{Axiom, Course, Fault, Places};
+use acta_axioms::{Axiom, Course, Places, Walk};
 use acta_judge::Verdict;
 use acta_table::{Dep, Edge, EdgeNo, Items, Kept, Missing, Model, Owed};
 use std::alloc::Allocator;
-use std::collections::BTreeSet;
 use std::process::Abort;
 
 // Where a formula of the kind that is false and not owed became so.
@@ -40,18 +39,20 @@ fn settled<A: Allocator + Copy>(
     }
 }
 
-// Tells the faults by edges, and gives what is owed, by edge number.
-fn tell_edges<A: Allocator + Copy>(
+// Tells the faults by the list's edges, and gives what is owed, by edge number.
+fn tell_owed<A: Allocator + Copy>(
     rt: &impl Abort,
     alloc: A,
-    places: &Places<'_, A>,
+    model: &Model<A>,
+    kept: &[Kept<A>],
     faults: &mut Faults<A>,
 ) -> Vec<Owed, A> {
+    let places = made(rt, places_of(alloc, model, kept), "places");
     let mut owed = Vec::new(alloc);
     let mut number = 0u64;
     for edge in places.edges() {
         number = number.saturating_add(1);
-        let (place, missing) = settled(places, edge);
+        let (place, missing) = settled(&places, edge);
         if let Some(place) = place {
             faults.tell_at(rt, place, Axiom::Dependency(edge.kind), number);
         }
@@ -75,6 +76,21 @@ fn tell_clashes<A: Allocator + Copy>(rt: &impl Abort, owed: &[Owed], faults: &mu
     }
 }
 
+// Tells the faults at the next place, behind the items in front, and goes one item further.
+fn tell_place<'a, A: Allocator + Copy>(
+    rt: &impl Abort,
+    alloc: A,
+    walk: &mut Walk<'a, A>,
+    front: &mut Vec<Said<'a>, A>,
+    faults: &mut Faults<A>,
+) {
+    let said = Said::of(walk.next().expect(rt, "an item"));
+    faults.place = faults.place.saturating_add(1);
+    Before::of(rt, alloc, walk, front.as_slice(), said.asked).tell_all(rt, &said, faults);
+    made(rt, front.push(said), "an item");
+    made(rt, walk.step(), "a step");
+}
+
 // Tells the faults at all places of the list, place by place.
 fn tell_places<A: Allocator + Copy>(
     rt: &impl Abort,
@@ -86,21 +102,8 @@ fn tell_places<A: Allocator + Copy>(
     let mut walk = made(rt, walk_of(alloc, model, kept), "a walk");
     let mut front = Vec::new(alloc);
     for _ in kept {
-        let said = Said::of(walk.next().expect(rt, "an item"));
-        faults.place = faults.place.saturating_add(1);
-        Before::of(rt, alloc, &walk, front.as_slice(), said.asked).tell_all(rt, said, faults);
-        made(rt, front.push(said), "an item");
-        made(rt, walk.step(), "a step");
+        tell_place(rt, alloc, &mut walk, &mut front, faults);
     }
-}
-
-// The faults, in order.
-fn listed<A: Allocator + Copy>(rt: &impl Abort, alloc: A, faults: &Faults<A>) -> Vec<Fault, A> {
-    let mut listed = Vec::new(alloc);
-    for fault in faults.found.iter() {
-        made(rt, listed.push(*fault), "a fault");
-    }
-    listed
 }
 
 /// The verdict on the list, slowly.
@@ -111,15 +114,17 @@ pub fn judged_slowly<A: Allocator + Copy>(
     kept: &[Kept<A>],
 ) -> Verdict<A> {
     let mut faults = Faults {
-        found: BTreeSet::new(alloc),
+        found: Vec::new(alloc),
         place: 0,
     };
     tell_places(rt, alloc, model, kept, &mut faults);
-    let places = made(rt, places_of(alloc, model, kept), "places");
-    let owed = tell_edges(rt, alloc, &places, &mut faults);
+    let owed = tell_owed(rt, alloc, model, kept, &mut faults);
     tell_clashes(rt, owed.as_slice(), &mut faults);
+    let mut found = faults.found;
+    found.sort_unstable();
+    found.dedup();
     Verdict {
-        faults: Items::of(listed(rt, alloc, &faults)),
+        faults: Items::of(found),
         owed: Items::of(owed),
     }
 }
