@@ -175,9 +175,14 @@ fn numbers(ops: &[OpNo]) -> usize {
     number
 }
 
+// How many debts the machine shows.
+fn debts<A: Allocator + Copy>(machine: &Machine<A>) -> Result<usize, AllocError> {
+    Ok(owed_by(machine)?.len())
+}
+
 // How many events, edges and debts the machine shows, as digits.
 fn counted<A: Allocator + Copy>(machine: &Machine<A>) -> Result<usize, AllocError> {
-    let debts = owed_by(machine)?.len();
+    let debts = debts(machine)?;
     let (events, edges) = (machine.history().len(), machine.edges().len());
     let digits = events.wrapping_mul(10).wrapping_add(edges);
     Ok(digits.wrapping_mul(10).wrapping_add(debts))
@@ -186,6 +191,30 @@ fn counted<A: Allocator + Copy>(machine: &Machine<A>) -> Result<usize, AllocErro
 // The same of a copy of the machine.
 fn copied<A: Allocator + Copy>(machine: &Machine<A>) -> Result<usize, AllocError> {
     counted(&copy_of(machine)?)
+}
+
+// Whether an object has a value, as a number.
+fn valued<A: Allocator + Copy>(machine: &Machine<A>) -> Result<usize, AllocError> {
+    Ok(usize::from(machine.value(ObjId(3))?.is_some()))
+}
+
+// How many events a run has kept.
+fn ran<A: Allocator + Copy>(
+    alloc: A,
+    model: &Model<A>,
+    events: &[Event<A>],
+) -> Result<usize, AllocError> {
+    Ok(run_on(alloc, model, events)?.machine.history().len())
+}
+
+// How many classes a copy of the model has.
+fn classes<A: Allocator + Copy>(model: &Model<A>) -> Result<usize, AllocError> {
+    Ok(model.copy()?.classes().len())
+}
+
+// How many events a new machine has.
+fn begun<A: Allocator + Copy>(alloc: A, model: &Model<A>) -> Result<usize, AllocError> {
+    Ok(new_machine(alloc, model)?.history().len())
 }
 
 // Where the first transaction starts, by an index of the history.
@@ -258,6 +287,21 @@ fn one_item<A: Allocator + Copy>(alloc: A) -> Result<usize, AllocError> {
     Ok(copied.as_slice().len())
 }
 
+// The numbers of a set of operations that the machine shows, or none where another call is meant.
+fn of_sets<A: Allocator + Copy>(
+    machine: &Machine<A>,
+    call: &str,
+) -> Result<Option<usize>, AllocError> {
+    let ops = match call {
+        "access set" => machine.access_set(ONE)?,
+        "conflicts of root" => machine.conflict_set(TxnId(4))?,
+        "conflicts of child" => machine.conflict_set(TxnId(3))?,
+        "view set" => machine.view_set()?,
+        _ => return Ok(None),
+    };
+    Ok(Some(numbers(&ops)))
+}
+
 // What a call on a machine answers, as a number, or none where it is another call: the numbers of operations, whether
 // an object has a value, how many debts there are, and where the first transaction starts.
 fn of_machine<A: Allocator + Copy>(
@@ -266,15 +310,11 @@ fn of_machine<A: Allocator + Copy>(
     call: &str,
 ) -> Result<Option<usize>, AllocError> {
     let answer = match call {
-        "access set" => numbers(&machine.access_set(ONE)?),
-        "conflicts of root" => numbers(&machine.conflict_set(TxnId(4))?),
-        "conflicts of child" => numbers(&machine.conflict_set(TxnId(3))?),
-        "view set" => numbers(&machine.view_set()?),
-        "value" => usize::from(machine.value(ObjId(3))?.is_some()),
-        "owed" => owed_by(machine)?.len(),
+        "value" => valued(machine)?,
+        "owed" => debts(machine)?,
         "machine copy" => copied(machine)?,
         "first start" => first_start(alloc, machine)?,
-        _ => return Ok(None),
+        _ => return of_sets(machine, call),
     };
     Ok(Some(answer))
 }
@@ -288,9 +328,9 @@ fn of_model<A: Allocator + Copy>(
     call: &str,
 ) -> Result<usize, AllocError> {
     match call {
-        "run" => Ok(run_on(alloc, model, events)?.machine.history().len()),
-        "model copy" => Ok(model.copy()?.classes().len()),
-        "new machine" => Ok(new_machine(alloc, model)?.history().len()),
+        "run" => ran(alloc, model, events),
+        "model copy" => classes(model),
+        "new machine" => begun(alloc, model),
         "element" => one_element(alloc),
         "replay" => replayed(alloc),
         "op set" => named(alloc),

@@ -27,6 +27,15 @@ fn number(rt: &impl Abort, word: &str) -> u32 {
     read_u32(word.as_bytes()).expect(rt, "a number")
 }
 
+fn fate_word(fate: Option<Fate>) -> &'static str {
+    match fate {
+        Some(Fate::InProgress) => "open",
+        Some(Fate::Committed) => "committed",
+        Some(Fate::Aborted) => "aborted",
+        None => "none",
+    }
+}
+
 // Writes who holds an operation after so many places, if anyone, and what became of it: `OP at N` asks for it.
 fn put_standing<A: Allocator + Copy>(
     rt: &impl Abort,
@@ -39,30 +48,27 @@ fn put_standing<A: Allocator + Copy>(
     if let Some(holder) = places.holder(op, n) {
         put_number(rt, line, u64::from(holder.0));
     }
-    let fate = match places.fate(op, n) {
-        Some(Fate::InProgress) => "open",
-        Some(Fate::Committed) => "committed",
-        Some(Fate::Aborted) => "aborted",
-        None => "none",
-    };
-    put_word(rt, line, fate);
+    put_word(rt, line, fate_word(places.fate(op, n)));
 }
 
-// Writes the first place of the event of a transaction that the word names.
-fn put_place<A: Allocator + Copy>(
+// The first place of the event of a transaction that the word names.
+fn place_of<A: Allocator + Copy>(
     rt: &impl Abort,
-    line: &mut Vec<u8, A>,
     places: &Places<'_, A>,
     word: &str,
     t: TxnId,
-) {
-    let place = match word {
+) -> Option<u32> {
+    match word {
         "start" => places.start(t),
         "commit" => places.commit(t),
         "abort" => places.abort(t),
         "join" => places.join(t),
         _ => panic!(rt; "{word} asks nothing"),
-    };
+    }
+}
+
+// Writes a place, or that there is none.
+fn put_place<A: Allocator + Copy>(rt: &impl Abort, line: &mut Vec<u8, A>, place: Option<u32>) {
     match place {
         Some(place) => put_number(rt, line, u64::from(place)),
         None => put_word(rt, line, "none"),
@@ -80,7 +86,7 @@ fn put_said<A: Allocator + Copy>(
     match word {
         "op" => put_standing(rt, line, places, rest),
         "edges" => put_edges(rt, line, places.edges()),
-        _ => put_place(rt, line, places, word, txn(rt, rest)),
+        _ => put_place(rt, line, place_of(rt, places, word, txn(rt, rest))),
     }
 }
 
