@@ -95,6 +95,20 @@ pub fn status_by(course: Course) -> Status {
     }
 }
 
+// Whether t holds the operation in progress, and whether another does whose operations are in t's conflict set.
+fn standing<A: Allocator + Copy>(
+    model: &Model<A>,
+    history: &[Kept<A>],
+    places: &Places<'_, A>,
+    t: TxnId,
+    op: OpNo,
+) -> (bool, bool) {
+    match (places.holder(op, END), places.fate(op, END)) {
+        (Some(u), Some(Fate::InProgress)) => (u == t, is_against(model, history, u, t)),
+        _ => (false, false),
+    }
+}
+
 // The machine shows how a transaction stands, and its sets, operation by operation.
 fn shows_txn<A: Allocator + Copy>(
     rt: &impl Abort,
@@ -108,12 +122,8 @@ fn shows_txn<A: Allocator + Copy>(
     let mut shows = machine.status(t) == status_by(course_of(places, t));
     for number in 1..OPS {
         let op = OpNo(number);
-        let (mut is_held, mut is_other) = (false, false);
-        if let (Some(u), Some(Fate::InProgress)) = (places.holder(op, END), places.fate(op, END)) {
-            is_held = u == t;
-            is_other = is_against(model, machine.history(), u, t);
-        }
-        shows &= access.contains(&op) == is_held && others.contains(&op) == is_other;
+        let due = standing(model, machine.history(), places, t, op);
+        shows &= (access.contains(&op), others.contains(&op)) == due;
     }
     shows
 }
@@ -190,6 +200,25 @@ fn shows_txns<A: Allocator + Copy>(
     shows
 }
 
+// What the machine shows that isn't what these places say.
+fn differing_from<A: Allocator + Copy>(
+    rt: &impl Abort,
+    alloc: A,
+    model: &Model<A>,
+    machine: &Machine<A>,
+    places: &Places<'_, A>,
+) -> &'static str {
+    if !shows_txns(rt, model, machine, places) {
+        "transactions"
+    } else if !shows_view(rt, machine, places) {
+        "the view"
+    } else if !shows_edges(rt, alloc, machine, places) {
+        "edges"
+    } else {
+        "nothing"
+    }
+}
+
 /// What the machine shows that isn't what the places of its history say.
 pub fn differing<A: Allocator + Copy>(
     rt: &impl Abort,
@@ -197,16 +226,9 @@ pub fn differing<A: Allocator + Copy>(
     model: &Model<A>,
     machine: &Machine<A>,
 ) -> &'static str {
-    let places = made(rt, places_of(alloc, model, machine.history()), "places");
     if !follows_machine(rt, alloc, machine) {
-        "a walk"
-    } else if !shows_txns(rt, model, machine, &places) {
-        "transactions"
-    } else if !shows_view(rt, machine, &places) {
-        "the view"
-    } else if !shows_edges(rt, alloc, machine, &places) {
-        "edges"
-    } else {
-        "nothing"
+        return "a walk";
     }
+    let places = made(rt, places_of(alloc, model, machine.history()), "places");
+    differing_from(rt, alloc, model, machine, &places)
 }

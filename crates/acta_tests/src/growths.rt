@@ -68,6 +68,19 @@ fn grow_line<A: Allocator + Copy, B: Allocator>(
     tells(rt, told.as_slice(), due, line);
 }
 
+// Takes the events of the lines on the machine.
+fn grow_lines<A: Allocator + Copy, B: Allocator>(
+    rt: &impl Abort,
+    heap: &Refusing<B>,
+    alloc: A,
+    machine: &mut Machine<A>,
+    text: &str,
+) {
+    for line in text.lines() {
+        grow_line(rt, heap, alloc, machine, line);
+    }
+}
+
 // Takes the events of the lines on a new machine.
 fn grow_each<A: Allocator + Copy, B: Allocator>(
     rt: &impl Abort,
@@ -78,9 +91,7 @@ fn grow_each<A: Allocator + Copy, B: Allocator>(
 ) {
     let model = model_of(rt, alloc, model);
     let mut machine = made(rt, new_machine(alloc, &model), "a machine");
-    for line in text.lines() {
-        grow_line(rt, heap, alloc, &mut machine, line);
-    }
+    grow_lines(rt, heap, alloc, &mut machine, text);
 }
 
 // Of the history, of the edges, and of the set of those who would owe an abort.
@@ -401,14 +412,25 @@ fn read<A: Allocator + Copy>(rt: &impl Abort, alloc: A, model: &Model<A>) -> Vec
     events
 }
 
+// The growths of each call on the machine, and on its events.
+fn grow_all<A: Allocator + Copy, B: Allocator>(
+    rt: &impl Abort,
+    heap: &Refusing<B>,
+    alloc: A,
+    machine: &Machine<A>,
+    events: &[Event<A>],
+) {
+    for line in CALLS.lines() {
+        grow(rt, heap, alloc, machine, events, line);
+    }
+}
+
 // The growths of each call on the model of nested transactions, after the events that are read.
 fn grow_calls<A: Allocator + Copy, B: Allocator>(rt: &impl Abort, heap: &Refusing<B>, alloc: A) {
     let model = model_of(rt, alloc, Standard::Nested.text());
     let events = read(rt, alloc, &model);
     let run = made(rt, run_on(alloc, &model, &events), "a run");
-    for line in CALLS.lines() {
-        grow(rt, heap, alloc, &run.machine, &events, line);
-    }
+    grow_all(rt, heap, alloc, &run.machine, &events);
 }
 
 #[test]

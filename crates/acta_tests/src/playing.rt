@@ -12,7 +12,7 @@
 
 use crate::agreeing::differing;
 use crate::calls::{copy_of, new_machine, run_on, take};
-use crate::expecting::{holds, made, parted, same, tells};
+use crate::expecting::{made, parted, same, tells};
 use crate::histories::by_model;
 use crate::models::{Models, event_of};
 use crate::showing::shown;
@@ -76,10 +76,10 @@ impl<A: Allocator + Copy> Played<A> {
     // A machine that runs the events at once answers the same, and has the same edges.
     fn end(&self, rt: &impl Abort, alloc: A, model: &Model<A>) {
         let run = made(rt, run_on(alloc, model, &self.events), "a run");
-        let same = run.answers.as_slice() == self.answers.as_slice();
-        holds(rt, same, "the answers of a run");
-        let same = run.machine.edges() == self.machine.edges();
-        holds(rt, same, "the edges of a run");
+        let (found, due) = (run.answers.as_slice(), self.answers.as_slice());
+        same(rt, &found, &due, "the answers of a run");
+        let (found, due) = (run.machine.edges(), self.machine.edges());
+        same(rt, &found, &due, "the edges of a run");
     }
 }
 

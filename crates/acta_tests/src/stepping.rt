@@ -73,6 +73,19 @@ fn step_over<A: Allocator + Copy, B: Allocator>(
     }
 }
 
+// Steps through the list that the text means, on this model.
+fn steps_on<A: Allocator + Copy, B: Allocator>(
+    rt: &impl Abort,
+    heap: &Refusing<B>,
+    alloc: A,
+    model: &Model<A>,
+    text: &str,
+) {
+    let kept = read(rt, alloc, model, text);
+    let mut walk = made(rt, walk_of(alloc, model, kept.as_slice()), "a walk");
+    step_over(rt, heap, &mut walk, text);
+}
+
 // Steps through the list that the text means.
 fn steps<A: Allocator + Copy, B: Allocator>(
     rt: &impl Abort,
@@ -82,9 +95,7 @@ fn steps<A: Allocator + Copy, B: Allocator>(
     text: &str,
 ) {
     let model = model_of(rt, alloc, model);
-    let kept = read(rt, alloc, &model, text);
-    let mut walk = made(rt, walk_of(alloc, &model, kept.as_slice()), "a walk");
-    step_over(rt, heap, &mut walk, text);
+    steps_on(rt, heap, alloc, &model, text);
 }
 
 // Of the operations; for an operation with edges, of the set of those whom it depends on, of the edges that are due,

@@ -263,6 +263,12 @@ fn same_places<A: Allocator + Copy>(
     same
 }
 
+// The walk shows what the places of the items that it has taken say.
+fn follows<A: Allocator + Copy>(rt: &impl Abort, alloc: A, walk: &Walk<'_, A>) -> bool {
+    let places = made(rt, places_of(alloc, walk.model(), walk.front()), "places");
+    same_places(rt, walk, &places)
+}
+
 /// Whether a walk through any list shows what the places of the list say.
 pub fn follows_places<A: Allocator + Copy>(
     rt: &impl Abort,
@@ -271,6 +277,5 @@ pub fn follows_places<A: Allocator + Copy>(
     kept: &[Kept<A>],
 ) -> bool {
     let walk = walked(rt, alloc, model, kept);
-    let places = made(rt, places_of(alloc, model, walk.front()), "places");
-    same_places(rt, &walk, &places)
+    follows(rt, alloc, &walk)
 }

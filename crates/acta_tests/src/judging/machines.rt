@@ -55,13 +55,18 @@ fn follow<A: Allocator + Copy>(
     }
 }
 
+// Does what the lines say, on a new machine.
+fn follow_all<A: Allocator + Copy>(rt: &impl Abort, alloc: A, models: &Models<A>, histories: &str) {
+    let mut machine = made(rt, new_machine(alloc, &models.model), "a machine");
+    for line in histories.lines() {
+        follow(rt, alloc, models, &mut machine, line);
+    }
+}
+
 // Plays the histories of the model that the text means.
 fn play<A: Allocator + Copy>(rt: &impl Abort, alloc: A, model: &str, histories: &str) {
     let models = Models::of(rt, alloc, model);
-    let mut machine = made(rt, new_machine(alloc, &models.model), "a machine");
-    for line in histories.lines() {
-        follow(rt, alloc, &models, &mut machine, line);
-    }
+    follow_all(rt, alloc, &models, histories);
 }
 
 #[test]

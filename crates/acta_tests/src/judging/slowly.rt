@@ -76,7 +76,20 @@ fn tell_clashes<A: Allocator + Copy>(rt: &impl Abort, owed: &[Owed], faults: &mu
     }
 }
 
-// Tells the faults at the next place, behind the items in front, and goes one item further.
+// Tells the faults at the place that the walk has reached, behind the items in front, whose item says this.
+fn tell_said<A: Allocator + Copy>(
+    rt: &impl Abort,
+    alloc: A,
+    walk: &Walk<'_, A>,
+    front: &[Said<'_>],
+    said: &Said<'_>,
+    faults: &mut Faults<A>,
+) {
+    let before = Before::of(rt, alloc, walk, front, said.asked);
+    before.tell_all(rt, said, faults);
+}
+
+// Tells the faults at the next place, and goes one item further.
 fn tell_place<'a, A: Allocator + Copy>(
     rt: &impl Abort,
     alloc: A,
@@ -86,7 +99,7 @@ fn tell_place<'a, A: Allocator + Copy>(
 ) {
     let said = Said::of(walk.next().expect(rt, "an item"));
     faults.place = faults.place.saturating_add(1);
-    Before::of(rt, alloc, walk, front.as_slice(), said.asked).tell_all(rt, &said, faults);
+    tell_said(rt, alloc, walk, front.as_slice(), &said, faults);
     made(rt, front.push(said), "an item");
     made(rt, walk.step(), "a step");
 }
