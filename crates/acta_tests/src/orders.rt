@@ -122,6 +122,24 @@ fn has_one_edge(edges: &[Edge], kind: Dep) -> bool {
 
 // A machine with one edge agrees along one order. Gives whether it refused an event by a rule on dependencies, and
 // whether there was a debt.
+fn along_on<A: Allocator + Copy>(
+    rt: &impl Abort,
+    alloc: A,
+    machine: &mut Machine<A>,
+    kind: Dep,
+    order: &str,
+) -> (bool, bool) {
+    let (mut refused, mut owed) = (false, false);
+    for said in order.split(", ") {
+        let event = event_of(rt, alloc, machine.model(), said);
+        let said = agrees(rt, alloc, machine, kind, &event);
+        refused |= said.0;
+        owed |= said.1;
+    }
+    (refused, owed)
+}
+
+// The same of a new machine with one edge of this kind.
 fn along<A: Allocator + Copy>(
     rt: &impl Abort,
     alloc: A,
@@ -129,16 +147,10 @@ fn along<A: Allocator + Copy>(
     kind: Dep,
     order: &str,
 ) -> (bool, bool) {
-    let (mut refused, mut owed) = (false, false);
     let mut machine = formed(rt, alloc, model, kind, order);
-    for said in order.split(", ") {
-        let event = event_of(rt, alloc, model, said);
-        let said = agrees(rt, alloc, &mut machine, kind, &event);
-        refused |= said.0;
-        owed |= said.1;
-    }
+    let said = along_on(rt, alloc, &mut machine, kind, order);
     holds(rt, has_one_edge(machine.edges(), kind), order);
-    (refused, owed)
+    said
 }
 
 // Machines with an edge of one kind agree along each order.

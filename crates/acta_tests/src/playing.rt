@@ -73,13 +73,23 @@ impl<A: Allocator + Copy> Played<A> {
         shows(rt, alloc, models, &copied, asked);
     }
 
-    // A machine that runs the events at once answers the same, and has the same edges.
-    fn end(&self, rt: &impl Abort, alloc: A, model: &Model<A>) {
+    // A machine that runs the events at once answers the same, and has the same edges. Gives the rules that were met.
+    fn end(&self, rt: &impl Abort, alloc: A, model: &Model<A>) -> u32 {
         let run = made(rt, run_on(alloc, model, &self.events), "a run");
         let (found, due) = (run.answers.as_slice(), self.answers.as_slice());
         same(rt, &found, &due, "the answers of a run");
         let (found, due) = (run.machine.edges(), self.machine.edges());
         same(rt, &found, &due, "the edges of a run");
+        rules_met(&self.answers)
+    }
+
+    // Ends a history, and begins the next. Gives the rules that were met.
+    fn renew(&mut self, rt: &impl Abort, alloc: A, model: &Model<A>) -> u32 {
+        let met = self.end(rt, alloc, model);
+        self.machine = made(rt, new_machine(alloc, model), "a machine");
+        self.events.clear();
+        self.answers.clear();
+        met
     }
 }
 
@@ -94,11 +104,6 @@ fn rules_met(answers: &[Answer]) -> u32 {
     met
 }
 
-// Whether the rule of this number was met.
-fn is_met(met: u32, rule: u32) -> bool {
-    met.checked_shr(rule).unwrap_or(0) % 2 == 1
-}
-
 // A line begins a history, asks what the machine shows, or has an event. Gives the rules that a history has met, where
 // it is over.
 fn follow<A: Allocator + Copy>(
@@ -109,10 +114,7 @@ fn follow<A: Allocator + Copy>(
     line: &str,
 ) -> u32 {
     if line.starts_with("# ") {
-        played.end(rt, alloc, &models.model);
-        let met = rules_met(&played.answers);
-        *played = Played::new(rt, alloc, &models.model);
-        return met;
+        return played.renew(rt, alloc, &models.model);
     }
     match line.strip_prefix("? ") {
         Some(asked) => played.ask(rt, alloc, models, asked),
@@ -121,16 +123,39 @@ fn follow<A: Allocator + Copy>(
     0
 }
 
+// Does what the lines say. Gives the rules that the histories have met which are over.
+fn follow_all<A: Allocator + Copy>(
+    rt: &impl Abort,
+    alloc: A,
+    models: &Models<A>,
+    played: &mut Played<A>,
+    histories: &str,
+) -> u32 {
+    let mut met = 0u32;
+    for line in histories.lines() {
+        met |= follow(rt, alloc, models, played, line);
+    }
+    met
+}
+
 // Plays the histories of the model that the text means. Gives the rules that they met.
 fn play<A: Allocator + Copy>(rt: &impl Abort, alloc: A, model: &str, histories: &str) -> u32 {
     let models = Models::of(rt, alloc, model);
     let mut played = Played::new(rt, alloc, &models.model);
-    let mut met = 0u32;
-    for line in histories.lines() {
-        met |= follow(rt, alloc, &models, &mut played, line);
+    let met = follow_all(rt, alloc, &models, &mut played, histories);
+    met | played.end(rt, alloc, &models.model)
+}
+
+// Whether the rule of this number was met.
+fn is_met(met: u32, rule: u32) -> bool {
+    met.checked_shr(rule).unwrap_or(0) % 2 == 1
+}
+
+// Each rule was met but those on too many events and on too many edges.
+fn are_met(rt: &impl Abort, met: u32) {
+    for rule in 1..=28u32 {
+        assert_eq!(rt; is_met(met, rule), rule != 1 && rule != 16, "rule {rule}");
     }
-    played.end(rt, alloc, &models.model);
-    met | rules_met(&played.answers)
 }
 
 // The histories go as they say, and together they meet each rule but those on too many events and on too many edges.
@@ -140,7 +165,5 @@ fn histories_go_as_they_say(rt: HostRuntime) {
     for (model, histories) in by_model() {
         met |= play(&rt, rt.alloc(), model, histories);
     }
-    for rule in 1..=28u32 {
-        assert_eq!(rt; is_met(met, rule), rule != 1 && rule != 16, "rule {rule}");
-    }
+    are_met(&rt, met);
 }

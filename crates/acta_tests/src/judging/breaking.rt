@@ -542,7 +542,22 @@ fn expect<A: Allocator + Copy>(
     alone_in(due)
 }
 
-// The same of each list of a model, with each axiom that is broken alone.
+// The same of each list, with each axiom that is broken alone.
+fn expect_all<A: Allocator + Copy>(
+    rt: &impl Abort,
+    alloc: A,
+    models: &Models<A>,
+    lists: &str,
+    alone: &mut Vec<u8, A>,
+) {
+    for list in lists.split("# ") {
+        if let Some(axiom) = expect(rt, alloc, models, list) {
+            made(rt, alone.push(axiom), list);
+        }
+    }
+}
+
+// The same of each list of the model that the text means.
 fn play<A: Allocator + Copy>(
     rt: &impl Abort,
     alloc: A,
@@ -551,11 +566,7 @@ fn play<A: Allocator + Copy>(
     alone: &mut Vec<u8, A>,
 ) {
     let models = Models::of(rt, alloc, model);
-    for list in lists.split("# ") {
-        if let Some(axiom) = expect(rt, alloc, &models, list) {
-            made(rt, alone.push(axiom), list);
-        }
-    }
+    expect_all(rt, alloc, &models, lists, alone);
 }
 
 // Each number of an axiom is among these, and no other up to the last.

@@ -35,13 +35,18 @@ fn follow<A: Allocator + Copy>(
     }
 }
 
+// Does what the lines say, from an empty list on.
+fn follow_all<A: Allocator + Copy>(rt: &impl Abort, alloc: A, models: &Models<A>, lists: &str) {
+    let mut items = Vec::new(alloc);
+    for line in lists.lines() {
+        follow(rt, alloc, models, &mut items, line);
+    }
+}
+
 // Goes through the lists of the model that the text means.
 fn play<A: Allocator + Copy>(rt: &impl Abort, alloc: A, model: &str, lists: &str) {
     let models = Models::of(rt, alloc, model);
-    let mut items = Vec::new(alloc);
-    for line in lists.lines() {
-        follow(rt, alloc, &models, &mut items, line);
-    }
+    follow_all(rt, alloc, &models, lists);
 }
 
 #[test]
