@@ -1,7 +1,8 @@
 //! What a machine shows against what the places of its history say: how each transaction stands, its access set and its
 //! conflict set, the view, the edges, who holds each operation and what became of it, and what is owed.
 
-use crate::calls::places_of;
+use crate::calls::{owed_by, places_of};
+use crate::expecting::made;
 use crate::formulas::{course_of, is_false, payment};
 use crate::walking::follows_machine;
 use acta_axioms::{Course, Places};
@@ -9,7 +10,8 @@ use acta_machine::Machine;
 use acta_table::{
     ClassId, Edge, EdgeNo, Event, Fate, Kept, Missing, Model, OpNo, Owed, Scope, Status, TxnId,
 };
-use std::alloc::{AllocError, Allocator};
+use std::alloc::Allocator;
+use std::process::Abort;
 
 // A place past the last of each history.
 const END: u32 = 20;
@@ -93,34 +95,46 @@ pub fn status_by(course: Course) -> Status {
     }
 }
 
+// Whether t holds the operation in progress, and whether another does whose operations are in t's conflict set.
+fn standing<A: Allocator + Copy>(
+    model: &Model<A>,
+    history: &[Kept<A>],
+    places: &Places<'_, A>,
+    t: TxnId,
+    op: OpNo,
+) -> (bool, bool) {
+    match (places.holder(op, END), places.fate(op, END)) {
+        (Some(u), Some(Fate::InProgress)) => (u == t, is_against(model, history, u, t)),
+        _ => (false, false),
+    }
+}
+
 // The machine shows how a transaction stands, and its sets, operation by operation.
 fn shows_txn<A: Allocator + Copy>(
+    rt: &impl Abort,
     model: &Model<A>,
     machine: &Machine<A>,
     places: &Places<'_, A>,
     t: TxnId,
-) -> Result<bool, AllocError> {
-    let access = machine.access_set(t)?;
-    let others = machine.conflict_set(t)?;
+) -> bool {
+    let access = made(rt, machine.access_set(t), "an access set");
+    let others = made(rt, machine.conflict_set(t), "a conflict set");
     let mut shows = machine.status(t) == status_by(course_of(places, t));
     for number in 1..OPS {
         let op = OpNo(number);
-        let (mut is_held, mut is_other) = (false, false);
-        if let (Some(u), Some(Fate::InProgress)) = (places.holder(op, END), places.fate(op, END)) {
-            is_held = u == t;
-            is_other = is_against(model, machine.history(), u, t);
-        }
-        shows &= access.contains(&op) == is_held && others.contains(&op) == is_other;
+        let due = standing(model, machine.history(), places, t, op);
+        shows &= (access.contains(&op), others.contains(&op)) == due;
     }
-    Ok(shows)
+    shows
 }
 
 // The machine shows the view, which with the access sets says what became of each operation.
 fn shows_view<A: Allocator + Copy>(
+    rt: &impl Abort,
     machine: &Machine<A>,
     places: &Places<'_, A>,
-) -> Result<bool, AllocError> {
-    let view = machine.view_set()?;
+) -> bool {
+    let view = made(rt, machine.view_set(), "a view");
     let mut shows = true;
     for number in 1..OPS {
         let op = OpNo(number);
@@ -130,7 +144,7 @@ fn shows_view<A: Allocator + Copy>(
         );
         shows &= view.contains(&op) == is_live;
     }
-    Ok(shows)
+    shows
 }
 
 // What is owed by the edge.
@@ -144,66 +158,77 @@ fn missing_by<A: Allocator + Copy>(places: &Places<'_, A>, edge: &Edge) -> Optio
 
 // What is owed by the edges of these places.
 fn debts_of<A: Allocator + Copy>(
+    rt: &impl Abort,
     alloc: A,
     places: &Places<'_, A>,
-) -> Result<Vec<Owed, A>, AllocError> {
+) -> Vec<Owed, A> {
     let mut due = Vec::new(alloc);
     let mut number = 0u64;
     for edge in places.edges() {
         number = number.saturating_add(1);
         if let Some(missing) = missing_by(places, edge) {
             let (edge, txn) = (EdgeNo(number), edge.j);
-            due.push(Owed { edge, txn, missing })?;
+            made(rt, due.push(Owed { edge, txn, missing }), "a debt");
         }
     }
-    Ok(due)
-}
-
-// What the machine says is owed.
-fn owed_by<A: Allocator + Copy>(machine: &Machine<A>) -> Result<Vec<Owed, A>, AllocError> {
-    machine.owed()
+    due
 }
 
 // The machine shows the edges, and what is owed by them.
 fn shows_edges<A: Allocator + Copy>(
+    rt: &impl Abort,
     alloc: A,
     machine: &Machine<A>,
     places: &Places<'_, A>,
-) -> Result<bool, AllocError> {
-    let (owed, due) = (owed_by(machine)?, debts_of(alloc, places)?);
-    Ok(machine.edges() == places.edges() && owed.as_slice() == due.as_slice())
+) -> bool {
+    let owed = made(rt, owed_by(machine), "debts");
+    let due = debts_of(rt, alloc, places);
+    machine.edges() == places.edges() && owed.as_slice() == due.as_slice()
+}
+
+// The machine shows of each transaction what these places say.
+fn shows_txns<A: Allocator + Copy>(
+    rt: &impl Abort,
+    model: &Model<A>,
+    machine: &Machine<A>,
+    places: &Places<'_, A>,
+) -> bool {
+    let mut shows = true;
+    for number in 1..TXNS {
+        shows &= shows_txn(rt, model, machine, places, TxnId(number));
+    }
+    shows
 }
 
 // What the machine shows that isn't what these places say.
 fn differing_from<A: Allocator + Copy>(
+    rt: &impl Abort,
     alloc: A,
     model: &Model<A>,
     machine: &Machine<A>,
     places: &Places<'_, A>,
-) -> Result<&'static str, AllocError> {
-    for number in 1..TXNS {
-        if !shows_txn(model, machine, places, TxnId(number))? {
-            return Ok("transactions");
-        }
+) -> &'static str {
+    if !shows_txns(rt, model, machine, places) {
+        "transactions"
+    } else if !shows_view(rt, machine, places) {
+        "the view"
+    } else if !shows_edges(rt, alloc, machine, places) {
+        "edges"
+    } else {
+        "nothing"
     }
-    if !shows_view(machine, places)? {
-        return Ok("the view");
-    }
-    if !shows_edges(alloc, machine, places)? {
-        return Ok("edges");
-    }
-    Ok("nothing")
 }
 
 /// What the machine shows that isn't what the places of its history say.
 pub fn differing<A: Allocator + Copy>(
+    rt: &impl Abort,
     alloc: A,
     model: &Model<A>,
     machine: &Machine<A>,
-) -> Result<&'static str, AllocError> {
-    if !follows_machine(alloc, machine)? {
-        return Ok("a walk");
+) -> &'static str {
+    if !follows_machine(rt, alloc, machine) {
+        return "a walk";
     }
-    let places = places_of(alloc, model, machine.history())?;
-    differing_from(alloc, model, machine, &places)
+    let places = made(rt, places_of(alloc, model, machine.history()), "places");
+    differing_from(rt, alloc, model, machine, &places)
 }

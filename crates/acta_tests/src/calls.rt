@@ -3,7 +3,7 @@
 
 use acta_axioms::{Places, Walk};
 use acta_machine::{Machine, Run};
-use acta_table::{Answer, Event, Kept, MOST_EVENTS, Model};
+use acta_table::{Answer, Event, Kept, MOST_EVENTS, Model, Owed};
 use std::alloc::{AllocError, Allocator};
 
 /// A machine on a copy of the model.
@@ -29,6 +29,16 @@ pub fn take<A: Allocator + Copy>(
     event: &Event<A>,
 ) -> Result<Answer, AllocError> {
     machine.take(event)
+}
+
+/// A copy of the machine.
+pub fn copy_of<A: Allocator + Copy>(machine: &Machine<A>) -> Result<Machine<A>, AllocError> {
+    machine.copy()
+}
+
+/// What the machine says is owed.
+pub fn owed_by<A: Allocator + Copy>(machine: &Machine<A>) -> Result<Vec<Owed, A>, AllocError> {
+    machine.owed()
 }
 
 /// A walk that stands before a list, which is no longer than a history may be.

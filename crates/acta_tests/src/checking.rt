@@ -1,101 +1,88 @@
 //! What is wrong with parts of models, which no text can say: `assemble` tells the fault of the line. Each is a class
 //! of a text that is altered.
 
-use crate::expecting::{holds, parted, same, tells};
-use acta_lang::{AsmError, assemble};
+use crate::expecting::{holds, made, parted, same, tells};
+use crate::models::{event_of, model_of};
 use acta_models::Standard;
-use acta_script::{LineError, read_event};
 use acta_table::{
     Class, ClassId, Dep, DepKinds, Dependent, Event, EventKind, Items, Kind, Kinds, Model,
     ModelFault, Object, OpNo, OpSet, Parts, Policy, Rule, StartEdge, StartEdges, TxnId,
 };
 use refusing::Refusing;
-use std::alloc::{AllocError, Allocator, Global};
+use std::alloc::{Allocator, Global};
 use std::process::Abort;
-use std::test::Fail;
-
-// A standard model.
-fn standard<A: Allocator + Copy>(alloc: A, name: Standard) -> Result<Model<A>, AsmError> {
-    assemble(alloc, name.text().as_bytes())
-}
-
-// The last class of a model.
-fn last_class<A: Allocator + Copy>(model: &Model<A>) -> Result<Class<A>, Fail> {
-    match model.classes().last() {
-        Some(class) => Ok(class.copy()?),
-        None => Err(Fail::new("a model has a class")),
-    }
-}
 
 // The last class of a standard model.
-fn class_of<A: Allocator + Copy>(alloc: A, name: Standard) -> Result<Class<A>, Fail> {
-    last_class(&standard(alloc, name)?)
+fn class_of<A: Allocator + Copy>(rt: &impl Abort, alloc: A, name: Standard) -> Class<A> {
+    let model = model_of(rt, alloc, name.text());
+    let class = model.classes().last().expect(rt, "a class");
+    made(rt, class.copy(), "a class")
 }
 
-fn name_of<A: Allocator>(alloc: A, name: &str) -> Result<Items<u8, A>, AllocError> {
-    Ok(Items::of(Vec::from_slice(alloc, name.as_bytes())?))
+fn name_of<A: Allocator>(rt: &impl Abort, alloc: A, name: &str) -> Items<u8, A> {
+    Items::of(made(rt, Vec::from_slice(alloc, name.as_bytes()), name))
 }
 
 // Registers of these names, which stand between single spaces.
-fn objects<A: Allocator + Copy>(alloc: A, names: &str) -> Result<Items<Object<A>, A>, AllocError> {
+fn objects<A: Allocator + Copy>(rt: &impl Abort, alloc: A, names: &str) -> Items<Object<A>, A> {
     let mut objects = Vec::new(alloc);
     if !names.is_empty() {
         for name in names.split(' ') {
-            let (name, kind) = (name_of(alloc, name)?, Kind::Register(0));
-            objects.push(Object { name, kind })?;
+            let (name, kind) = (name_of(rt, alloc, name), Kind::Register(0));
+            made(rt, objects.push(Object { name, kind }), "an object");
         }
     }
-    Ok(Items::of(objects))
+    Items::of(objects)
 }
 
 // This class with another name.
-fn named<A: Allocator + Copy>(
-    alloc: A,
-    class: &Class<A>,
-    name: &str,
-) -> Result<Class<A>, AllocError> {
-    let mut class = class.copy()?;
-    class.name = name_of(alloc, name)?;
-    Ok(class)
+fn named<A: Allocator + Copy>(rt: &impl Abort, alloc: A, class: &Class<A>, name: &str) -> Class<A> {
+    let mut class = made(rt, class.copy(), name);
+    class.name = name_of(rt, alloc, name);
+    class
 }
 
 // Classes of these names, which stand between single spaces, and otherwise as this one.
 fn classes<A: Allocator + Copy>(
+    rt: &impl Abort,
     alloc: A,
     class: &Class<A>,
     names: &str,
-) -> Result<Items<Class<A>, A>, AllocError> {
+) -> Items<Class<A>, A> {
     let mut classes = Vec::new(alloc);
     if !names.is_empty() {
         for name in names.split(' ') {
-            classes.push(named(alloc, class, name)?)?;
+            made(rt, classes.push(named(rt, alloc, class, name)), name);
         }
     }
-    Ok(Items::of(classes))
+    Items::of(classes)
 }
 
 // Registers and classes of these names.
 fn parts_of<A: Allocator + Copy>(
+    rt: &impl Abort,
     alloc: A,
     class: &Class<A>,
     registers: &str,
     names: &str,
-) -> Result<Parts<A>, AllocError> {
-    let objects = objects(alloc, registers)?;
-    let classes = classes(alloc, class, names)?;
-    Ok(Parts { objects, classes })
+) -> Parts<A> {
+    Parts {
+        objects: objects(rt, alloc, registers),
+        classes: classes(rt, alloc, class, names),
+    }
 }
 
 // The number of the fault of a model of these parts, if it has one.
 fn fault_of(
+    rt: &impl Abort,
     alloc: Global,
     class: &Class<Global>,
     registers: &str,
     names: &str,
-) -> Result<Option<u8>, AllocError> {
-    match Model::check(parts_of(alloc, class, registers, names)?) {
-        Ok(_) => Ok(None),
-        Err(fault) => Ok(Some(fault.number())),
+) -> Option<u8> {
+    match Model::check(parts_of(rt, alloc, class, registers, names)) {
+        Ok(_) => None,
+        Err(fault) => Some(fault.number()),
     }
 }
 
@@ -115,99 +102,96 @@ a12345678901234567890123456789012|x : 5
 x|y  : 5";
 
 // So many times the one name.
-fn many(alloc: Global, count: u16) -> Result<String, AllocError> {
-    let mut names = String::from_str(alloc, "x")?;
+fn many(rt: &impl Abort, alloc: Global, count: u16) -> String {
+    let mut names = made(rt, String::from_str(alloc, "x"), "names");
     for _ in 1..count {
-        names.push_str(" x")?;
+        made(rt, names.push_str(" x"), "names");
     }
-    Ok(names)
+    names
 }
 
 // The fault of a model of so many objects and classes, each of one name.
 fn fault_of_many(
-    alloc: Global,
-    class: &Class<Global>,
-    (objects, classes): (u16, u16),
-) -> Result<Option<u8>, AllocError> {
-    let objects = many(alloc, objects)?;
-    let classes = many(alloc, classes)?;
-    fault_of(alloc, class, objects.as_str(), classes.as_str())
-}
-
-// The fault of the names of the line.
-fn has_fault(
     rt: &impl Abort,
     alloc: Global,
     class: &Class<Global>,
-    line: &str,
-) -> Result<(), Fail> {
-    let (names, due) = parted(line, " : ")?;
-    let (objects, classes) = parted(names, "|")?;
-    let fault = fault_of(alloc, class, objects, classes)?;
+    (objects, classes): (u16, u16),
+) -> Option<u8> {
+    let objects = many(rt, alloc, objects);
+    let classes = many(rt, alloc, classes);
+    fault_of(rt, alloc, class, objects.as_str(), classes.as_str())
+}
+
+// The fault of the names of the line.
+fn has_fault(rt: &impl Abort, alloc: Global, class: &Class<Global>, line: &str) {
+    let (names, due) = parted(rt, line, " : ");
+    let (objects, classes) = parted(rt, names, "|");
+    let fault = fault_of(rt, alloc, class, objects, classes);
     same(rt, &fault, &due.parse().ok(), line);
-    Ok(())
 }
 
 // The faults of these names; and of one object or class more than there may be, each of one name, so that the next
 // fault is there too.
-fn have_faults(rt: &impl Abort, alloc: Global, class: &Class<Global>) -> Result<(), Fail> {
+fn have_faults(rt: &impl Abort, alloc: Global, class: &Class<Global>) {
     for line in NAMED.lines() {
-        has_fault(rt, alloc, class, line)?;
+        has_fault(rt, alloc, class, line);
     }
     for (counts, due, line) in [
         ((256, 16), 4, "256 objects and 16 classes"),
         ((257, 16), 3, "257 objects and 16 classes"),
         ((257, 17), 2, "257 objects and 17 classes"),
     ] {
-        let fault = fault_of_many(alloc, class, counts)?;
+        let fault = fault_of_many(rt, alloc, class, counts);
         same(rt, &fault, &Some(due), line);
     }
-    Ok(())
 }
 
 #[test]
-fn faults_of_names(rt: HostRuntime) -> Result<(), Fail> {
-    let flat = class_of(rt.alloc(), Standard::Atomic)?;
-    have_faults(&rt, rt.alloc(), &flat)
+fn faults_of_names(rt: HostRuntime) {
+    let flat = class_of(&rt, rt.alloc(), Standard::Atomic);
+    have_faults(&rt, rt.alloc(), &flat);
 }
 
 // The one edge of this kind, of what is started on the one that starts it.
-fn on_starter(alloc: Global, kind: Dep) -> Result<StartEdges<Global>, AllocError> {
+fn on_starter(rt: &impl Abort, alloc: Global, kind: Dep) -> StartEdges<Global> {
     let dependent = Dependent::Started;
-    StartEdges::of(alloc, &[StartEdge { kind, dependent }])
+    let edges = StartEdges::of(alloc, &[StartEdge { kind, dependent }]);
+    made(rt, edges, kind.word())
 }
 
 // The fault of the last class of a standard model: that of what is split off or spawned forms an edge of this kind on
 // the one that starts it, and the other depends by AD and by this kind.
-fn fault_with(alloc: Global, name: Standard, kind: Dep) -> Result<Option<u8>, Fail> {
-    let mut class = class_of(alloc, name)?;
+fn fault_with(rt: &impl Abort, alloc: Global, name: Standard, kind: Dep) -> Option<u8> {
+    let mut class = class_of(rt, alloc, name);
     match name {
-        Standard::SplitJoin => class.split_edges = on_starter(alloc, kind)?,
-        Standard::Nested => class.spawn_edges = on_starter(alloc, kind)?,
+        Standard::SplitJoin => class.split_edges = on_starter(rt, alloc, kind),
+        Standard::Nested => class.spawn_edges = on_starter(rt, alloc, kind),
         _ => class.policy = Policy::Depend(DepKinds::of(Dep::Ad).union(DepKinds::of(kind))),
     }
-    Ok(fault_of(alloc, &class, "", "class")?)
+    fault_of(rt, alloc, &class, "", "class")
 }
 
 // An edge of a begin kind at a split or at a spawn is a fault, and none of another kind is. A class depends by CD, AD,
 // WD and TD alone.
 #[test]
-fn faults_of_kinds(rt: HostRuntime) -> Result<(), Fail> {
+fn faults_of_kinds(rt: HostRuntime) {
     for kind in Dep::ALL {
         let start = if kind.is_begin_kind() { Some(6) } else { None };
         let is_good = matches!(kind, Dep::Cd | Dep::Ad | Dep::Wd | Dep::Td);
         let policy = if is_good { None } else { Some(8) };
-        let split = fault_with(rt.alloc(), Standard::SplitJoin, kind)?;
-        let spawn = fault_with(rt.alloc(), Standard::Nested, kind)?;
-        let loose = fault_with(rt.alloc(), Standard::Recoverable, kind)?;
-        let are_due = split == start && spawn == start && loose == policy;
-        holds(&rt, are_due, kind.word());
+        for (name, due) in [
+            (Standard::SplitJoin, start),
+            (Standard::Nested, start),
+            (Standard::Recoverable, policy),
+        ] {
+            let fault = fault_with(&rt, rt.alloc(), name, kind);
+            same(&rt, &fault, &due, kind.word());
+        }
     }
-    Ok(())
 }
 
 // One that commits to its parent has one: it doesn't begin, and isn't split off.
-fn heirs(rt: &impl Abort, alloc: Global, sub: &mut Class<Global>) -> Result<(), AllocError> {
+fn heirs(rt: &impl Abort, alloc: Global, mut sub: Class<Global>) {
     for (begin, split, due, heir) in [
         (false, false, None, "an heir that is spawned alone"),
         (true, false, Some(7), "an heir that begins"),
@@ -215,38 +199,28 @@ fn heirs(rt: &impl Abort, alloc: Global, sub: &mut Class<Global>) -> Result<(), 
     ] {
         sub.starts.begin = begin;
         sub.starts.split = split;
-        same(rt, &fault_of(alloc, sub, "", "class")?, &due, heir);
+        same(rt, &fault_of(rt, alloc, &sub, "", "class"), &due, heir);
     }
-    Ok(())
 }
 
 // A class depends by at least one kind, or refuses.
-fn policies(rt: &impl Abort, alloc: Global, loose: &mut Class<Global>) -> Result<(), AllocError> {
+fn policies(rt: &impl Abort, alloc: Global, mut loose: Class<Global>) {
     loose.policy = Policy::Depend(DepKinds::none());
-    same(
-        rt,
-        &fault_of(alloc, loose, "", "class")?,
-        &Some(8),
-        "no kind",
-    );
+    let fault = fault_of(rt, alloc, &loose, "", "class");
+    same(rt, &fault, &Some(8), "no kind");
     loose.policy = Policy::Refuse;
-    same(rt, &fault_of(alloc, loose, "", "class")?, &None, "refuses");
-    Ok(())
+    let fault = fault_of(rt, alloc, &loose, "", "class");
+    same(rt, &fault, &None, "refuses");
 }
 
 #[test]
-fn faults_of_classes(rt: HostRuntime) -> Result<(), Fail> {
-    heirs(
-        &rt,
-        rt.alloc(),
-        &mut class_of(rt.alloc(), Standard::Nested)?,
-    )?;
+fn faults_of_classes(rt: HostRuntime) {
+    heirs(&rt, rt.alloc(), class_of(&rt, rt.alloc(), Standard::Nested));
     policies(
         &rt,
         rt.alloc(),
-        &mut class_of(rt.alloc(), Standard::Recoverable)?,
-    )?;
-    Ok(())
+        class_of(&rt, rt.alloc(), Standard::Recoverable),
+    );
 }
 
 // Whether the set of this kind has these bits, and no other set has.
@@ -274,7 +248,7 @@ fn bits_of_kinds(rt: HostRuntime) {
         assert!(rt; has_bits(kind, bits), "{kind:?}");
         bits = if bits == 0 { 1 } else { bits.wrapping_mul(2) };
     }
-    assert_eq!(rt; Kinds::from_bits(256), None);
+    same(&rt, &Kinds::from_bits(256), &None, "no kind");
 }
 
 // Numbers of rules and of faults, and the kind of an event.
@@ -285,11 +259,14 @@ fn numbers(rt: HostRuntime) {
         Rule::Conflict.number(),
         Rule::NoHeir.number(),
     ];
-    assert_eq!(rt; rules, [1, 14, 28]);
-    assert_eq!(rt; ModelFault::NoClass.number(), 1);
-    assert_eq!(rt; ModelFault::BadPolicyKind.number(), 8);
+    same(&rt, &rules, &[1, 14, 28], "rules");
+    let faults = [
+        ModelFault::NoClass.number(),
+        ModelFault::BadPolicyKind.number(),
+    ];
+    same(&rt, &faults, &[1, 8], "faults");
     let begin: Event<Global> = Event::Begin(TxnId(1), ClassId(0));
-    assert_eq!(rt; begin.kind(), EventKind::Begin);
+    same(&rt, &begin.kind(), &EventKind::Begin, "a kind");
 }
 
 // Whether transactions of the class may commit, and neither split nor begin.
@@ -316,31 +293,27 @@ fn shows_flat(rt: &impl Abort, model: &Model<Global>) {
 
 // A model shows the parts that were checked, and so does its copy.
 #[test]
-fn a_copy(rt: HostRuntime) -> Result<(), Fail> {
-    let model = standard(rt.alloc(), Standard::Atomic)?;
+fn a_copy(rt: HostRuntime) {
+    let model = model_of(&rt, rt.alloc(), Standard::Atomic.text());
+    let copied = made(&rt, model.copy(), "a copy");
     shows_flat(&rt, &model);
-    shows_flat(&rt, &model.copy()?);
-    Ok(())
+    shows_flat(&rt, &copied);
 }
 
-// The set of some operations, as a copy of it shows them.
-fn has_ops(rt: &impl Abort, set: &OpSet<Global>, due: &[OpNo]) -> Result<(), AllocError> {
-    let copied = set.copy()?;
-    holds(
-        rt,
-        set.as_slice() == due && copied.as_slice() == due,
-        "a set",
-    );
-    Ok(())
+// A set of these operations, and a copy of it, have those that are due.
+fn has_ops(rt: &impl Abort, alloc: Global, ops: &[OpNo], due: &[OpNo]) {
+    let set = made(rt, OpSet::of(alloc, ops), "a set");
+    let copied = made(rt, set.copy(), "a copy");
+    same(rt, &set.as_slice(), &due, "a set");
+    same(rt, &copied.as_slice(), &due, "a copy");
 }
 
 // A set of operations has each once, ascending.
 #[test]
-fn sets(rt: HostRuntime) -> Result<(), AllocError> {
-    let set = OpSet::of(rt.alloc(), &[OpNo(9), OpNo(2), OpNo(9), OpNo(0)])?;
-    has_ops(&rt, &set, &[OpNo(0), OpNo(2), OpNo(9)])?;
-    let set = OpSet::of(rt.alloc(), &[])?;
-    has_ops(&rt, &set, &[])
+fn sets(rt: HostRuntime) {
+    let ops = [OpNo(9), OpNo(2), OpNo(9), OpNo(0)];
+    has_ops(&rt, rt.alloc(), &ops, &[OpNo(0), OpNo(2), OpNo(9)]);
+    has_ops(&rt, rt.alloc(), &[], &[]);
 }
 
 // Events, each a line.
@@ -365,43 +338,30 @@ abort 1";
 
 // Whether the line says the event.
 fn is_said(
-    alloc: Global,
-    model: &Model<Global>,
-    event: &Event<Global>,
-    line: &str,
-) -> Result<bool, LineError> {
-    let said = read_event(alloc, model, line.as_bytes())?;
-    Ok(event.is_same(&said))
-}
-
-// Of the lines, the event is that of this one alone.
-fn is_said_once(
     rt: &impl Abort,
     alloc: Global,
     model: &Model<Global>,
     event: &Event<Global>,
     line: &str,
-) -> Result<(), LineError> {
-    for other in EVENTS.lines() {
-        let is_same = is_said(alloc, model, event, other)?;
-        assert_eq!(rt; is_same, line == other, "at {line} and {other}");
-    }
-    Ok(())
+) -> bool {
+    event.is_same(&event_of(rt, alloc, model, line))
 }
 
-// The event of each line is that of this line alone.
-fn are_said_once(rt: &impl Abort, alloc: Global, model: &Model<Global>) -> Result<(), LineError> {
-    for line in EVENTS.lines() {
-        let event = read_event(alloc, model, line.as_bytes())?;
-        is_said_once(rt, alloc, model, &event, line)?;
+// Of the lines, the event of this one is that of this one alone.
+fn is_said_once(rt: &impl Abort, alloc: Global, model: &Model<Global>, line: &str) {
+    let event = event_of(rt, alloc, model, line);
+    for other in EVENTS.lines() {
+        let is_same = is_said(rt, alloc, model, &event, other);
+        same(rt, &is_same, &(line == other), other);
     }
-    Ok(())
 }
 
 #[test]
-fn events_that_are_the_same(rt: HostRuntime) -> Result<(), Fail> {
-    let model = standard(rt.alloc(), Standard::SplitJoin)?;
-    Ok(are_said_once(&rt, rt.alloc(), &model)?)
+fn events_that_are_the_same(rt: HostRuntime) {
+    let model = model_of(&rt, rt.alloc(), Standard::SplitJoin.text());
+    for line in EVENTS.lines() {
+        is_said_once(&rt, rt.alloc(), &model, line);
+    }
 }
 
 // `Model::check` takes no memory: it answers while the next allocation would be refused.
@@ -409,17 +369,16 @@ fn checks_without_memory<A: Allocator + Copy, B: Allocator>(
     rt: &impl Abort,
     heap: &Refusing<B>,
     alloc: A,
-) -> Result<(), Fail> {
-    let flat = class_of(alloc, Standard::Atomic)?;
-    let parts = parts_of(alloc, &flat, "x", "flat")?;
+) {
+    let flat = class_of(rt, alloc, Standard::Atomic);
+    let parts = parts_of(rt, alloc, &flat, "x", "flat");
     heap.refuse(1);
     let is_model = Model::check(parts).is_ok();
     holds(rt, is_model && heap.is_waiting(), "a model");
-    Ok(())
 }
 
 #[test]
-fn no_memory_is_taken(rt: HostRuntime) -> Result<(), Fail> {
+fn no_memory_is_taken(rt: HostRuntime) {
     let heap = Refusing::new(rt.alloc());
-    checks_without_memory(&rt, &heap, &heap)
+    checks_without_memory(&rt, &heap, &heap);
 }

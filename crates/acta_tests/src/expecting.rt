@@ -1,9 +1,14 @@
-//! What tests expect at a line, each in a function of its own: who expects it has no more to drop than before, and is
-//! proved sooner. (Each crate of tests has its own, since no library may abort.)
+//! What tests expect at a line, each in a function of its own. Where it is not so, the test ends. Who expects it has no
+//! early way out, on which it would drop what it owns, and is proved sooner. (Each crate of tests has its own, since no
+//! library may abort.)
 
 use std::fmt::Debug;
 use std::process::Abort;
-use std::test::Fail;
+
+/// What the call at this line gave. A call that fails ends the test.
+pub fn made<T, E: Debug>(rt: &impl Abort, called: Result<T, E>, line: &str) -> T {
+    called.expect(rt, line)
+}
 
 /// It is so, at this line.
 pub fn holds(rt: &impl Abort, is_so: bool, line: &str) {
@@ -17,12 +22,12 @@ pub fn same<T: PartialEq + Debug>(rt: &impl Abort, found: &T, due: &T, line: &st
 
 /// What was told are the bytes of what is due, at this line.
 pub fn tells(rt: &impl Abort, told: &[u8], due: &str, line: &str) {
-    assert_eq!(rt; told, due.as_bytes(), "at {line}");
+    same(rt, &told, &due.as_bytes(), line);
 }
 
 /// What stands before and behind the first of these words in a line.
-pub fn parted<'a>(line: &'a str, word: &str) -> Result<(&'a str, &'a str), Fail> {
-    Ok(line.split_once(word).ok_or("a line has one part")?)
+pub fn parted<'a>(rt: &impl Abort, line: &'a str, word: &str) -> (&'a str, &'a str) {
+    line.split_once(word).expect(rt, line)
 }
 
 /// The number that a word is, if it is one.

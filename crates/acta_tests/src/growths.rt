@@ -1,13 +1,12 @@
 //! Each growth of a call refused in turn: the call answers want of memory, and changes nothing.
 
-use crate::calls::{new_machine, places_of, run_on, take};
-use crate::expecting::{holds, number_of, parted, same, tells};
-use crate::models::PARTING;
-use acta_lang::assemble;
+use crate::calls::{copy_of, new_machine, owed_by, places_of, run_on, take};
+use crate::expecting::{holds, made, number_of, parted, same, tells};
+use crate::models::{PARTING, event_of, model_of};
 use acta_machine::Machine;
 use acta_models::Standard;
 use acta_objects::{ObjectState, replay};
-use acta_script::{answer_line, read_event};
+use acta_script::answer_line;
 use acta_table::{
     Answer, Dep, Dependent, Event, Items, Kept, Kind, Model, ObjId, Op, OpNo, OpSet, StartEdge,
     StartEdges, Status, TxnId,
@@ -15,7 +14,6 @@ use acta_table::{
 use refusing::Refusing;
 use std::alloc::{AllocError, Allocator};
 use std::process::Abort;
-use std::test::Fail;
 
 const ONE: TxnId = TxnId(1);
 
@@ -38,31 +36,18 @@ fn refuse_each<A: Allocator + Copy, B: Allocator>(
     heap: &Refusing<B>,
     machine: &mut Machine<A>,
     event: &Event<A>,
-) -> (Option<Answer>, u64) {
+) -> (Answer, u64) {
     for nth in 1..MOST {
         let before = shape(machine);
         heap.refuse(nth);
         let answer = take(machine, event);
         if heap.is_waiting() {
             heap.refuse(0);
-            return (answer.ok(), nth.saturating_sub(1));
+            return (made(rt, answer, "an answer"), nth.saturating_sub(1));
         }
         holds(rt, answer.is_err() && shape(machine) == before, "a growth");
     }
-    heap.refuse(0);
-    (None, MOST)
-}
-
-// The answer is the one that is due.
-fn answers<A: Allocator + Copy>(
-    rt: &impl Abort,
-    alloc: A,
-    answer: Option<Answer>,
-    (due, line): (&str, &str),
-) -> Result<(), Fail> {
-    let answer = answer.ok_or("with memory there is an answer")?;
-    tells(rt, answer_line(alloc, &answer)?.as_slice(), due, line);
-    Ok(())
+    panic!(rt; "too many allocations")
 }
 
 // Takes the event of the line, each growth refused in turn. The line has an event, its answer, and how many growths
@@ -73,40 +58,40 @@ fn grow_line<A: Allocator + Copy, B: Allocator>(
     alloc: A,
     machine: &mut Machine<A>,
     line: &str,
-) -> Result<(), Fail> {
-    let (said, due) = parted(line, " : ")?;
-    let (due, growths) = parted(due, " : ")?;
-    let event = read_event(alloc, machine.model(), said.as_bytes())?;
+) {
+    let (said, due) = parted(rt, line, " : ");
+    let (due, growths) = parted(rt, due, " : ");
+    let event = event_of(rt, alloc, machine.model(), said);
     let (answer, refused) = refuse_each(rt, heap, machine, &event);
     same(rt, &Some(refused), &number_of(growths), line);
-    answers(rt, alloc, answer, (due, line))
+    let told = made(rt, answer_line(alloc, &answer), line);
+    tells(rt, told.as_slice(), due, line);
 }
 
-// Takes the events of the lines on a new machine.
-fn grow_on<A: Allocator + Copy, B: Allocator>(
+// Takes the events of the lines on the machine.
+fn grow_lines<A: Allocator + Copy, B: Allocator>(
     rt: &impl Abort,
     heap: &Refusing<B>,
     alloc: A,
-    model: &Model<A>,
+    machine: &mut Machine<A>,
     text: &str,
-) -> Result<(), Fail> {
-    let mut machine = new_machine(alloc, model)?;
+) {
     for line in text.lines() {
-        grow_line(rt, heap, alloc, &mut machine, line)?;
+        grow_line(rt, heap, alloc, machine, line);
     }
-    Ok(())
 }
 
-// The same of the model that the text means.
+// Takes the events of the lines on a new machine.
 fn grow_each<A: Allocator + Copy, B: Allocator>(
     rt: &impl Abort,
     heap: &Refusing<B>,
     alloc: A,
     model: &str,
     text: &str,
-) -> Result<(), Fail> {
-    let model = assemble(alloc, model.as_bytes())?;
-    grow_on(rt, heap, alloc, &model, text)
+) {
+    let model = model_of(rt, alloc, model);
+    let mut machine = made(rt, new_machine(alloc, &model), "a machine");
+    grow_lines(rt, heap, alloc, &mut machine, text);
 }
 
 // Of the history, of the edges, and of the set of those who would owe an abort.
@@ -148,7 +133,7 @@ do 1 x write 5 : ok 6 done : 0
 do 2 x read : ok 7 5 : 4";
 
 #[test]
-fn of_events(rt: HostRuntime) -> Result<(), Fail> {
+fn of_events(rt: HostRuntime) {
     let heap = Refusing::new(rt.alloc());
     for (model, text) in [
         (Standard::Contingent.text(), OF_FORMS),
@@ -156,9 +141,8 @@ fn of_events(rt: HostRuntime) -> Result<(), Fail> {
         (Standard::Nested.text(), OF_SPAWNS),
         (Standard::Recoverable.text(), OF_DEPENDING),
     ] {
-        grow_each(&rt, &heap, &heap, model, text)?;
+        grow_each(&rt, &heap, &heap, model, text);
     }
-    Ok(())
 }
 
 // A transaction with a child and a grandchild, another, and one that has aborted before its child.
@@ -202,9 +186,14 @@ fn numbers(ops: &[OpNo]) -> usize {
     number
 }
 
+// How many debts the machine shows.
+fn debts<A: Allocator + Copy>(machine: &Machine<A>) -> Result<usize, AllocError> {
+    Ok(owed_by(machine)?.len())
+}
+
 // How many events, edges and debts the machine shows, as digits.
 fn counted<A: Allocator + Copy>(machine: &Machine<A>) -> Result<usize, AllocError> {
-    let debts = machine.owed()?.len();
+    let debts = debts(machine)?;
     let (events, edges) = (machine.history().len(), machine.edges().len());
     let digits = events.wrapping_mul(10).wrapping_add(edges);
     Ok(digits.wrapping_mul(10).wrapping_add(debts))
@@ -212,8 +201,31 @@ fn counted<A: Allocator + Copy>(machine: &Machine<A>) -> Result<usize, AllocErro
 
 // The same of a copy of the machine.
 fn copied<A: Allocator + Copy>(machine: &Machine<A>) -> Result<usize, AllocError> {
-    let copy = machine.copy()?;
-    counted(&copy)
+    counted(&copy_of(machine)?)
+}
+
+// Whether an object has a value, as a number.
+fn valued<A: Allocator + Copy>(machine: &Machine<A>) -> Result<usize, AllocError> {
+    Ok(usize::from(machine.value(ObjId(3))?.is_some()))
+}
+
+// How many events a run has kept.
+fn ran<A: Allocator + Copy>(
+    alloc: A,
+    model: &Model<A>,
+    events: &[Event<A>],
+) -> Result<usize, AllocError> {
+    Ok(run_on(alloc, model, events)?.machine.history().len())
+}
+
+// How many classes a copy of the model has.
+fn classes<A: Allocator + Copy>(model: &Model<A>) -> Result<usize, AllocError> {
+    Ok(model.copy()?.classes().len())
+}
+
+// How many events a new machine has.
+fn begun<A: Allocator + Copy>(alloc: A, model: &Model<A>) -> Result<usize, AllocError> {
+    Ok(new_machine(alloc, model)?.history().len())
 }
 
 // Where the first transaction starts, by an index of the history.
@@ -286,6 +298,21 @@ fn one_item<A: Allocator + Copy>(alloc: A) -> Result<usize, AllocError> {
     Ok(copied.as_slice().len())
 }
 
+// The numbers of a set of operations that the machine shows, or none where another call is meant.
+fn of_sets<A: Allocator + Copy>(
+    machine: &Machine<A>,
+    call: &str,
+) -> Result<Option<usize>, AllocError> {
+    let ops = match call {
+        "access set" => machine.access_set(ONE)?,
+        "conflicts of root" => machine.conflict_set(TxnId(4))?,
+        "conflicts of child" => machine.conflict_set(TxnId(3))?,
+        "view set" => machine.view_set()?,
+        _ => return Ok(None),
+    };
+    Ok(Some(numbers(&ops)))
+}
+
 // What a call on a machine answers, as a number, or none where it is another call: the numbers of operations, whether
 // an object has a value, how many debts there are, and where the first transaction starts.
 fn of_machine<A: Allocator + Copy>(
@@ -294,15 +321,11 @@ fn of_machine<A: Allocator + Copy>(
     call: &str,
 ) -> Result<Option<usize>, AllocError> {
     let answer = match call {
-        "access set" => numbers(&machine.access_set(ONE)?),
-        "conflicts of root" => numbers(&machine.conflict_set(TxnId(4))?),
-        "conflicts of child" => numbers(&machine.conflict_set(TxnId(3))?),
-        "view set" => numbers(&machine.view_set()?),
-        "value" => usize::from(machine.value(ObjId(3))?.is_some()),
-        "owed" => machine.owed()?.len(),
+        "value" => valued(machine)?,
+        "owed" => debts(machine)?,
         "machine copy" => copied(machine)?,
         "first start" => first_start(alloc, machine)?,
-        _ => return Ok(None),
+        _ => return of_sets(machine, call),
     };
     Ok(Some(answer))
 }
@@ -316,9 +339,9 @@ fn of_model<A: Allocator + Copy>(
     call: &str,
 ) -> Result<usize, AllocError> {
     match call {
-        "run" => Ok(run_on(alloc, model, events)?.machine.history().len()),
-        "model copy" => Ok(model.copy()?.classes().len()),
-        "new machine" => Ok(new_machine(alloc, model)?.history().len()),
+        "run" => ran(alloc, model, events),
+        "model copy" => classes(model),
+        "new machine" => begun(alloc, model),
         "element" => one_element(alloc),
         "replay" => replayed(alloc),
         "op set" => named(alloc),
@@ -364,28 +387,29 @@ fn grow<A: Allocator + Copy, B: Allocator>(
     machine: &Machine<A>,
     events: &[Event<A>],
     line: &str,
-) -> Result<(), Fail> {
-    let (call, due) = parted(line, " : ")?;
-    let (growths, due) = parted(due, " : ")?;
+) {
+    let (call, due) = parted(rt, line, " : ");
+    let (growths, due) = parted(rt, due, " : ");
     for nth in 1..MOST {
         let (answer, was_refused) = refused(heap, alloc, machine, events, (call, nth));
         if !was_refused {
             same(rt, &Some(nth.wrapping_sub(1)), &number_of(growths), line);
             same(rt, &answer, &due.parse().ok(), line);
-            return Ok(());
+            return;
         }
         holds(rt, answer.is_none(), line);
     }
-    Err(Fail::new("a call makes too many allocations"))
+    panic!(rt; "too many allocations at {line}")
 }
 
 // The events that are read.
-fn read<A: Allocator + Copy>(alloc: A, model: &Model<A>) -> Result<Vec<Event<A>, A>, Fail> {
+fn read<A: Allocator + Copy>(rt: &impl Abort, alloc: A, model: &Model<A>) -> Vec<Event<A>, A> {
     let mut events = Vec::new(alloc);
     for line in READ.lines() {
-        events.push(read_event(alloc, model, line.as_bytes())?)?;
+        let event = event_of(rt, alloc, model, line);
+        made(rt, events.push(event), line);
     }
-    Ok(events)
+    events
 }
 
 // The growths of each call on the machine, and on its events.
@@ -395,37 +419,22 @@ fn grow_all<A: Allocator + Copy, B: Allocator>(
     alloc: A,
     machine: &Machine<A>,
     events: &[Event<A>],
-) -> Result<(), Fail> {
+) {
     for line in CALLS.lines() {
-        grow(rt, heap, alloc, machine, events, line)?;
+        grow(rt, heap, alloc, machine, events, line);
     }
-    Ok(())
 }
 
-// The growths of each call on this model, after the events that are read.
-fn grow_read<A: Allocator + Copy, B: Allocator>(
-    rt: &impl Abort,
-    heap: &Refusing<B>,
-    alloc: A,
-    model: &Model<A>,
-) -> Result<(), Fail> {
-    let events = read(alloc, model)?;
-    let run = run_on(alloc, model, &events)?;
-    grow_all(rt, heap, alloc, &run.machine, &events)
-}
-
-// The growths of each call on the model of nested transactions.
-fn grow_calls<A: Allocator + Copy, B: Allocator>(
-    rt: &impl Abort,
-    heap: &Refusing<B>,
-    alloc: A,
-) -> Result<(), Fail> {
-    let model = assemble(alloc, Standard::Nested.text().as_bytes())?;
-    grow_read(rt, heap, alloc, &model)
+// The growths of each call on the model of nested transactions, after the events that are read.
+fn grow_calls<A: Allocator + Copy, B: Allocator>(rt: &impl Abort, heap: &Refusing<B>, alloc: A) {
+    let model = model_of(rt, alloc, Standard::Nested.text());
+    let events = read(rt, alloc, &model);
+    let run = made(rt, run_on(alloc, &model, &events), "a run");
+    grow_all(rt, heap, alloc, &run.machine, &events);
 }
 
 #[test]
-fn of_calls(rt: HostRuntime) -> Result<(), Fail> {
+fn of_calls(rt: HostRuntime) {
     let heap = Refusing::new(rt.alloc());
-    grow_calls(&rt, &heap, &heap)
+    grow_calls(&rt, &heap, &heap);
 }

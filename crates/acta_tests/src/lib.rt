@@ -1,6 +1,6 @@
-//! Tests that cross the crates: histories as text with their answers, lists of events and what their places say, verdicts
-//! on histories, each refused allocation, and the edges of checked models. The values that they expect were computed by
-//! hand.
+//! Tests that cross the crates: histories as text with their answers, lists of events and what their places say,
+//! verdicts on histories, each refused allocation, and the edges of checked models. The values that they expect were
+//! computed by hand.
 #![tactic(auto)]
 
 #[cfg(test)]

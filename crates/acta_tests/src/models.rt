@@ -1,8 +1,11 @@
-//! The models of the histories, as texts.
+//! The models of the histories, as texts, and what is read of texts and lines.
 
-use acta_lang::{AsmError, assemble};
-use acta_table::Model;
+use crate::expecting::made;
+use acta_lang::assemble;
+use acta_script::read_event;
+use acta_table::{Event, Model};
 use std::alloc::Allocator;
+use std::process::Abort;
 
 /// Transactions that split with an edge in either direction, hand over the whole, and form edges.
 pub const PARTING: &str = "\
@@ -203,15 +206,29 @@ pub struct Models<A: Allocator> {
     pub wider: Model<A>,
 }
 
+/// The model that the text means.
+pub fn model_of<A: Allocator + Copy>(rt: &impl Abort, alloc: A, text: &str) -> Model<A> {
+    made(rt, assemble(alloc, text.as_bytes()), "a model")
+}
+
+/// The event that the line says.
+pub fn event_of<A: Allocator + Copy>(
+    rt: &impl Abort,
+    alloc: A,
+    model: &Model<A>,
+    line: &str,
+) -> Event<A> {
+    made(rt, read_event(alloc, model, line.as_bytes()), line)
+}
+
 impl<A: Allocator + Copy> Models<A> {
-    /// The model that the text means, and the wider one. `Err` where the text has a fault, and where there is no
-    /// memory.
-    pub fn of(alloc: A, text: &str) -> Result<Models<A>, AsmError> {
-        let mut more = String::from_str(alloc, text)?;
-        more.push_str(MORE)?;
-        Ok(Models {
-            model: assemble(alloc, text.as_bytes())?,
-            wider: assemble(alloc, more.as_str().as_bytes())?,
-        })
+    /// The model that the text means, and the wider one.
+    pub fn of(rt: &impl Abort, alloc: A, text: &str) -> Models<A> {
+        let mut more = made(rt, String::from_str(alloc, text), "a text");
+        made(rt, more.push_str(MORE), "a text");
+        Models {
+            model: model_of(rt, alloc, text),
+            wider: model_of(rt, alloc, more.as_str()),
+        }
     }
 }

@@ -2,8 +2,8 @@
 
 ghost use Rattle.std.specs.Prelude.{◌≡◌, false, [], ◌∷◌, IfOk, OnOk};
 
-use crate::expecting::{holds, parted};
-use acta_lang::{AsmError, assemble};
+use crate::expecting::{holds, made, parted};
+use crate::models::model_of;
 use acta_models::Standard;
 use acta_objects::{
     Counter, ElementSet, Members, ObjectKind, ObjectState, Register, is_of_kind, replay,
@@ -12,7 +12,6 @@ use acta_script::read_kept;
 use acta_table::{Event, Kept, Kind, Model, ObjId, Op, Ret};
 use std::alloc::{AllocError, Global};
 use std::process::Abort;
-use std::test::Fail;
 
 // Does two operations that don't conflict in one order on one value, and in the other on an equal one.
 // By the kind's laws, whatever the kind, the two values end equal and each operation returns the same.
@@ -39,23 +38,23 @@ fn both_orders<K: ObjectKind<Op = Op, Ret = Ret>>(
     Ok([(p_then, q_after), (p_after, q_then)])
 }
 
-// Whether it is the counter of this value, and its copy is.
-fn is_counted(state: &ObjectState<Global>, sum: i64) -> Result<bool, AllocError> {
-    match (state, state.copy()?) {
-        (ObjectState::Counter(value), ObjectState::Counter(copied)) => {
-            Ok(*value == sum && copied == sum)
-        }
-        _ => Ok(false),
+// Whether it is the counter of this value.
+fn is_counted(state: &ObjectState<Global>, sum: i64) -> bool {
+    match state {
+        ObjectState::Counter(value) => *value == sum,
+        _ => false,
     }
 }
 
 #[test]
-fn replays_sums(rt: HostRuntime) -> Result<(), Fail> {
-    let done = replay(rt.alloc(), &Kind::Counter(0), &[Op::Add(5), Op::Add(7)])?;
-    holds(&rt, is_counted(&done.state, 12)?, "a sum");
+fn replays_sums(rt: HostRuntime) {
+    let ops = [Op::Add(5), Op::Add(7)];
+    let done = made(&rt, replay(rt.alloc(), &Kind::Counter(0), &ops), "a replay");
+    holds(&rt, is_counted(&done.state, 12), "a sum");
+    let copied = made(&rt, done.state.copy(), "a copy");
+    holds(&rt, is_counted(&copied, 12), "a copy");
     let are_done = done.rets.as_slice() == [Ret::Done; 2].as_slice();
     holds(&rt, are_done, "what is done");
-    Ok(())
 }
 
 // Operations on a set, with what each returns; the last is none of a set's.
@@ -81,32 +80,22 @@ fn operation_in(kept: &Kept<Global>) -> Option<(ObjId, Op, Option<Ret>)> {
 
 // The operation that a kept line says, and what it returned.
 fn operation(
-    alloc: Global,
-    model: &Model<Global>,
-    line: &str,
-) -> Result<(ObjId, Op, Option<Ret>), Fail> {
-    let kept = read_kept(alloc, model, line.as_bytes())?;
-    Ok(operation_in(&kept).ok_or("a line is no operation")?)
-}
-
-// Does the operations on the set.
-fn keeps(
     rt: &impl Abort,
     alloc: Global,
     model: &Model<Global>,
-    members: &mut Members<Global>,
-) -> Result<(), Fail> {
-    for line in ON_A_SET.lines() {
-        let (_, op, ret) = operation(alloc, model, line)?;
-        let found = ElementSet::apply(members, &op)?;
-        holds(rt, Some(found) == ret, line);
-    }
-    Ok(())
+    line: &str,
+) -> (ObjId, Op, Option<Ret>) {
+    let kept = made(rt, read_kept(alloc, model, line.as_bytes()), line);
+    operation_in(&kept).expect(rt, line)
 }
 
-// The standard model of flat transactions.
-fn flat(alloc: Global) -> Result<Model<Global>, AsmError> {
-    assemble(alloc, Standard::Atomic.text().as_bytes())
+// Does the operations on the set.
+fn keeps(rt: &impl Abort, alloc: Global, model: &Model<Global>, members: &mut Members<Global>) {
+    for line in ON_A_SET.lines() {
+        let (_, op, ret) = operation(rt, alloc, model, line);
+        let found = made(rt, ElementSet::apply(members, &op), line);
+        holds(rt, Some(found) == ret, line);
+    }
 }
 
 // Whether the set has this one element.
@@ -119,12 +108,12 @@ fn has_alone(members: &Members<Global>, element: i32) -> bool {
 }
 
 #[test]
-fn keeps_a_set(rt: HostRuntime) -> Result<(), Fail> {
-    let model = flat(rt.alloc())?;
+fn keeps_a_set(rt: HostRuntime) {
+    let model = model_of(&rt, rt.alloc(), Standard::Atomic.text());
     let mut members = Members::new(rt.alloc());
-    keeps(&rt, rt.alloc(), &model, &mut members)?;
-    holds(&rt, has_alone(&members.copy()?, -2), "what is left");
-    Ok(())
+    keeps(&rt, rt.alloc(), &model, &mut members);
+    let copied = made(&rt, members.copy(), "a copy");
+    holds(&rt, has_alone(&copied, -2), "what is left");
 }
 
 // Two operations on an object, and whether they conflict, in either order.
@@ -151,51 +140,60 @@ fn do_conflict(kind: &Kind, p: &Op, q: &Op, due: bool) -> bool {
 }
 
 // Two operations of a line conflict as it says.
-fn conflict(rt: &impl Abort, alloc: Global, model: &Model<Global>, line: &str) -> Result<(), Fail> {
-    let (pair, due) = parted(line, " : ")?;
-    let (p, q) = parted(pair, ", ")?;
-    let (object, p, _) = operation(alloc, model, p)?;
-    let (_, q, _) = operation(alloc, model, q)?;
-    let kind = model.object(object).ok_or("the model has the object")?.kind;
+fn conflict(rt: &impl Abort, alloc: Global, model: &Model<Global>, line: &str) {
+    let (pair, due) = parted(rt, line, " : ");
+    let (p, q) = parted(rt, pair, ", ");
+    let (object, p, _) = operation(rt, alloc, model, p);
+    let (_, q, _) = operation(rt, alloc, model, q);
+    let kind = model.object(object).expect(rt, line).kind;
     holds(rt, do_conflict(&kind, &p, &q, due == "yes"), line);
-    Ok(())
 }
 
 #[test]
-fn knows_conflicts(rt: HostRuntime) -> Result<(), Fail> {
-    let model = flat(rt.alloc())?;
+fn knows_conflicts(rt: HostRuntime) {
+    let model = model_of(&rt, rt.alloc(), Standard::Atomic.text());
     for line in PAIRS.lines() {
-        conflict(&rt, rt.alloc(), &model, line)?;
+        conflict(&rt, rt.alloc(), &model, line);
     }
-    Ok(())
 }
 
 // Two operations that commute on a register.
-fn on_registers() -> Result<bool, AllocError> {
+fn on_registers(rt: &impl Abort) {
     let (mut one, mut other) = (4, 4);
-    let rets = both_orders::<Register>(&mut one, &mut other, &Op::Write(9), &Op::Write(9))?;
-    Ok((one, other) == (9, 9) && rets == [(Ret::Done, Ret::Done); 2])
+    let (p, q) = (Op::Write(9), Op::Write(9));
+    let rets = both_orders::<Register>(&mut one, &mut other, &p, &q);
+    let rets = made(rt, rets, "on a register");
+    holds(rt, (one, other) == (9, 9), "a register");
+    holds(rt, rets == [(Ret::Done, Ret::Done); 2], "on a register");
 }
 
 // Two operations that commute on a counter.
-fn on_counters() -> Result<bool, AllocError> {
+fn on_counters(rt: &impl Abort) {
     let (mut one, mut other) = (4, 4);
-    let rets = both_orders::<Counter>(&mut one, &mut other, &Op::Add(2), &Op::Add(-9))?;
-    Ok((one, other) == (-3, -3) && rets == [(Ret::Done, Ret::Done); 2])
+    let (p, q) = (Op::Add(2), Op::Add(-9));
+    let rets = both_orders::<Counter>(&mut one, &mut other, &p, &q);
+    let rets = made(rt, rets, "on a counter");
+    holds(rt, (one, other) == (-3, -3), "a counter");
+    holds(rt, rets == [(Ret::Done, Ret::Done); 2], "on a counter");
 }
 
 // Two operations that commute on a set.
-fn on_sets(alloc: Global) -> Result<bool, AllocError> {
+fn on_sets(rt: &impl Abort, alloc: Global) {
     let (mut one, mut other) = (Members::new(alloc), Members::new(alloc));
     let (p, q) = (Op::Insert(2), Op::Remove(5));
-    let rets = both_orders::<ElementSet<Global>>(&mut one, &mut other, &p, &q)?;
-    Ok((one.len(), other.len()) == (1, 1) && rets == [(Ret::Flag(true), Ret::Flag(false)); 2])
+    let rets = both_orders::<ElementSet<Global>>(&mut one, &mut other, &p, &q);
+    let rets = made(rt, rets, "on a set");
+    holds(rt, (one.len(), other.len()) == (1, 1), "a set");
+    holds(
+        rt,
+        rets == [(Ret::Flag(true), Ret::Flag(false)); 2],
+        "on a set",
+    );
 }
 
 #[test]
-fn commute(rt: HostRuntime) -> Result<(), AllocError> {
-    holds(&rt, on_registers()?, "on a register");
-    holds(&rt, on_counters()?, "on a counter");
-    holds(&rt, on_sets(rt.alloc())?, "on a set");
-    Ok(())
+fn commute(rt: HostRuntime) {
+    on_registers(&rt);
+    on_counters(&rt);
+    on_sets(&rt, rt.alloc());
 }

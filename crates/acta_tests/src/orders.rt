@@ -1,50 +1,36 @@
 //! Two transactions and one edge between them, through each order of their starts and ends: the machine refuses and
 //! owes what the formula of its kind says.
 
-use crate::calls::{new_machine, places_of, take};
-use crate::expecting::{holds, same};
+use crate::calls::{new_machine, owed_by, places_of, take};
+use crate::expecting::{holds, made, same};
 use crate::formulas::{course_of, is_false, payment};
+use crate::models::{event_of, model_of};
 use acta_axioms::Places;
-use acta_lang::assemble;
 use acta_machine::Machine;
 use acta_models::Standard;
-use acta_script::read_event;
 use acta_table::{Answer, Dep, Edge, EdgeNo, Event, Kept, Missing, Model, Owed, Rule, TxnId};
-use std::alloc::{AllocError, Allocator};
+use std::alloc::Allocator;
 use std::process::Abort;
-use std::test::Fail;
 
 const ONE: TxnId = TxnId(1);
 
 const TWO: TxnId = TxnId(2);
 
-// A copy of the history.
-fn copied<A: Allocator + Copy>(
-    alloc: A,
-    history: &[Kept<A>],
-) -> Result<Vec<Kept<A>, A>, AllocError> {
-    let mut copied = Vec::new(alloc);
-    for kept in history {
-        copied.push(kept.copy()?)?;
-    }
-    Ok(copied)
-}
-
-// The event, as it is kept.
-fn kept<A: Allocator + Copy>(event: &Event<A>) -> Result<Kept<A>, AllocError> {
-    let event = event.copy()?;
-    Ok(Kept { event, ret: None })
-}
-
 // The history with one more event.
 fn with<A: Allocator + Copy>(
+    rt: &impl Abort,
     alloc: A,
     history: &[Kept<A>],
     event: &Event<A>,
-) -> Result<Vec<Kept<A>, A>, AllocError> {
-    let mut longer = copied(alloc, history)?;
-    longer.push(kept(event)?)?;
-    Ok(longer)
+) -> Vec<Kept<A>, A> {
+    let mut longer = Vec::new(alloc);
+    for kept in history {
+        let kept = made(rt, kept.copy(), "an item");
+        made(rt, longer.push(kept), "an item");
+    }
+    let event = made(rt, event.copy(), "an event");
+    made(rt, longer.push(Kept { event, ret: None }), "an event");
+    longer
 }
 
 // What the places of a history say of the one edge in it: whether it is broken, and what is owed by it.
@@ -61,15 +47,19 @@ fn finding_of<A: Allocator + Copy>(kind: Dep, places: &Places<'_, A>) -> (bool, 
 
 // What would be found in the history of the machine, were the event added.
 fn found_after<A: Allocator + Copy>(
+    rt: &impl Abort,
     alloc: A,
-    model: &Model<A>,
-    history: &[Kept<A>],
+    machine: &Machine<A>,
     kind: Dep,
     event: &Event<A>,
-) -> Result<(bool, Option<Missing>), AllocError> {
-    let longer = with(alloc, history, event)?;
-    let places = places_of(alloc, model, longer.as_slice())?;
-    Ok(finding_of(kind, &places))
+) -> (bool, Option<Missing>) {
+    let longer = with(rt, alloc, machine.history(), event);
+    let places = made(
+        rt,
+        places_of(alloc, machine.model(), longer.as_slice()),
+        "places",
+    );
+    finding_of(kind, &places)
 }
 
 // Whether the debts are by the first edge what is missing, and no more.
@@ -82,62 +72,46 @@ fn is_due(owed: &[Owed], missing: Option<Missing>) -> bool {
     }
 }
 
-// The machine owes by its one edge what is missing, and no more.
-fn owes<A: Allocator + Copy>(
-    rt: &impl Abort,
-    machine: &Machine<A>,
-    missing: Option<Missing>,
-) -> Result<(), AllocError> {
-    let owed = machine.owed()?;
-    holds(rt, is_due(&owed, missing), "what is owed");
-    Ok(())
-}
-
 // A machine with one edge takes an event, and what it says is what the places of its history say: an answer by a
 // rule on dependencies exactly where the edge would be broken, and the debt. Gives whether it refused so, and
 // whether there is a debt.
 fn agrees<A: Allocator + Copy>(
     rt: &impl Abort,
     alloc: A,
-    model: &Model<A>,
     machine: &mut Machine<A>,
     kind: Dep,
     event: &Event<A>,
-) -> Result<(bool, bool), AllocError> {
-    let (is_broken, missing) = found_after(alloc, model, machine.history(), kind, event)?;
-    match take(machine, event)? {
+) -> (bool, bool) {
+    let (is_broken, missing) = found_after(rt, alloc, machine, kind, event);
+    match made(rt, take(machine, event), "an answer") {
         Answer::Admitted { .. } => {
+            let owed = made(rt, owed_by(machine), "debts");
             holds(rt, !is_broken, kind.word());
-            owes(rt, machine, missing)?;
-            Ok((false, missing.is_some()))
+            holds(rt, is_due(&owed, missing), "what is owed");
+            (false, missing.is_some())
         }
         Answer::Refused { rule, by } => {
             let is_dependency = (17..=27).contains(&rule.number());
             let is_by_one = is_dependency && is_broken && by == Some(1);
             holds(rt, is_by_one || rule == Rule::NotInProgress, kind.word());
-            Ok((is_dependency, false))
+            (is_dependency, false)
         }
     }
 }
 
-// The machine agrees along one order. Gives whether it refused an event by a rule on dependencies, and whether there
-// was a debt.
-fn along_on<A: Allocator + Copy>(
+// A new machine, on which an edge of this kind is formed, of the second transaction on the first.
+fn formed<A: Allocator + Copy>(
     rt: &impl Abort,
     alloc: A,
     model: &Model<A>,
-    machine: &mut Machine<A>,
     kind: Dep,
     order: &str,
-) -> Result<(bool, bool), Fail> {
-    let (mut refused, mut owed) = (false, false);
-    for said in order.split(", ") {
-        let event = read_event(alloc, model, said.as_bytes())?;
-        let said = agrees(rt, alloc, model, machine, kind, &event)?;
-        refused |= said.0;
-        owed |= said.1;
-    }
-    Ok((refused, owed))
+) -> Machine<A> {
+    let (place, ret) = (1, None);
+    let mut machine = made(rt, new_machine(alloc, model), order);
+    let answer = made(rt, take(&mut machine, &Event::Form(kind, TWO, ONE)), order);
+    holds(rt, answer == Answer::Admitted { place, ret }, order);
+    machine
 }
 
 // Whether there is one edge, of this kind, of the second transaction on the first.
@@ -146,32 +120,37 @@ fn has_one_edge(edges: &[Edge], kind: Dep) -> bool {
     edges == [Edge { kind, j, i }].as_slice()
 }
 
-// An edge of this kind is formed, of the second transaction on the first.
-fn form<A: Allocator + Copy>(
+// A machine with one edge agrees along one order. Gives whether it refused an event by a rule on dependencies, and
+// whether there was a debt.
+fn along_on<A: Allocator + Copy>(
     rt: &impl Abort,
+    alloc: A,
     machine: &mut Machine<A>,
     kind: Dep,
     order: &str,
-) -> Result<(), AllocError> {
-    let (place, ret) = (1, None);
-    let formed = take(machine, &Event::Form(kind, TWO, ONE))?;
-    holds(rt, formed == Answer::Admitted { place, ret }, order);
-    Ok(())
+) -> (bool, bool) {
+    let (mut refused, mut owed) = (false, false);
+    for said in order.split(", ") {
+        let event = event_of(rt, alloc, machine.model(), said);
+        let said = agrees(rt, alloc, machine, kind, &event);
+        refused |= said.0;
+        owed |= said.1;
+    }
+    (refused, owed)
 }
 
-// The same as `along_on`, of a new machine with one edge of this kind, of the second transaction on the first.
+// The same of a new machine with one edge of this kind.
 fn along<A: Allocator + Copy>(
     rt: &impl Abort,
     alloc: A,
     model: &Model<A>,
     kind: Dep,
     order: &str,
-) -> Result<(bool, bool), Fail> {
-    let mut machine = new_machine(alloc, model)?;
-    form(rt, &mut machine, kind, order)?;
-    let said = along_on(rt, alloc, model, &mut machine, kind, order)?;
+) -> (bool, bool) {
+    let mut machine = formed(rt, alloc, model, kind, order);
+    let said = along_on(rt, alloc, &mut machine, kind, order);
     holds(rt, has_one_edge(machine.edges(), kind), order);
-    Ok(said)
+    said
 }
 
 // Machines with an edge of one kind agree along each order.
@@ -180,14 +159,14 @@ fn through_each_order<A: Allocator + Copy>(
     alloc: A,
     model: &Model<A>,
     kind: Dep,
-) -> Result<(bool, bool), Fail> {
+) -> (bool, bool) {
     let (mut refused, mut owed) = (false, false);
     for order in ORDERS.lines() {
-        let said = along(rt, alloc, model, kind, order)?;
+        let said = along(rt, alloc, model, kind, order);
         refused |= said.0;
         owed |= said.1;
     }
-    Ok((refused, owed))
+    (refused, owed)
 }
 
 // The orders of the starts and ends of two transactions.
@@ -219,12 +198,11 @@ begin 2 try, abort 2, begin 1 try, abort 1";
 
 // Each kind, through each order of start, commit and abort of its two transactions.
 #[test]
-fn each_kind_in_each_order(rt: HostRuntime) -> Result<(), Fail> {
-    let model = assemble(rt.alloc(), Standard::Contingent.text().as_bytes())?;
+fn each_kind_in_each_order(rt: HostRuntime) {
+    let model = model_of(&rt, rt.alloc(), Standard::Contingent.text());
     for kind in Dep::ALL {
-        let (refused, owed) = through_each_order(&rt, rt.alloc(), &model, kind)?;
+        let (refused, owed) = through_each_order(&rt, rt.alloc(), &model, kind);
         holds(&rt, refused, kind.word());
         same(&rt, &owed, &payment(kind).is_some(), kind.word());
     }
-    Ok(())
 }

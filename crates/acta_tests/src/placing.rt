@@ -11,97 +11,83 @@
 //! ```
 
 use crate::calls::places_of;
-use crate::expecting::{holds, parted, tells};
+use crate::expecting::{holds, made, parted, tells};
 use crate::lists::by_model;
-use crate::models::Models;
-use crate::showing::{push_edges, txn};
+use crate::models::{Models, event_of};
+use crate::showing::{put_edges, put_number, put_word, txn};
 use crate::walking::follows_places;
 use acta_axioms::Places;
-use acta_script::read_event;
 use acta_table::{Event, Fate, Kept, Model, OpNo, Ret, TxnId};
-use acta_words::{push_natural, push_word, read_u32};
+use acta_words::read_u32;
 use std::alloc::Allocator;
 use std::process::Abort;
-use std::test::Fail;
 
-// Writes who holds an operation after so many places, if anyone, and what became of it: `OP at N` asks for it.
-fn push_standing<A: Allocator + Copy>(
-    line: &mut Vec<u8, A>,
-    places: &Places<'_, A>,
-    asked: &str,
-) -> Result<(), Fail> {
-    let (op, n) = asked
-        .split_once(" at ")
-        .ok_or("an operation is asked of at a place")?;
-    let op = OpNo(read_u32(op.as_bytes()).ok_or("a word is no operation")?);
-    let n = read_u32(n.as_bytes()).ok_or("a word is no place")?;
-    if let Some(holder) = places.holder(op, n) {
-        push_natural(line, u64::from(holder.0))?;
-    }
-    let fate = match places.fate(op, n) {
+// The number that is asked of.
+fn number(rt: &impl Abort, word: &str) -> u32 {
+    read_u32(word.as_bytes()).expect(rt, "a number")
+}
+
+fn fate_word(fate: Option<Fate>) -> &'static str {
+    match fate {
         Some(Fate::InProgress) => "open",
         Some(Fate::Committed) => "committed",
         Some(Fate::Aborted) => "aborted",
         None => "none",
-    };
-    Ok(push_word(line, fate.as_bytes())?)
+    }
 }
 
-// Writes the first place of the event of a transaction that the word names.
-fn push_place<A: Allocator + Copy>(
+// Writes who holds an operation after so many places, if anyone, and what became of it: `OP at N` asks for it.
+fn put_standing<A: Allocator + Copy>(
+    rt: &impl Abort,
     line: &mut Vec<u8, A>,
+    places: &Places<'_, A>,
+    asked: &str,
+) {
+    let (op, n) = parted(rt, asked, " at ");
+    let (op, n) = (OpNo(number(rt, op)), number(rt, n));
+    if let Some(holder) = places.holder(op, n) {
+        put_number(rt, line, u64::from(holder.0));
+    }
+    put_word(rt, line, fate_word(places.fate(op, n)));
+}
+
+// The first place of the event of a transaction that the word names.
+fn place_of<A: Allocator + Copy>(
+    rt: &impl Abort,
     places: &Places<'_, A>,
     word: &str,
     t: TxnId,
-) -> Result<(), Fail> {
-    let place = match word {
+) -> Option<u32> {
+    match word {
         "start" => places.start(t),
         "commit" => places.commit(t),
         "abort" => places.abort(t),
         "join" => places.join(t),
-        _ => return Err(Fail::new("a line asks nothing")),
-    };
+        _ => panic!(rt; "{word} asks nothing"),
+    }
+}
+
+// Writes a place, or that there is none.
+fn put_place<A: Allocator + Copy>(rt: &impl Abort, line: &mut Vec<u8, A>, place: Option<u32>) {
     match place {
-        Some(place) => Ok(push_natural(line, u64::from(place))?),
-        None => Ok(push_word(line, b"none")?),
+        Some(place) => put_number(rt, line, u64::from(place)),
+        None => put_word(rt, line, "none"),
     }
 }
 
 // Writes what the places say of what is asked.
-fn push_said<A: Allocator + Copy>(
+fn put_said<A: Allocator + Copy>(
+    rt: &impl Abort,
     line: &mut Vec<u8, A>,
     places: &Places<'_, A>,
     asked: &str,
-) -> Result<(), Fail> {
+) {
     let (word, rest) = asked.split_once(' ').unwrap_or((asked, ""));
     match word {
-        "op" => push_standing(line, places, rest),
-        "edges" => Ok(push_edges(line, places.edges())?),
-        _ => push_place(line, places, word, txn(rest)?),
+        "op" => put_standing(rt, line, places, rest),
+        "edges" => put_edges(rt, line, places.edges()),
+        _ => put_place(rt, line, place_of(rt, places, word, txn(rt, rest))),
     }
-}
-
-// What the places of the items say of what is asked.
-fn said<A: Allocator + Copy>(
-    alloc: A,
-    model: &Model<A>,
-    items: &[Kept<A>],
-    asked: &str,
-) -> Result<Vec<u8, A>, Fail> {
-    let places = places_of(alloc, model, items)?;
-    let mut line = Vec::new(alloc);
-    push_said(&mut line, &places, asked)?;
-    Ok(line)
-}
-
-// Reads the event of a line, as it is kept; the places don't look at what an operation returned.
-fn kept<A: Allocator + Copy>(alloc: A, model: &Model<A>, line: &str) -> Result<Kept<A>, Fail> {
-    let event = read_event(alloc, model, line.as_bytes())?;
-    let ret = match event {
-        Event::Operate(_, _, _) => Some(Ret::Done),
-        _ => None,
-    };
-    Ok(Kept { event, ret })
 }
 
 // The places of the items say what the line does.
@@ -111,10 +97,22 @@ fn ask<A: Allocator + Copy>(
     model: &Model<A>,
     items: &[Kept<A>],
     line: &str,
-) -> Result<(), Fail> {
-    let (asked, due) = parted(line, " :")?;
-    tells(rt, said(alloc, model, items, asked)?.as_slice(), due, line);
-    Ok(())
+) {
+    let (asked, due) = parted(rt, line, " :");
+    let places = made(rt, places_of(alloc, model, items), line);
+    let mut said = Vec::new(alloc);
+    put_said(rt, &mut said, &places, asked);
+    tells(rt, said.as_slice(), due, line);
+}
+
+// Reads the event of a line, as it is kept; the places don't look at what an operation returned.
+fn kept<A: Allocator + Copy>(rt: &impl Abort, alloc: A, model: &Model<A>, line: &str) -> Kept<A> {
+    let event = event_of(rt, alloc, model, line);
+    let ret = match event {
+        Event::Operate(_, _, _) => Some(Ret::Done),
+        _ => None,
+    };
+    Kept { event, ret }
 }
 
 // A line begins a list, asks something of it, or puts an event behind it.
@@ -124,39 +122,30 @@ fn follow<A: Allocator + Copy>(
     models: &Models<A>,
     items: &mut Vec<Kept<A>, A>,
     line: &str,
-) -> Result<(), Fail> {
+) {
     if line.starts_with("# ") {
         items.clear();
-        return Ok(());
+    } else if let Some(asked) = line.strip_prefix("? ") {
+        ask(rt, alloc, &models.model, items.as_slice(), asked);
+    } else {
+        made(rt, items.push(kept(rt, alloc, &models.wider, line)), line);
+        let follows = follows_places(rt, alloc, &models.model, items.as_slice());
+        holds(rt, follows, line);
     }
-    if let Some(asked) = line.strip_prefix("? ") {
-        return ask(rt, alloc, &models.model, items.as_slice(), asked);
-    }
-    items.push(kept(alloc, &models.wider, line)?)?;
-    let follows = follows_places(alloc, &models.model, items.as_slice())?;
-    holds(rt, follows, line);
-    Ok(())
 }
 
 // Goes through the lists of the model that the text means.
-fn expect<A: Allocator + Copy>(
-    rt: &impl Abort,
-    alloc: A,
-    model: &str,
-    lists: &str,
-) -> Result<(), Fail> {
-    let models = Models::of(alloc, model)?;
+fn expect<A: Allocator + Copy>(rt: &impl Abort, alloc: A, model: &str, lists: &str) {
+    let models = Models::of(rt, alloc, model);
     let mut items = Vec::new(alloc);
     for line in lists.lines() {
-        follow(rt, alloc, &models, &mut items, line)?;
+        follow(rt, alloc, &models, &mut items, line);
     }
-    Ok(())
 }
 
 #[test]
-fn lists_say_their_places(rt: HostRuntime) -> Result<(), Fail> {
+fn lists_say_their_places(rt: HostRuntime) {
     for (model, lists) in by_model() {
-        expect(&rt, rt.alloc(), model, lists)?;
+        expect(&rt, rt.alloc(), model, lists);
     }
-    Ok(())
 }

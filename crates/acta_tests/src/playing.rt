@@ -11,17 +11,16 @@
 //! a history at once answers them as one after another.
 
 use crate::agreeing::differing;
-use crate::calls::{new_machine, run_on, take};
-use crate::expecting::{holds, parted, same, tells};
+use crate::calls::{copy_of, new_machine, run_on, take};
+use crate::expecting::{made, parted, same, tells};
 use crate::histories::by_model;
-use crate::models::Models;
+use crate::models::{Models, event_of};
 use crate::showing::shown;
 use acta_machine::Machine;
-use acta_script::{answer_line, read_event};
+use acta_script::answer_line;
 use acta_table::{Answer, Event, Model};
-use std::alloc::{AllocError, Allocator};
+use std::alloc::Allocator;
 use std::process::Abort;
-use std::test::Fail;
 
 // A history as far as it was played.
 #[derive(Drop)]
@@ -38,64 +37,59 @@ fn shows<A: Allocator + Copy>(
     models: &Models<A>,
     machine: &Machine<A>,
     (asked, due): (&str, &str),
-) -> Result<(), Fail> {
-    let told = shown(alloc, models, machine, asked)?;
+) {
+    let told = shown(rt, alloc, models, machine, asked);
     tells(rt, told.as_slice(), due, asked);
-    Ok(())
 }
 
 impl<A: Allocator + Copy> Played<A> {
     // Nothing of a history.
-    fn new(alloc: A, model: &Model<A>) -> Result<Played<A>, AllocError> {
-        Ok(Played {
-            machine: new_machine(alloc, model)?,
+    fn new(rt: &impl Abort, alloc: A, model: &Model<A>) -> Played<A> {
+        Played {
+            machine: made(rt, new_machine(alloc, model), "a machine"),
             events: Vec::new(alloc),
             answers: Vec::new(alloc),
-        })
-    }
-
-    // What the machine answers the event that is said, as a line.
-    fn told(&mut self, alloc: A, models: &Models<A>, said: &str) -> Result<Vec<u8, A>, Fail> {
-        let event = read_event(alloc, &models.wider, said.as_bytes())?;
-        let answer = take(&mut self.machine, &event)?;
-        self.events.push(event)?;
-        self.answers.push(answer)?;
-        Ok(answer_line(alloc, &answer)?)
+        }
     }
 
     // The machine answers the event of the line as it says, and shows what the places of its history say.
-    fn take(
-        &mut self,
-        rt: &impl Abort,
-        alloc: A,
-        models: &Models<A>,
-        line: &str,
-    ) -> Result<(), Fail> {
-        let (said, due) = parted(line, " : ")?;
-        tells(rt, self.told(alloc, models, said)?.as_slice(), due, line);
-        let differing = differing(alloc, &models.model, &self.machine)?;
+    fn take(&mut self, rt: &impl Abort, alloc: A, models: &Models<A>, line: &str) {
+        let (said, due) = parted(rt, line, " : ");
+        let event = event_of(rt, alloc, &models.wider, said);
+        let answer = made(rt, take(&mut self.machine, &event), line);
+        made(rt, self.events.push(event), line);
+        made(rt, self.answers.push(answer), line);
+        let told = made(rt, answer_line(alloc, &answer), line);
+        tells(rt, told.as_slice(), due, line);
+        let differing = differing(rt, alloc, &models.model, &self.machine);
         same(rt, &differing, &"nothing", line);
-        Ok(())
     }
 
     // The machine, and a copy of it, show what the line says.
-    fn ask(&self, rt: &impl Abort, alloc: A, models: &Models<A>, line: &str) -> Result<(), Fail> {
-        let (asked, due) = parted(line, " :")?;
-        shows(rt, alloc, models, &self.machine, (asked, due))?;
-        shows(rt, alloc, models, &self.machine.copy()?, (asked, due))
+    fn ask(&self, rt: &impl Abort, alloc: A, models: &Models<A>, line: &str) {
+        let asked = parted(rt, line, " :");
+        let copied = made(rt, copy_of(&self.machine), "a copy");
+        shows(rt, alloc, models, &self.machine, asked);
+        shows(rt, alloc, models, &copied, asked);
     }
 
-    // A machine that runs the events at once answers the same, and has the same edges.
-    fn end(&self, rt: &impl Abort, alloc: A, model: &Model<A>) -> Result<(), AllocError> {
-        let run = run_on(alloc, model, &self.events)?;
-        let same = run.answers.as_slice() == self.answers.as_slice();
-        holds(rt, same, "the answers of a run");
-        holds(
-            rt,
-            run.machine.edges() == self.machine.edges(),
-            "the edges of a run",
-        );
-        Ok(())
+    // A machine that runs the events at once answers the same, and has the same edges. Gives the rules that were met.
+    fn end(&self, rt: &impl Abort, alloc: A, model: &Model<A>) -> u32 {
+        let run = made(rt, run_on(alloc, model, &self.events), "a run");
+        let (found, due) = (run.answers.as_slice(), self.answers.as_slice());
+        same(rt, &found, &due, "the answers of a run");
+        let (found, due) = (run.machine.edges(), self.machine.edges());
+        same(rt, &found, &due, "the edges of a run");
+        rules_met(&self.answers)
+    }
+
+    // Ends a history, and begins the next. Gives the rules that were met.
+    fn renew(&mut self, rt: &impl Abort, alloc: A, model: &Model<A>) -> u32 {
+        let met = self.end(rt, alloc, model);
+        self.machine = made(rt, new_machine(alloc, model), "a machine");
+        self.events.clear();
+        self.answers.clear();
+        met
     }
 }
 
@@ -110,11 +104,6 @@ fn rules_met(answers: &[Answer]) -> u32 {
     met
 }
 
-// Whether the rule of this number was met.
-fn is_met(met: u32, rule: u32) -> bool {
-    met.checked_shr(rule).unwrap_or(0) % 2 == 1
-}
-
 // A line begins a history, asks what the machine shows, or has an event. Gives the rules that a history has met, where
 // it is over.
 fn follow<A: Allocator + Copy>(
@@ -123,56 +112,58 @@ fn follow<A: Allocator + Copy>(
     models: &Models<A>,
     played: &mut Played<A>,
     line: &str,
-) -> Result<u32, Fail> {
+) -> u32 {
     if line.starts_with("# ") {
-        played.end(rt, alloc, &models.model)?;
-        let met = rules_met(&played.answers);
-        *played = Played::new(alloc, &models.model)?;
-        return Ok(met);
+        return played.renew(rt, alloc, &models.model);
     }
     match line.strip_prefix("? ") {
-        Some(asked) => played.ask(rt, alloc, models, asked)?,
-        None => played.take(rt, alloc, models, line)?,
+        Some(asked) => played.ask(rt, alloc, models, asked),
+        None => played.take(rt, alloc, models, line),
     }
-    Ok(0)
+    0
 }
 
-// Plays the histories on these models. Gives the rules that they met.
-fn play_on<A: Allocator + Copy>(
+// Does what the lines say. Gives the rules that the histories have met which are over.
+fn follow_all<A: Allocator + Copy>(
     rt: &impl Abort,
     alloc: A,
     models: &Models<A>,
+    played: &mut Played<A>,
     histories: &str,
-) -> Result<u32, Fail> {
-    let mut played = Played::new(alloc, &models.model)?;
+) -> u32 {
     let mut met = 0u32;
     for line in histories.lines() {
-        met |= follow(rt, alloc, models, &mut played, line)?;
+        met |= follow(rt, alloc, models, played, line);
     }
-    played.end(rt, alloc, &models.model)?;
-    Ok(met | rules_met(&played.answers))
+    met
 }
 
-// Plays the histories of the model that the text means.
-fn play<A: Allocator + Copy>(
-    rt: &impl Abort,
-    alloc: A,
-    model: &str,
-    histories: &str,
-) -> Result<u32, Fail> {
-    let models = Models::of(alloc, model)?;
-    play_on(rt, alloc, &models, histories)
+// Plays the histories of the model that the text means. Gives the rules that they met.
+fn play<A: Allocator + Copy>(rt: &impl Abort, alloc: A, model: &str, histories: &str) -> u32 {
+    let models = Models::of(rt, alloc, model);
+    let mut played = Played::new(rt, alloc, &models.model);
+    let met = follow_all(rt, alloc, &models, &mut played, histories);
+    met | played.end(rt, alloc, &models.model)
+}
+
+// Whether the rule of this number was met.
+fn is_met(met: u32, rule: u32) -> bool {
+    met.checked_shr(rule).unwrap_or(0) % 2 == 1
+}
+
+// Each rule was met but those on too many events and on too many edges.
+fn are_met(rt: &impl Abort, met: u32) {
+    for rule in 1..=28u32 {
+        assert_eq!(rt; is_met(met, rule), rule != 1 && rule != 16, "rule {rule}");
+    }
 }
 
 // The histories go as they say, and together they meet each rule but those on too many events and on too many edges.
 #[test]
-fn histories_go_as_they_say(rt: HostRuntime) -> Result<(), Fail> {
+fn histories_go_as_they_say(rt: HostRuntime) {
     let mut met = 0u32;
     for (model, histories) in by_model() {
-        met |= play(&rt, rt.alloc(), model, histories)?;
+        met |= play(&rt, rt.alloc(), model, histories);
     }
-    for rule in 1..=28u32 {
-        assert_eq!(rt; is_met(met, rule), rule != 1 && rule != 16, "rule {rule}");
-    }
-    Ok(())
+    are_met(&rt, met);
 }

@@ -1,61 +1,69 @@
 //! What a machine shows, as words: each word has a space before it, and no word is nothing.
 
+use crate::calls::owed_by;
+use crate::expecting::made;
 use crate::models::Models;
 use acta_machine::Machine;
 use acta_objects::ObjectState;
 use acta_script::owed_line;
 use acta_table::{Edge, ObjId, OpNo, Status, TxnId};
 use acta_words::{push_integer, push_natural, push_word, read_u16};
-use std::alloc::{AllocError, Allocator};
-use std::test::Fail;
+use std::alloc::Allocator;
+use std::process::Abort;
 
-fn push_ops<A: Allocator + Copy>(line: &mut Vec<u8, A>, ops: &[OpNo]) -> Result<(), AllocError> {
+/// Writes a word.
+pub fn put_word<A: Allocator>(rt: &impl Abort, line: &mut Vec<u8, A>, word: &str) {
+    made(rt, push_word(line, word.as_bytes()), word);
+}
+
+/// Writes a number.
+pub fn put_number<A: Allocator>(rt: &impl Abort, line: &mut Vec<u8, A>, number: u64) {
+    made(rt, push_natural(line, number), "a number");
+}
+
+// Writes a number that may be below 0.
+fn put_integer<A: Allocator>(rt: &impl Abort, line: &mut Vec<u8, A>, number: i64) {
+    made(rt, push_integer(line, number), "a number");
+}
+
+fn put_ops<A: Allocator>(rt: &impl Abort, line: &mut Vec<u8, A>, ops: &[OpNo]) {
     for op in ops {
-        push_natural(line, u64::from(op.0))?;
+        put_number(rt, line, u64::from(op.0));
     }
-    Ok(())
 }
 
 /// Writes the edges: of each its kind, the one that depends, and the one that it depends on.
-pub fn push_edges<A: Allocator + Copy>(
-    line: &mut Vec<u8, A>,
-    edges: &[Edge],
-) -> Result<(), AllocError> {
+pub fn put_edges<A: Allocator>(rt: &impl Abort, line: &mut Vec<u8, A>, edges: &[Edge]) {
     for edge in edges {
-        push_word(line, edge.kind.word().as_bytes())?;
-        push_natural(line, u64::from(edge.j.0))?;
-        push_natural(line, u64::from(edge.i.0))?;
+        put_word(rt, line, edge.kind.word());
+        put_number(rt, line, u64::from(edge.j.0));
+        put_number(rt, line, u64::from(edge.i.0));
     }
-    Ok(())
 }
 
 // Writes what is owed.
-fn push_debts<A: Allocator + Copy>(
+fn put_debts<A: Allocator + Copy>(
+    rt: &impl Abort,
     alloc: A,
     line: &mut Vec<u8, A>,
     machine: &Machine<A>,
-) -> Result<(), AllocError> {
-    for debt in &machine.owed()? {
-        push_word(line, &owed_line(alloc, debt)?)?;
+) {
+    for debt in &made(rt, owed_by(machine), "debts") {
+        let owed = made(rt, owed_line(alloc, debt), "a debt");
+        made(rt, push_word(line, &owed), "a debt");
     }
-    Ok(())
 }
 
-// Writes a value of an object, where there is one: its number, or what is in the set.
-fn push_value<A: Allocator + Copy>(
-    line: &mut Vec<u8, A>,
-    value: Option<&ObjectState<A>>,
-) -> Result<(), AllocError> {
+// Writes a value of an object: its number, or what is in the set.
+fn put_value<A: Allocator + Copy>(rt: &impl Abort, line: &mut Vec<u8, A>, value: &ObjectState<A>) {
     match value {
-        Some(ObjectState::Register(value)) => push_integer(line, i64::from(*value)),
-        Some(ObjectState::Counter(value)) => push_integer(line, *value),
-        Some(ObjectState::Elements(members)) => {
+        ObjectState::Register(value) => put_integer(rt, line, i64::from(*value)),
+        ObjectState::Counter(value) => put_integer(rt, line, *value),
+        ObjectState::Elements(members) => {
             for member in members.items() {
-                push_integer(line, i64::from(*member))?;
+                put_integer(rt, line, i64::from(*member));
             }
-            Ok(())
         }
-        None => Ok(()),
     }
 }
 
@@ -70,73 +78,79 @@ fn status_word(status: Status) -> &'static str {
 }
 
 /// The transaction of this number.
-pub fn txn(word: &str) -> Result<TxnId, Fail> {
-    Ok(TxnId(read_u16(word.as_bytes()).ok_or("a word is no transaction")?))
+pub fn txn(rt: &impl Abort, word: &str) -> TxnId {
+    TxnId(read_u16(word.as_bytes()).expect(rt, "a transaction's number"))
 }
 
 // Writes what the machine shows of a transaction.
-fn push_of_txn<A: Allocator + Copy>(
+fn put_of_txn<A: Allocator + Copy>(
+    rt: &impl Abort,
     line: &mut Vec<u8, A>,
     machine: &Machine<A>,
     word: &str,
     t: TxnId,
-) -> Result<(), Fail> {
+) {
     match word {
-        "status" => Ok(push_word(line, status_word(machine.status(t)).as_bytes())?),
-        "access" => Ok(push_ops(line, &machine.access_set(t)?)?),
-        "conflict" => Ok(push_ops(line, &machine.conflict_set(t)?)?),
-        _ => Err("a line asks nothing")?,
+        "status" => put_word(rt, line, status_word(machine.status(t))),
+        "access" => put_ops(rt, line, &made(rt, machine.access_set(t), word)),
+        "conflict" => put_ops(rt, line, &made(rt, machine.conflict_set(t), word)),
+        _ => panic!(rt; "{word} asks nothing"),
     }
 }
 
 // The object of this name.
-fn object_of<A: Allocator + Copy>(models: &Models<A>, name: &str) -> Result<ObjId, Fail> {
+fn object_of<A: Allocator + Copy>(rt: &impl Abort, models: &Models<A>, name: &str) -> ObjId {
     let mut number = 0u16;
     for object in models.wider.objects() {
         if object.name.as_slice() == name.as_bytes() {
-            return Ok(ObjId(number));
+            return ObjId(number);
         }
         number = number.saturating_add(1);
     }
-    Err("no object has this name")?
+    panic!(rt; "no object is {name}")
 }
 
-// Writes the value of an object.
-fn push_object<A: Allocator + Copy>(
+// Writes the value of an object, where there is one.
+fn put_object<A: Allocator + Copy>(
+    rt: &impl Abort,
     line: &mut Vec<u8, A>,
     machine: &Machine<A>,
     object: ObjId,
-) -> Result<(), AllocError> {
-    push_value(line, machine.value(object)?.as_ref())
+) {
+    if let Some(value) = &made(rt, machine.value(object), "a value") {
+        put_value(rt, line, value);
+    }
 }
 
 // Writes what the machine shows of what is asked.
-fn push_shown<A: Allocator + Copy>(
+fn put_shown<A: Allocator + Copy>(
+    rt: &impl Abort,
     alloc: A,
     line: &mut Vec<u8, A>,
     models: &Models<A>,
     machine: &Machine<A>,
     asked: &str,
-) -> Result<(), Fail> {
+) {
     let (word, rest) = asked.split_once(' ').unwrap_or((asked, ""));
     match word {
-        "view" => Ok(push_ops(line, &machine.view_set()?)?),
-        "value" => Ok(push_object(line, machine, object_of(models, rest)?)?),
-        "edges" => Ok(push_edges(line, machine.edges())?),
-        "owed" => Ok(push_debts(alloc, line, machine)?),
-        _ => push_of_txn(line, machine, word, txn(rest)?),
+        "view" => put_ops(rt, line, &made(rt, machine.view_set(), asked)),
+        "value" => put_object(rt, line, machine, object_of(rt, models, rest)),
+        "edges" => put_edges(rt, line, machine.edges()),
+        "owed" => put_debts(rt, alloc, line, machine),
+        _ => put_of_txn(rt, line, machine, word, txn(rt, rest)),
     }
 }
 
 /// What the machine shows of what is asked: `status T`, `access T`, `conflict T`, `view`, `value OBJECT`, `edges`,
 /// `owed`.
 pub fn shown<A: Allocator + Copy>(
+    rt: &impl Abort,
     alloc: A,
     models: &Models<A>,
     machine: &Machine<A>,
     asked: &str,
-) -> Result<Vec<u8, A>, Fail> {
+) -> Vec<u8, A> {
     let mut line = Vec::new(alloc);
-    push_shown(alloc, &mut line, models, machine, asked)?;
-    Ok(line)
+    put_shown(rt, alloc, &mut line, models, machine, asked);
+    line
 }

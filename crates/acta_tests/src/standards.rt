@@ -1,16 +1,22 @@
 //! The texts of the standard models against their parts, written out by hand: a model has one canonical text.
 
+use crate::expecting::{made, tells};
 use acta_lang::print_model;
 use acta_models::Standard;
 use acta_table::{
     AtCommit, Class, Dep, DepKinds, Dependent, EventKind, Extent, Items, Kind, Kinds, Model,
     Object, Parts, Policy, Scope, StartEdge, StartEdges, Starts,
 };
-use std::alloc::{AllocError, Allocator};
-use std::test::Fail;
+use std::alloc::Allocator;
+use std::process::Abort;
+
+// The name that the word is.
+fn named<A: Allocator + Copy>(rt: &impl Abort, alloc: A, word: &[u8]) -> Items<u8, A> {
+    Items::of(made(rt, Vec::from_slice(alloc, word), "a name"))
+}
 
 // The objects `x`, `n`, `m`, `s`.
-fn objects<A: Allocator + Copy>(alloc: A) -> Result<Vec<Object<A>, A>, AllocError> {
+fn objects<A: Allocator + Copy>(rt: &impl Abort, alloc: A) -> Vec<Object<A>, A> {
     let mut objects = Vec::new(alloc);
     for name in [b'x', b'n', b'm', b's'] {
         let kind = match name {
@@ -18,16 +24,16 @@ fn objects<A: Allocator + Copy>(alloc: A) -> Result<Vec<Object<A>, A>, AllocErro
             b's' => Kind::Elements,
             _ => Kind::Counter(0),
         };
-        let name = Items::of(Vec::from_slice(alloc, &[name])?);
-        objects.push(Object { name, kind })?;
+        let name = named(rt, alloc, &[name]);
+        made(rt, objects.push(Object { name, kind }), "an object");
     }
-    Ok(objects)
+    objects
 }
 
 // A class that may begin, operate, commit and abort, and these kinds of event.
-fn class<A: Allocator + Copy>(alloc: A, name: &str, more: Kinds) -> Result<Class<A>, AllocError> {
-    Ok(Class {
-        name: Items::of(Vec::from_slice(alloc, name.as_bytes())?),
+fn class<A: Allocator + Copy>(rt: &impl Abort, alloc: A, name: &str, more: Kinds) -> Class<A> {
+    Class {
+        name: named(rt, alloc, name.as_bytes()),
         starts: Starts {
             begin: true,
             spawned: false,
@@ -43,30 +49,30 @@ fn class<A: Allocator + Copy>(alloc: A, name: &str, more: Kinds) -> Result<Class
         extent: Extent::Whole,
         spawn_edges: StartEdges::new(alloc),
         split_edges: StartEdges::new(alloc),
-    })
+    }
 }
 
 // The class `sub` of nested transactions that are spawned, and commit to their parents. A parent that commits does so
 // after its children, and one that aborts takes with it those that have not committed.
-fn sub<A: Allocator + Copy>(alloc: A) -> Result<Class<A>, AllocError> {
+fn sub<A: Allocator + Copy>(rt: &impl Abort, alloc: A) -> Class<A> {
     let (kind, dependent) = (Dep::Cd, Dependent::Starter);
     let after = StartEdge { kind, dependent };
     let (kind, dependent) = (Dep::Wd, Dependent::Started);
     let with = StartEdge { kind, dependent };
-    let mut sub = class(alloc, "sub", Kinds::of(EventKind::Spawn))?;
-    sub.spawn_edges = StartEdges::of(alloc, &[after, with])?;
+    let mut sub = class(rt, alloc, "sub", Kinds::of(EventKind::Spawn));
+    sub.spawn_edges = made(rt, StartEdges::of(alloc, &[after, with]), "edges");
     sub.scope = Scope::NonAncestors;
     sub.starts.begin = false;
     sub.starts.spawned = true;
     sub.at_commit = AtCommit::ToParent;
-    Ok(sub)
+    sub
 }
 
 // The class of a standard model whose transactions begin: `flat`; `top`, of nested transactions, which is in conflict
 // with none of its ancestors, of which it has none; `part`, which may be split off, and hands over as much as it likes;
 // `loose`, of those whose operations conflict, which end only after those that they depend on, and abort with them; and
 // `try`, which may also form edges.
-fn beginning<A: Allocator + Copy>(alloc: A, name: Standard) -> Result<Class<A>, AllocError> {
+fn beginning<A: Allocator + Copy>(rt: &impl Abort, alloc: A, name: Standard) -> Class<A> {
     let (word, more) = match name {
         Standard::Atomic => ("flat", Kinds::none()),
         Standard::Nested => ("top", Kinds::of(EventKind::Spawn)),
@@ -79,7 +85,7 @@ fn beginning<A: Allocator + Copy>(alloc: A, name: Standard) -> Result<Class<A>, 
         Standard::Recoverable => ("loose", Kinds::none()),
         Standard::Contingent => ("try", Kinds::of(EventKind::Form)),
     };
-    let mut class = class(alloc, word, more)?;
+    let mut class = class(rt, alloc, word, more);
     match name {
         Standard::Nested => class.scope = Scope::NonAncestors,
         Standard::SplitJoin => {
@@ -91,30 +97,25 @@ fn beginning<A: Allocator + Copy>(alloc: A, name: Standard) -> Result<Class<A>, 
         }
         Standard::Atomic | Standard::Contingent => {}
     }
-    Ok(class)
+    class
 }
 
-// The canonical text of a standard model, by its parts.
-fn text_of<A: Allocator + Copy>(alloc: A, name: Standard) -> Result<Vec<u8, A>, Fail> {
+// A standard model, by its parts.
+fn model_by_parts<A: Allocator + Copy>(rt: &impl Abort, alloc: A, name: Standard) -> Model<A> {
     let mut classes = Vec::new(alloc);
-    classes.push(beginning(alloc, name)?)?;
+    made(rt, classes.push(beginning(rt, alloc, name)), "a class");
     if name == Standard::Nested {
-        classes.push(sub(alloc)?)?;
+        made(rt, classes.push(sub(rt, alloc)), "a class");
     }
-    let (objects, classes) = (Items::of(objects(alloc)?), Items::of(classes));
-    match Model::check(Parts { objects, classes }) {
-        Ok(model) => Ok(print_model(alloc, &model)?),
-        Err(_) => Err("a standard model has no fault")?,
-    }
+    let (objects, classes) = (Items::of(objects(rt, alloc)), Items::of(classes));
+    made(rt, Model::check(Parts { objects, classes }), "a model")
 }
 
 #[test]
-fn the_texts_mean_what_is_listed(rt: HostRuntime) -> Result<(), Fail> {
+fn the_texts_mean_what_is_listed(rt: HostRuntime) {
     for name in Standard::ALL {
-        assert_eq!(rt;
-            text_of(rt.alloc(), name)?.as_slice(),
-            name.text().as_bytes()
-        );
+        let model = model_by_parts(&rt, rt.alloc(), name);
+        let text = made(&rt, print_model(rt.alloc(), &model), "a text");
+        tells(&rt, text.as_slice(), name.text(), "a standard model");
     }
-    Ok(())
 }

@@ -1,16 +1,13 @@
 //! Each growth of a walk's steps refused in turn: a step that is refused leaves the walk where it was.
 
 use crate::calls::walk_of;
-use crate::expecting::{holds, number_of, parted, same};
-use crate::models::{FOLLOWING, LENDING};
+use crate::expecting::{holds, made, number_of, parted, same};
+use crate::models::{FOLLOWING, LENDING, event_of, model_of};
 use acta_axioms::Walk;
-use acta_lang::assemble;
-use acta_script::read_event;
 use acta_table::{Kept, Model};
 use refusing::Refusing;
 use std::alloc::Allocator;
 use std::process::Abort;
-use std::test::Fail;
 
 // More growths than any of these calls has.
 const MOST: u64 = 20;
@@ -47,17 +44,18 @@ fn step_each<A: Allocator + Copy, B: Allocator>(
 
 // The events of the lines.
 fn read<A: Allocator + Copy>(
+    rt: &impl Abort,
     alloc: A,
     model: &Model<A>,
     text: &str,
-) -> Result<Vec<Kept<A>, A>, Fail> {
+) -> Vec<Kept<A>, A> {
     let mut kept = Vec::new(alloc);
     for line in text.lines() {
-        let (said, _) = parted(line, " : ")?;
-        let event = read_event(alloc, model, said.as_bytes())?;
-        kept.push(Kept { event, ret: None })?;
+        let (said, _) = parted(rt, line, " : ");
+        let event = event_of(rt, alloc, model, said);
+        made(rt, kept.push(Kept { event, ret: None }), line);
     }
-    Ok(kept)
+    kept
 }
 
 // Steps over the events of the lines, each growth refused in turn: behind each event stands how many growths the step
@@ -67,13 +65,25 @@ fn step_over<A: Allocator + Copy, B: Allocator>(
     heap: &Refusing<B>,
     walk: &mut Walk<'_, A>,
     text: &str,
-) -> Result<(), Fail> {
+) {
     for line in text.lines() {
-        let (_, growths) = parted(line, " : ")?;
+        let (_, growths) = parted(rt, line, " : ");
         let refused = step_each(rt, heap, walk);
         same(rt, &Some(refused), &number_of(growths), line);
     }
-    Ok(())
+}
+
+// Steps through the list that the text means, on this model.
+fn steps_on<A: Allocator + Copy, B: Allocator>(
+    rt: &impl Abort,
+    heap: &Refusing<B>,
+    alloc: A,
+    model: &Model<A>,
+    text: &str,
+) {
+    let kept = read(rt, alloc, model, text);
+    let mut walk = made(rt, walk_of(alloc, model, kept.as_slice()), "a walk");
+    step_over(rt, heap, &mut walk, text);
 }
 
 // Steps through the list that the text means.
@@ -83,11 +93,9 @@ fn steps<A: Allocator + Copy, B: Allocator>(
     alloc: A,
     model: &str,
     text: &str,
-) -> Result<(), Fail> {
-    let model = assemble(alloc, model.as_bytes())?;
-    let kept = read(alloc, &model, text)?;
-    let mut walk = walk_of(alloc, &model, kept.as_slice())?;
-    step_over(rt, heap, &mut walk, text)
+) {
+    let model = model_of(rt, alloc, model);
+    steps_on(rt, heap, alloc, &model, text);
 }
 
 // Of the operations; for an operation with edges, of the set of those whom it depends on, of the edges that are due,
@@ -113,10 +121,9 @@ join 1 2 : 0
 abort 2 : 0";
 
 #[test]
-fn refuses_each_growth(rt: HostRuntime) -> Result<(), Fail> {
+fn refuses_each_growth(rt: HostRuntime) {
     let heap = Refusing::new(rt.alloc());
     for (model, text) in [(LENDING, OF_DEPENDING), (FOLLOWING, OF_PARTS)] {
-        steps(&rt, &heap, &heap, model, text)?;
+        steps(&rt, &heap, &heap, model, text);
     }
-    Ok(())
 }

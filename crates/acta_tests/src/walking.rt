@@ -3,12 +3,14 @@
 
 use crate::agreeing::{class_in, parent_in, status_by};
 use crate::calls::{places_of, walk_of};
+use crate::expecting::made;
 use crate::formulas::course_of;
 use acta_axioms::{Places, Walk};
 use acta_machine::Machine;
 use acta_objects::{Members, ObjectState};
 use acta_table::{Class, Fate, Kept, Kind, Model, ObjId, Op, OpNo, TxnId};
-use std::alloc::{AllocError, Allocator};
+use std::alloc::Allocator;
+use std::process::Abort;
 
 // How many transactions are asked of, by `asked_txn`.
 const TXNS: u16 = 12;
@@ -39,15 +41,16 @@ fn asked_op(number: u8) -> (ObjId, Op) {
 
 // A walk that has taken all items of the list.
 fn walked<'a, A: Allocator + Copy>(
+    rt: &impl Abort,
     alloc: A,
     model: &'a Model<A>,
     kept: &'a [Kept<A>],
-) -> Result<Walk<'a, A>, AllocError> {
-    let mut walk = walk_of(alloc, model, kept)?;
+) -> Walk<'a, A> {
+    let mut walk = made(rt, walk_of(alloc, model, kept), "a walk");
     for _ in kept {
-        walk.step()?;
+        made(rt, walk.step(), "a step");
     }
-    Ok(walk)
+    walk
 }
 
 // Whether two sets have the same members.
@@ -79,49 +82,53 @@ fn is_same<A: Allocator + Copy>(p: Option<&ObjectState<A>>, q: Option<&ObjectSta
 
 // The machine and the walk show the same value of the object.
 fn same_value<A: Allocator + Copy>(
+    rt: &impl Abort,
     walk: &Walk<'_, A>,
     machine: &Machine<A>,
     object: ObjId,
-) -> Result<bool, AllocError> {
-    let shown = machine.value(object)?;
-    let value = walk.value(object)?;
-    Ok(is_same(value.as_ref(), shown.as_ref()))
+) -> bool {
+    let shown = made(rt, machine.value(object), "a machine's value");
+    let value = made(rt, walk.value(object), "a walk's value");
+    is_same(value.as_ref(), shown.as_ref())
 }
 
 // Those of the operations with which this one conflicts, on an object of this kind.
 fn conflicting<A: Allocator + Copy>(
+    rt: &impl Abort,
     alloc: A,
     walk: &Walk<'_, A>,
     others: &[OpNo],
     kind: &Kind,
     (object, op): (ObjId, &Op),
-) -> Result<Vec<OpNo, A>, AllocError> {
+) -> Vec<OpNo, A> {
     let mut found = Vec::new(alloc);
     let mut number = 0u32;
     for held in walk.operations() {
         number = number.saturating_add(1);
         let is_other = others.contains(&OpNo(number)) && held.ob == object;
         if is_other && ObjectState::<A>::conflicts(kind, &held.op, op) {
-            found.push(OpNo(number))?;
+            made(rt, found.push(OpNo(number)), "an operation");
         }
     }
-    Ok(found)
+    found
 }
 
 // The walk finds the operations with which a transaction's operation on an object conflicts: those of its conflict set
 // that do.
 fn finds_conflict<A: Allocator + Copy>(
+    rt: &impl Abort,
     alloc: A,
     walk: &Walk<'_, A>,
     t: TxnId,
     others: &[OpNo],
     (object, op): (ObjId, &Op),
-) -> Result<bool, AllocError> {
+) -> bool {
     let Some(of) = walk.model().object(object) else {
-        return Ok(false);
+        return false;
     };
-    let due = conflicting(alloc, walk, others, &of.kind, (object, op))?;
-    Ok(walk.conflicting(t, object, op)?.as_slice() == due.as_slice())
+    let due = conflicting(rt, alloc, walk, others, &of.kind, (object, op));
+    let found = made(rt, walk.conflicting(t, object, op), "conflicts");
+    found.as_slice() == due.as_slice()
 }
 
 // The walk names the class with which a transaction started, and its parent, as the history has them.
@@ -139,73 +146,75 @@ fn knows<A: Allocator + Copy>(walk: &Walk<'_, A>, history: &[Kept<A>], t: TxnId)
 
 // The machine and the walk show the same access set.
 fn same_access<A: Allocator + Copy>(
+    rt: &impl Abort,
     walk: &Walk<'_, A>,
     machine: &Machine<A>,
     t: TxnId,
-) -> Result<bool, AllocError> {
-    let access = walk.access_set(t)?;
-    let shown = machine.access_set(t)?;
-    Ok(access.as_slice() == shown.as_slice())
+) -> bool {
+    let access = made(rt, walk.access_set(t), "a walk's access set");
+    let shown = made(rt, machine.access_set(t), "a machine's access set");
+    access.as_slice() == shown.as_slice()
 }
 
 // The walk finds conflicts among the operations of a transaction's conflict set.
 fn finds_conflicts<A: Allocator + Copy>(
+    rt: &impl Abort,
     alloc: A,
     walk: &Walk<'_, A>,
     t: TxnId,
     others: &[OpNo],
-) -> Result<bool, AllocError> {
+) -> bool {
+    let mut finds = true;
     for number in 0..OPS {
         let (object, op) = asked_op(number);
-        if !finds_conflict(alloc, walk, t, others, (object, &op))? {
-            return Ok(false);
-        }
+        finds &= finds_conflict(rt, alloc, walk, t, others, (object, &op));
     }
-    Ok(true)
+    finds
 }
 
 // The machine and the walk show the same conflict set, and the walk finds conflicts in it.
 fn same_conflicts<A: Allocator + Copy>(
+    rt: &impl Abort,
     alloc: A,
     walk: &Walk<'_, A>,
     machine: &Machine<A>,
     t: TxnId,
-) -> Result<bool, AllocError> {
-    let others = walk.conflict_set(t)?;
-    let shown = machine.conflict_set(t)?;
-    if others.as_slice() != shown.as_slice() {
-        return Ok(false);
-    }
-    finds_conflicts(alloc, walk, t, others.as_slice())
+) -> bool {
+    let others = made(rt, walk.conflict_set(t), "a walk's conflict set");
+    let shown = made(rt, machine.conflict_set(t), "a machine's conflict set");
+    let finds = finds_conflicts(rt, alloc, walk, t, others.as_slice());
+    finds && others.as_slice() == shown.as_slice()
 }
 
 // The machine and the walk show the same values, and the same of each transaction.
 fn same_as_machine<A: Allocator + Copy>(
+    rt: &impl Abort,
     alloc: A,
     walk: &Walk<'_, A>,
     machine: &Machine<A>,
-) -> Result<bool, AllocError> {
+) -> bool {
     let mut same = walk.edges() == machine.edges();
     for number in 0..4 {
-        same &= same_value(walk, machine, ObjId(number))?;
+        same &= same_value(rt, walk, machine, ObjId(number));
     }
     for number in 0..TXNS {
         let t = asked_txn(number);
         same &= status_by(walk.course(t)) == machine.status(t);
         same &= knows(walk, machine.history(), t);
-        same &= same_access(walk, machine, t)?;
-        same &= same_conflicts(alloc, walk, machine, t)?;
+        same &= same_access(rt, walk, machine, t);
+        same &= same_conflicts(rt, alloc, walk, machine, t);
     }
-    Ok(same)
+    same
 }
 
 /// Whether a walk through the machine's history shows what the machine does.
 pub fn follows_machine<A: Allocator + Copy>(
+    rt: &impl Abort,
     alloc: A,
     machine: &Machine<A>,
-) -> Result<bool, AllocError> {
-    let walk = walked(alloc, machine.model(), machine.history())?;
-    same_as_machine(alloc, &walk, machine)
+) -> bool {
+    let walk = walked(rt, alloc, machine.model(), machine.history());
+    same_as_machine(rt, alloc, &walk, machine)
 }
 
 // The walk's operations stand as the places say at the end of the list.
@@ -224,12 +233,13 @@ fn same_operations<A: Allocator + Copy>(walk: &Walk<'_, A>, places: &Places<'_, 
 
 // The places and the walk say the same of a transaction: its course, and the operations that it holds in progress.
 fn same_course<A: Allocator + Copy>(
+    rt: &impl Abort,
     walk: &Walk<'_, A>,
     places: &Places<'_, A>,
     t: TxnId,
-) -> Result<bool, AllocError> {
+) -> bool {
     let end = walk.front().len() as u32;
-    let access = walk.access_set(t)?;
+    let access = made(rt, walk.access_set(t), "an access set");
     let mut same = walk.course(t) == course_of(places, t);
     for number in 0..8 {
         let op = OpNo(number);
@@ -237,28 +247,35 @@ fn same_course<A: Allocator + Copy>(
             && places.fate(op, end) == Some(Fate::InProgress);
         same &= access.contains(&op) == is_held;
     }
-    Ok(same)
+    same
 }
 
 // The places and the walk say the same.
 fn same_places<A: Allocator + Copy>(
+    rt: &impl Abort,
     walk: &Walk<'_, A>,
     places: &Places<'_, A>,
-) -> Result<bool, AllocError> {
+) -> bool {
     let mut same = walk.edges() == places.edges() && same_operations(walk, places);
     for number in 0..TXNS {
-        same &= same_course(walk, places, asked_txn(number))?;
+        same &= same_course(rt, walk, places, asked_txn(number));
     }
-    Ok(same)
+    same
+}
+
+// The walk shows what the places of the items that it has taken say.
+fn follows<A: Allocator + Copy>(rt: &impl Abort, alloc: A, walk: &Walk<'_, A>) -> bool {
+    let places = made(rt, places_of(alloc, walk.model(), walk.front()), "places");
+    same_places(rt, walk, &places)
 }
 
 /// Whether a walk through any list shows what the places of the list say.
 pub fn follows_places<A: Allocator + Copy>(
+    rt: &impl Abort,
     alloc: A,
     model: &Model<A>,
     kept: &[Kept<A>],
-) -> Result<bool, AllocError> {
-    let walk = walked(alloc, model, kept)?;
-    let places = places_of(alloc, model, walk.front())?;
-    same_places(&walk, &places)
+) -> bool {
+    let walk = walked(rt, alloc, model, kept);
+    follows(rt, alloc, &walk)
 }

@@ -1,12 +1,15 @@
 //! What an item says, and what stands before it, asked of the places of the items in front: of each transaction and of
 //! each operation. A slow judge tells the axioms over these answers alone.
 
+use crate::calls::places_of;
+use crate::expecting::made;
 use crate::formulas::course_of;
 use acta_axioms::{Course, Places, Walk};
 use acta_table::{
     Class, ClassId, Dep, Event, EventKind, Fate, Kept, Model, ObjId, Op, OpNo, Ret, TxnId,
 };
-use std::alloc::{AllocError, Allocator};
+use std::alloc::Allocator;
+use std::process::Abort;
 
 // A place that no list has: all places of a list are asked of by it.
 const END: u32 = 100_000;
@@ -76,175 +79,89 @@ impl<'a> Said<'a> {
     }
 }
 
-/// A transaction: its first places, the class with which it started, and who spawned it, where that one had begun.
-#[derive(Clone, Copy)]
-pub struct Txn<'a, A: Allocator> {
-    pub number: TxnId,
-    pub course: Course,
-    pub class: Option<&'a Class<A>>,
-    pub parent: Option<TxnId>,
-}
-
-/// An operation, with who holds it and what became of it.
-#[derive(Clone, Copy)]
-pub struct Done {
-    pub object: ObjId,
-    pub op: Op,
-    pub holder: Option<TxnId>,
-    pub fate: Option<Fate>,
-}
-
-/// What stands before a place, and the return that is due there.
+/// What stands before a place: what the items in front say, how many operations they ask for, and the return that is
+/// due at the place.
 #[derive(Drop)]
 pub struct Before<'a, A: Allocator> {
     pub model: &'a Model<A>,
-    pub txns: Vec<Txn<'a, A>, A>,
-    pub done: Vec<Done, A>,
+    pub front: &'a [Said<'a>],
+    pub ops: u32,
     pub due: Option<Ret>,
+    places: Places<'a, A>,
 }
 
-// Who spawned the one that starts at the place, where the item there says a spawn by one that had begun.
-fn parent_of<A: Allocator + Copy>(
-    places: &Places<'_, A>,
-    said: &Said<'_>,
-    place: u32,
-) -> Option<TxnId> {
-    if said.kind != EventKind::Spawn {
-        return None;
-    }
-    match places.start(said.first.0) {
-        Some(begun) if begun < place => Some(said.first.0),
-        _ => None,
-    }
-}
-
-// What the places say of the transaction, and what the item at its first start.
-fn txn_of<'a, A: Allocator + Copy>(
-    places: &Places<'_, A>,
-    model: &'a Model<A>,
-    front: &[Said<'_>],
-    number: TxnId,
-) -> Txn<'a, A> {
-    let course = course_of(places, number);
-    let mut txn = Txn {
-        number,
-        course,
-        class: None,
-        parent: None,
-    };
-    let Some(place) = course.start else {
-        return txn;
-    };
-    let Some(said) = front.get((place as usize).wrapping_sub(1)) else {
-        return txn;
-    };
-    if let Some(class) = said.class {
-        txn.class = model.class(class);
-    }
-    txn.parent = parent_of(places, said, place);
-    txn
-}
-
-// All transactions that are named, as the places say.
-fn txns_of<'a, A: Allocator + Copy>(
-    alloc: A,
-    places: &Places<'_, A>,
-    model: &'a Model<A>,
-    front: &[Said<'_>],
-) -> Result<Vec<Txn<'a, A>, A>, AllocError> {
-    let mut txns = Vec::new(alloc);
+// How many operations the items ask for.
+fn asked_in(front: &[Said<'_>]) -> u32 {
+    let mut ops = 0u32;
     for said in front {
-        txns.push(txn_of(places, model, front, said.first.0))?;
-        if let Some((u, _)) = said.second {
-            txns.push(txn_of(places, model, front, u))?;
+        if said.asked.is_some() {
+            ops = ops.wrapping_add(1);
         }
     }
-    Ok(txns)
-}
-
-// All operations, in order, as the places say.
-fn done_of<A: Allocator + Copy>(
-    alloc: A,
-    places: &Places<'_, A>,
-    front: &[Said<'_>],
-) -> Result<Vec<Done, A>, AllocError> {
-    let mut done = Vec::new(alloc);
-    let mut number = OpNo(0);
-    for said in front {
-        if let Some((object, op)) = said.asked {
-            number = OpNo(number.0.wrapping_add(1));
-            let (holder, fate) = (places.holder(number, END), places.fate(number, END));
-            done.push(Done {
-                object,
-                op,
-                holder,
-                fate,
-            })?;
-        }
-    }
-    Ok(done)
+    ops
 }
 
 // The return that is due where the walk stands, if an operation is asked for.
 fn due_of<A: Allocator + Copy>(
+    rt: &impl Abort,
     walk: &Walk<'_, A>,
     asked: Option<(ObjId, Op)>,
-) -> Result<Option<Ret>, AllocError> {
-    match asked {
-        Some((object, op)) => walk.return_due(object, &op),
-        None => Ok(None),
-    }
+) -> Option<Ret> {
+    let (object, op) = asked?;
+    made(rt, walk.return_due(object, &op), "a return")
 }
 
 impl<'a, A: Allocator + Copy> Before<'a, A> {
-    // What the places show, where the items say this.
-    fn shown(
-        alloc: A,
-        places: &Places<'_, A>,
-        model: &'a Model<A>,
-        front: &[Said<'_>],
-        due: Option<Ret>,
-    ) -> Result<Before<'a, A>, AllocError> {
-        Ok(Before {
-            model,
-            txns: txns_of(alloc, places, model, front)?,
-            done: done_of(alloc, places, front)?,
-            due,
-        })
-    }
-
     /// What stands before the place that the walk has reached, where the items in front say this, and the one there
     /// asks for an operation, or for none.
     pub fn of(
+        rt: &impl Abort,
         alloc: A,
         walk: &Walk<'a, A>,
-        front: &[Said<'_>],
+        front: &'a [Said<'a>],
         asked: Option<(ObjId, Op)>,
-    ) -> Result<Before<'a, A>, AllocError> {
+    ) -> Before<'a, A> {
         let model = walk.model();
-        let due = due_of(walk, asked)?;
-        let places = Places::of(alloc, model, walk.front())?;
-        Before::shown(alloc, &places, model, front, due)
+        Before {
+            model,
+            front,
+            ops: asked_in(front),
+            due: due_of(rt, walk, asked),
+            places: made(rt, places_of(alloc, model, walk.front()), "places"),
+        }
     }
 
-    /// The transaction, of which nothing is known where none is named so.
-    pub fn txn(&self, number: TxnId) -> Txn<'a, A> {
-        for txn in &self.txns {
-            if txn.number == number {
-                return *txn;
-            }
+    /// The first places of the transaction.
+    pub fn course(&self, t: TxnId) -> Course {
+        course_of(&self.places, t)
+    }
+
+    // What the item says by which the transaction started first.
+    fn start(&self, t: TxnId) -> Option<&'a Said<'a>> {
+        let place = self.places.start(t)?;
+        self.front.get((place as usize).wrapping_sub(1))
+    }
+
+    /// The class with which the transaction started, where the model has it.
+    pub fn class_of(&self, t: TxnId) -> Option<&'a Class<A>> {
+        self.model.class(self.start(t)?.class?)
+    }
+
+    /// Who spawned the transaction, where that one had begun.
+    pub fn parent(&self, t: TxnId) -> Option<TxnId> {
+        let said = self.start(t)?;
+        let u = said.first.0;
+        match (self.places.start(u), self.places.start(t)) {
+            (Some(begun), Some(place)) if begun < place && said.kind == EventKind::Spawn => Some(u),
+            _ => None,
         }
-        let course = Course {
-            start: None,
-            commit: None,
-            abort: None,
-            join: None,
-        };
-        Txn {
-            number,
-            course,
-            class: None,
-            parent: None,
+    }
+
+    /// Who holds the operation in progress, if anyone.
+    pub fn holder(&self, op: OpNo) -> Option<TxnId> {
+        match self.places.fate(op, END) {
+            Some(Fate::InProgress) => self.places.holder(op, END),
+            _ => None,
         }
     }
 }

@@ -1,13 +1,12 @@
 //! Lists that break axioms, each axiom alone by some, with the faults and the debts that are due; by model.
 
-use crate::expecting::tells;
+use crate::expecting::{made, tells};
 use crate::judging::reading::Judged;
 use crate::judging::verdicts::lines_of_all;
 use crate::models::{DELEGATING, Models, PARTING, UNTIED};
 use acta_models::Standard;
 use std::alloc::Allocator;
 use std::process::Abort;
-use std::test::Fail;
 
 // Flat transactions.
 const FLAT: &str = "\
@@ -531,42 +530,47 @@ fn expect<A: Allocator + Copy>(
     alloc: A,
     models: &Models<A>,
     list: &str,
-) -> Result<Option<u8>, Fail> {
+) -> Option<u8> {
     let (title, lines) = list.split_once('\n').unwrap_or((list, ""));
-    let judged = Judged::read(alloc, &models.wider, lines)?;
+    let judged = Judged::read(rt, alloc, &models.wider, lines);
     let (items, due) = (judged.items.as_slice(), judged.due.as_str());
     for n in 1..items.len() {
-        lines_of_all(rt, alloc, &models.model, &items[..n], title)?;
+        lines_of_all(rt, alloc, &models.model, &items[..n], title);
     }
-    let told = lines_of_all(rt, alloc, &models.model, items, title)?;
+    let told = lines_of_all(rt, alloc, &models.model, items, title);
     tells(rt, told.as_slice(), due, title);
-    Ok(alone_in(due))
+    alone_in(due)
 }
 
-// The same of each list of a model, with each axiom that is broken alone.
+// The same of each list, with each axiom that is broken alone.
+fn expect_all<A: Allocator + Copy>(
+    rt: &impl Abort,
+    alloc: A,
+    models: &Models<A>,
+    lists: &str,
+    alone: &mut Vec<u8, A>,
+) {
+    for list in lists.split("# ") {
+        if let Some(axiom) = expect(rt, alloc, models, list) {
+            made(rt, alone.push(axiom), list);
+        }
+    }
+}
+
+// The same of each list of the model that the text means.
 fn play<A: Allocator + Copy>(
     rt: &impl Abort,
     alloc: A,
     model: &str,
     lists: &str,
     alone: &mut Vec<u8, A>,
-) -> Result<(), Fail> {
-    let models = Models::of(alloc, model)?;
-    for list in lists.split("# ") {
-        if let Some(axiom) = expect(rt, alloc, &models, list)? {
-            alone.push(axiom)?;
-        }
-    }
-    Ok(())
+) {
+    let models = Models::of(rt, alloc, model);
+    expect_all(rt, alloc, &models, lists, alone);
 }
 
-// Each fault is told, and each axiom is broken alone by some list.
-#[test]
-fn each_fault_is_told(rt: HostRuntime) -> Result<(), Fail> {
-    let mut alone = Vec::new(rt.alloc());
-    for (model, lists) in by_model() {
-        play(&rt, rt.alloc(), model, lists, &mut alone)?;
-    }
+// Each number of an axiom is among these, and no other up to the last.
+fn are_broken(rt: &impl Abort, alone: &[u8]) {
     for axiom in 1..=33u8 {
         assert_eq!(rt;
             alone.contains(&axiom),
@@ -574,5 +578,14 @@ fn each_fault_is_told(rt: HostRuntime) -> Result<(), Fail> {
             "axiom {axiom}"
         );
     }
-    Ok(())
+}
+
+// Each fault is told, and each axiom is broken alone by some list.
+#[test]
+fn each_fault_is_told(rt: HostRuntime) {
+    let mut alone = Vec::new(rt.alloc());
+    for (model, lists) in by_model() {
+        play(&rt, rt.alloc(), model, lists, &mut alone);
+    }
+    are_broken(&rt, alone.as_slice());
 }

@@ -1,23 +1,22 @@
 //! Each list on which the places are tested, judged behind each of its events.
 
+use crate::expecting::made;
 use crate::judging::verdicts::lines_on;
 use crate::lists::by_model;
-use crate::models::Models;
-use acta_script::read_event;
-use acta_table::{EventKind, Kept, Ret};
+use crate::models::{Models, event_of};
+use acta_table::{EventKind, Kept, Model, Ret};
 use std::alloc::Allocator;
 use std::process::Abort;
-use std::test::Fail;
 
 // The event as it is kept. Each operation returns the same, so that some returns are not those due.
-fn kept<A: Allocator + Copy>(alloc: A, models: &Models<A>, line: &str) -> Result<Kept<A>, Fail> {
-    let event = read_event(alloc, &models.wider, line.as_bytes())?;
+fn kept<A: Allocator + Copy>(rt: &impl Abort, alloc: A, model: &Model<A>, line: &str) -> Kept<A> {
+    let event = event_of(rt, alloc, model, line);
     let ret = if event.kind() == EventKind::Operate {
         Some(Ret::Done)
     } else {
         None
     };
-    Ok(Kept { event, ret })
+    Kept { event, ret }
 }
 
 // Does what a line says: it begins a list, asks something of it, or puts an event behind it, with which it is judged.
@@ -27,45 +26,32 @@ fn follow<A: Allocator + Copy>(
     models: &Models<A>,
     items: &mut Vec<Kept<A>, A>,
     line: &str,
-) -> Result<(), Fail> {
+) {
     if line.starts_with("# ") {
         items.clear();
     } else if !line.starts_with("? ") {
-        items.push(kept(alloc, models, line)?)?;
-        lines_on(rt, alloc, &models.model, items.as_slice(), line)?;
+        made(rt, items.push(kept(rt, alloc, &models.wider, line)), line);
+        lines_on(rt, alloc, &models.model, items.as_slice(), line);
     }
-    Ok(())
 }
 
-// Goes through the lists on these models.
-fn play_on<A: Allocator + Copy>(
-    rt: &impl Abort,
-    alloc: A,
-    models: &Models<A>,
-    lists: &str,
-) -> Result<(), Fail> {
+// Does what the lines say, from an empty list on.
+fn follow_all<A: Allocator + Copy>(rt: &impl Abort, alloc: A, models: &Models<A>, lists: &str) {
     let mut items = Vec::new(alloc);
     for line in lists.lines() {
-        follow(rt, alloc, models, &mut items, line)?;
+        follow(rt, alloc, models, &mut items, line);
     }
-    Ok(())
 }
 
 // Goes through the lists of the model that the text means.
-fn play<A: Allocator + Copy>(
-    rt: &impl Abort,
-    alloc: A,
-    model: &str,
-    lists: &str,
-) -> Result<(), Fail> {
-    let models = Models::of(alloc, model)?;
-    play_on(rt, alloc, &models, lists)
+fn play<A: Allocator + Copy>(rt: &impl Abort, alloc: A, model: &str, lists: &str) {
+    let models = Models::of(rt, alloc, model);
+    follow_all(rt, alloc, &models, lists);
 }
 
 #[test]
-fn lists_are_judged_as_by_their_places(rt: HostRuntime) -> Result<(), Fail> {
+fn lists_are_judged_as_by_their_places(rt: HostRuntime) {
     for (model, lists) in by_model() {
-        play(&rt, rt.alloc(), model, lists)?;
+        play(&rt, rt.alloc(), model, lists);
     }
-    Ok(())
 }

@@ -7,10 +7,11 @@
 //! fault 1 2 2
 //! ```
 
+use crate::expecting::made;
 use acta_script::read_kept;
 use acta_table::{Kept, Model};
 use std::alloc::Allocator;
-use std::test::Fail;
+use std::process::Abort;
 
 /// A list of items, and the lines of the verdict on it.
 #[derive(Drop)]
@@ -21,25 +22,25 @@ pub struct Judged<A: Allocator> {
 
 impl<A: Allocator + Copy> Judged<A> {
     // One line more: of the verdict, or a kept item.
-    fn push(&mut self, alloc: A, model: &Model<A>, line: &str) -> Result<(), Fail> {
+    fn push(&mut self, rt: &impl Abort, alloc: A, model: &Model<A>, line: &str) {
         if line.starts_with("fault ") || line.starts_with("owed ") {
-            self.due.push_str(line)?;
-            self.due.push_str("\n")?;
+            made(rt, self.due.push_str(line), line);
+            made(rt, self.due.push_str("\n"), line);
         } else {
-            self.items.push(read_kept(alloc, model, line.as_bytes())?)?;
+            let kept = made(rt, read_kept(alloc, model, line.as_bytes()), line);
+            made(rt, self.items.push(kept), line);
         }
-        Ok(())
     }
 
     /// What the lines say, in the words of the model.
-    pub fn read(alloc: A, model: &Model<A>, lines: &str) -> Result<Judged<A>, Fail> {
+    pub fn read(rt: &impl Abort, alloc: A, model: &Model<A>, lines: &str) -> Judged<A> {
         let mut judged = Judged {
             items: Vec::new(alloc),
             due: String::new(alloc),
         };
         for line in lines.lines() {
-            judged.push(alloc, model, line)?;
+            judged.push(rt, alloc, model, line);
         }
-        Ok(judged)
+        judged
     }
 }

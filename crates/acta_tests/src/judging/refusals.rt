@@ -3,14 +3,13 @@
 use crate::expecting::holds;
 use crate::judging::reading::Judged;
 use crate::judging::verdicts::told;
-use acta_judge::{JudgeError, judge};
-use acta_lang::assemble;
+use crate::models::model_of;
+use acta_judge::{JudgeError, Verdict, judge};
 use acta_models::Standard;
 use acta_table::Model;
 use refusing::Refusing;
 use std::alloc::{Allocator, Global};
 use std::process::Abort;
-use std::test::Fail;
 
 // More allocations than any of these calls makes.
 const MOST: u64 = 4_000;
@@ -62,28 +61,40 @@ owed 3 2 abort",
     ),
 ];
 
-// Judges the list, the nth allocation refused; where it came, the answer is want of memory. Says whether it came.
+// What the judge answers where the nth allocation is refused, and whether it came to that one.
 fn refused<A: Allocator + Copy>(
+    heap: &Refusing<Global>,
+    alloc: A,
+    model: &Model<A>,
+    judged: &Judged<A>,
+    nth: u64,
+) -> (Result<Verdict<A>, JudgeError>, bool) {
+    heap.refuse(nth);
+    let answer = judge(alloc, model, judged.items.as_slice());
+    let was_refused = !heap.is_waiting();
+    heap.refuse(0);
+    (answer, was_refused)
+}
+
+// Judges the list, the nth allocation refused; where it came, the answer is want of memory. Says whether it came.
+fn is_refused<A: Allocator + Copy>(
     rt: &impl Abort,
     heap: &Refusing<Global>,
     alloc: A,
     model: &Model<A>,
     judged: &Judged<A>,
     nth: u64,
-) -> Result<bool, Fail> {
-    heap.refuse(nth);
-    let made = judge(alloc, model, judged.items.as_slice());
-    let is_whole = heap.is_waiting();
-    heap.refuse(0);
-    match made {
+) -> bool {
+    let (answer, was_refused) = refused(heap, alloc, model, judged, nth);
+    match answer {
         Ok(verdict) => {
-            let lines = told(alloc, &verdict)?;
+            let lines = told(rt, alloc, &verdict);
             let is_due = lines.as_slice() == judged.due.as_str().as_bytes();
-            holds(rt, is_whole && is_due, "a verdict");
+            holds(rt, !was_refused && is_due, "a verdict");
         }
-        Err(error) => holds(rt, !is_whole && error == JudgeError::Memory, "none"),
+        Err(error) => holds(rt, was_refused && error == JudgeError::Memory, "none"),
     }
-    Ok(!is_whole)
+    was_refused
 }
 
 // Judges what the lines say, its first allocation refused, then the second, and so on, until none is. Says how many
@@ -94,23 +105,22 @@ fn refuse_each<A: Allocator + Copy>(
     alloc: A,
     name: Standard,
     lines: &str,
-) -> Result<u64, Fail> {
-    let model = assemble(alloc, name.text().as_bytes())?;
-    let judged = Judged::read(alloc, &model, lines)?;
+) -> u64 {
+    let model = model_of(rt, alloc, name.text());
+    let judged = Judged::read(rt, alloc, &model, lines);
     for nth in 1..MOST {
-        if !refused(rt, heap, alloc, &model, &judged, nth)? {
-            return Ok(nth.wrapping_sub(1));
+        if !is_refused(rt, heap, alloc, &model, &judged, nth) {
+            return nth.wrapping_sub(1);
         }
     }
-    Err(Fail::new("a call makes too many allocations"))
+    panic!(rt; "too many allocations at {lines}")
 }
 
 #[test]
-fn a_judge_for_whom_there_is_no_memory(rt: HostRuntime) -> Result<(), Fail> {
+fn a_judge_for_whom_there_is_no_memory(rt: HostRuntime) {
     let heap = Refusing::new(rt.alloc());
     for (name, lines, least) in HISTORIES {
-        let refused = refuse_each(&rt, &heap, &heap, name, lines)?;
+        let refused = refuse_each(&rt, &heap, &heap, name, lines);
         assert!(rt; refused >= least, "only {refused} at {lines}");
     }
-    Ok(())
 }

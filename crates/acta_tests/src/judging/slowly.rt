@@ -2,14 +2,15 @@
 //! formula of each edge. It is the definitions once more, and knows nothing of how the judge keeps what it has seen.
 
 use crate::calls::{places_of, walk_of};
+use crate::expecting::made;
 use crate::formulas::{course_of, is_false, payment};
 use crate::judging::asking::{Before, Said};
 use crate::judging::telling::Faults;
-use acta_axioms::{Axiom, Course, Fault, Places, Walk};
+use acta_axioms::{Axiom, Course, Places, Walk};
 use acta_judge::Verdict;
-use acta_table::{Dep, Edge, EdgeNo, Items, Kept, MOST_EVENTS, Missing, Model, Owed};
-use std::alloc::{AllocError, Allocator};
-use std::collections::BTreeSet;
+use acta_table::{Dep, Edge, EdgeNo, Items, Kept, Missing, Model, Owed};
+use std::alloc::Allocator;
+use std::process::Abort;
 
 // Where a formula of the kind that is false and not owed became so.
 fn place_of(kind: Dep, j: Course, i: Course) -> Option<u32> {
@@ -38,132 +39,105 @@ fn settled<A: Allocator + Copy>(
     }
 }
 
-// Tells the faults by edges, and gives what is owed, by edge number.
-fn tell_edges<A: Allocator + Copy>(
+// Tells the faults by the list's edges, and gives what is owed, by edge number.
+fn tell_owed<A: Allocator + Copy>(
+    rt: &impl Abort,
     alloc: A,
-    places: &Places<'_, A>,
+    model: &Model<A>,
+    kept: &[Kept<A>],
     faults: &mut Faults<A>,
-) -> Result<Vec<Owed, A>, AllocError> {
+) -> Vec<Owed, A> {
+    let places = made(rt, places_of(alloc, model, kept), "places");
     let mut owed = Vec::new(alloc);
     let mut number = 0u64;
     for edge in places.edges() {
         number = number.saturating_add(1);
-        let (place, missing) = settled(places, edge);
+        let (place, missing) = settled(&places, edge);
         if let Some(place) = place {
-            faults.place = place;
-            faults.tell(Axiom::Dependency(edge.kind), true, number)?;
+            faults.tell_at(rt, place, Axiom::Dependency(edge.kind), number);
         }
         if let Some(missing) = missing {
-            owed.push(Owed {
-                edge: EdgeNo(number),
-                txn: edge.j,
-                missing,
-            })?;
+            let (edge, txn) = (EdgeNo(number), edge.j);
+            made(rt, owed.push(Owed { edge, txn, missing }), "a debt");
         }
     }
-    Ok(owed)
+    owed
 }
 
 // Who owes both a commit and an abort.
-fn tell_clashes<A: Allocator + Copy>(
-    owed: &[Owed],
-    faults: &mut Faults<A>,
-) -> Result<(), AllocError> {
+fn tell_clashes<A: Allocator + Copy>(rt: &impl Abort, owed: &[Owed], faults: &mut Faults<A>) {
     for one in owed {
         for other in owed {
             let is_clash = one.txn == other.txn
                 && one.missing == Missing::Commit
                 && other.missing == Missing::Abort;
-            faults.tell(Axiom::Clash, is_clash, u64::from(one.txn.0))?;
+            faults.tell(rt, Axiom::Clash, is_clash, u64::from(one.txn.0));
         }
     }
-    Ok(())
 }
 
-// The faults at the next place, which the walk has reached, and whose item says this.
-fn tell_place<A: Allocator + Copy>(
+// Tells the faults at the place that the walk has reached, behind the items in front, whose item says this.
+fn tell_said<A: Allocator + Copy>(
+    rt: &impl Abort,
     alloc: A,
     walk: &Walk<'_, A>,
     front: &[Said<'_>],
-    said: Said<'_>,
+    said: &Said<'_>,
     faults: &mut Faults<A>,
-) -> Result<(), AllocError> {
+) {
+    let before = Before::of(rt, alloc, walk, front, said.asked);
+    before.tell_all(rt, said, faults);
+}
+
+// Tells the faults at the next place, and goes one item further.
+fn tell_place<'a, A: Allocator + Copy>(
+    rt: &impl Abort,
+    alloc: A,
+    walk: &mut Walk<'a, A>,
+    front: &mut Vec<Said<'a>, A>,
+    faults: &mut Faults<A>,
+) {
+    let said = Said::of(walk.next().expect(rt, "an item"));
     faults.place = faults.place.saturating_add(1);
-    Before::of(alloc, walk, front, said.asked)?.tell_all(said, faults)
+    tell_said(rt, alloc, walk, front.as_slice(), &said, faults);
+    made(rt, front.push(said), "an item");
+    made(rt, walk.step(), "a step");
 }
 
-// Goes one item further.
-fn step<A: Allocator + Copy>(walk: &mut Walk<'_, A>) -> Result<(), AllocError> {
-    walk.step()
-}
-
-// The faults at all places, place by place. The walk then stands at the end.
+// Tells the faults at all places of the list, place by place.
 fn tell_places<A: Allocator + Copy>(
+    rt: &impl Abort,
     alloc: A,
-    walk: &mut Walk<'_, A>,
+    model: &Model<A>,
+    kept: &[Kept<A>],
     faults: &mut Faults<A>,
-) -> Result<(), AllocError> {
+) {
+    let mut walk = made(rt, walk_of(alloc, model, kept), "a walk");
     let mut front = Vec::new(alloc);
-    for _ in 0..MOST_EVENTS {
-        let Some(item) = walk.next() else {
-            return Ok(());
-        };
-        let said = Said::of(item);
-        tell_place(alloc, walk, front.as_slice(), said, faults)?;
-        front.push(said)?;
-        step(walk)?;
+    for _ in kept {
+        tell_place(rt, alloc, &mut walk, &mut front, faults);
     }
-    Ok(())
-}
-
-// Tells the faults at all places of the list.
-fn tell_walked<A: Allocator + Copy>(
-    alloc: A,
-    model: &Model<A>,
-    kept: &[Kept<A>],
-    faults: &mut Faults<A>,
-) -> Result<(), AllocError> {
-    let mut walk = walk_of(alloc, model, kept)?;
-    tell_places(alloc, &mut walk, faults)
-}
-
-// Tells the faults by the list's edges, and gives what is owed, by edge number.
-fn tell_owed<A: Allocator + Copy>(
-    alloc: A,
-    model: &Model<A>,
-    kept: &[Kept<A>],
-    faults: &mut Faults<A>,
-) -> Result<Vec<Owed, A>, AllocError> {
-    let places = places_of(alloc, model, kept)?;
-    tell_edges(alloc, &places, faults)
-}
-
-// The faults, in order.
-fn listed<A: Allocator + Copy>(alloc: A, faults: &Faults<A>) -> Result<Vec<Fault, A>, AllocError> {
-    let mut listed = Vec::new(alloc);
-    for fault in faults.found.iter() {
-        listed.push(*fault)?;
-    }
-    Ok(listed)
 }
 
 /// The verdict on the list, slowly.
 pub fn judged_slowly<A: Allocator + Copy>(
+    rt: &impl Abort,
     alloc: A,
     model: &Model<A>,
     kept: &[Kept<A>],
-) -> Result<Verdict<A>, AllocError> {
+) -> Verdict<A> {
     let mut faults = Faults {
-        found: BTreeSet::new(alloc),
+        found: Vec::new(alloc),
         place: 0,
     };
-    tell_walked(alloc, model, kept, &mut faults)?;
-    let last = faults.place;
-    let owed = tell_owed(alloc, model, kept, &mut faults)?;
-    faults.place = last;
-    tell_clashes(owed.as_slice(), &mut faults)?;
-    Ok(Verdict {
-        faults: Items::of(listed(alloc, &faults)?),
+    tell_places(rt, alloc, model, kept, &mut faults);
+    let owed = tell_owed(rt, alloc, model, kept, &mut faults);
+    tell_clashes(rt, owed.as_slice(), &mut faults);
+    let mut found = faults.found;
+    found.sort_unstable();
+    found.dedup();
+    Verdict {
+        faults: Items::of(found),
         owed: Items::of(owed),
-    })
+    }
 }

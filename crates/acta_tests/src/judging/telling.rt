@@ -1,51 +1,48 @@
 //! The axioms at a place, each told over what stands before and what the item says.
 
-use crate::judging::asking::{Before, Done, Part, Said, Txn};
+use crate::expecting::made;
+use crate::judging::asking::{Before, Part, Said};
 use acta_axioms::{Axiom, Fault};
 use acta_objects::ObjectState;
 use acta_table::{
-    AtCommit, Dep, EventKind, Extent, Fate, Kind, LAST_TXN, ObjId, Op, OpNo, Policy, Scope, TxnId,
+    AtCommit, Dep, EventKind, Extent, Kind, LAST_TXN, ObjId, Op, OpNo, Policy, Scope, TxnId,
 };
-use std::alloc::{AllocError, Allocator};
-use std::collections::BTreeSet;
+use std::alloc::Allocator;
+use std::process::Abort;
 
-/// Faults in their order, each once.
+/// Faults, as they were told.
 #[derive(Drop)]
 pub struct Faults<A: Allocator> {
-    pub found: BTreeSet<Fault, A>,
+    pub found: Vec<Fault, A>,
     /// The place at which they are told.
     pub place: u32,
 }
 
 impl<A: Allocator + Copy> Faults<A> {
-    /// The fault of this axiom at the place, where it is broken.
-    pub fn tell(&mut self, broken: Axiom, is_broken: bool, by: u64) -> Result<(), AllocError> {
-        if is_broken {
-            let place = self.place;
-            self.found.insert(Fault { broken, place, by })?;
-        }
-        Ok(())
+    /// The fault of this axiom at a place.
+    pub fn tell_at(&mut self, rt: &impl Abort, place: u32, broken: Axiom, by: u64) {
+        made(rt, self.found.push(Fault { broken, place, by }), "a fault");
     }
 
-    // Who starts, operates, ends or takes part where it cannot.
-    fn tell_part(&mut self, txn: Txn<'_, A>, part: Part) -> Result<(), AllocError> {
-        let (course, by) = (txn.course, u64::from(txn.number.0));
-        let is_idle = !course.is_in_progress();
-        match part {
-            Part::Starts => self.tell(Axiom::BegunOnce, course.has_begun(), by),
-            Part::Operates => self.tell(Axiom::OperatesInProgress, is_idle, by),
-            Part::TakesPart => self.tell(Axiom::PartiesInProgress, is_idle, by),
-            Part::Ends => {
-                self.tell(Axiom::EndedAfterBegun, !course.has_begun(), by)?;
-                self.tell(Axiom::EndedOnce, course.has_ended(), by)
-            }
-            Part::IsNamed => Ok(()),
+    /// The fault of this axiom at the place, where it is broken.
+    pub fn tell(&mut self, rt: &impl Abort, broken: Axiom, is_broken: bool, by: u64) {
+        if is_broken {
+            self.tell_at(rt, self.place, broken, by);
         }
     }
 }
 
 fn is_bad(t: TxnId) -> bool {
     t.0 == 0 || t.0 > LAST_TXN
+}
+
+// Whether the item names a number that no transaction has, or one transaction twice.
+fn names_badly(said: &Said<'_>) -> bool {
+    let t = said.first.0;
+    match said.second {
+        Some((u, _)) => is_bad(t) || is_bad(u) || u == t,
+        None => is_bad(t),
+    }
 }
 
 impl<'a, A: Allocator + Copy> Before<'a, A> {
@@ -60,29 +57,22 @@ impl<'a, A: Allocator + Copy> Before<'a, A> {
         if suits { Some(kind) } else { None }
     }
 
-    // Whether the item breaks the form of events.
-    fn is_ill_formed(&self, said: Said<'_>) -> bool {
-        if let Some((object, op)) = said.asked {
-            if self.kind_for(object, op).is_none() {
-                return true;
-            }
-        }
-        if let Some(class) = said.class {
-            if self.model.class(class).is_none() {
-                return true;
-            }
-        }
-        let t = said.first.0;
-        is_bad(t)
-            || match said.second {
-                Some((u, _)) => u == t || is_bad(u),
-                None => false,
-            }
+    // Whether the item names a class that the model lacks, or an operation that is none of its object's.
+    fn is_foreign(&self, said: &Said<'_>) -> bool {
+        let lacks_class = match said.class {
+            Some(class) => self.model.class(class).is_none(),
+            None => false,
+        };
+        let lacks_op = match said.asked {
+            Some((object, op)) => self.kind_for(object, op).is_none(),
+            None => false,
+        };
+        lacks_class || lacks_op
     }
 
     // Whether the transaction's class may do such events.
     fn may(&self, t: TxnId, kind: EventKind) -> bool {
-        match self.txn(t).class {
+        match self.class_of(t) {
             Some(class) => class.may.has(kind),
             None => true,
         }
@@ -99,7 +89,7 @@ impl<'a, A: Allocator + Copy> Before<'a, A> {
     }
 
     // Whether the class that is named, if one is, starts so.
-    fn starts(&self, said: Said<'_>) -> bool {
+    fn starts(&self, said: &Said<'_>) -> bool {
         let Some(id) = said.class else {
             return true;
         };
@@ -114,7 +104,7 @@ impl<'a, A: Allocator + Copy> Before<'a, A> {
     }
 
     // Whether the classes may do what the item does.
-    fn is_allowed(&self, said: Said<'_>) -> bool {
+    fn is_allowed(&self, said: &Said<'_>) -> bool {
         let t = said.first.0;
         let does = match said.kind {
             EventKind::Begin => true,
@@ -127,13 +117,21 @@ impl<'a, A: Allocator + Copy> Before<'a, A> {
         does && self.starts(said)
     }
 
+    // An item that is ill formed, and one that classes don't allow.
+    fn tell_form(&self, rt: &impl Abort, said: &Said<'_>, faults: &mut Faults<A>) {
+        let by = u64::from(said.first.0.0);
+        let is_ill_formed = names_badly(said) || self.is_foreign(said);
+        faults.tell(rt, Axiom::FormOfEvent, is_ill_formed, by);
+        faults.tell(rt, Axiom::Allowed, !self.is_allowed(said), by);
+    }
+
     // Whether the first has spawned the second, or one that has, and so on.
     fn is_ancestor(&self, u: TxnId, t: TxnId) -> bool {
-        let mut next = self.txn(t).parent;
-        for _ in &self.txns {
+        let mut next = self.parent(t);
+        for _ in self.front {
             match next {
                 Some(v) if v == u => return true,
-                Some(v) => next = self.txn(v).parent,
+                Some(v) => next = self.parent(v),
                 None => return false,
             }
         }
@@ -141,135 +139,139 @@ impl<'a, A: Allocator + Copy> Before<'a, A> {
     }
 
     // Whether another holds the operation in progress, who is not spared by the transaction's class.
-    fn is_of_others(&self, txn: Txn<'_, A>, scope: Scope, done: Done) -> bool {
-        let Some(u) = done.holder else {
+    fn is_of_others(&self, t: TxnId, scope: Scope, op: OpNo) -> bool {
+        match self.holder(op) {
+            Some(u) => u != t && !(scope == Scope::NonAncestors && self.is_ancestor(u, t)),
+            None => false,
+        }
+    }
+
+    // Whether the operation on an object conflicts with another on it, where both are of its kind.
+    fn conflicts(&self, (object, op): (ObjId, Op), other: (ObjId, Op)) -> bool {
+        let (Some(kind), Some(_)) = (self.kind_for(object, op), self.kind_for(object, other.1))
+        else {
             return false;
         };
-        done.fate == Some(Fate::InProgress)
-            && u != txn.number
-            && !(scope == Scope::NonAncestors && self.is_ancestor(u, txn.number))
+        other.0 == object && ObjectState::<A>::conflicts(&kind, &other.1, &op)
     }
 
     // The operations that one conflicts with whose class refuses it.
-    fn tell_conflicts(&self, said: Said<'_>, faults: &mut Faults<A>) -> Result<(), AllocError> {
-        let txn = self.txn(said.first.0);
-        let (Some((object, op)), Some(class)) = (said.asked, txn.class) else {
-            return Ok(());
+    fn tell_conflicts(&self, rt: &impl Abort, said: &Said<'_>, faults: &mut Faults<A>) {
+        let t = said.first.0;
+        let (Some(asked), Some(class)) = (said.asked, self.class_of(t)) else {
+            return;
         };
-        let Some(kind) = self.kind_for(object, op) else {
-            return Ok(());
-        };
-        let mut number = 0u64;
-        for done in &self.done {
-            number = number.wrapping_add(1);
-            if done.object == object && self.kind_for(object, done.op).is_some() {
-                let is_broken = matches!(class.policy, Policy::Refuse)
-                    && ObjectState::<A>::conflicts(&kind, &done.op, &op)
-                    && self.is_of_others(txn, class.scope, *done);
-                faults.tell(Axiom::Conflict, is_broken, number)?;
+        let is_refused = matches!(class.policy, Policy::Refuse);
+        let mut op = OpNo(0);
+        for item in self.front {
+            if let Some(other) = item.asked {
+                op = OpNo(op.0.wrapping_add(1));
+                let is_met = self.conflicts(asked, other) && self.is_of_others(t, class.scope, op);
+                faults.tell(rt, Axiom::Conflict, is_refused && is_met, u64::from(op.0));
             }
         }
-        Ok(())
     }
 
-    // What is handed over and not held, and what one keeps back that has to hand over all.
-    fn tell_handed(
-        &self,
-        txn: Txn<'_, A>,
-        handed: &[OpNo],
-        faults: &mut Faults<A>,
-    ) -> Result<(), AllocError> {
-        let is_whole = match txn.class {
+    // What is handed over and not held.
+    fn tell_handed(&self, rt: &impl Abort, t: TxnId, handed: &[OpNo], faults: &mut Faults<A>) {
+        for op in handed {
+            let is_missing = self.holder(*op) != Some(t);
+            faults.tell(rt, Axiom::Responsible, is_missing, u64::from(op.0));
+        }
+    }
+
+    // What one keeps back that has to hand over all.
+    fn tell_kept(&self, rt: &impl Abort, t: TxnId, handed: &[OpNo], faults: &mut Faults<A>) {
+        let is_whole = match self.class_of(t) {
             Some(class) => class.extent == Extent::Whole,
             None => false,
         };
-        let mut held = Vec::new(*self.done.allocator());
-        let mut number = OpNo(0);
-        for done in &self.done {
-            number = OpNo(number.0.wrapping_add(1));
-            if done.holder == Some(txn.number) && done.fate == Some(Fate::InProgress) {
-                held.push(number)?;
-                let is_kept = is_whole && !handed.contains(&number);
-                faults.tell(Axiom::HandsWhole, is_kept, u64::from(number.0))?;
-            }
+        for number in 0..self.ops {
+            let op = OpNo(number.wrapping_add(1));
+            let is_kept = self.holder(op) == Some(t) && !handed.contains(&op);
+            faults.tell(rt, Axiom::HandsWhole, is_whole && is_kept, u64::from(op.0));
         }
-        for number in handed {
-            faults.tell(
-                Axiom::Responsible,
-                !held.contains(number),
-                u64::from(number.0),
-            )?;
-        }
-        Ok(())
     }
 
     // A commit to a parent that is not there, or not in progress.
-    fn tell_heir(&self, txn: Txn<'_, A>, faults: &mut Faults<A>) -> Result<(), AllocError> {
-        let is_handed = match txn.class {
+    fn tell_heir(&self, rt: &impl Abort, t: TxnId, faults: &mut Faults<A>) {
+        let is_handed = match self.class_of(t) {
             Some(class) => class.at_commit == AtCommit::ToParent,
             None => false,
         };
-        match txn.parent {
-            Some(u) => {
-                let is_idle = !self.txn(u).course.is_in_progress();
-                faults.tell(Axiom::Heir, is_handed && is_idle, u64::from(u.0))
-            }
-            None => faults.tell(Axiom::Heir, is_handed, 0),
-        }
+        let (is_idle, by) = match self.parent(t) {
+            Some(u) => (!self.course(u).is_in_progress(), u64::from(u.0)),
+            None => (true, 0),
+        };
+        faults.tell(rt, Axiom::Heir, is_handed && is_idle, by);
     }
 
     // An edge that is formed too late, as the smaller number of those that are too far on tells.
-    fn tell_late(
-        &self,
-        kind: Dep,
-        j: TxnId,
-        i: TxnId,
-        faults: &mut Faults<A>,
-    ) -> Result<(), AllocError> {
-        if kind.is_begin_kind() {
-            let has_begun = self.txn(j).course.has_begun();
-            return faults.tell(Axiom::FormedInTime, has_begun, u64::from(j.0));
-        }
+    fn tell_late(&self, rt: &impl Abort, kind: Dep, j: TxnId, i: TxnId, faults: &mut Faults<A>) {
         let (low, high) = if i.0 < j.0 { (i, j) } else { (j, i) };
-        let late = if self.txn(low).course.has_ended() {
-            low
+        let (is_late, late) = if kind.is_begin_kind() {
+            (self.course(j).has_begun(), j)
+        } else if self.course(low).has_ended() {
+            (true, low)
         } else {
-            high
+            (self.course(high).has_ended(), high)
         };
-        let is_late = self.txn(late).course.has_ended();
-        faults.tell(Axiom::FormedInTime, is_late, u64::from(late.0))
+        faults.tell(rt, Axiom::FormedInTime, is_late, u64::from(late.0));
     }
 
     // A return that is not the one due.
-    fn tell_return(&self, said: Said<'_>, faults: &mut Faults<A>) -> Result<(), AllocError> {
-        let Some((object, op)) = said.asked else {
-            return faults.tell(Axiom::Return, said.ret.is_some(), 0);
+    fn tell_return(&self, rt: &impl Abort, said: &Said<'_>, faults: &mut Faults<A>) {
+        let (is_broken, by) = match said.asked {
+            Some((object, op)) => {
+                let is_known = self.kind_for(object, op).is_some();
+                let number = u64::from(self.ops).saturating_add(1);
+                (is_known && said.ret != self.due, number)
+            }
+            None => (said.ret.is_some(), 0),
         };
-        let number = (self.done.len() as u64).saturating_add(1);
-        let is_known = self.kind_for(object, op).is_some();
-        faults.tell(Axiom::Return, is_known && said.ret != self.due, number)
+        faults.tell(rt, Axiom::Return, is_broken, by);
+    }
+
+    // Who starts, operates, ends or takes part where it cannot.
+    fn tell_part(&self, rt: &impl Abort, (t, part): (TxnId, Part), faults: &mut Faults<A>) {
+        let (course, by) = (self.course(t), u64::from(t.0));
+        let is_idle = !course.is_in_progress();
+        match part {
+            Part::Starts => faults.tell(rt, Axiom::BegunOnce, course.has_begun(), by),
+            Part::Operates => faults.tell(rt, Axiom::OperatesInProgress, is_idle, by),
+            Part::TakesPart => faults.tell(rt, Axiom::PartiesInProgress, is_idle, by),
+            Part::Ends => {
+                faults.tell(rt, Axiom::EndedAfterBegun, !course.has_begun(), by);
+                faults.tell(rt, Axiom::EndedOnce, course.has_ended(), by);
+            }
+            Part::IsNamed => {}
+        }
+    }
+
+    // What the transactions that are named can't do, and an edge that is formed too late.
+    fn tell_parts(&self, rt: &impl Abort, said: &Said<'_>, faults: &mut Faults<A>) {
+        self.tell_part(rt, said.first, faults);
+        if let Some(second) = said.second {
+            self.tell_part(rt, second, faults);
+            if let Some(kind) = said.edge {
+                self.tell_late(rt, kind, said.first.0, second.0, faults);
+            }
+        }
     }
 
     /// All faults at the place.
-    pub fn tell_all(&self, said: Said<'_>, faults: &mut Faults<A>) -> Result<(), AllocError> {
-        let (t, part) = said.first;
-        let (txn, by) = (self.txn(t), u64::from(t.0));
-        faults.tell_part(txn, part)?;
-        if let Some((u, part)) = said.second {
-            faults.tell_part(self.txn(u), part)?;
-            if let Some(kind) = said.edge {
-                self.tell_late(kind, t, u, faults)?;
-            }
-        }
-        faults.tell(Axiom::FormOfEvent, self.is_ill_formed(said), by)?;
-        faults.tell(Axiom::Allowed, !self.is_allowed(said), by)?;
+    pub fn tell_all(&self, rt: &impl Abort, said: &Said<'_>, faults: &mut Faults<A>) {
+        let t = said.first.0;
+        self.tell_parts(rt, said, faults);
+        self.tell_form(rt, said, faults);
         if let Some(handed) = said.handed {
-            self.tell_handed(txn, handed, faults)?;
+            self.tell_handed(rt, t, handed, faults);
+            self.tell_kept(rt, t, handed, faults);
         }
         if said.kind == EventKind::Commit {
-            self.tell_heir(txn, faults)?;
+            self.tell_heir(rt, t, faults);
         }
-        self.tell_conflicts(said, faults)?;
-        self.tell_return(said, faults)
+        self.tell_conflicts(rt, said, faults);
+        self.tell_return(rt, said, faults);
     }
 }
