@@ -94,6 +94,7 @@ fn longest<A: Allocator + Copy>(rt: &impl Abort, alloc: Global, heap: A) {
     let mut debugger = made(rt, on_forms(rt, heap, 65_536), "the longest");
     same(rt, &debugger.last(), &65_536, "the longest");
     play(rt, alloc, &mut debugger, LONGEST);
+    drop(debugger);
 }
 
 // Of a list that is longer than the longest history the next place is refused.

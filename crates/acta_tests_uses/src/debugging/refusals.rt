@@ -6,7 +6,7 @@ use crate::expecting::{holds, made, parted, same};
 use crate::machines::{model_of, number_in};
 use acta_debug::{Debugger, NewError};
 use acta_models::Standard;
-use acta_table::{Kept, Model, ObjId};
+use acta_table::ObjId;
 use refusing::Refusing;
 use std::alloc::{Allocator, Global};
 use std::process::Abort;
@@ -87,13 +87,12 @@ fn refuse_each<A: Allocator + Copy>(
     rt.panic("a call makes too many allocations")
 }
 
-// The last place of a debugger on the history, or why there is none.
-fn last_of<A: Allocator + Copy>(
-    heap: A,
-    model: Model<A>,
-    history: Vec<Kept<A>, A>,
-) -> Result<u32, NewError> {
-    Ok(opened(heap, model, history)?.last())
+// The last place of a debugger, or why there is none.
+fn last_of<A: Allocator + Copy>(debugger: &Result<Debugger<A>, NewError>) -> Result<u32, NewError> {
+    match debugger {
+        Ok(debugger) => Ok(debugger.last()),
+        Err(error) => Err(*error),
+    }
 }
 
 // Makes a debugger on the history, the nth allocation refused; where it came, there is none, for want of memory. Says
@@ -108,7 +107,7 @@ fn new_refused<A: Allocator + Copy>(
     let model = model_of(rt, heap, Standard::Contingent);
     let history = items(rt, heap, &model, text);
     refusing.refuse(nth);
-    let last = last_of(heap, model, history);
+    let debugger = opened(heap, model, history);
     let is_whole = refusing.is_waiting();
     refusing.refuse(0);
     let due = if is_whole {
@@ -116,7 +115,8 @@ fn new_refused<A: Allocator + Copy>(
     } else {
         Err(NewError::Memory)
     };
-    same(rt, &last, &due, text);
+    same(rt, &last_of(&debugger), &due, text);
+    drop(debugger);
     !is_whole
 }
 
@@ -148,6 +148,7 @@ fn refuse_calls<A: Allocator + Copy>(
     for line in CALLS.lines() {
         refuse_each(rt, alloc, refusing, &mut debugger, line);
     }
+    drop(debugger);
 }
 
 #[test]

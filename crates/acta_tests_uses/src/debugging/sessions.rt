@@ -194,6 +194,7 @@ fn session<A: Allocator + Copy>(rt: &impl Abort, alloc: Global, heap: A, text: &
     let (history, lines) = parted(rt, rest, "--\n");
     let mut debugger = debugger(rt, heap, named(rt, name), history);
     play(rt, alloc, &mut debugger, lines);
+    drop(debugger);
 }
 
 // A long session.
@@ -202,6 +203,7 @@ fn over_sums<A: Allocator + Copy>(rt: &impl Abort, alloc: Global, heap: A) {
     let ends = (debugger.at(), debugger.last());
     same(rt, &ends, &(0, 130), "the start");
     play(rt, alloc, &mut debugger, OVER_SUMS);
+    drop(debugger);
 }
 
 #[test]

@@ -97,19 +97,17 @@ fn takes<A: Allocator + Copy>(
     made(rt, machine.take(event), "an event") == *answer
 }
 
-/// How many of the entries were refused, where the entries are numbered from 1, and a new machine on the model answers
-/// each event as its entry says.
-pub fn replayed<A: Allocator + Copy>(
+// How many of the entries were refused, where the entries are numbered from 1, and the machine answers each event as
+// its entry says.
+fn replayed_on<A: Allocator + Copy>(
     rt: &impl Abort,
-    alloc: A,
-    model: Model<A>,
+    machine: &mut Machine<A>,
     entries: &[Entry<A>],
 ) -> Option<u32> {
-    let mut machine = made(rt, Machine::new(alloc, model), "a machine");
     let (mut number, mut refused) = (0u32, 0u32);
     for entry in entries {
         number = number.wrapping_add(1);
-        if !takes(rt, &mut machine, &entry.event, &entry.answer) || entry.number != number {
+        if !takes(rt, machine, &entry.event, &entry.answer) || entry.number != number {
             return None;
         }
         if matches!(entry.answer, Answer::Refused { .. }) {
@@ -117,6 +115,19 @@ pub fn replayed<A: Allocator + Copy>(
         }
     }
     Some(refused)
+}
+
+/// The same of a new machine on the model.
+pub fn replayed<A: Allocator + Copy>(
+    rt: &impl Abort,
+    alloc: A,
+    model: Model<A>,
+    entries: &[Entry<A>],
+) -> Option<u32> {
+    let mut machine = made(rt, Machine::new(alloc, model), "a machine");
+    let refused = replayed_on(rt, &mut machine, entries);
+    drop(machine);
+    refused
 }
 
 /// Takes the event of the first seat, in a function of its own, so that callers need not read all that is known of the

@@ -106,6 +106,7 @@ fn crowd<A: Allocator + Copy + Send + Sync, R: Threads + Wait + Sync + Abort>(
     let model = model_of(rt, alloc, name);
     let refused = replayed(rt, alloc, model, driven.book.entries());
     are_some(rt, refused.expect(rt, "answers differ"));
+    drop(driven);
 }
 
 #[test]

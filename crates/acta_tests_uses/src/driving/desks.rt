@@ -76,6 +76,8 @@ fn both<A: Allocator + Copy + Send + Sync, R: Threads + Wait + Sync + Abort>(rt:
     let desk = worked_alone(rt, alloc, one);
     let driven = driven(rt, alloc, Standard::Atomic, scripts.as_slice(), &OpenGate);
     holds(rt, has_driven(&driven, desk.book.entries()), "both desks");
+    drop(driven);
+    drop(desk);
 }
 
 #[test]

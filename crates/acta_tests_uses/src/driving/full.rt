@@ -21,7 +21,9 @@ fn is_due(answer: &Answer) -> bool {
 // Commits a transaction that has not begun, and says whether it is refused for that, under this number.
 fn is_refused<A: Allocator + Copy>(rt: &impl Abort, book: &mut Book<A>, number: u32) -> bool {
     let entry = made(rt, taken(book, Event::Commit(TxnId(1))), "a call");
-    entry.number == number && entry.seat == 1 && is_due(&entry.answer)
+    let is_so = entry.number == number && entry.seat == 1 && is_due(&entry.answer);
+    drop(entry);
+    is_so
 }
 
 // Fills the book with such calls.
@@ -45,6 +47,7 @@ fn is_filled<A: Allocator + Copy>(rt: &impl Abort, alloc: A) {
     let more = taken(&mut book, Event::Commit(TxnId(1))).err();
     same(rt, &more, &Some(TakeError::BookFull), "one call more");
     holds(rt, is_full(&book), "the full book");
+    drop(book);
 }
 
 #[test]

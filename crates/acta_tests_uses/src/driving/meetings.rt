@@ -46,6 +46,7 @@ fn add_both<A: Allocator + Copy + Send + Sync, R: Threads + Wait + Sync + Abort>
     let machine = driven.book.machine();
     let found = (number_in(rt, machine, N), number_in(rt, machine, M));
     same(rt, &found, &(Some(5), Some(7)), "both add");
+    drop(driven);
 }
 
 // The seat of the first of two writes, where the other is of the other seat.
@@ -77,6 +78,7 @@ fn write_both<A: Allocator + Copy + Send + Sync, R: Threads + Wait + Sync + Abor
     let value = number_in(rt, driven.book.machine(), X);
     let due = i64::from(first).wrapping_add(4);
     same(rt, &value, &Some(due), "both write");
+    drop(driven);
 }
 
 #[test]

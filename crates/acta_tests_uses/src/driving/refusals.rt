@@ -23,11 +23,13 @@ fn stands<A: Allocator>(book: &Book<A>, entries: usize, admitted: usize) -> bool
 
 // Takes the event, its nth allocation refused. Gives why it was not taken, and whether the allocation never came.
 fn fault_at<A: Allocator + Copy, B: Allocator>(
+    rt: &impl Abort,
     heap: &Refusing<B>,
     book: &mut Book<A>,
-    event: Event<A>,
+    event: &Event<A>,
     nth: u64,
 ) -> (Option<TakeError>, bool) {
+    let event = made(rt, event.copy(), "an event");
     heap.refuse(nth);
     let fault = taken(book, event).err();
     let is_whole = heap.is_waiting();
@@ -41,11 +43,11 @@ fn take_refused<A: Allocator + Copy, B: Allocator>(
     rt: &impl Abort,
     heap: &Refusing<B>,
     book: &mut Book<A>,
-    event: Event<A>,
+    event: &Event<A>,
     nth: u64,
 ) -> bool {
     let (entries, admitted) = (book.entries().len(), book.machine().history().len());
-    let (fault, is_whole) = fault_at(heap, book, event, nth);
+    let (fault, is_whole) = fault_at(rt, heap, book, event, nth);
     let due = if is_whole {
         None
     } else {
@@ -69,7 +71,6 @@ fn take_each<A: Allocator + Copy, B: Allocator>(
     event: &Event<A>,
 ) -> u64 {
     for nth in 1..MOST {
-        let event = made(rt, event.copy(), "an event");
         if take_refused(rt, heap, book, event, nth) {
             return nth.wrapping_sub(1);
         }
@@ -116,12 +117,16 @@ fn take_all<A: Allocator + Copy, B: Allocator>(
     let mut book = made(rt, Book::new(alloc, model), "a book");
     let refused = take_calls(rt, heap, &mut book, calls.as_slice());
     holds(rt, stands(&book, 10, 9), "the book in the end");
+    drop(book);
     refused
 }
 
 // How many entries the book of a drive has.
-fn entries_of<A: Allocator>(driven: Result<Driven<A>, DriveError>) -> Result<usize, DriveError> {
-    Ok(driven?.book.entries().len())
+fn entries_of<A: Allocator>(driven: &Result<Driven<A>, DriveError>) -> Result<usize, DriveError> {
+    match driven {
+        Ok(driven) => Ok(driven.book.entries().len()),
+        Err(error) => Err(*error),
+    }
 }
 
 // Drives the scripts, the nth allocation refused. Gives how many entries the book has, or why there is none, and
@@ -138,7 +143,9 @@ fn drive_refused<A: Allocator + Copy + Send + Sync, R: Threads + Wait + Sync + A
     let driven = drive(rt, alloc, model, scripts, &OpenGate);
     let is_whole = heap.is_waiting();
     heap.refuse(0);
-    (entries_of(driven), is_whole)
+    let found = entries_of(&driven);
+    drop(driven);
+    (found, is_whole)
 }
 
 // Whether the book has all calls where none was refused, and else the answer is want of memory, or that a thread could
