@@ -8,38 +8,32 @@
 //!
 //! where the first of the breaks is that on the kind of an event, and the last line asks the machine.
 
-use crate::expecting::{parted, same};
+use crate::expecting::{made, number, parted, same};
 use crate::machines::number_in;
 use acta_debug::{Break, Debugger, MoveError};
 use acta_table::{EventKind, ObjId, TxnId};
 use std::alloc::{AllocError, Allocator, Global};
 use std::process::Abort;
-use std::test::Fail;
 
-// The number that a word says.
-fn number(word: &str) -> Result<u32, Fail> {
-    Ok(word.parse().ok().ok_or("a word is no number")?)
-}
-
-fn txn(word: &str) -> Result<TxnId, Fail> {
-    Ok(TxnId(word.parse().ok().ok_or("a word is no transaction")?))
+fn txn(rt: &impl Abort, word: &str) -> TxnId {
+    TxnId(word.parse().ok().expect(rt, word))
 }
 
 // The object of that name, in each of the standard models.
-fn object(name: &str) -> Result<ObjId, Fail> {
-    Ok(match name {
+fn object(rt: &impl Abort, name: &str) -> ObjId {
+    match name {
         "x" => ObjId(0),
         "n" => ObjId(1),
         "m" => ObjId(2),
         "s" => ObjId(3),
-        _ => Err("a word is no object")?,
-    })
+        _ => rt.panic("a word is no object"),
+    }
 }
 
 // The kind of the event that the words say.
-fn kind(event: &str) -> Result<EventKind, Fail> {
-    let (word, _) = event.split_once(' ').ok_or("an event has one word")?;
-    Ok(match word {
+fn kind(rt: &impl Abort, event: &str) -> EventKind {
+    let (word, _) = parted(rt, event, " ");
+    match word {
         "begin" => EventKind::Begin,
         "spawn" => EventKind::Spawn,
         "split" => EventKind::Split,
@@ -49,21 +43,21 @@ fn kind(event: &str) -> Result<EventKind, Fail> {
         "do" => EventKind::Operate,
         "commit" => EventKind::Commit,
         "abort" => EventKind::Abort,
-        _ => Err("a word is no event")?,
-    })
+        _ => rt.panic("a word is no event"),
+    }
 }
 
 // The break that the words say.
-fn break_of(words: &str) -> Result<Break, Fail> {
-    let (word, rest) = words.split_once(' ').ok_or("a break has one word")?;
-    Ok(match word {
-        "like" => Break::Kind(kind(rest)?),
-        "txn" => Break::Touches(txn(rest)?),
-        "object" => Break::Object(object(rest)?),
-        "owed" => Break::OwedAtLeast(number(rest)?),
-        "ended" => Break::Ended(txn(rest)?),
-        _ => Err("a break of no kind")?,
-    })
+fn break_of(rt: &impl Abort, words: &str) -> Break {
+    let (word, rest) = parted(rt, words, " ");
+    match word {
+        "like" => Break::Kind(kind(rt, rest)),
+        "txn" => Break::Touches(txn(rt, rest)),
+        "object" => Break::Object(object(rt, rest)),
+        "owed" => Break::OwedAtLeast(number(rt, rest)),
+        "ended" => Break::Ended(txn(rt, rest)),
+        _ => rt.panic("a break of no kind"),
+    }
 }
 
 // How a move ended, and where the debugger then stands.
@@ -89,15 +83,16 @@ fn ran<A: Allocator + Copy>(
 
 // A step, a step back, or a move to a place, as the words say.
 fn gone<A: Allocator + Copy>(
+    rt: &impl Abort,
     debugger: &mut Debugger<A>,
     word: &str,
     rest: &str,
-) -> Result<Result<(), MoveError>, Fail> {
-    Ok(match word {
+) -> Result<(), MoveError> {
+    match word {
         "step" => debugger.step(),
         "back" => debugger.back(),
-        _ => debugger.goto(number(rest)?),
-    })
+        _ => debugger.goto(number(rt, rest)),
+    }
 }
 
 // Adds a break, and tells its number.
@@ -113,60 +108,61 @@ fn broken<A: Allocator + Copy>(
 }
 
 // How many events are owed.
-fn owed<A: Allocator + Copy>(debugger: &Debugger<A>) -> Result<usize, AllocError> {
-    Ok(debugger.machine().owed()?.len())
+fn owed<A: Allocator + Copy>(rt: &impl Abort, debugger: &Debugger<A>) -> usize {
+    made(rt, debugger.machine().owed(), "what is owed").len()
 }
 
 // What the machine shows.
 fn shown<A: Allocator + Copy>(
+    rt: &impl Abort,
     alloc: Global,
     debugger: &Debugger<A>,
     word: &str,
     rest: &str,
-) -> Result<String, Fail> {
-    Ok(match word {
+) -> Result<String, AllocError> {
+    match word {
         "value" => {
-            let value = number_in(debugger.machine(), object(rest)?)?.ok_or(
-                "an object has no number",
-            )?;
-            format!(in alloc; "{value}")?
+            let value = number_in(rt, debugger.machine(), object(rt, rest)).expect(rt, rest);
+            format!(in alloc; "{value}")
         }
         "status" => {
-            let status = debugger.machine().status(txn(rest)?);
-            format!(in alloc; "{status:?}")?
+            let status = debugger.machine().status(txn(rt, rest));
+            format!(in alloc; "{status:?}")
         }
         "owed" => {
-            let owed = owed(debugger)?;
-            format!(in alloc; "{owed}")?
+            let owed = owed(rt, debugger);
+            format!(in alloc; "{owed}")
         }
         "edges" => {
             let edges = debugger.machine().edges().len();
-            format!(in alloc; "{edges}")?
+            format!(in alloc; "{edges}")
         }
-        _ => Err("a line has no command")?,
-    })
+        _ => rt.panic("a line has no command"),
+    }
 }
 
 /// What the debugger does at the command, or what its machine shows. What lacks memory is told too.
 pub fn told<A: Allocator + Copy>(
+    rt: &impl Abort,
     alloc: Global,
     debugger: &mut Debugger<A>,
     command: &str,
-) -> Result<String, Fail> {
+) -> String {
     let (word, rest) = command.split_once(' ').unwrap_or((command, ""));
-    Ok(match word {
+    let told = match word {
         "step" | "back" | "goto" => {
-            let done = gone(debugger, word, rest)?;
-            moved(alloc, done, debugger.at())?
+            let done = gone(rt, debugger, word, rest);
+            moved(alloc, done, debugger.at())
         }
-        "run" => ran(alloc, debugger)?,
+        "run" => ran(alloc, debugger),
         "clear" => {
             debugger.clear_breaks();
-            format!(in alloc; "cleared")?
+            format!(in alloc; "cleared")
         }
-        "break" => broken(alloc, debugger, break_of(rest)?)?,
-        _ => shown(alloc, debugger, word, rest)?,
-    })
+        "break" => broken(alloc, debugger, break_of(rt, rest)),
+        _ => shown(rt, alloc, debugger, word, rest),
+    };
+    made(rt, told, command)
 }
 
 // Plays the line, which has a command, and what is told of it.
@@ -175,13 +171,12 @@ fn play_line<A: Allocator + Copy>(
     alloc: Global,
     debugger: &mut Debugger<A>,
     line: &str,
-) -> Result<(), Fail> {
-    let (command, due) = parted(line, " : ")?;
-    let text = told(alloc, debugger, command)?;
+) {
+    let (command, due) = parted(rt, line, " : ");
+    let text = told(rt, alloc, debugger, command);
     same(rt, &text.as_str(), &due, line);
     let (history, at) = (debugger.machine().history().len(), debugger.at());
     same(rt, &history, &(at as usize), line);
-    Ok(())
 }
 
 /// Plays the lines on the debugger, one after another.
@@ -190,9 +185,8 @@ pub fn play<A: Allocator + Copy>(
     alloc: Global,
     debugger: &mut Debugger<A>,
     lines: &str,
-) -> Result<(), Fail> {
+) {
     for line in lines.lines() {
-        play_line(rt, alloc, debugger, line)?;
+        play_line(rt, alloc, debugger, line);
     }
-    Ok(())
 }

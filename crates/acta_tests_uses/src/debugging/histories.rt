@@ -1,24 +1,27 @@
 //! Histories: a history is written as text, a kept item a line.
 
+use crate::expecting::made;
 use crate::machines::model_of;
 use acta_debug::{Debugger, NewError};
 use acta_models::Standard;
 use acta_script::read_kept;
 use acta_table::{Kept, Model};
-use std::alloc::{AllocError, Allocator, Global};
-use std::test::Fail;
+use std::alloc::{Allocator, Global};
+use std::process::Abort;
 
 /// The items that the lines say, in the words of the model.
 pub fn items<A: Allocator + Copy>(
+    rt: &impl Abort,
     heap: A,
     model: &Model<A>,
     text: &str,
-) -> Result<Vec<Kept<A>, A>, Fail> {
+) -> Vec<Kept<A>, A> {
     let mut items = Vec::new(heap);
     for line in text.lines() {
-        items.push(read_kept(heap, model, line.as_bytes())?)?;
+        let item = made(rt, read_kept(heap, model, line.as_bytes()), line);
+        made(rt, items.push(item), line);
     }
-    Ok(items)
+    items
 }
 
 /// A debugger on the list, in a function of its own, so that callers need not read all that is known of a new one.
@@ -32,13 +35,14 @@ pub fn opened<A: Allocator + Copy>(
 
 /// A debugger on the history that the lines say.
 pub fn debugger<A: Allocator + Copy>(
+    rt: &impl Abort,
     heap: A,
     name: Standard,
     text: &str,
-) -> Result<Debugger<A>, Fail> {
-    let model = model_of(heap, name)?;
-    let history = items(heap, &model, text)?;
-    Ok(opened(heap, model, history)?)
+) -> Debugger<A> {
+    let model = model_of(rt, heap, name);
+    let history = items(rt, heap, &model, text);
+    made(rt, opened(heap, model, history), "a debugger")
 }
 
 // A debt of 2, which is owed behind place 4 and paid at place 5, and a third that begins.
@@ -52,20 +56,21 @@ begin 3 try
 ";
 
 /// The same, and so many additions of 1 to n by the third.
-pub fn sums(alloc: Global, times: u32) -> Result<String, AllocError> {
-    let mut text = String::from_str(alloc, PAID)?;
+pub fn sums(rt: &impl Abort, alloc: Global, times: u32) -> String {
+    let mut text = made(rt, String::from_str(alloc, PAID), "memory");
     for _ in 0..times {
-        text.push_str("do 3 n add 1 = done\n")?;
+        made(rt, text.push_str("do 3 n add 1 = done\n"), "memory");
     }
-    Ok(text)
+    text
 }
 
 /// A debugger on these.
 pub fn on_sums<A: Allocator + Copy>(
+    rt: &impl Abort,
     alloc: Global,
     heap: A,
     times: u32,
-) -> Result<Debugger<A>, Fail> {
-    let text = sums(alloc, times)?;
-    debugger(heap, Standard::Contingent, text.as_str())
+) -> Debugger<A> {
+    let text = sums(rt, alloc, times);
+    debugger(rt, heap, Standard::Contingent, text.as_str())
 }

@@ -2,15 +2,14 @@
 
 use crate::debugging::commands::play;
 use crate::debugging::histories::{items, opened};
-use crate::expecting::{parted, same};
+use crate::expecting::{made, number, parted, same};
 use crate::machines::model_of;
 use acta_debug::{Debugger, NewError};
 use acta_models::Standard;
-use acta_table::{Dep, Event, Kept, Model, TxnId};
+use acta_table::{Dep, Event, Kept, TxnId};
 use refusing::Refusing;
-use std::alloc::{AllocError, Allocator, Global};
+use std::alloc::{Allocator, Global};
 use std::process::Abort;
-use std::test::Fail;
 
 // Lists, each under the first place at which it is no history: an event that is refused; a return that is another, that
 // lacks, or where none is due; and behind it what would be admitted again.
@@ -50,48 +49,38 @@ do 1 n add 1 = done
 do 1 n get = 2
 commit 1";
 
-// A list of that text: the place at which it is refused, and its lines.
-fn parts(text: &str) -> Result<(u32, &str), Fail> {
-    let (place, lines) = parted(text, "\n")?;
-    let due = place.parse().ok().ok_or("a place is no number")?;
-    Ok((due, lines))
-}
-
-// Why there is no debugger on the list of those lines.
-fn refusal<A: Allocator + Copy>(heap: A, lines: &str) -> Result<Option<NewError>, Fail> {
-    let model = model_of(heap, Standard::Atomic)?;
-    let list = items(heap, &model, lines)?;
-    Ok(opened(heap, model, list).err())
-}
-
-// The list of that text is refused at its place.
-fn refuse<A: Allocator + Copy>(rt: &impl Abort, heap: A, text: &str) -> Result<(), Fail> {
-    let (due, lines) = parts(text)?;
-    let found = refusal(heap, lines)?;
-    same(rt, &found, &Some(NewError::NotAHistory(due)), text);
-    Ok(())
+// The list of that text, which is its place and its lines, is refused at its place.
+fn refuse<A: Allocator + Copy>(rt: &impl Abort, heap: A, text: &str) {
+    let (place, lines) = parted(rt, text, "\n");
+    let model = model_of(rt, heap, Standard::Atomic);
+    let list = items(rt, heap, &model, lines);
+    let found = opened(heap, model, list).err();
+    same(
+        rt,
+        &found,
+        &Some(NewError::NotAHistory(number(rt, place))),
+        text,
+    );
 }
 
 // So many times one edge is formed, which stays one edge.
-fn forms<A: Allocator + Copy>(heap: A, times: u32) -> Result<Vec<Kept<A>, A>, AllocError> {
+fn forms<A: Allocator + Copy>(rt: &impl Abort, heap: A, times: u32) -> Vec<Kept<A>, A> {
     let mut list = Vec::new(heap);
     for _ in 0..times {
-        list.push(Kept {
-            event: Event::Form(Dep::Cd, TxnId(2), TxnId(1)),
-            ret: None,
-        })?;
+        let event = Event::Form(Dep::Cd, TxnId(2), TxnId(1));
+        made(rt, list.push(Kept { event, ret: None }), "memory");
     }
-    Ok(list)
+    list
 }
 
 // A debugger on so many such events, or why there is none.
 fn on_forms<A: Allocator + Copy>(
+    rt: &impl Abort,
     heap: A,
-    model: Model<A>,
     times: u32,
 ) -> Result<Debugger<A>, NewError> {
-    let list = forms(heap, times)?;
-    opened(heap, model, list)
+    let model = model_of(rt, heap, Standard::Contingent);
+    opened(heap, model, forms(rt, heap, times))
 }
 
 // What is done on the longest history.
@@ -101,33 +90,26 @@ step : AtEnd at 65536
 edges : 1";
 
 // The longest history has 65,536 events.
-fn longest<A: Allocator + Copy>(rt: &impl Abort, alloc: Global, heap: A) -> Result<(), Fail> {
-    let model = model_of(heap, Standard::Contingent)?;
-    let mut debugger = on_forms(heap, model, 65_536)?;
+fn longest<A: Allocator + Copy>(rt: &impl Abort, alloc: Global, heap: A) {
+    let mut debugger = made(rt, on_forms(rt, heap, 65_536), "the longest");
     same(rt, &debugger.last(), &65_536, "the longest");
-    play(rt, alloc, &mut debugger, LONGEST)
-}
-
-// Why there is no debugger on a list of one event more.
-fn longer<A: Allocator + Copy>(heap: A) -> Result<Option<NewError>, Fail> {
-    let model = model_of(heap, Standard::Contingent)?;
-    Ok(on_forms(heap, model, 65_537).err())
+    play(rt, alloc, &mut debugger, LONGEST);
+    drop(debugger);
 }
 
 // Of a list that is longer than the longest history the next place is refused.
 #[test]
-fn lists_that_are_no_histories_and_the_longest(rt: HostRuntime) -> Result<(), Fail> {
+fn lists_that_are_no_histories_and_the_longest(rt: HostRuntime) {
     let heap = Refusing::new(rt.alloc());
     for text in OTHERS.split("# ") {
-        refuse(&rt, &heap, text)?;
+        refuse(&rt, &heap, text);
     }
-    longest(&rt, rt.alloc(), &heap)?;
-    let found = longer(&heap)?;
+    longest(&rt, rt.alloc(), &heap);
+    let longer = on_forms(&rt, &heap, 65_537).err();
     same(
         &rt,
-        &found,
+        &longer,
         &Some(NewError::NotAHistory(65_537)),
         "one more",
     );
-    Ok(())
 }

@@ -2,15 +2,14 @@
 
 use crate::debugging::commands::told;
 use crate::debugging::histories::{items, on_sums, opened, sums};
-use crate::expecting::{holds, parted, same};
+use crate::expecting::{holds, made, parted, same};
 use crate::machines::{model_of, number_in};
 use acta_debug::{Debugger, NewError};
 use acta_models::Standard;
-use acta_table::{Kept, Model, ObjId};
+use acta_table::ObjId;
 use refusing::Refusing;
-use std::alloc::{AllocError, Allocator, Global};
+use std::alloc::{Allocator, Global};
 use std::process::Abort;
-use std::test::Fail;
 
 // More allocations than any of these calls makes.
 const MOST: u64 = 4_000;
@@ -28,28 +27,8 @@ run : Broke { number: 1, place: 6 } at 6 : 0
 run : Finished at 70 : 64";
 
 // The counter n, where the debugger stands.
-fn sum<A: Allocator + Copy>(debugger: &Debugger<A>) -> Result<Option<i64>, AllocError> {
-    number_in(debugger.machine(), ObjId(1))
-}
-
-// Where the debugger stands, and the counter n there.
-fn stand<A: Allocator + Copy>(debugger: &Debugger<A>) -> Result<(u32, Option<i64>), AllocError> {
-    Ok((debugger.at(), sum(debugger)?))
-}
-
-// Does what the command says, the nth allocation refused. Gives what is told, and whether the allocation never came.
-fn told_at<A: Allocator + Copy>(
-    alloc: Global,
-    refusing: &Refusing<Global>,
-    debugger: &mut Debugger<A>,
-    command: &str,
-    nth: u64,
-) -> Result<(String, bool), Fail> {
-    refusing.refuse(nth);
-    let text = told(alloc, debugger, command)?;
-    let is_whole = refusing.is_waiting();
-    refusing.refuse(0);
-    Ok((text, is_whole))
+fn sum<A: Allocator + Copy>(rt: &impl Abort, debugger: &Debugger<A>) -> Option<i64> {
+    number_in(rt, debugger.machine(), ObjId(1))
 }
 
 // Does what the command says, the nth allocation refused; where it came, want of memory is told, and the debugger
@@ -61,15 +40,18 @@ fn refused<A: Allocator + Copy>(
     debugger: &mut Debugger<A>,
     command: &str,
     nth: u64,
-) -> Result<Option<String>, Fail> {
-    let stood = stand(debugger)?;
-    let (text, is_whole) = told_at(alloc, refusing, debugger, command, nth)?;
+) -> Option<String> {
+    let stood = (debugger.at(), sum(rt, debugger));
+    refusing.refuse(nth);
+    let text = told(rt, alloc, debugger, command);
+    let is_whole = refusing.is_waiting();
+    refusing.refuse(0);
     if is_whole {
-        return Ok(Some(text));
+        return Some(text);
     }
     holds(rt, text.as_str().starts_with("Memory at "), command);
-    same(rt, &stand(debugger)?, &stood, command);
-    Ok(None)
+    same(rt, &(debugger.at(), sum(rt, debugger)), &stood, command);
+    None
 }
 
 // What is told, and the value of n behind it, as the line has them.
@@ -80,11 +62,10 @@ fn tells<A: Allocator + Copy>(
     text: &str,
     due: &str,
     line: &str,
-) -> Result<(), Fail> {
-    let value = sum(debugger)?.ok_or("n has no number")?;
-    let text = format!(in alloc; "{text} : {value}")?;
+) {
+    let value = sum(rt, debugger).expect(rt, line);
+    let text = made(rt, format!(in alloc; "{text} : {value}"), line);
     same(rt, &text.as_str(), &due, line);
-    Ok(())
 }
 
 // Does what the line says, the first allocation refused, then the second, and so on, until none is.
@@ -94,41 +75,24 @@ fn refuse_each<A: Allocator + Copy>(
     refusing: &Refusing<Global>,
     debugger: &mut Debugger<A>,
     line: &str,
-) -> Result<(), Fail> {
-    let (command, due) = parted(line, " : ")?;
+) {
+    let (command, due) = parted(rt, line, " : ");
     for nth in 1..MOST {
-        if let Some(text) = refused(rt, alloc, refusing, debugger, command, nth)? {
+        if let Some(text) = refused(rt, alloc, refusing, debugger, command, nth) {
             holds(rt, nth > 1, line);
-            return tells(rt, alloc, debugger, text.as_str(), due, line);
+            tells(rt, alloc, debugger, text.as_str(), due, line);
+            return;
         }
     }
-    Err(Fail::new("a call makes too many allocations"))
+    rt.panic("a call makes too many allocations")
 }
 
-// The last place of a debugger on the history, or why there is none.
-fn last_of<A: Allocator + Copy>(
-    heap: A,
-    model: Model<A>,
-    history: Vec<Kept<A>, A>,
-) -> Result<u32, NewError> {
-    Ok(opened(heap, model, history)?.last())
-}
-
-// Makes a debugger on the history, the nth allocation refused. Gives its last place, or why there is none, and whether
-// the allocation never came.
-fn last_at<A: Allocator + Copy>(
-    refusing: &Refusing<Global>,
-    heap: A,
-    text: &str,
-    nth: u64,
-) -> Result<(Result<u32, NewError>, bool), Fail> {
-    let model = model_of(heap, Standard::Contingent)?;
-    let history = items(heap, &model, text)?;
-    refusing.refuse(nth);
-    let last = last_of(heap, model, history);
-    let is_whole = refusing.is_waiting();
-    refusing.refuse(0);
-    Ok((last, is_whole))
+// The last place of a debugger, or why there is none.
+fn last_of<A: Allocator + Copy>(debugger: &Result<Debugger<A>, NewError>) -> Result<u32, NewError> {
+    match debugger {
+        Ok(debugger) => Ok(debugger.last()),
+        Err(error) => Err(*error),
+    }
 }
 
 // Makes a debugger on the history, the nth allocation refused; where it came, there is none, for want of memory. Says
@@ -139,43 +103,38 @@ fn new_refused<A: Allocator + Copy>(
     heap: A,
     text: &str,
     nth: u64,
-) -> Result<bool, Fail> {
-    let (last, is_whole) = last_at(refusing, heap, text, nth)?;
+) -> bool {
+    let model = model_of(rt, heap, Standard::Contingent);
+    let history = items(rt, heap, &model, text);
+    refusing.refuse(nth);
+    let debugger = opened(heap, model, history);
+    let is_whole = refusing.is_waiting();
+    refusing.refuse(0);
     let due = if is_whole {
         Ok(16)
     } else {
         Err(NewError::Memory)
     };
-    same(rt, &last, &due, text);
-    Ok(!is_whole)
+    same(rt, &last_of(&debugger), &due, text);
+    drop(debugger);
+    !is_whole
 }
 
-// Makes a debugger, its first allocation refused, then the second, and so on, until none is. Says how many were.
-fn new_refused_each<A: Allocator + Copy>(
+// Makes a debugger on the history, its first allocation refused, then the second, and so on, until none is, which are
+// more than 9.
+fn new_each<A: Allocator + Copy>(
     rt: &impl Abort,
     refusing: &Refusing<Global>,
     heap: A,
     text: &str,
-) -> Result<u64, Fail> {
+) {
     for nth in 1..MOST {
-        if !new_refused(rt, refusing, heap, text, nth)? {
-            return Ok(nth.wrapping_sub(1));
+        if !new_refused(rt, refusing, heap, text, nth) {
+            holds(rt, nth.wrapping_sub(1) > 9, "a new debugger");
+            return;
         }
     }
-    Err(Fail::new("a call makes too many allocations"))
-}
-
-// There is no memory for a new debugger.
-fn new_each<A: Allocator + Copy>(
-    rt: &impl Abort,
-    alloc: Global,
-    refusing: &Refusing<Global>,
-    heap: A,
-) -> Result<(), Fail> {
-    let text = sums(alloc, 10)?;
-    let refused = new_refused_each(rt, refusing, heap, text.as_str())?;
-    holds(rt, refused > 9, "a new debugger");
-    Ok(())
+    rt.panic("a call makes too many allocations")
 }
 
 // For no command of a debugger that allocates from `heap`, which is `refusing`, is there memory.
@@ -184,17 +143,18 @@ fn refuse_calls<A: Allocator + Copy>(
     alloc: Global,
     refusing: &Refusing<Global>,
     heap: A,
-) -> Result<(), Fail> {
-    let mut debugger = on_sums(alloc, heap, 64)?;
+) {
+    let mut debugger = on_sums(rt, alloc, heap, 64);
     for line in CALLS.lines() {
-        refuse_each(rt, alloc, refusing, &mut debugger, line)?;
+        refuse_each(rt, alloc, refusing, &mut debugger, line);
     }
-    Ok(())
+    drop(debugger);
 }
 
 #[test]
-fn a_debugger_for_which_there_is_no_memory(rt: HostRuntime) -> Result<(), Fail> {
+fn a_debugger_for_which_there_is_no_memory(rt: HostRuntime) {
     let heap = Refusing::new(rt.alloc());
-    new_each(&rt, rt.alloc(), &heap, &heap)?;
-    refuse_calls(&rt, rt.alloc(), &heap, &heap)
+    let text = sums(&rt, rt.alloc(), 10);
+    new_each(&rt, &heap, &heap, text.as_str());
+    refuse_calls(&rt, rt.alloc(), &heap, &heap);
 }

@@ -7,7 +7,6 @@ use acta_models::Standard;
 use refusing::Refusing;
 use std::alloc::{Allocator, Global};
 use std::process::Abort;
-use std::test::Fail;
 
 // A long history, which is gone over in both directions. A debt is owed behind one place.
 const OVER_SUMS: &str = "\
@@ -179,54 +178,39 @@ run : Broke { number: 1, place: 4 } at 4
 run : Broke { number: 3, place: 6 } at 6";
 
 // The model of that name.
-fn named(name: &str) -> Result<Standard, Fail> {
-    Ok(match name {
+fn named(rt: &impl Abort, name: &str) -> Standard {
+    match name {
         "atomic" => Standard::Atomic,
         "contingent" => Standard::Contingent,
         "nested" => Standard::Nested,
         "splitjoin" => Standard::SplitJoin,
-        _ => Err("a session has no model")?,
-    })
-}
-
-// Plays the lines on a debugger on the history.
-fn played<A: Allocator + Copy>(
-    rt: &impl Abort,
-    alloc: Global,
-    heap: A,
-    name: Standard,
-    history: &str,
-    lines: &str,
-) -> Result<(), Fail> {
-    let mut debugger = debugger(heap, name, history)?;
-    play(rt, alloc, &mut debugger, lines)
+        _ => rt.panic("a session has no model"),
+    }
 }
 
 // Plays what is done on a debugger on the history above it.
-fn session<A: Allocator + Copy>(
-    rt: &impl Abort,
-    alloc: Global,
-    heap: A,
-    text: &str,
-) -> Result<(), Fail> {
-    let (name, rest) = parted(text, "\n")?;
-    let (history, lines) = parted(rest, "--\n")?;
-    played(rt, alloc, heap, named(name)?, history, lines)
+fn session<A: Allocator + Copy>(rt: &impl Abort, alloc: Global, heap: A, text: &str) {
+    let (name, rest) = parted(rt, text, "\n");
+    let (history, lines) = parted(rt, rest, "--\n");
+    let mut debugger = debugger(rt, heap, named(rt, name), history);
+    play(rt, alloc, &mut debugger, lines);
+    drop(debugger);
 }
 
 // A long session.
-fn over_sums<A: Allocator + Copy>(rt: &impl Abort, alloc: Global, heap: A) -> Result<(), Fail> {
-    let mut debugger = on_sums(alloc, heap, 124)?;
+fn over_sums<A: Allocator + Copy>(rt: &impl Abort, alloc: Global, heap: A) {
+    let mut debugger = on_sums(rt, alloc, heap, 124);
     let ends = (debugger.at(), debugger.last());
     same(rt, &ends, &(0, 130), "the start");
-    play(rt, alloc, &mut debugger, OVER_SUMS)
+    play(rt, alloc, &mut debugger, OVER_SUMS);
+    drop(debugger);
 }
 
 #[test]
-fn each_session(rt: HostRuntime) -> Result<(), Fail> {
+fn each_session(rt: HostRuntime) {
     let heap = Refusing::new(rt.alloc());
     for text in SESSIONS.split("\n# ") {
-        session(&rt, rt.alloc(), &heap, text)?;
+        session(&rt, rt.alloc(), &heap, text);
     }
-    over_sums(&rt, rt.alloc(), &heap)
+    over_sums(&rt, rt.alloc(), &heap);
 }

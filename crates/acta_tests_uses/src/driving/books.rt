@@ -1,12 +1,12 @@
 //! What is asked of entries: whether they are the same, whether they are a seat's part of a book and answer its script,
 //! how they are answered, and whether a machine of its own answers them again.
 
-use crate::expecting::same;
+use crate::expecting::{made, same};
 use acta_locked::{Book, Entry, Report, Script, TakeError};
 use acta_machine::Machine;
 use acta_script::answer_line;
 use acta_table::{Answer, Event, Model};
-use std::alloc::{AllocError, Allocator};
+use std::alloc::Allocator;
 use std::process::Abort;
 
 /// Whether the two lists have the same entries, in order.
@@ -66,16 +66,14 @@ pub fn are_parts<A: Allocator>(
 }
 
 /// The answers of the entries, a line each.
-pub fn answers<A: Allocator + Copy>(
-    alloc: A,
-    entries: &[Entry<A>],
-) -> Result<Vec<u8, A>, AllocError> {
+pub fn answers<A: Allocator + Copy>(rt: &impl Abort, alloc: A, entries: &[Entry<A>]) -> Vec<u8, A> {
     let mut lines = Vec::new(alloc);
     for entry in entries {
-        lines.extend_from_slice(answer_line(alloc, &entry.answer)?.as_slice())?;
-        lines.push(b'\n')?;
+        let line = made(rt, answer_line(alloc, &entry.answer), "an answer");
+        made(rt, lines.extend_from_slice(line.as_slice()), "an answer");
+        made(rt, lines.push(b'\n'), "an answer");
     }
-    Ok(lines)
+    lines
 }
 
 /// The answers of the entries are these lines.
@@ -84,49 +82,52 @@ pub fn are_answered<A: Allocator + Copy>(
     alloc: A,
     entries: &[Entry<A>],
     due: &str,
-) -> Result<(), AllocError> {
-    let lines = answers(alloc, entries)?;
+) {
+    let lines = answers(rt, alloc, entries);
     same(rt, &lines.as_slice(), &due.as_bytes(), "the answers");
-    Ok(())
 }
 
 // Whether the machine takes the event with this answer.
 fn takes<A: Allocator + Copy>(
+    rt: &impl Abort,
     machine: &mut Machine<A>,
     event: &Event<A>,
     answer: &Answer,
-) -> Result<bool, AllocError> {
-    let found = machine.take(event)?;
-    Ok(found == *answer)
+) -> bool {
+    made(rt, machine.take(event), "an event") == *answer
 }
 
 // How many of the entries were refused, where the entries are numbered from 1, and the machine answers each event as
 // its entry says.
 fn replayed_on<A: Allocator + Copy>(
+    rt: &impl Abort,
     machine: &mut Machine<A>,
     entries: &[Entry<A>],
-) -> Result<Option<u32>, AllocError> {
+) -> Option<u32> {
     let (mut number, mut refused) = (0u32, 0u32);
     for entry in entries {
         number = number.wrapping_add(1);
-        if !takes(machine, &entry.event, &entry.answer)? || entry.number != number {
-            return Ok(None);
+        if !takes(rt, machine, &entry.event, &entry.answer) || entry.number != number {
+            return None;
         }
         if matches!(entry.answer, Answer::Refused { .. }) {
             refused = refused.wrapping_add(1);
         }
     }
-    Ok(Some(refused))
+    Some(refused)
 }
 
 /// The same of a new machine on the model.
 pub fn replayed<A: Allocator + Copy>(
+    rt: &impl Abort,
     alloc: A,
     model: Model<A>,
     entries: &[Entry<A>],
-) -> Result<Option<u32>, AllocError> {
-    let mut machine = Machine::new(alloc, model)?;
-    replayed_on(&mut machine, entries)
+) -> Option<u32> {
+    let mut machine = made(rt, Machine::new(alloc, model), "a machine");
+    let refused = replayed_on(rt, &mut machine, entries);
+    drop(machine);
+    refused
 }
 
 /// Takes the event of the first seat, in a function of its own, so that callers need not read all that is known of the

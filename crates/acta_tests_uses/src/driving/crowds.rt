@@ -3,15 +3,14 @@
 
 use crate::driving::books::{are_parts, replayed};
 use crate::driving::scripts::driven;
-use crate::expecting::holds;
+use crate::expecting::{holds, made};
 use crate::machines::model_of;
-use acta_locked::{Driven, Entry, OpenGate, Script};
+use acta_locked::{Driven, OpenGate, Script};
 use acta_models::Standard;
 use acta_table::{ClassId, Event, ObjId, Op, TxnId};
-use std::alloc::{AllocError, Allocator};
+use std::alloc::Allocator;
 use std::process::Abort;
 use std::sync::Wait;
-use std::test::Fail;
 use std::thread::Threads;
 
 // How many workers there are, with how many rounds of 16 calls each.
@@ -53,38 +52,36 @@ fn step_of<A: Allocator>(seat: u16, round: u16, calm: u16, step: u16) -> Event<A
 }
 
 // The script of a seat: 4,096 events.
-fn script_of<A: Allocator + Copy>(alloc: A, seat: u16, calm: u16) -> Result<Script<A>, AllocError> {
+fn script_of<A: Allocator + Copy>(rt: &impl Abort, alloc: A, seat: u16, calm: u16) -> Script<A> {
     let mut events = Vec::new(alloc);
     for round in 0..ROUNDS {
         for step in 0..16u16 {
-            events.push(step_of(seat, round, calm, step))?;
+            made(
+                rt,
+                events.push(step_of(seat, round, calm, step)),
+                "a script",
+            );
         }
     }
-    Ok(Script::of(events))
+    Script::of(events)
 }
 
-fn all_scripts<A: Allocator + Copy>(alloc: A, calm: u16) -> Result<Vec<Script<A>, A>, AllocError> {
+fn all_scripts<A: Allocator + Copy>(rt: &impl Abort, alloc: A, calm: u16) -> Vec<Script<A>, A> {
     let mut scripts = Vec::new(alloc);
     for seat in 1..=WORKERS {
-        scripts.push(script_of(alloc, seat, calm)?)?;
+        made(
+            rt,
+            scripts.push(script_of(rt, alloc, seat, calm)),
+            "scripts",
+        );
     }
-    Ok(scripts)
+    scripts
 }
 
 // Whether the book is full, and each report is its seat's part.
 fn is_full<A: Allocator>(driven: &Driven<A>, scripts: &[Script<A>]) -> bool {
     let entries = driven.book.entries();
     entries.len() == 65_536 && are_parts(entries, scripts, driven.reports.as_slice())
-}
-
-// How many of the entries were refused; none is told where another machine answers differently.
-fn refused_of<A: Allocator + Copy>(
-    alloc: A,
-    name: Standard,
-    entries: &[Entry<A>],
-) -> Result<Option<u32>, Fail> {
-    let model = model_of(alloc, name)?;
-    Ok(replayed(alloc, model, entries)?)
 }
 
 // That some entries were refused and some were not.
@@ -95,65 +92,46 @@ fn are_some(rt: &impl Abort, refused: u32) {
     );
 }
 
-// The book is full, some of its entries were refused and some were not, and it is told by its own machine.
-fn is_told<A: Allocator + Copy>(
-    rt: &impl Abort,
-    alloc: A,
-    name: Standard,
-    scripts: &[Script<A>],
-    driven: &Driven<A>,
-) -> Result<(), Fail> {
-    holds(rt, is_full(driven, scripts), "a full book");
-    let refused = refused_of(alloc, name, driven.book.entries())?.ok_or("answers differ")?;
-    are_some(rt, refused);
-    Ok(())
-}
-
-// A drive of these scripts.
-fn drive_all<A: Allocator + Copy + Send + Sync, R: Threads + Wait + Sync + Abort>(
-    rt: &R,
-    alloc: A,
-    name: Standard,
-    scripts: &[Script<A>],
-) -> Result<(), Fail> {
-    let driven = driven(rt, alloc, name, scripts, &OpenGate)?;
-    is_told(rt, alloc, name, scripts, &driven)
-}
-
-// A drive of all workers.
+// A drive of all workers: the book is full, some of its entries were refused and some were not, and another machine
+// gives their answers.
 fn crowd<A: Allocator + Copy + Send + Sync, R: Threads + Wait + Sync + Abort>(
     rt: &R,
     alloc: A,
     name: Standard,
     calm: u16,
-) -> Result<(), Fail> {
-    let scripts = all_scripts(alloc, calm)?;
-    drive_all(rt, alloc, name, scripts.as_slice())
+) {
+    let scripts = all_scripts(rt, alloc, calm);
+    let driven = driven(rt, alloc, name, scripts.as_slice(), &OpenGate);
+    holds(rt, is_full(&driven, scripts.as_slice()), "a full book");
+    let model = model_of(rt, alloc, name);
+    let refused = replayed(rt, alloc, model, driven.book.entries());
+    are_some(rt, refused.expect(rt, "answers differ"));
+    drop(driven);
 }
 
 #[test]
-fn sixteen_flat_workers(rt: HostRuntime) -> Result<(), Fail> {
-    crowd(&rt, rt.alloc(), Standard::Atomic, ROUNDS)
+fn sixteen_flat_workers(rt: HostRuntime) {
+    crowd(&rt, rt.alloc(), Standard::Atomic, ROUNDS);
 }
 
 #[test]
-fn sixteen_nested_workers(rt: HostRuntime) -> Result<(), Fail> {
-    crowd(&rt, rt.alloc(), Standard::Nested, ROUNDS)
+fn sixteen_nested_workers(rt: HostRuntime) {
+    crowd(&rt, rt.alloc(), Standard::Nested, ROUNDS);
 }
 
 #[test]
-fn sixteen_splitting_workers(rt: HostRuntime) -> Result<(), Fail> {
-    crowd(&rt, rt.alloc(), Standard::SplitJoin, ROUNDS)
+fn sixteen_splitting_workers(rt: HostRuntime) {
+    crowd(&rt, rt.alloc(), Standard::SplitJoin, ROUNDS);
 }
 
 #[test]
-fn sixteen_contingent_workers(rt: HostRuntime) -> Result<(), Fail> {
-    crowd(&rt, rt.alloc(), Standard::Contingent, ROUNDS)
+fn sixteen_contingent_workers(rt: HostRuntime) {
+    crowd(&rt, rt.alloc(), Standard::Contingent, ROUNDS);
 }
 
 // A conflict forms an edge between transactions that both go on, and each end goes over the edges in force: so all
 // rounds but the first two are calm.
 #[test]
-fn sixteen_recoverable_workers(rt: HostRuntime) -> Result<(), Fail> {
-    crowd(&rt, rt.alloc(), Standard::Recoverable, 2)
+fn sixteen_recoverable_workers(rt: HostRuntime) {
+    crowd(&rt, rt.alloc(), Standard::Recoverable, 2);
 }

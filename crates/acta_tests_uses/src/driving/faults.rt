@@ -2,35 +2,35 @@
 
 use crate::driving::gates::Stopping;
 use crate::driving::scripts::{ADDITIONS, fault_of, scripts};
-use crate::expecting::same;
+use crate::expecting::{made, same};
 use acta_locked::{DriveError, OpenGate, Script};
 use acta_models::Standard;
 use acta_table::{Event, TxnId};
-use std::alloc::{AllocError, Allocator};
+use std::alloc::Allocator;
 use std::process::Abort;
 use std::sync::Wait;
-use std::test::Fail;
 use std::thread::Threads;
 
 // The script that commits the first transaction so often.
-fn commits<A: Allocator + Copy>(alloc: A, times: usize) -> Result<Script<A>, AllocError> {
-    let mut events = Vec::with_capacity(alloc, times)?;
+fn commits<A: Allocator + Copy>(rt: &impl Abort, alloc: A, times: usize) -> Script<A> {
+    let mut events = made(rt, Vec::with_capacity(alloc, times), "a script");
     for _ in 0..times {
-        events.push(Event::Commit(TxnId(1)))?;
+        made(rt, events.push(Event::Commit(TxnId(1))), "a script");
     }
-    Ok(Script::of(events))
+    Script::of(events)
 }
 
 // Scripts of so many such commits each.
 fn all_commits<A: Allocator + Copy>(
+    rt: &impl Abort,
     alloc: A,
     calls: &[usize],
-) -> Result<Vec<Script<A>, A>, AllocError> {
+) -> Vec<Script<A>, A> {
     let mut scripts = Vec::new(alloc);
     for times in calls {
-        scripts.push(commits(alloc, *times)?)?;
+        made(rt, scripts.push(commits(rt, alloc, *times)), "scripts");
     }
-    Ok(scripts)
+    scripts
 }
 
 // Scripts of so many commits each are not run, for this reason.
@@ -39,35 +39,30 @@ fn are_barred<A: Allocator + Copy + Send + Sync, R: Threads + Wait + Sync + Abor
     alloc: A,
     calls: &[usize],
     why: DriveError,
-) -> Result<(), Fail> {
-    let scripts = all_commits(alloc, calls)?;
-    let found = fault_of(rt, alloc, Standard::Atomic, scripts.as_slice(), &OpenGate)?;
+) {
+    let scripts = all_commits(rt, alloc, calls);
+    let found = fault_of(rt, alloc, Standard::Atomic, scripts.as_slice(), &OpenGate);
     same(rt, &found, &Some(why), "barred scripts");
-    Ok(())
 }
 
 // The second worker gives up before its first call.
-fn gives_up<A: Allocator + Copy + Send + Sync, R: Threads + Wait + Sync + Abort>(
-    rt: &R,
-    alloc: A,
-) -> Result<(), Fail> {
-    let scripts = scripts(alloc, &ADDITIONS)?;
+fn gives_up<A: Allocator + Copy + Send + Sync, R: Threads + Wait + Sync + Abort>(rt: &R, alloc: A) {
+    let scripts = scripts(rt, alloc, &ADDITIONS);
     let gate = Stopping { seat: 2, call: 1 };
-    let found = fault_of(rt, alloc, Standard::Atomic, scripts.as_slice(), &gate)?;
+    let found = fault_of(rt, alloc, Standard::Atomic, scripts.as_slice(), &gate);
     same(
         rt,
         &found,
         &Some(DriveError::GaveUp(2)),
         "a gate that gives up",
     );
-    Ok(())
 }
 
 #[test]
-fn drives_that_have_no_result(rt: HostRuntime) -> Result<(), Fail> {
+fn drives_that_have_no_result(rt: HostRuntime) {
     let alloc = rt.alloc();
-    are_barred(&rt, alloc, &[], DriveError::NoWorker)?;
-    are_barred(&rt, alloc, &[1; 17], DriveError::TooManyWorkers)?;
-    are_barred(&rt, alloc, &[32_768, 32_769], DriveError::TooManyEvents)?;
-    gives_up(&rt, alloc)
+    are_barred(&rt, alloc, &[], DriveError::NoWorker);
+    are_barred(&rt, alloc, &[1; 17], DriveError::TooManyWorkers);
+    are_barred(&rt, alloc, &[32_768, 32_769], DriveError::TooManyEvents);
+    gives_up(&rt, alloc);
 }

@@ -1,14 +1,13 @@
 //! A full book: it has 65,536 entries, of which none needs to be admitted, and takes no more.
 
 use crate::driving::books::taken;
-use crate::expecting::{holds, same};
+use crate::expecting::{holds, made, same};
 use crate::machines::model_of;
 use acta_locked::{Book, TakeError};
 use acta_models::Standard;
 use acta_table::{Answer, Event, Rule, TxnId};
 use std::alloc::Allocator;
 use std::process::Abort;
-use std::test::Fail;
 
 // Whether it says that the transaction has not begun.
 fn is_due(answer: &Answer) -> bool {
@@ -20,18 +19,19 @@ fn is_due(answer: &Answer) -> bool {
 }
 
 // Commits a transaction that has not begun, and says whether it is refused for that, under this number.
-fn is_refused<A: Allocator + Copy>(book: &mut Book<A>, number: u32) -> Result<bool, TakeError> {
-    let entry = taken(book, Event::Commit(TxnId(1)))?;
-    Ok(entry.number == number && entry.seat == 1 && is_due(&entry.answer))
+fn is_refused<A: Allocator + Copy>(rt: &impl Abort, book: &mut Book<A>, number: u32) -> bool {
+    let entry = made(rt, taken(book, Event::Commit(TxnId(1))), "a call");
+    let is_so = entry.number == number && entry.seat == 1 && is_due(&entry.answer);
+    drop(entry);
+    is_so
 }
 
 // Fills the book with such calls.
-fn fill<A: Allocator + Copy>(rt: &impl Abort, book: &mut Book<A>) -> Result<(), TakeError> {
+fn fill<A: Allocator + Copy>(rt: &impl Abort, book: &mut Book<A>) {
     for number in 1..65_537u32 {
-        let is_so = is_refused(book, number)?;
+        let is_so = is_refused(rt, book, number);
         assert!(rt; is_so, "call {number}");
     }
-    Ok(())
 }
 
 // Whether the book is full of refusals.
@@ -39,23 +39,18 @@ fn is_full<A: Allocator>(book: &Book<A>) -> bool {
     book.entries().len() == 65_536 && book.machine().history().is_empty()
 }
 
-// A book on the flat model.
-fn flat_book<A: Allocator + Copy>(alloc: A) -> Result<Book<A>, Fail> {
-    let model = model_of(alloc, Standard::Atomic)?;
-    Ok(Book::new(alloc, model)?)
-}
-
 // A full book takes no more.
-fn is_filled<A: Allocator + Copy>(rt: &impl Abort, alloc: A) -> Result<(), Fail> {
-    let mut book = flat_book(alloc)?;
-    fill(rt, &mut book)?;
+fn is_filled<A: Allocator + Copy>(rt: &impl Abort, alloc: A) {
+    let model = model_of(rt, alloc, Standard::Atomic);
+    let mut book = made(rt, Book::new(alloc, model), "a book");
+    fill(rt, &mut book);
     let more = taken(&mut book, Event::Commit(TxnId(1))).err();
     same(rt, &more, &Some(TakeError::BookFull), "one call more");
     holds(rt, is_full(&book), "the full book");
-    Ok(())
+    drop(book);
 }
 
 #[test]
-fn a_full_book_takes_no_more(rt: HostRuntime) -> Result<(), Fail> {
-    is_filled(&rt, rt.alloc())
+fn a_full_book_takes_no_more(rt: HostRuntime) {
+    is_filled(&rt, rt.alloc());
 }

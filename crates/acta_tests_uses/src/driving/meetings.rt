@@ -5,14 +5,12 @@ use crate::driving::gates::{Meeting, Place};
 use crate::driving::scripts::{ADDITIONS, driven, scripts};
 use crate::expecting::{holds, same};
 use crate::machines::number_in;
-use acta_locked::{Book, Driven, Entry, Script};
-use acta_machine::Machine;
+use acta_locked::{Driven, Entry};
 use acta_models::Standard;
 use acta_table::ObjId;
 use std::alloc::Allocator;
 use std::process::Abort;
 use std::sync::Wait;
-use std::test::Fail;
 use std::thread::Threads;
 
 // The positions of the objects x, n and m in the model.
@@ -22,63 +20,33 @@ const N: ObjId = ObjId(1);
 
 const M: ObjId = ObjId(2);
 
-// Drives two scripts, whose workers meet. Says whether the gate was shown what the book has.
-fn shown_at<A: Allocator + Copy + Send + Sync, R: Threads + Wait + Sync>(
-    rt: &R,
-    alloc: A,
-    place: Place,
-    scripts: &[Script<A>],
-) -> Result<(Driven<A>, bool), Fail> {
-    let gate = Meeting::new(rt, alloc, place);
-    let driven = driven(rt, alloc, Standard::Atomic, scripts, &gate)?;
-    let is_shown = gate.has_shown(driven.book.entries());
-    Ok((driven, is_shown))
-}
-
-// Drives two scripts, whose workers meet. The gate was shown what the book has, each report is its seat's part, and the
-// answers are these lines.
-fn meet_at<A: Allocator + Copy + Send + Sync, R: Threads + Wait + Sync + Abort>(
-    rt: &R,
-    alloc: A,
-    place: Place,
-    scripts: &[Script<A>],
-    lines: &str,
-) -> Result<Driven<A>, Fail> {
-    let (driven, is_shown) = shown_at(rt, alloc, place, scripts)?;
-    let entries = driven.book.entries();
-    let has_parts = are_parts(entries, scripts, driven.reports.as_slice());
-    holds(rt, is_shown && has_parts, lines);
-    are_answered(rt, alloc, entries, lines)?;
-    Ok(driven)
-}
-
-// The same of the scripts that the texts say.
+// Drives the two scripts that the texts say, whose workers meet. The gate was shown what the book has, each report is
+// its seat's part, and the answers are these lines.
 fn meet<A: Allocator + Copy + Send + Sync, R: Threads + Wait + Sync + Abort>(
     rt: &R,
     alloc: A,
     place: Place,
     texts: &[&str],
     lines: &str,
-) -> Result<Driven<A>, Fail> {
-    let scripts = scripts(alloc, texts)?;
-    meet_at(rt, alloc, place, scripts.as_slice(), lines)
-}
-
-// Both have added.
-fn has_sums<A: Allocator + Copy>(rt: &impl Abort, machine: &Machine<A>) -> Result<(), Fail> {
-    let found = (number_in(machine, N)?, number_in(machine, M)?);
-    same(rt, &found, &(Some(5), Some(7)), "both add");
-    Ok(())
+) -> Driven<A> {
+    let scripts = scripts(rt, alloc, texts);
+    let gate = Meeting::new(rt, alloc, place);
+    let driven = driven(rt, alloc, Standard::Atomic, scripts.as_slice(), &gate);
+    let entries = driven.book.entries();
+    let has_parts = are_parts(entries, scripts.as_slice(), driven.reports.as_slice());
+    holds(rt, gate.has_shown(entries) && has_parts, lines);
+    are_answered(rt, alloc, entries, lines);
+    driven
 }
 
 // Seat 1 adds to n and seat 2 to m. The book has their begins before their operations, and all are admitted.
-fn add_both<A: Allocator + Copy + Send + Sync, R: Threads + Wait + Sync + Abort>(
-    rt: &R,
-    alloc: A,
-) -> Result<(), Fail> {
+fn add_both<A: Allocator + Copy + Send + Sync, R: Threads + Wait + Sync + Abort>(rt: &R, alloc: A) {
     let lines = "ok 1\nok 2\nok 3 done\nok 4 done\n";
-    let driven = meet(rt, alloc, Place::BeforeSecond, &ADDITIONS, lines)?;
-    has_sums(rt, driven.book.machine())
+    let driven = meet(rt, alloc, Place::BeforeSecond, &ADDITIONS, lines);
+    let machine = driven.book.machine();
+    let found = (number_in(rt, machine, N), number_in(rt, machine, M));
+    same(rt, &found, &(Some(5), Some(7)), "both add");
+    drop(driven);
 }
 
 // The seat of the first of two writes, where the other is of the other seat.
@@ -99,31 +67,22 @@ const WRITES: [&str; 2] = [
     "begin 2 flat\ndo 2 x write 6",
 ];
 
-// The object x has the value of the first of the writes.
-fn has_first<A: Allocator + Copy>(rt: &impl Abort, book: &Book<A>) -> Result<(), Fail> {
-    let first = first_writer(book.entries()).ok_or("the writes are not of both seats")?;
-    let value = number_in(book.machine(), X)?;
-    same(
-        rt,
-        &value,
-        &Some(i64::from(first).wrapping_add(4)),
-        "both write",
-    );
-    Ok(())
-}
-
 // Both write to x: the first of the writes is admitted, the second is refused by it, and x has the value of the first.
 fn write_both<A: Allocator + Copy + Send + Sync, R: Threads + Wait + Sync + Abort>(
     rt: &R,
     alloc: A,
-) -> Result<(), Fail> {
+) {
     let lines = "ok 1\nok 2\nok 3 done\nno 14 by 1\n";
-    let driven = meet(rt, alloc, Place::AfterFirst, &WRITES, lines)?;
-    has_first(rt, &driven.book)
+    let driven = meet(rt, alloc, Place::AfterFirst, &WRITES, lines);
+    let first = first_writer(driven.book.entries()).expect(rt, "writes of both seats");
+    let value = number_in(rt, driven.book.machine(), X);
+    let due = i64::from(first).wrapping_add(4);
+    same(rt, &value, &Some(due), "both write");
+    drop(driven);
 }
 
 #[test]
-fn two_workers_meet(rt: HostRuntime) -> Result<(), Fail> {
-    add_both(&rt, rt.alloc())?;
-    write_both(&rt, rt.alloc())
+fn two_workers_meet(rt: HostRuntime) {
+    add_both(&rt, rt.alloc());
+    write_both(&rt, rt.alloc());
 }

@@ -2,7 +2,7 @@
 
 use crate::driving::books::taken;
 use crate::driving::scripts::{ADDITIONS, script, scripts};
-use crate::expecting::{holds, same};
+use crate::expecting::{holds, made, same};
 use crate::machines::model_of;
 use acta_locked::{Book, DriveError, Driven, OpenGate, Script, TakeError, drive};
 use acta_models::Standard;
@@ -11,7 +11,6 @@ use refusing::Refusing;
 use std::alloc::Allocator;
 use std::process::Abort;
 use std::sync::Wait;
-use std::test::Fail;
 use std::thread::Threads;
 
 // More allocations than any of these calls makes.
@@ -24,11 +23,13 @@ fn stands<A: Allocator>(book: &Book<A>, entries: usize, admitted: usize) -> bool
 
 // Takes the event, its nth allocation refused. Gives why it was not taken, and whether the allocation never came.
 fn fault_at<A: Allocator + Copy, B: Allocator>(
+    rt: &impl Abort,
     heap: &Refusing<B>,
     book: &mut Book<A>,
-    event: Event<A>,
+    event: &Event<A>,
     nth: u64,
 ) -> (Option<TakeError>, bool) {
+    let event = made(rt, event.copy(), "an event");
     heap.refuse(nth);
     let fault = taken(book, event).err();
     let is_whole = heap.is_waiting();
@@ -42,11 +43,11 @@ fn take_refused<A: Allocator + Copy, B: Allocator>(
     rt: &impl Abort,
     heap: &Refusing<B>,
     book: &mut Book<A>,
-    event: Event<A>,
+    event: &Event<A>,
     nth: u64,
 ) -> bool {
     let (entries, admitted) = (book.entries().len(), book.machine().history().len());
-    let (fault, is_whole) = fault_at(heap, book, event, nth);
+    let (fault, is_whole) = fault_at(rt, heap, book, event, nth);
     let due = if is_whole {
         None
     } else {
@@ -68,14 +69,13 @@ fn take_each<A: Allocator + Copy, B: Allocator>(
     heap: &Refusing<B>,
     book: &mut Book<A>,
     event: &Event<A>,
-) -> Result<u64, Fail> {
+) -> u64 {
     for nth in 1..MOST {
-        let event = event.copy()?;
         if take_refused(rt, heap, book, event, nth) {
-            return Ok(nth.wrapping_sub(1));
+            return nth.wrapping_sub(1);
         }
     }
-    Err(Fail::new("a call makes too many allocations"))
+    rt.panic("a call makes too many allocations")
 }
 
 // Calls with the growths that they make: of an event with a set the copy that is kept, of the list of entries, and the
@@ -98,12 +98,12 @@ fn take_calls<A: Allocator + Copy, B: Allocator>(
     heap: &Refusing<B>,
     book: &mut Book<A>,
     calls: &[Event<A>],
-) -> Result<u64, Fail> {
+) -> u64 {
     let mut refused = 0u64;
     for event in calls {
-        refused = refused.wrapping_add(take_each(rt, heap, book, event)?);
+        refused = refused.wrapping_add(take_each(rt, heap, book, event));
     }
-    Ok(refused)
+    refused
 }
 
 // Takes all calls. The book in the end has them all, and its machine all but the third.
@@ -111,35 +111,41 @@ fn take_all<A: Allocator + Copy, B: Allocator>(
     rt: &impl Abort,
     heap: &Refusing<B>,
     alloc: A,
-) -> Result<u64, Fail> {
-    let model = model_of(alloc, Standard::SplitJoin)?;
-    let calls = script(alloc, &model, CALLS)?;
-    let mut book = Book::new(alloc, model)?;
-    let refused = take_calls(rt, heap, &mut book, calls.as_slice())?;
+) -> u64 {
+    let model = model_of(rt, alloc, Standard::SplitJoin);
+    let calls = script(rt, alloc, &model, CALLS);
+    let mut book = made(rt, Book::new(alloc, model), "a book");
+    let refused = take_calls(rt, heap, &mut book, calls.as_slice());
     holds(rt, stands(&book, 10, 9), "the book in the end");
-    Ok(refused)
+    drop(book);
+    refused
 }
 
 // How many entries the book of a drive has.
-fn entries_of<A: Allocator>(driven: Result<Driven<A>, DriveError>) -> Result<usize, DriveError> {
-    Ok(driven?.book.entries().len())
+fn entries_of<A: Allocator>(driven: &Result<Driven<A>, DriveError>) -> Result<usize, DriveError> {
+    match driven {
+        Ok(driven) => Ok(driven.book.entries().len()),
+        Err(error) => Err(*error),
+    }
 }
 
 // Drives the scripts, the nth allocation refused. Gives how many entries the book has, or why there is none, and
 // whether the allocation never came.
-fn drive_refused<A: Allocator + Copy + Send + Sync, R: Threads + Wait + Sync, B: Allocator>(
+fn drive_refused<A: Allocator + Copy + Send + Sync, R: Threads + Wait + Sync + Abort, B: Allocator>(
     rt: &R,
     heap: &Refusing<B>,
     alloc: A,
     scripts: &[Script<A>],
     nth: u64,
-) -> Result<(Result<usize, DriveError>, bool), Fail> {
-    let model = model_of(alloc, Standard::Atomic)?;
+) -> (Result<usize, DriveError>, bool) {
+    let model = model_of(rt, alloc, Standard::Atomic);
     heap.refuse(nth);
     let driven = drive(rt, alloc, model, scripts, &OpenGate);
     let is_whole = heap.is_waiting();
     heap.refuse(0);
-    Ok((entries_of(driven), is_whole))
+    let found = entries_of(&driven);
+    drop(driven);
+    (found, is_whole)
 }
 
 // Whether the book has all calls where none was refused, and else the answer is want of memory, or that a thread could
@@ -157,23 +163,23 @@ fn drive_each<A: Allocator + Copy + Send + Sync, R: Threads + Wait + Sync + Abor
     rt: &R,
     heap: &Refusing<B>,
     alloc: A,
-) -> Result<u64, Fail> {
-    let scripts = scripts(alloc, &ADDITIONS)?;
+) -> u64 {
+    let scripts = scripts(rt, alloc, &ADDITIONS);
     for nth in 1..MOST {
-        let (found, is_whole) = drive_refused(rt, heap, alloc, scripts.as_slice(), nth)?;
+        let (found, is_whole) = drive_refused(rt, heap, alloc, scripts.as_slice(), nth);
         holds(rt, is_due(found, is_whole), "a drive");
         if is_whole {
-            return Ok(nth.wrapping_sub(1));
+            return nth.wrapping_sub(1);
         }
     }
-    Err(Fail::new("a call makes too many allocations"))
+    rt.panic("a call makes too many allocations")
 }
 
 // Drives them with an allocator that may be shared by threads, since the one inside it may.
 fn refuse_drives<B: Allocator + Send + Sync, R: Threads + Wait + Sync + Abort>(
     rt: &R,
     heap: &Refusing<B>,
-) -> Result<u64, Fail> {
+) -> u64 {
     drive_each(rt, heap, heap)
 }
 
@@ -183,11 +189,10 @@ fn are_more(rt: &impl Abort, refused: u64, few: u64, growths: &str) {
 }
 
 #[test]
-fn books_and_drives_that_cannot_grow(rt: HostRuntime) -> Result<(), Fail> {
+fn books_and_drives_that_cannot_grow(rt: HostRuntime) {
     let heap = Refusing::new(rt.alloc());
-    let refused = take_all(&rt, &heap, &heap)?;
+    let refused = take_all(&rt, &heap, &heap);
     are_more(&rt, refused, 10, "growths of a book");
-    let refused = refuse_drives(&rt, &heap)?;
+    let refused = refuse_drives(&rt, &heap);
     are_more(&rt, refused, 8, "growths of a drive");
-    Ok(())
 }

@@ -1,13 +1,14 @@
 //! Scripts, and their drives: a script is written as text, an event a line.
 
+use crate::expecting::made;
 use crate::machines::model_of;
 use acta_locked::{DriveError, Driven, Entry, Gate, Script, drive};
 use acta_models::Standard;
 use acta_script::read_event;
 use acta_table::Model;
 use std::alloc::Allocator;
+use std::process::Abort;
 use std::sync::Wait;
-use std::test::Fail;
 use std::thread::Threads;
 
 /// Two scripts: seat 1 adds to n and seat 2 to m.
@@ -15,34 +16,31 @@ pub const ADDITIONS: [&str; 2] = ["begin 1 flat\ndo 1 n add 5", "begin 2 flat\nd
 
 /// The script that the text says, in the words of the model.
 pub fn script<A: Allocator + Copy>(
+    rt: &impl Abort,
     alloc: A,
     model: &Model<A>,
     text: &str,
-) -> Result<Script<A>, Fail> {
+) -> Script<A> {
     let mut events = Vec::new(alloc);
     for line in text.lines() {
-        events.push(read_event(alloc, model, line.as_bytes())?)?;
+        let event = made(rt, read_event(alloc, model, line.as_bytes()), line);
+        made(rt, events.push(event), line);
     }
-    Ok(Script::of(events))
-}
-
-// The scripts that the texts say of the model.
-fn scripts_of<A: Allocator + Copy>(
-    alloc: A,
-    model: &Model<A>,
-    texts: &[&str],
-) -> Result<Vec<Script<A>, A>, Fail> {
-    let mut scripts = Vec::new(alloc);
-    for text in texts {
-        scripts.push(script(alloc, model, text)?)?;
-    }
-    Ok(scripts)
+    Script::of(events)
 }
 
 /// The scripts that the texts say.
-pub fn scripts<A: Allocator + Copy>(alloc: A, texts: &[&str]) -> Result<Vec<Script<A>, A>, Fail> {
-    let model = model_of(alloc, Standard::Atomic)?;
-    scripts_of(alloc, &model, texts)
+pub fn scripts<A: Allocator + Copy>(
+    rt: &impl Abort,
+    alloc: A,
+    texts: &[&str],
+) -> Vec<Script<A>, A> {
+    let model = model_of(rt, alloc, Standard::Atomic);
+    let mut scripts = Vec::new(alloc);
+    for text in texts {
+        made(rt, scripts.push(script(rt, alloc, &model, text)), text);
+    }
+    scripts
 }
 
 // A drive, in a function of its own, so that callers need not read all that is known of its result.
@@ -59,25 +57,19 @@ fn run<A: Allocator + Copy + Send + Sync, R: Threads + Wait + Sync, G: Gate<Entr
 /// A drive of the scripts over a book of the standard model.
 pub fn driven<
     A: Allocator + Copy + Send + Sync,
-    R: Threads + Wait + Sync,
+    R: Threads + Wait + Sync + Abort,
     G: Gate<Entry<A>> + Sync,
->(rt: &R, alloc: A, name: Standard, scripts: &[Script<A>], gate: &G) -> Result<Driven<A>, Fail> {
-    let model = model_of(alloc, name)?;
-    Ok(run(rt, alloc, model, scripts, gate)?)
+>(rt: &R, alloc: A, name: Standard, scripts: &[Script<A>], gate: &G) -> Driven<A> {
+    let model = model_of(rt, alloc, name);
+    made(rt, run(rt, alloc, model, scripts, gate), "a drive")
 }
 
 /// Why such a drive has no result.
 pub fn fault_of<
     A: Allocator + Copy + Send + Sync,
-    R: Threads + Wait + Sync,
+    R: Threads + Wait + Sync + Abort,
     G: Gate<Entry<A>> + Sync,
->(
-    rt: &R,
-    alloc: A,
-    name: Standard,
-    scripts: &[Script<A>],
-    gate: &G,
-) -> Result<Option<DriveError>, Fail> {
-    let model = model_of(alloc, name)?;
-    Ok(run(rt, alloc, model, scripts, gate).err())
+>(rt: &R, alloc: A, name: Standard, scripts: &[Script<A>], gate: &G) -> Option<DriveError> {
+    let model = model_of(rt, alloc, name);
+    run(rt, alloc, model, scripts, gate).err()
 }
