@@ -1,24 +1,29 @@
 //! Runs of `debug`, as cases of `running`, and the lines of its commands.
 
-use crate::expecting::{parted, tells};
-use acta_lang::assemble;
+use crate::expecting::{made, parted, tells};
+use crate::lines::model_of;
 use acta_models::Standard;
 use acta_script::{LineError, read_command};
 use acta_table::Model;
-use std::alloc::{AllocError, Global};
+use std::alloc::{AllocError, Allocator};
 use std::process::Abort;
-use std::test::Fail;
 
 // What a line of a command says, or the code of its fault.
-fn command_said(alloc: Global, model: &Model<Global>, line: &[u8]) -> Result<String, AllocError> {
-    match read_command(alloc, model, line) {
+fn command_said<A: Allocator + Copy>(
+    rt: &impl Abort,
+    alloc: A,
+    model: &Model<A>,
+    line: &str,
+) -> String<A> {
+    let said = match read_command(alloc, model, line.as_bytes()) {
         Ok(command) => format!(in alloc; "{command:?}"),
         Err(LineError::Fault(fault)) => {
             let number = fault.number();
             format!(in alloc; "{number}")
         }
         Err(LineError::Memory) => Err(AllocError),
-    }
+    };
+    made(rt, said, line)
 }
 
 // Each form of a command.
@@ -104,28 +109,21 @@ break ended x 1 -> 3
 value X 1 -> 3
 status x 1 -> 3";
 
-// A row of a text: the line of a command, and what it says behind an arrow.
-fn say(rt: &impl Abort, alloc: Global, model: &Model<Global>, row: &str) -> Result<(), Fail> {
-    let (line, want) = parted(row, " -> ")?;
-    let said = command_said(alloc, model, line.as_bytes())?;
-    tells(rt, said.as_bytes(), want.as_bytes(), row);
-    Ok(())
-}
-
-// The rows of the texts, on this model.
-fn say_all(rt: &impl Abort, alloc: Global, model: &Model<Global>) -> Result<(), Fail> {
-    for rows in [SAID, FAULTY] {
-        for row in rows.lines() {
-            say(rt, alloc, model, row)?;
-        }
+// The rows of a text, each the line of a command, and what it says behind an arrow.
+fn say<A: Allocator + Copy>(rt: &impl Abort, alloc: A, model: &Model<A>, rows: &str) {
+    for row in rows.lines() {
+        let (line, want) = parted(rt, row, " -> ");
+        let said = command_said(rt, alloc, model, line);
+        tells(rt, said.as_bytes(), want.as_bytes(), row);
     }
-    Ok(())
 }
 
 #[test]
-fn commands(rt: HostRuntime) -> Result<(), Fail> {
-    let model = assemble(rt.alloc(), Standard::SplitJoin.text().as_bytes())?;
-    say_all(&rt, rt.alloc(), &model)
+fn commands(rt: HostRuntime) {
+    let model = model_of(&rt, rt.alloc(), Standard::SplitJoin);
+    say(&rt, rt.alloc(), &model, SAID);
+    say(&rt, rt.alloc(), &model, FAULTY);
+    drop(model);
 }
 
 /// A write that is committed, gone over forward and back.

@@ -1,9 +1,9 @@
 //! Readers and writers that fail, and a reader without end.
 
-use crate::expecting::{counts, holds, tells};
+use crate::expecting::{counts, holds, made, tells};
 use acta_models::Standard;
 use acta_tool::{Args, Command, Metered, ModelName, Outcome, ReadFault, Watched, run_tool};
-use std::alloc::{AllocError, Global};
+use std::alloc::Global;
 use std::io;
 use std::io::{ErrorKind, Read, Write};
 use std::process::Abort;
@@ -161,15 +161,14 @@ fn ends(rt: &impl Abort, alloc: Global, text: &[u8], mut input: &[u8]) -> Outcom
 
 // The longest input is answered, and one byte more is not; nor is a model that is as long.
 #[test]
-fn the_longest_input(rt: HostRuntime) -> Result<(), AllocError> {
+fn the_longest_input(rt: HostRuntime) {
     let too_much = Outcome::Unread(ReadFault::TooMuch);
-    let mut bytes = vec![in rt.alloc(); b'#'; 16_777_216]?;
+    let mut bytes = made(&rt, vec![in rt.alloc(); b'#'; 16_777_216], "a long input");
     let ended = ends(&rt, rt.alloc(), text(), bytes.as_slice());
     holds(&rt, ended == Outcome::Done, "the longest input");
-    bytes.push(b'#')?;
+    made(&rt, bytes.push(b'#'), "a longer input");
     let ended = ends(&rt, rt.alloc(), text(), bytes.as_slice());
     holds(&rt, ended == too_much, "a longer input");
     let ended = ends(&rt, rt.alloc(), bytes.as_slice(), b"");
     holds(&rt, ended == too_much, "a longer model");
-    Ok(())
 }

@@ -1,15 +1,14 @@
 //! Driven runs of the tool: those of one worker as cases of `running`, and of several by what their lines say; and as
 //! many lines as a book or a judge takes.
 
-use crate::expecting::{counts, holds};
+use crate::expecting::{counts, holds, made};
 use crate::running::serve;
 use acta_models::Standard;
 use acta_tool::{Args, Command, ModelName, Outcome};
 use refusing::Refusing;
-use std::alloc::{AllocError, Allocator, Global};
+use std::alloc::{Allocator, Global};
 use std::process::Abort;
 use std::sync::Wait;
-use std::test::Fail;
 use std::thread::Threads;
 
 /// Runs of one worker, and of several by one seat.
@@ -172,23 +171,23 @@ status 2
 ";
 
 // What is told on the model of flat transactions of a line that stands so many times, and how it ends.
-fn told<R: Threads + Wait + Sync, B: Allocator + Send + Sync>(
+fn told<R: Threads + Wait + Sync + Abort, B: Allocator + Send + Sync>(
     rt: &R,
     alloc: Global,
     heap: &Refusing<B>,
     command: Command,
     (line, count): (&[u8], u32),
-) -> Result<(Outcome, Vec<u8>), AllocError> {
+) -> (Outcome, Vec<u8>) {
     let mut input = Vec::new(alloc);
     for _ in 0..count {
-        input.extend_from_slice(line)?;
+        made(rt, input.extend_from_slice(line), "an input");
     }
     let mut output = Vec::new(alloc);
     let model = ModelName::Standard(Standard::Atomic);
     let args = Args { command, model };
     let text = Standard::Atomic.text().as_bytes();
     let ended = serve(rt, heap, &args, text, input.as_slice(), &mut output);
-    Ok((ended, output))
+    (ended, output)
 }
 
 // So many such lines are told of so: what is told starts and ends with these texts, and of too many lines it is the
@@ -200,8 +199,8 @@ fn tells<R: Threads + Wait + Sync + Abort, B: Allocator + Send + Sync>(
     command: Command,
     (line, count): (&[u8], u32),
     (start, end): (&str, &str),
-) -> Result<(), AllocError> {
-    let (ended, output) = told(rt, alloc, heap, command, (line, count))?;
+) {
+    let (ended, output) = told(rt, alloc, heap, command, (line, count));
     if count <= 65_536 {
         holds(rt, ended == Outcome::Done, "as many lines as are taken");
     } else {
@@ -210,89 +209,79 @@ fn tells<R: Threads + Wait + Sync + Abort, B: Allocator + Send + Sync>(
     }
     holds(rt, output.starts_with(start.as_bytes()), start);
     holds(rt, output.ends_with(end.as_bytes()), end);
-    Ok(())
 }
 
 // A book takes 65,536 lines, and not one more; here each line is refused.
 #[test]
-fn as_many_lines_as_a_book_takes(rt: HostRuntime) -> Result<(), Fail> {
+fn as_many_lines_as_a_book_takes(rt: HostRuntime) {
     let heap = Refusing::new(rt.alloc());
     let line = b"1 commit 1\n".as_slice();
-    for (workers, count, start, end) in [
-        (16, 65_537, "drive fault 3\n", ""),
-        (1, 65_536, "", "\n65536 1 commit 1 : no 7 by 1\n"),
-    ] {
-        let command = Command::Drive { workers };
-        tells(&rt, rt.alloc(), &heap, command, (line, count), (start, end))?;
-    }
-    Ok(())
+    let (command, due) = (Command::Drive { workers: 16 }, ("drive fault 3\n", ""));
+    tells(&rt, rt.alloc(), &heap, command, (line, 65_537), due);
+    let (command, due) = (
+        Command::Drive { workers: 1 },
+        ("", "\n65536 1 commit 1 : no 7 by 1\n"),
+    );
+    tells(&rt, rt.alloc(), &heap, command, (line, 65_536), due);
 }
 
 // And so does a judge.
 #[test]
-fn as_many_lines_as_a_judge_takes(rt: HostRuntime) -> Result<(), Fail> {
+fn as_many_lines_as_a_judge_takes(rt: HostRuntime) {
     let heap = Refusing::new(rt.alloc());
     let line = b"commit 1\n".as_slice();
-    for (count, start, end) in [
-        (65_537, "judge fault 1\n", ""),
-        (65_536, "fault 2 1 1\nfault 2 2 1\n", "\nfault 3 65536 1\n"),
-    ] {
-        tells(
-            &rt,
-            rt.alloc(),
-            &heap,
-            Command::Judge,
-            (line, count),
-            (start, end),
-        )?;
-    }
-    Ok(())
+    let (command, due) = (Command::Judge, ("judge fault 1\n", ""));
+    tells(&rt, rt.alloc(), &heap, command, (line, 65_537), due);
+    let due = ("fault 2 1 1\nfault 2 2 1\n", "\nfault 3 65536 1\n");
+    tells(&rt, rt.alloc(), &heap, command, (line, 65_536), due);
 }
 
 // What stands behind the first word of each line whose second word is the seat.
-fn of_seat(alloc: Global, output: &str, seat: &str) -> Result<String, AllocError> {
+fn of_seat(rt: &impl Abort, alloc: Global, output: &str, seat: &str) -> String {
     let mut lines = String::new(alloc);
     for line in output.lines() {
         if let Some((_, rest)) = line.split_once(' ') {
             if rest.split(' ').next() == Some(seat) {
-                lines.push_str(rest)?;
-                lines.push_str("\n")?;
+                made(rt, lines.push_str(rest), line);
+                made(rt, lines.push_str("\n"), line);
             }
         }
     }
-    Ok(lines)
+    lines
 }
 
 const THREE: &[u8] =
     b"3 begin 3 flat\n1 begin 1 flat\n2 begin 2 flat\n1 do 1 n add 5\n3 abort 9\n2 do 2 m add 7\n";
 
-// The lines are so many, and the last starts and ends with these texts.
-fn ends(rt: &impl Abort, lines: &str, count: u64, (start, end): (&str, &str)) -> Result<(), Fail> {
-    counts(rt, lines.lines().count() as u64, count, lines);
-    let last = lines.lines().last().ok_or("a seat has no line")?;
+// The lines of a seat are two, and the last starts and ends with these texts.
+fn ends(rt: &impl Abort, alloc: Global, output: &str, seat: &str, (start, end): (&str, &str)) {
+    let lines = of_seat(rt, alloc, output, seat);
+    counts(rt, lines.lines().count() as u64, 2, lines.as_str());
+    let last = lines.lines().last().expect(rt, "the line of a seat");
     holds(rt, last.starts_with(start) && last.ends_with(end), last);
-    Ok(())
 }
 
 // The lines of each of three seats, of which the first and the second add to what no other touches.
-fn seats_end(rt: &impl Abort, alloc: Global, output: &str) -> Result<(), Fail> {
+fn seats_end(rt: &impl Abort, alloc: Global, output: &str) {
     counts(rt, output.lines().count() as u64, 6, output);
-    for (seat, start, end) in [
-        ("1", "1 do 1 n add 5 : ok ", " done"),
-        ("2", "2 do 2 m add 7 : ok ", " done"),
-        ("3", "3 abort 9 : no 7 by 9", " : no 7 by 9"),
-    ] {
-        ends(rt, of_seat(alloc, output, seat)?.as_str(), 2, (start, end))?;
-    }
-    Ok(())
+    ends(rt, alloc, output, "1", ("1 do 1 n add 5 : ok ", " done"));
+    ends(rt, alloc, output, "2", ("2 do 2 m add 7 : ok ", " done"));
+    ends(
+        rt,
+        alloc,
+        output,
+        "3",
+        ("3 abort 9 : no 7 by 9", " : no 7 by 9"),
+    );
 }
 
 // Whichever worker comes first, each hands in its lines in order.
 #[test]
-fn three_workers(rt: HostRuntime) -> Result<(), Fail> {
+fn three_workers(rt: HostRuntime) {
     let heap = Refusing::new(rt.alloc());
     let command = Command::Drive { workers: 3 };
-    let (ended, output) = told(&rt, rt.alloc(), &heap, command, (THREE, 1))?;
+    let (ended, output) = told(&rt, rt.alloc(), &heap, command, (THREE, 1));
     holds(&rt, ended == Outcome::Done, "the end of the run");
-    seats_end(&rt, rt.alloc(), str::from_utf8(output.as_slice())?)
+    let output = made(&rt, str::from_utf8(output.as_slice()), "what is told");
+    seats_end(&rt, rt.alloc(), output);
 }

@@ -1,17 +1,23 @@
-//! Rows taken apart, and what is found at a row held against what is due there, each in a function of its own, so that
-//! who expects it is proved sooner. (Each crate of tests has its own, since no library may abort.)
+//! Rows taken apart, what is found at a row held against what is due there, and what a call gave that must not fail,
+//! each in a function of its own: where a test ends nothing is dropped, so who expects it is proved sooner. (Each crate
+//! of tests has its own, since no library may abort.)
 
+use std::fmt::Debug;
 use std::process::Abort;
-use std::test::Fail;
+
+/// What the call at this row gave. A call that fails ends the test.
+pub fn made<T, E: Debug>(rt: &impl Abort, called: Result<T, E>, row: &str) -> T {
+    called.expect(rt, row)
+}
 
 /// What stands before the mark of a row, and behind it.
-pub fn parted<'a>(row: &'a str, mark: &str) -> Result<(&'a str, &'a str), Fail> {
-    Ok(row.split_once(mark).ok_or("a row lacks its mark")?)
+pub fn parted<'a>(rt: &impl Abort, row: &'a str, mark: &str) -> (&'a str, &'a str) {
+    row.split_once(mark).expect(rt, row)
 }
 
 /// The number that a word is.
-pub fn number(word: &str) -> Result<u64, Fail> {
-    Ok(word.parse().ok().ok_or("a word is no number")?)
+pub fn number(rt: &impl Abort, word: &str) -> u64 {
+    word.parse().ok().expect(rt, word)
 }
 
 /// It is so at the row.

@@ -1,12 +1,12 @@
 //! Images: worked bytes, as cases of `running`, each proper prefix of an image, and each byte set to each other value.
 
+use crate::expecting::made;
 use acta_image::{ImageFault, LoadError, load, write_image};
 use acta_lang::assemble;
 use acta_models::Standard;
 use acta_tool::images_run_as_their_texts;
-use std::alloc::{AllocError, Global};
+use std::alloc::Allocator;
 use std::process::Abort;
-use std::test::Fail;
 
 /// Images that are written, and images that are read, good and faulty. A command other than `run` reads no input.
 pub const IMAGES: &str = "\
@@ -270,24 +270,30 @@ status 2
 ";
 
 // The image of a standard model.
-fn image_of(alloc: Global, name: Standard) -> Result<Vec<u8>, Fail> {
+fn image_of<A: Allocator + Copy>(rt: &impl Abort, alloc: A, name: Standard) -> Vec<u8, A> {
     let text = name.text().as_bytes();
-    let model = assemble(alloc, text)?;
+    let model = assemble(alloc, text).expect(rt, "a model");
     images_run_as_their_texts(text, &model);
-    Ok(write_image(alloc, &model)?)
+    let image = made(rt, write_image(alloc, &model), "an image");
+    drop(model);
+    image
 }
 
 // Whether the bytes are refused, or are the image of what they are loaded as.
-fn is_spelled_so(alloc: Global, bytes: &[u8]) -> Result<bool, AllocError> {
+fn is_spelled_so<A: Allocator + Copy>(rt: &impl Abort, alloc: A, bytes: &[u8]) -> bool {
     match load(alloc, bytes) {
-        Ok(model) => Ok(write_image(alloc, &model)?.as_slice() == bytes),
-        Err(LoadError::Fault(_)) => Ok(true),
-        Err(LoadError::Memory) => Err(AllocError),
+        Ok(model) => {
+            let image = made(rt, write_image(alloc, &model), "an image");
+            drop(model);
+            image.as_slice() == bytes
+        }
+        Err(LoadError::Fault(_)) => true,
+        Err(LoadError::Memory) => rt.panic("a model"),
     }
 }
 
 // Whether the bytes end too early.
-fn is_cut(alloc: Global, bytes: &[u8]) -> bool {
+fn is_cut<A: Allocator + Copy>(alloc: A, bytes: &[u8]) -> bool {
     matches!(
         load(alloc, bytes),
         Err(LoadError::Fault(ImageFault::Truncated))
@@ -300,24 +306,26 @@ fn holds(rt: &impl Abort, is_so: bool, place: usize) {
 }
 
 // The byte at the place may have each other value.
-fn turn(rt: &impl Abort, alloc: Global, image: &mut [u8], place: usize) -> Result<(), Fail> {
+fn turn<A: Allocator + Copy>(rt: &impl Abort, alloc: A, image: &mut [u8], place: usize) {
     for _ in 0..256 {
-        let byte = image.get_mut(place).ok_or("an image has no such place")?;
+        let byte = image.get_mut(place).expect(rt, "a place of an image");
         *byte = byte.wrapping_add(1);
-        holds(rt, is_spelled_so(alloc, image)?, place);
+        holds(rt, is_spelled_so(rt, alloc, image), place);
     }
-    Ok(())
 }
 
 // Each proper prefix is cut short, and each byte may have each other value.
-#[test]
-fn prefixes_and_bytes(rt: HostRuntime) -> Result<(), Fail> {
-    for name in Standard::ALL {
-        let mut image = image_of(rt.alloc(), name)?;
-        for place in 0..image.len() {
-            holds(&rt, is_cut(rt.alloc(), &image[..place]), place);
-            turn(&rt, rt.alloc(), image.as_mut_slice(), place)?;
-        }
+fn turn_all<A: Allocator + Copy>(rt: &impl Abort, alloc: A, image: &mut [u8]) {
+    for place in 0..image.len() {
+        holds(rt, is_cut(alloc, &image[..place]), place);
+        turn(rt, alloc, image, place);
     }
-    Ok(())
+}
+
+#[test]
+fn prefixes_and_bytes(rt: HostRuntime) {
+    for name in Standard::ALL {
+        let mut image = image_of(&rt, rt.alloc(), name);
+        turn_all(&rt, rt.alloc(), image.as_mut_slice());
+    }
 }

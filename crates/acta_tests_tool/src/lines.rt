@@ -1,13 +1,17 @@
 //! Lines of events and of kept items, as text: each with what is written for what it says, or with its code.
 
-use crate::expecting::{parted, tells};
+use crate::expecting::{made, parted, tells};
 use acta_lang::assemble;
 use acta_models::Standard;
 use acta_script::{LineError, read_event, read_kept, write_event, write_kept};
 use acta_table::Model;
-use std::alloc::{AllocError, Allocator, Global};
+use std::alloc::{AllocError, Allocator};
 use std::process::Abort;
-use std::test::Fail;
+
+/// The standard model of that name.
+pub fn model_of<A: Allocator + Copy>(rt: &impl Abort, alloc: A, name: Standard) -> Model<A> {
+    made(rt, assemble(alloc, name.text().as_bytes()), "a model")
+}
 
 // What is written for the event that a line says.
 fn event_again<A: Allocator + Copy>(
@@ -16,7 +20,9 @@ fn event_again<A: Allocator + Copy>(
     line: &[u8],
 ) -> Result<Vec<u8, A>, LineError> {
     let event = read_event(alloc, model, line)?;
-    Ok(write_event(alloc, model, &event)?)
+    let said = write_event(alloc, model, &event);
+    drop(event);
+    Ok(said?)
 }
 
 // What is written for the kept item that a line says.
@@ -26,7 +32,9 @@ fn kept_again<A: Allocator + Copy>(
     line: &[u8],
 ) -> Result<Vec<u8, A>, LineError> {
     let kept = read_kept(alloc, model, line)?;
-    Ok(write_kept(alloc, model, &kept)?)
+    let said = write_kept(alloc, model, &kept);
+    drop(kept);
+    Ok(said?)
 }
 
 /// What is written for the event, or the kept item, that a line says, or the code of its fault.
@@ -178,80 +186,67 @@ commit x = 5 -> 4
 begin 1 nosuch = x -> 4
 begin 1 nosuch = 5 -> 5";
 
-// A row of a text: a line, with what is wanted behind an arrow.
-fn say(
+// The rows of a text, each a line, with what is wanted behind an arrow.
+fn say<A: Allocator + Copy>(
     rt: &impl Abort,
-    alloc: Global,
-    model: &Model<Global>,
-    row: &str,
+    alloc: A,
+    model: &Model<A>,
+    rows: &str,
     is_kept: bool,
-) -> Result<(), Fail> {
-    let (line, want) = parted(row, " -> ")?;
-    let said = again(alloc, model, line.as_bytes(), is_kept)?;
-    tells(rt, said.as_slice(), want.as_bytes(), row);
-    Ok(())
-}
-
-// The rows of the texts, on this model.
-fn say_all(rt: &impl Abort, alloc: Global, model: &Model<Global>) -> Result<(), Fail> {
-    for (rows, is_kept) in [(SAID, false), (FAULTY, false), (KEPT, true)] {
-        for row in rows.lines() {
-            say(rt, alloc, model, row, is_kept)?;
-        }
+) {
+    for row in rows.lines() {
+        let (line, want) = parted(rt, row, " -> ");
+        let said = made(rt, again(alloc, model, line.as_bytes(), is_kept), row);
+        tells(rt, said.as_slice(), want.as_bytes(), row);
     }
-    Ok(())
 }
 
 #[test]
-fn what_lines_say(rt: HostRuntime) -> Result<(), Fail> {
-    let model = assemble(rt.alloc(), Standard::SplitJoin.text().as_bytes())?;
-    say_all(&rt, rt.alloc(), &model)
+fn what_lines_say(rt: HostRuntime) {
+    let model = model_of(&rt, rt.alloc(), Standard::SplitJoin);
+    say(&rt, rt.alloc(), &model, SAID, false);
+    say(&rt, rt.alloc(), &model, FAULTY, false);
+    say(&rt, rt.alloc(), &model, KEPT, true);
+    drop(model);
 }
 
 // The line with so many ones behind it.
-fn longer(alloc: Global, line: &[u8], ones: usize) -> Result<Vec<u8>, AllocError> {
-    let mut longer = Vec::from_slice(alloc, line)?;
+fn longer<A: Allocator + Copy>(rt: &impl Abort, alloc: A, line: &[u8], ones: usize) -> Vec<u8, A> {
+    let mut longer = made(rt, Vec::from_slice(alloc, line), "a long line");
     for _ in 0..ones {
-        longer.push(b'1')?;
+        made(rt, longer.push(b'1'), "a long line");
     }
-    Ok(longer)
+    longer
 }
 
 // The line of an event, with so many ones behind it, has the fault of this code.
-fn says(
+fn says<A: Allocator + Copy>(
     rt: &impl Abort,
-    alloc: Global,
-    model: &Model<Global>,
+    alloc: A,
+    model: &Model<A>,
     (line, ones): (&[u8], usize),
     (due, row): (&[u8], &str),
-) -> Result<(), AllocError> {
-    let longer = longer(alloc, line, ones)?;
-    let told = again(alloc, model, longer.as_slice(), false)?;
+) {
+    let longer = longer(rt, alloc, line, ones);
+    let told = made(rt, again(alloc, model, longer.as_slice(), false), row);
     tells(rt, told.as_slice(), due, row);
-    Ok(())
 }
 
-// Bytes that no text has belong to words, and long words and numbers are read to their end, on this model.
-fn say_hostile(rt: &impl Abort, alloc: Global, model: &Model<Global>) -> Result<(), AllocError> {
-    for (line, ones, due, row) in [
-        (
-            b"commit 1\0".as_slice(),
-            0,
-            b"4",
-            "a commit with a byte of 0",
-        ),
-        (b"commit\xff 1", 0, b"2", "a commit with a byte of 255"),
-        (b"begin 1 flat\r", 0, b"5", "a beginning with a byte of 13"),
-        (b"", 1_000_000, b"2", "a long word"),
-        (b"commit ", 400, b"4", "a long number"),
-    ] {
-        says(rt, alloc, model, (line, ones), (due.as_slice(), row))?;
-    }
-    Ok(())
+// Bytes that no text has belong to words, and long words and numbers are read to their end.
+fn say_hostile<A: Allocator + Copy>(rt: &impl Abort, alloc: A, model: &Model<A>) {
+    let row = "a commit with a byte of 0";
+    says(rt, alloc, model, (b"commit 1\0", 0), (b"4", row));
+    let row = "a commit with a byte of 255";
+    says(rt, alloc, model, (b"commit\xff 1", 0), (b"2", row));
+    let row = "a beginning with a byte of 13";
+    says(rt, alloc, model, (b"begin 1 flat\r", 0), (b"5", row));
+    says(rt, alloc, model, (b"", 1_000_000), (b"2", "a long word"));
+    says(rt, alloc, model, (b"commit ", 400), (b"4", "a long number"));
 }
 
 #[test]
-fn hostile_lines(rt: HostRuntime) -> Result<(), Fail> {
-    let model = assemble(rt.alloc(), Standard::Atomic.text().as_bytes())?;
-    Ok(say_hostile(&rt, rt.alloc(), &model)?)
+fn hostile_lines(rt: HostRuntime) {
+    let model = model_of(&rt, rt.alloc(), Standard::Atomic);
+    say_hostile(&rt, rt.alloc(), &model);
+    drop(model);
 }

@@ -1,8 +1,8 @@
 //! Each allocation of a call refused in turn: a call answers want of memory, or what is wanted where it can do without
 //! that one, and nothing else.
 
-use crate::expecting::{holds, number, parted, tells};
-use crate::lines::again;
+use crate::expecting::{holds, made, number, parted, tells};
+use crate::lines::{again, model_of};
 use acta_image::{LoadError, load, write_image};
 use acta_lang::{AsmError, assemble, print_model};
 use acta_models::{Standard, load_all};
@@ -11,7 +11,6 @@ use acta_table::{Answer, EdgeNo, Missing, Model, Owed, Ret, Rule, TxnId};
 use refusing::Refusing;
 use std::alloc::{AllocError, Allocator, Global};
 use std::process::Abort;
-use std::test::Fail;
 
 // More allocations than any of these calls makes.
 const MOST: u64 = 400;
@@ -22,17 +21,31 @@ type Told<A> = Result<Vec<u8, A>, AllocError>;
 // The canonical text of what a text means.
 fn text_again<A: Allocator + Copy>(alloc: A, text: &[u8]) -> Told<A> {
     match assemble(alloc, text) {
-        Ok(model) => print_model(alloc, &model),
+        Ok(model) => {
+            let text = print_model(alloc, &model);
+            drop(model);
+            text
+        }
         Err(AsmError::Memory) => Err(AllocError),
         Err(AsmError::Fault(_)) => Vec::from_slice(alloc, b"a fault"),
     }
 }
 
+// Adds the canonical text of a model.
+fn add_printed<A: Allocator + Copy>(
+    alloc: A,
+    text: &mut Vec<u8, A>,
+    model: &Model<A>,
+) -> Result<(), AllocError> {
+    text.extend_from_slice(print_model(alloc, model)?.as_slice())
+}
+
 // The canonical texts of the standard models, one behind the other.
 fn all_printed<A: Allocator + Copy>(alloc: A) -> Told<A> {
+    let models = load_all(alloc)?;
     let mut text = Vec::new(alloc);
-    for model in &load_all(alloc)? {
-        text.extend_from_slice(print_model(alloc, model)?.as_slice())?;
+    for model in &models {
+        add_printed(alloc, &mut text, model)?;
     }
     Ok(text)
 }
@@ -40,7 +53,11 @@ fn all_printed<A: Allocator + Copy>(alloc: A) -> Told<A> {
 // The image of what is loaded from an image.
 fn image_again<A: Allocator + Copy>(alloc: A, image: &[u8]) -> Told<A> {
     match load(alloc, image) {
-        Ok(model) => write_image(alloc, &model),
+        Ok(model) => {
+            let image = write_image(alloc, &model);
+            drop(model);
+            image
+        }
         Err(LoadError::Memory) => Err(AllocError),
         Err(LoadError::Fault(_)) => Vec::from_slice(alloc, b"a fault"),
     }
@@ -120,14 +137,14 @@ fn refuse_each<A: Allocator + Copy>(
     model: &Model<A>,
     (call, least): (&str, u64),
     bytes: &[u8],
-) -> Result<(), Fail> {
+) {
     for nth in 1..MOST {
         if is_whole(rt, heap, alloc, model, (call, nth), bytes) {
             holds(rt, nth > least, call);
-            return Ok(());
+            return;
         }
     }
-    Err("a call makes too many allocations")?
+    rt.panic("a call makes too many allocations")
 }
 
 // Calls, each with the number of allocations that it makes more of, and with its line.
@@ -149,26 +166,28 @@ fn refuse_line<A: Allocator + Copy>(
     alloc: A,
     model: &Model<A>,
     row: &str,
-) -> Result<(), Fail> {
-    let (call, line) = parted(row, " : ")?;
-    let (call, least) = parted(call, " ")?;
-    let least = number(least)?;
-    refuse_each(rt, heap, alloc, model, (call, least), line.as_bytes())
+) {
+    let (call, line) = parted(rt, row, " : ");
+    let (call, least) = parted(rt, call, " ");
+    let least = number(rt, least);
+    refuse_each(rt, heap, alloc, model, (call, least), line.as_bytes());
 }
 
 // The canonical texts of the standard models, one behind the other.
-fn all_texts(alloc: Global) -> Result<Vec<u8>, AllocError> {
+fn all_texts(rt: &impl Abort, alloc: Global) -> Vec<u8> {
     let mut all = Vec::new(alloc);
     for name in Standard::ALL {
-        all.extend_from_slice(name.text().as_bytes())?;
+        made(rt, all.extend_from_slice(name.text().as_bytes()), "memory");
     }
-    Ok(all)
+    all
 }
 
 // The image of the nested transactions.
-fn nested_image(alloc: Global) -> Result<Vec<u8>, Fail> {
-    let nested = assemble(alloc, Standard::Nested.text().as_bytes())?;
-    Ok(write_image(alloc, &nested)?)
+fn nested_image(rt: &impl Abort, alloc: Global) -> Vec<u8> {
+    let nested = model_of(rt, alloc, Standard::Nested);
+    let image = made(rt, write_image(alloc, &nested), "an image");
+    drop(nested);
+    image
 }
 
 // The calls of all lines, on this model.
@@ -177,15 +196,14 @@ fn refuse_lines<A: Allocator + Copy>(
     heap: &Refusing<Global>,
     alloc: A,
     model: &Model<A>,
-) -> Result<(), Fail> {
+) {
     for row in LINES.lines() {
-        refuse_line(rt, heap, alloc, model, row)?;
+        refuse_line(rt, heap, alloc, model, row);
     }
     for name in Standard::ALL {
         let text = name.text().as_bytes();
-        refuse_each(rt, heap, alloc, model, ("text", 10), text)?;
+        refuse_each(rt, heap, alloc, model, ("text", 10), text);
     }
-    Ok(())
 }
 
 // All calls, with memory that is `heap`, and with other memory for what they are to answer.
@@ -194,18 +212,19 @@ fn refuse_all<A: Allocator + Copy>(
     other: Global,
     heap: &Refusing<Global>,
     alloc: A,
-) -> Result<(), Fail> {
-    let model = assemble(alloc, Standard::SplitJoin.text().as_bytes())?;
-    refuse_lines(rt, heap, alloc, &model)?;
-    let (texts, image) = (all_texts(other)?, nested_image(other)?);
-    refuse_each(rt, heap, alloc, &model, ("texts", 50), texts.as_slice())?;
-    refuse_each(rt, heap, alloc, &model, ("image", 10), image.as_slice())
+) {
+    let model = model_of(rt, alloc, Standard::SplitJoin);
+    refuse_lines(rt, heap, alloc, &model);
+    let (texts, image) = (all_texts(rt, other), nested_image(rt, other));
+    refuse_each(rt, heap, alloc, &model, ("texts", 50), texts.as_slice());
+    refuse_each(rt, heap, alloc, &model, ("image", 10), image.as_slice());
+    drop(model);
 }
 
 #[test]
-fn calls(rt: HostRuntime) -> Result<(), Fail> {
+fn calls(rt: HostRuntime) {
     let heap = Refusing::new(rt.alloc());
-    refuse_all(&rt, rt.alloc(), &heap, &heap)
+    refuse_all(&rt, rt.alloc(), &heap, &heap);
 }
 
 /// Cases of `running` of which each allocation is refused in turn: runs, verdicts, commands to a debugger, images, and

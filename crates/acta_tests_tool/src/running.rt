@@ -4,7 +4,7 @@
 //! in `status 0 over 20`, can stand that each allocation of the run is refused in turn, and that it makes more than so
 //! many.
 
-use crate::expecting::{holds, number, tells};
+use crate::expecting::{holds, made, number, tells};
 use crate::{debugging, driving, images, judging, refusals, tour};
 use acta_locked::DriveError;
 use acta_tool::{
@@ -12,10 +12,9 @@ use acta_tool::{
     run_tool,
 };
 use refusing::Refusing;
-use std::alloc::{AllocError, Allocator, Global};
+use std::alloc::{Allocator, Global};
 use std::process::Abort;
 use std::sync::Wait;
-use std::test::Fail;
 use std::thread::Threads;
 
 // More allocations than any case makes of which each is refused.
@@ -30,47 +29,46 @@ struct Case<'a> {
     want: Vec<u8>,
 }
 
-// A case of a command line.
-fn case_of<'a>(alloc: Global, command: &'a str) -> Case<'a> {
-    Case {
-        command,
-        model: Vec::new(alloc),
-        input: Vec::new(alloc),
-        want: Vec::new(alloc),
-    }
+// Begins the case of a command line.
+fn begin<'a>(case: &mut Case<'a>, command: &'a str) {
+    case.command = command;
+    case.model.clear();
+    case.input.clear();
+    case.want.clear();
 }
 
 // Adds a line to a text.
-fn add(text: &mut Vec<u8>, line: &str) -> Result<(), AllocError> {
-    text.extend_from_slice(line.as_bytes())?;
-    text.extend_from_slice(b"\n")
+fn add(rt: &impl Abort, text: &mut Vec<u8>, line: &str) {
+    made(rt, text.extend_from_slice(line.as_bytes()), line);
+    made(rt, text.push(b'\n'), line);
 }
 
 // Adds the bytes that a line of pairs of hexadecimal digits has; what is no digit is passed over.
-fn add_bytes(bytes: &mut Vec<u8>, line: &str) -> Result<(), AllocError> {
+fn add_bytes(rt: &impl Abort, bytes: &mut Vec<u8>, line: &str) {
     let mut high: Option<u32> = None;
     for c in line.chars() {
         match (c.to_digit(16), high) {
             (Some(digit), Some(first)) => {
                 let [byte, ..] = first.wrapping_mul(16).wrapping_add(digit).to_le_bytes();
-                bytes.push(byte)?;
+                made(rt, bytes.push(byte), line);
                 high = None;
             }
             (Some(digit), None) => high = Some(digit),
             (None, _) => {}
         }
     }
-    Ok(())
 }
 
 // The words of a command line, behind the program's name.
-fn words(alloc: Global, line: &str) -> Result<Vec<String>, AllocError> {
+fn words(rt: &impl Abort, alloc: Global, line: &str) -> Vec<String> {
     let mut words = Vec::new(alloc);
-    words.push(String::from_str(alloc, "acta_tool")?)?;
+    let name = made(rt, String::from_str(alloc, "acta_tool"), line);
+    made(rt, words.push(name), line);
     for word in line.split(' ') {
-        words.push(String::from_str(alloc, word)?)?;
+        let word = made(rt, String::from_str(alloc, word), line);
+        made(rt, words.push(word), line);
     }
-    Ok(words)
+    words
 }
 
 /// Does what the words asked for on the bytes of a model and of an input.
@@ -162,17 +160,17 @@ fn run_args<R: Threads + Wait + Sync + Abort, B: Allocator + Send + Sync>(
     args: &Args<'_>,
     case: &Case<'_>,
     due: &str,
-) -> Result<(), Fail> {
+) {
     let (status, least) = due.split_once(" over ").unwrap_or((due, "0"));
-    let least = number(least)?;
+    let least = number(rt, least);
     for nth in 1..MOST {
         let refused = if status == due { u64::MAX } else { nth };
         if is_whole(rt, alloc, heap, (args, status), case, refused) {
             holds(rt, nth > least, case.command);
-            return Ok(());
+            return;
         }
     }
-    Err("a case makes too many allocations")?
+    rt.panic("a case makes too many allocations")
 }
 
 // Runs a case; where its command line asks for nothing, that is how it ends.
@@ -182,27 +180,24 @@ fn run<R: Threads + Wait + Sync + Abort, B: Allocator + Send + Sync>(
     heap: &Refusing<B>,
     case: &Case<'_>,
     due: &str,
-) -> Result<(), Fail> {
-    let words = words(alloc, case.command)?;
+) {
+    let words = words(rt, alloc, case.command);
     match parse(alloc, words.as_slice()) {
         Ok(args) => run_args(rt, alloc, heap, &args, case, due),
-        Err(fault) => {
-            exits(rt, exit_status(&Err(fault)), due, case.command);
-            Ok(())
-        }
+        Err(fault) => exits(rt, exit_status(&Err(fault)), due, case.command),
     }
 }
 
 // Adds a line to the part of the case that its mark says.
-fn put(case: &mut Case<'_>, (mark, rest): (&str, &str), line: &str) -> Result<(), AllocError> {
+fn put(rt: &impl Abort, case: &mut Case<'_>, (mark, rest): (&str, &str), line: &str) {
     match mark {
-        "%" => add(&mut case.model, rest),
-        "&" => add_bytes(&mut case.model, rest),
-        "=" => add_bytes(&mut case.want, rest),
-        ">" => add(&mut case.want, rest),
-        "|" => add(&mut case.input, rest),
-        "" => Ok(()),
-        _ => add(&mut case.want, line),
+        "%" => add(rt, &mut case.model, rest),
+        "&" => add_bytes(rt, &mut case.model, rest),
+        "=" => add_bytes(rt, &mut case.want, rest),
+        ">" => add(rt, &mut case.want, rest),
+        "|" => add(rt, &mut case.input, rest),
+        "" => {}
+        _ => add(rt, &mut case.want, line),
     }
 }
 
@@ -212,17 +207,22 @@ fn play<R: Threads + Wait + Sync + Abort, B: Allocator + Send + Sync>(
     alloc: Global,
     heap: &Refusing<B>,
     cases: &str,
-) -> Result<(), Fail> {
-    let mut case = case_of(alloc, "");
+) {
+    let mut case = Case {
+        command: "",
+        model: Vec::new(alloc),
+        input: Vec::new(alloc),
+        want: Vec::new(alloc),
+    };
     for line in cases.lines() {
         let (mark, rest) = line.split_once(' ').unwrap_or((line, ""));
         match mark {
-            "$" => case = case_of(alloc, rest),
-            "status" => run(rt, alloc, heap, &case, rest)?,
-            _ => put(&mut case, (mark, rest), line)?,
+            "$" => begin(&mut case, rest),
+            "status" => run(rt, alloc, heap, &case, rest),
+            _ => put(rt, &mut case, (mark, rest), line),
         }
     }
-    Ok(())
+    drop(case);
 }
 
 const RUNS: &str = "\
@@ -526,7 +526,7 @@ status 0
 ";
 
 #[test]
-fn cases(rt: HostRuntime) -> Result<(), Fail> {
+fn cases(rt: HostRuntime) {
     let heap = Refusing::new(rt.alloc());
     for cases in [
         RUNS,
@@ -544,9 +544,8 @@ fn cases(rt: HostRuntime) -> Result<(), Fail> {
         driving::DRIVES,
         refusals::RUNS,
     ] {
-        play(&rt, rt.alloc(), &heap, cases)?;
+        play(&rt, rt.alloc(), &heap, cases);
     }
-    Ok(())
 }
 
 #[test]

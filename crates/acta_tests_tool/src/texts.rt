@@ -2,16 +2,15 @@
 //! `good`. `*COUNT` is before what stands so many times, with its number at `#`, and lines for what is between `;`, and
 //! `+COUNT` before what stands so many times in one line.
 
-use crate::expecting::{counts, number, parted, tells};
+use crate::expecting::{counts, made, number, parted, tells};
 use acta_lang::{AsmError, assemble, print_model};
 use acta_models::{Standard, load_all};
 use acta_table::Model;
-use std::alloc::{AllocError, Global};
+use std::alloc::{AllocError, Allocator, Global};
 use std::process::Abort;
-use std::test::Fail;
 
 // The line and the code at which the text fails, where it does.
-fn fault_of(alloc: Global, text: &[u8]) -> Result<Option<(usize, u8)>, AllocError> {
+fn fault_of<A: Allocator + Copy>(alloc: A, text: &[u8]) -> Result<Option<(usize, u8)>, AllocError> {
     match assemble(alloc, text) {
         Ok(_) => Ok(None),
         Err(AsmError::Fault(fault)) => Ok(Some((fault.line, fault.code.number()))),
@@ -19,84 +18,73 @@ fn fault_of(alloc: Global, text: &[u8]) -> Result<Option<(usize, u8)>, AllocErro
     }
 }
 
-// The line and the code at which the text fails, or `good`.
-fn judged(alloc: Global, text: &[u8]) -> Result<String, AllocError> {
-    match fault_of(alloc, text)? {
+// The row is where the text fails, its line and code, or `good`.
+fn expect(rt: &impl Abort, alloc: Global, text: &[u8], row: &str) {
+    let judged = match made(rt, fault_of(alloc, text), row) {
         Some((line, code)) => format!(in alloc; "{line} {code}"),
         None => String::from_str(alloc, "good"),
-    }
-}
-
-// The row is where the text fails, or `good`.
-fn expect(rt: &impl Abort, alloc: Global, text: &[u8], row: &str) -> Result<(), AllocError> {
-    let judged = judged(alloc, text)?;
-    tells(rt, judged.as_bytes(), row.as_bytes(), row);
-    Ok(())
+    };
+    tells(rt, made(rt, judged, row).as_bytes(), row.as_bytes(), row);
 }
 
 // Adds a line to a text.
-fn add(text: &mut Vec<u8>, line: &str) -> Result<(), AllocError> {
-    text.extend_from_slice(line.as_bytes())?;
-    text.push(b'\n')?;
-    Ok(())
+fn add(rt: &impl Abort, text: &mut Vec<u8>, line: &str) {
+    made(rt, text.extend_from_slice(line.as_bytes()), line);
+    made(rt, text.push(b'\n'), line);
 }
 
 // Adds what stands before a number, the number, and what is behind it.
 fn add_named(
+    rt: &impl Abort,
     alloc: Global,
     text: &mut Vec<u8>,
     (head, tail): (&str, &str),
     number: u64,
-) -> Result<(), AllocError> {
-    let named = format!(in alloc; "{head}{number}")?;
-    text.extend_from_slice(named.as_bytes())?;
+) {
+    let named = made(rt, format!(in alloc; "{head}{number}"), head);
+    made(rt, text.extend_from_slice(named.as_bytes()), head);
     for line in tail.split(';') {
-        add(text, line)?;
+        add(rt, text, line);
     }
-    Ok(())
 }
 
 // Adds what stands so many times: `COUNT TEXT`, where the text has its number at `#`, and lines between `;`.
-fn add_numbered(alloc: Global, text: &mut Vec<u8>, row: &str) -> Result<(), Fail> {
-    let (count, row) = parted(row, " ")?;
-    let parts = parted(row, "#")?;
-    for n in 0..number(count)? {
-        add_named(alloc, text, parts, n)?;
+fn add_numbered(rt: &impl Abort, alloc: Global, text: &mut Vec<u8>, row: &str) {
+    let (count, row) = parted(rt, row, " ");
+    let parts = parted(rt, row, "#");
+    for n in 0..number(rt, count) {
+        add_named(rt, alloc, text, parts, n);
     }
-    Ok(())
 }
 
 // The same, where the text stands in one line, as it is.
-fn add_repeated(text: &mut Vec<u8>, row: &str) -> Result<(), Fail> {
-    let (count, row) = parted(row, " ")?;
-    for _ in 0..number(count)? {
-        text.extend_from_slice(row.as_bytes())?;
+fn add_repeated(rt: &impl Abort, text: &mut Vec<u8>, row: &str) {
+    let (count, row) = parted(rt, row, " ");
+    for _ in 0..number(rt, count) {
+        made(rt, text.extend_from_slice(row.as_bytes()), row);
     }
-    Ok(())
 }
 
 // Plays a row of a text.
-fn play_row(rt: &impl Abort, alloc: Global, text: &mut Vec<u8>, row: &str) -> Result<(), Fail> {
+fn play_row(rt: &impl Abort, alloc: Global, text: &mut Vec<u8>, row: &str) {
     if let Some(line) = row.strip_prefix('%') {
-        add(text, line)?;
+        add(rt, text, line);
     } else if let Some(numbered) = row.strip_prefix('*') {
-        add_numbered(alloc, text, numbered)?;
+        add_numbered(rt, alloc, text, numbered);
     } else if let Some(repeated) = row.strip_prefix('+') {
-        add_repeated(text, repeated)?;
+        add_repeated(rt, text, repeated);
     } else if !row.is_empty() {
-        expect(rt, alloc, text.as_slice(), row)?;
+        expect(rt, alloc, text.as_slice(), row);
         text.clear();
     }
-    Ok(())
 }
 
 // Plays the rows of a text.
-fn play(rt: &impl Abort, alloc: Global, rows: &str) -> Result<(), Fail> {
+fn play(rt: &impl Abort, alloc: Global, rows: &str) {
     let mut text = Vec::new(alloc);
     for row in rows.lines() {
-        play_row(rt, alloc, &mut text, row)?;
+        play_row(rt, alloc, &mut text, row);
     }
-    Ok(())
 }
 
 // Each code alone, as far as it can hold alone, and each two that can hold at one line; then those on too many, the
@@ -523,37 +511,29 @@ const HOSTILE: &str = "\
 1 6";
 
 #[test]
-fn texts(rt: HostRuntime) -> Result<(), Fail> {
-    for rows in [FAULTY, GOOD, HOSTILE] {
-        play(&rt, rt.alloc(), rows)?;
-    }
-    for text in [b"class a\r\n".as_slice(), b"class \0"] {
-        expect(&rt, rt.alloc(), text, "1 1")?;
-    }
-    expect(&rt, rt.alloc(), b"class a\nstarts\x80 begin", "2 1")?;
-    let comment = vec![in rt.alloc(); b'#'; 16_777_216]?;
-    Ok(expect(&rt, rt.alloc(), comment.as_slice(), "1 9")?)
+fn texts(rt: HostRuntime) {
+    play(&rt, rt.alloc(), FAULTY);
+    play(&rt, rt.alloc(), GOOD);
+    play(&rt, rt.alloc(), HOSTILE);
+    expect(&rt, rt.alloc(), b"class a\r\n", "1 1");
+    expect(&rt, rt.alloc(), b"class \0", "1 1");
+    expect(&rt, rt.alloc(), b"class a\nstarts\x80 begin", "2 1");
+    let comment = made(&rt, vec![in rt.alloc(); b'#'; 16_777_216], "a comment");
+    expect(&rt, rt.alloc(), comment.as_slice(), "1 9");
 }
 
 // The model is printed as this text.
-fn is_printed(
-    rt: &impl Abort,
-    alloc: Global,
-    model: &Model<Global>,
-    text: &str,
-) -> Result<(), AllocError> {
-    let printed = print_model(alloc, model)?;
+fn is_printed<A: Allocator + Copy>(rt: &impl Abort, alloc: A, model: &Model<A>, text: &str) {
+    let printed = made(rt, print_model(alloc, model), "a standard model");
     tells(rt, printed.as_slice(), text.as_bytes(), "a standard model");
-    Ok(())
 }
 
 // Each standard model is printed as its text, which means it again.
 #[test]
-fn standard_texts_are_canonical(rt: HostRuntime) -> Result<(), Fail> {
-    let models = load_all(rt.alloc())?;
+fn standard_texts_are_canonical(rt: HostRuntime) {
+    let models = made(&rt, load_all(rt.alloc()), "all models");
     counts(&rt, models.len() as u64, 5, "all models");
     for (name, model) in Standard::ALL.iter().zip(models.iter()) {
-        is_printed(&rt, rt.alloc(), model, name.text())?;
+        is_printed(&rt, rt.alloc(), model, name.text());
     }
-    Ok(())
 }
