@@ -5,16 +5,11 @@ use crate::lines::model_of;
 use acta_models::Standard;
 use acta_script::{LineError, read_command};
 use acta_table::Model;
-use std::alloc::{AllocError, Allocator};
+use std::alloc::{AllocError, Global};
 use std::process::Abort;
 
 // What a line of a command says, or the code of its fault.
-fn command_said<A: Allocator + Copy>(
-    rt: &impl Abort,
-    alloc: A,
-    model: &Model<A>,
-    line: &str,
-) -> String<A> {
+fn command_said(rt: &impl Abort, alloc: Global, model: &Model<Global>, line: &str) -> String {
     let said = match read_command(alloc, model, line.as_bytes()) {
         Ok(command) => format!(in alloc; "{command:?}"),
         Err(LineError::Fault(fault)) => {
@@ -110,7 +105,7 @@ value X 1 -> 3
 status x 1 -> 3";
 
 // The rows of a text, each the line of a command, and what it says behind an arrow.
-fn say<A: Allocator + Copy>(rt: &impl Abort, alloc: A, model: &Model<A>, rows: &str) {
+fn say(rt: &impl Abort, alloc: Global, model: &Model<Global>, rows: &str) {
     for row in rows.lines() {
         let (line, want) = parted(rt, row, " -> ");
         let said = command_said(rt, alloc, model, line);

@@ -1,8 +1,8 @@
 //! Tests of what reaches the program: texts, lines, command lines and whole runs, as text; hostile bytes, readers and
 //! writers that fail, and each refused allocation. The values that they expect were computed by hand.
 //!
-//! A helper that owns a model, an event or a case gives it to `drop` at its end: who lets it go by itself lets go of each
-//! of its parts, and each is proved there.
+//! A helper that owns a model, an event or a case gives it to `drop` at its end: who lets it go by itself lets go of
+//! each of its parts, and each is proved there.
 #![tactic(auto)]
 
 #[cfg(test)]

@@ -20,9 +20,12 @@ pub fn number_in<A: Allocator + Copy>(
     machine: &Machine<A>,
     ob: ObjId,
 ) -> Option<i64> {
-    match made(rt, machine.value(ob), "a value") {
-        Some(ObjectState::Register(value)) => Some(i64::from(value)),
-        Some(ObjectState::Counter(value)) => Some(value),
+    let state = made(rt, machine.value(ob), "a value");
+    let number = match &state {
+        Some(ObjectState::Register(value)) => Some(i64::from(*value)),
+        Some(ObjectState::Counter(value)) => Some(*value),
         _ => None,
-    }
+    };
+    drop(state);
+    number
 }

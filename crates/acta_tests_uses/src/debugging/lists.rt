@@ -97,19 +97,23 @@ fn longest<A: Allocator + Copy>(rt: &impl Abort, alloc: Global, heap: A) {
     drop(debugger);
 }
 
-// Of a list that is longer than the longest history the next place is refused.
-#[test]
-fn lists_that_are_no_histories_and_the_longest(rt: HostRuntime) {
-    let heap = Refusing::new(rt.alloc());
+// Each list is refused at its place, and a list that is longer than the longest history at the next place.
+fn refuse_all<A: Allocator + Copy>(rt: &impl Abort, heap: A) {
     for text in OTHERS.split("# ") {
-        refuse(&rt, &heap, text);
+        refuse(rt, heap, text);
     }
-    longest(&rt, rt.alloc(), &heap);
-    let longer = on_forms(&rt, &heap, 65_537).err();
+    let longer = on_forms(rt, heap, 65_537).err();
     same(
-        &rt,
+        rt,
         &longer,
         &Some(NewError::NotAHistory(65_537)),
         "one more",
     );
+}
+
+#[test]
+fn lists_that_are_no_histories_and_the_longest(rt: HostRuntime) {
+    let heap = Refusing::new(rt.alloc());
+    refuse_all(&rt, &heap);
+    longest(&rt, rt.alloc(), &heap);
 }

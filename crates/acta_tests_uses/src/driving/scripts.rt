@@ -40,6 +40,7 @@ pub fn scripts<A: Allocator + Copy>(
     for text in texts {
         made(rt, scripts.push(script(rt, alloc, &model, text)), text);
     }
+    drop(model);
     scripts
 }
 
