@@ -16,6 +16,8 @@ mod formulas;
 #[cfg(test)]
 mod growths;
 #[cfg(test)]
+mod heaps;
+#[cfg(test)]
 mod histories;
 #[cfg(test)]
 mod judging;

@@ -1,0 +1,27 @@
+//! The allocator that refuses one chosen allocation, which other tests stand on.
+
+use crate::expecting::{holds, same};
+use refusing::Refusing;
+
+// Each push that grows is refused in turn, and leaves the list as it was.
+#[test]
+fn refuses_each_growth(rt: HostRuntime) {
+    let heap = Refusing::new(rt.alloc());
+    let mut list: Vec<u64, &Refusing<_>> = Vec::new(&heap);
+    heap.refuse(1);
+    holds(&rt, list.push(7).is_err(), "the first growth");
+    holds(&rt, !heap.is_waiting(), "it was refused");
+    same(&rt, &list.len(), &0, "nothing was pushed");
+    heap.refuse(2);
+    holds(&rt, list.push(7).is_ok(), "one growth is enough");
+    holds(&rt, heap.is_waiting(), "no second one came");
+    same(&rt, &list.len(), &1, "one was pushed");
+}
+
+fn shared<T: Sync>(_: &T) {}
+
+// A `&` to it may be held by several threads.
+#[test]
+fn may_be_shared(rt: HostRuntime) {
+    shared(&Refusing::new(rt.alloc()));
+}
