@@ -230,5 +230,7 @@ pub fn differing<A: Allocator + Copy>(
         return "a walk";
     }
     let places = made(rt, places_of(alloc, model, machine.history()), "places");
-    differing_from(rt, alloc, model, machine, &places)
+    let differing = differing_from(rt, alloc, model, machine, &places);
+    drop(places);
+    differing
 }

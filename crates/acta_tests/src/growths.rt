@@ -63,6 +63,7 @@ fn grow_line<A: Allocator + Copy, B: Allocator>(
     let (due, growths) = parted(rt, due, " : ");
     let event = event_of(rt, alloc, machine.model(), said);
     let (answer, refused) = refuse_each(rt, heap, machine, &event);
+    drop(event);
     same(rt, &Some(refused), &number_of(growths), line);
     let told = made(rt, answer_line(alloc, &answer), line);
     tells(rt, told.as_slice(), due, line);
@@ -92,6 +93,8 @@ fn grow_each<A: Allocator + Copy, B: Allocator>(
     let model = model_of(rt, alloc, model);
     let mut machine = made(rt, new_machine(alloc, &model), "a machine");
     grow_lines(rt, heap, alloc, &mut machine, text);
+    drop(machine);
+    drop(model);
 }
 
 // Of the history, of the edges, and of the set of those who would owe an abort.
@@ -431,6 +434,8 @@ fn grow_calls<A: Allocator + Copy, B: Allocator>(rt: &impl Abort, heap: &Refusin
     let events = read(rt, alloc, &model);
     let run = made(rt, run_on(alloc, &model, &events), "a run");
     grow_all(rt, heap, alloc, &run.machine, &events);
+    drop(run);
+    drop(model);
 }
 
 #[test]

@@ -133,6 +133,7 @@ fn along_on<A: Allocator + Copy>(
     for said in order.split(", ") {
         let event = event_of(rt, alloc, machine.model(), said);
         let said = agrees(rt, alloc, machine, kind, &event);
+        drop(event);
         refused |= said.0;
         owed |= said.1;
     }

@@ -102,6 +102,7 @@ fn ask<A: Allocator + Copy>(
     let places = made(rt, places_of(alloc, model, items), line);
     let mut said = Vec::new(alloc);
     put_said(rt, &mut said, &places, asked);
+    drop(places);
     tells(rt, said.as_slice(), due, line);
 }
 
@@ -141,6 +142,7 @@ fn expect<A: Allocator + Copy>(rt: &impl Abort, alloc: A, model: &str, lists: &s
     for line in lists.lines() {
         follow(rt, alloc, &models, &mut items, line);
     }
+    drop(models);
 }
 
 #[test]

@@ -71,6 +71,7 @@ impl<A: Allocator + Copy> Played<A> {
         let copied = made(rt, copy_of(&self.machine), "a copy");
         shows(rt, alloc, models, &self.machine, asked);
         shows(rt, alloc, models, &copied, asked);
+        drop(copied);
     }
 
     // A machine that runs the events at once answers the same, and has the same edges. Gives the rules that were met.
@@ -80,6 +81,7 @@ impl<A: Allocator + Copy> Played<A> {
         same(rt, &found, &due, "the answers of a run");
         let (found, due) = (run.machine.edges(), self.machine.edges());
         same(rt, &found, &due, "the edges of a run");
+        drop(run);
         rules_met(&self.answers)
     }
 
@@ -142,8 +144,11 @@ fn follow_all<A: Allocator + Copy>(
 fn play<A: Allocator + Copy>(rt: &impl Abort, alloc: A, model: &str, histories: &str) -> u32 {
     let models = Models::of(rt, alloc, model);
     let mut played = Played::new(rt, alloc, &models.model);
-    let met = follow_all(rt, alloc, &models, &mut played, histories);
-    met | played.end(rt, alloc, &models.model)
+    let mut met = follow_all(rt, alloc, &models, &mut played, histories);
+    met |= played.end(rt, alloc, &models.model);
+    drop(played);
+    drop(models);
+    met
 }
 
 // Whether the rule of this number was met.

@@ -84,6 +84,7 @@ fn steps_on<A: Allocator + Copy, B: Allocator>(
     let kept = read(rt, alloc, model, text);
     let mut walk = made(rt, walk_of(alloc, model, kept.as_slice()), "a walk");
     step_over(rt, heap, &mut walk, text);
+    drop(walk);
 }
 
 // Steps through the list that the text means.
@@ -96,6 +97,7 @@ fn steps<A: Allocator + Copy, B: Allocator>(
 ) {
     let model = model_of(rt, alloc, model);
     steps_on(rt, heap, alloc, &model, text);
+    drop(model);
 }
 
 // Of the operations; for an operation with edges, of the set of those whom it depends on, of the edges that are due,

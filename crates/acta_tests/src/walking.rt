@@ -214,7 +214,9 @@ pub fn follows_machine<A: Allocator + Copy>(
     machine: &Machine<A>,
 ) -> bool {
     let walk = walked(rt, alloc, machine.model(), machine.history());
-    same_as_machine(rt, alloc, &walk, machine)
+    let same = same_as_machine(rt, alloc, &walk, machine);
+    drop(walk);
+    same
 }
 
 // The walk's operations stand as the places say at the end of the list.
@@ -266,7 +268,9 @@ fn same_places<A: Allocator + Copy>(
 // The walk shows what the places of the items that it has taken say.
 fn follows<A: Allocator + Copy>(rt: &impl Abort, alloc: A, walk: &Walk<'_, A>) -> bool {
     let places = made(rt, places_of(alloc, walk.model(), walk.front()), "places");
-    same_places(rt, walk, &places)
+    let same = same_places(rt, walk, &places);
+    drop(places);
+    same
 }
 
 /// Whether a walk through any list shows what the places of the list say.
@@ -277,5 +281,7 @@ pub fn follows_places<A: Allocator + Copy>(
     kept: &[Kept<A>],
 ) -> bool {
     let walk = walked(rt, alloc, model, kept);
-    follows(rt, alloc, &walk)
+    let follows = follows(rt, alloc, &walk);
+    drop(walk);
+    follows
 }

@@ -567,6 +567,7 @@ fn play<A: Allocator + Copy>(
 ) {
     let models = Models::of(rt, alloc, model);
     expect_all(rt, alloc, &models, lists, alone);
+    drop(models);
 }
 
 // Each number of an axiom is among these, and no other up to the last.

@@ -38,6 +38,7 @@ fn step<A: Allocator + Copy>(
         &due(rt, alloc, machine).as_slice(),
         line,
     );
+    drop(event);
 }
 
 // Does what a line says: it begins a history, asks what the machine shows, or has an event and its answer.
@@ -61,12 +62,14 @@ fn follow_all<A: Allocator + Copy>(rt: &impl Abort, alloc: A, models: &Models<A>
     for line in histories.lines() {
         follow(rt, alloc, models, &mut machine, line);
     }
+    drop(machine);
 }
 
 // Plays the histories of the model that the text means.
 fn play<A: Allocator + Copy>(rt: &impl Abort, alloc: A, model: &str, histories: &str) {
     let models = Models::of(rt, alloc, model);
     follow_all(rt, alloc, &models, histories);
+    drop(models);
 }
 
 #[test]

@@ -47,6 +47,7 @@ fn follow_all<A: Allocator + Copy>(rt: &impl Abort, alloc: A, models: &Models<A>
 fn play<A: Allocator + Copy>(rt: &impl Abort, alloc: A, model: &str, lists: &str) {
     let models = Models::of(rt, alloc, model);
     follow_all(rt, alloc, &models, lists);
+    drop(models);
 }
 
 #[test]

@@ -61,6 +61,7 @@ fn tell_owed<A: Allocator + Copy>(
             made(rt, owed.push(Owed { edge, txn, missing }), "a debt");
         }
     }
+    drop(places);
     owed
 }
 
@@ -87,6 +88,7 @@ fn tell_said<A: Allocator + Copy>(
 ) {
     let before = Before::of(rt, alloc, walk, front, said.asked);
     before.tell_all(rt, said, faults);
+    drop(before);
 }
 
 // Tells the faults at the next place, and goes one item further.
@@ -117,6 +119,7 @@ fn tell_places<A: Allocator + Copy>(
     for _ in kept {
         tell_place(rt, alloc, &mut walk, &mut front, faults);
     }
+    drop(walk);
 }
 
 /// The verdict on the list, slowly.
