@@ -34,3 +34,8 @@ pub fn parted<'a>(rt: &impl Abort, line: &'a str, word: &str) -> (&'a str, &'a s
 pub fn number_of(word: &str) -> Option<u64> {
     word.parse().ok()
 }
+
+/// The number that a word says.
+pub fn number(rt: &impl Abort, word: &str) -> u32 {
+    word.parse().ok().expect(rt, word)
+}

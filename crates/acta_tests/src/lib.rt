@@ -1,6 +1,9 @@
 //! Tests that cross the crates: histories as text with their answers, lists of events and what their places say,
-//! verdicts on histories, each refused allocation, and the edges of checked models. The values that they expect were
-//! computed by hand.
+//! verdicts on histories, sessions of debuggers, driven runs, each refused allocation, and the edges of checked models.
+//! The values that they expect were computed by hand.
+//!
+//! A helper that owns what is dear to let go, as a machine, a walk, a book or a debugger, gives it to `drop` at its end:
+//! who lets it go by itself lets go of each of its parts, and each is proved there.
 #![tactic(auto)]
 
 #[cfg(test)]
@@ -9,6 +12,10 @@ mod agreeing;
 mod calls;
 #[cfg(test)]
 mod checking;
+#[cfg(test)]
+mod debugging;
+#[cfg(test)]
+mod driving;
 #[cfg(test)]
 mod expecting;
 #[cfg(test)]

@@ -154,3 +154,19 @@ pub fn shown<A: Allocator + Copy>(
     put_shown(rt, alloc, &mut line, models, machine, asked);
     line
 }
+
+/// The number that a register or a counter has.
+pub fn number_in<A: Allocator + Copy>(
+    rt: &impl Abort,
+    machine: &Machine<A>,
+    ob: ObjId,
+) -> Option<i64> {
+    let state = made(rt, machine.value(ob), "a value");
+    let number = match &state {
+        Some(ObjectState::Register(value)) => Some(i64::from(*value)),
+        Some(ObjectState::Counter(value)) => Some(*value),
+        _ => None,
+    };
+    drop(state);
+    number
+}

@@ -4,7 +4,7 @@ use crate::driving::books::{are_answered, are_parts};
 use crate::driving::gates::{Meeting, Place};
 use crate::driving::scripts::{ADDITIONS, driven, scripts};
 use crate::expecting::{holds, same};
-use crate::machines::number_in;
+use crate::showing::number_in;
 use acta_locked::{Driven, Entry};
 use acta_models::Standard;
 use acta_table::ObjId;

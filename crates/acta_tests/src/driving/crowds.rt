@@ -4,7 +4,7 @@
 use crate::driving::books::{are_parts, replayed};
 use crate::driving::scripts::driven;
 use crate::expecting::{holds, made};
-use crate::machines::model_of;
+use crate::models::model_of;
 use acta_locked::{Driven, OpenGate, Script};
 use acta_models::Standard;
 use acta_table::{ClassId, Event, ObjId, Op, TxnId};
@@ -103,7 +103,7 @@ fn crowd<A: Allocator + Copy + Send + Sync, R: Threads + Wait + Sync + Abort>(
     let scripts = all_scripts(rt, alloc, calm);
     let driven = driven(rt, alloc, name, scripts.as_slice(), &OpenGate);
     holds(rt, is_full(&driven, scripts.as_slice()), "a full book");
-    let model = model_of(rt, alloc, name);
+    let model = model_of(rt, alloc, name.text());
     let refused = replayed(rt, alloc, model, driven.book.entries());
     are_some(rt, refused.expect(rt, "answers differ"));
     drop(driven);

@@ -9,7 +9,7 @@
 //! where the first of the breaks is that on the kind of an event, and the last line asks the machine.
 
 use crate::expecting::{made, number, parted, same};
-use crate::machines::number_in;
+use crate::showing::number_in;
 use acta_debug::{Break, Debugger, MoveError};
 use acta_table::{EventKind, ObjId, TxnId};
 use std::alloc::{AllocError, Allocator, Global};

@@ -3,7 +3,7 @@
 use crate::driving::books::{are_answered, are_same};
 use crate::driving::scripts::{driven, scripts};
 use crate::expecting::{holds, made};
-use crate::machines::model_of;
+use crate::models::model_of;
 use acta_locked::{Driven, Entry, OpenGate, PlainDesk, Report, Script, WorkError, work};
 use acta_models::Standard;
 use std::alloc::Allocator;
@@ -53,7 +53,7 @@ fn reported<A: Allocator + Copy>(
 // A worker at a desk with a book of its own: the report is that of the first seat and has the book's entries, which are
 // answered as the lines say.
 fn worked_alone<A: Allocator + Copy>(rt: &impl Abort, alloc: A, one: &Script<A>) -> PlainDesk<A> {
-    let model = model_of(rt, alloc, Standard::Atomic);
+    let model = model_of(rt, alloc, Standard::Atomic.text());
     let mut desk = made(rt, PlainDesk::new(alloc, 1, model), "a desk");
     let report = made(rt, reported(alloc, &mut desk, one), "a report");
     let entries = desk.book.entries();

@@ -1,7 +1,7 @@
 //! Scripts, and their drives: a script is written as text, an event a line.
 
 use crate::expecting::made;
-use crate::machines::model_of;
+use crate::models::model_of;
 use acta_locked::{DriveError, Driven, Entry, Gate, Script, drive};
 use acta_models::Standard;
 use acta_script::read_event;
@@ -35,7 +35,7 @@ pub fn scripts<A: Allocator + Copy>(
     alloc: A,
     texts: &[&str],
 ) -> Vec<Script<A>, A> {
-    let model = model_of(rt, alloc, Standard::Atomic);
+    let model = model_of(rt, alloc, Standard::Atomic.text());
     let mut scripts = Vec::new(alloc);
     for text in texts {
         made(rt, scripts.push(script(rt, alloc, &model, text)), text);
@@ -61,7 +61,7 @@ pub fn driven<
     R: Threads + Wait + Sync + Abort,
     G: Gate<Entry<A>> + Sync,
 >(rt: &R, alloc: A, name: Standard, scripts: &[Script<A>], gate: &G) -> Driven<A> {
-    let model = model_of(rt, alloc, name);
+    let model = model_of(rt, alloc, name.text());
     made(rt, run(rt, alloc, model, scripts, gate), "a drive")
 }
 
@@ -71,6 +71,6 @@ pub fn fault_of<
     R: Threads + Wait + Sync + Abort,
     G: Gate<Entry<A>> + Sync,
 >(rt: &R, alloc: A, name: Standard, scripts: &[Script<A>], gate: &G) -> Option<DriveError> {
-    let model = model_of(rt, alloc, name);
+    let model = model_of(rt, alloc, name.text());
     run(rt, alloc, model, scripts, gate).err()
 }

@@ -1,7 +1,7 @@
 //! Histories: a history is written as text, a kept item a line.
 
 use crate::expecting::made;
-use crate::machines::model_of;
+use crate::models::model_of;
 use acta_debug::{Debugger, NewError};
 use acta_models::Standard;
 use acta_script::read_kept;
@@ -40,7 +40,7 @@ pub fn debugger<A: Allocator + Copy>(
     name: Standard,
     text: &str,
 ) -> Debugger<A> {
-    let model = model_of(rt, heap, name);
+    let model = model_of(rt, heap, name.text());
     let history = items(rt, heap, &model, text);
     made(rt, opened(heap, model, history), "a debugger")
 }

@@ -3,7 +3,7 @@
 use crate::debugging::commands::play;
 use crate::debugging::histories::{items, opened};
 use crate::expecting::{made, number, parted, same};
-use crate::machines::model_of;
+use crate::models::model_of;
 use acta_debug::{Debugger, NewError};
 use acta_models::Standard;
 use acta_table::{Dep, Event, Kept, TxnId};
@@ -52,7 +52,7 @@ commit 1";
 // The list of that text, which is its place and its lines, is refused at its place.
 fn refuse<A: Allocator + Copy>(rt: &impl Abort, heap: A, text: &str) {
     let (place, lines) = parted(rt, text, "\n");
-    let model = model_of(rt, heap, Standard::Atomic);
+    let model = model_of(rt, heap, Standard::Atomic.text());
     let list = items(rt, heap, &model, lines);
     let found = opened(heap, model, list).err();
     same(
@@ -79,7 +79,7 @@ fn on_forms<A: Allocator + Copy>(
     heap: A,
     times: u32,
 ) -> Result<Debugger<A>, NewError> {
-    let model = model_of(rt, heap, Standard::Contingent);
+    let model = model_of(rt, heap, Standard::Contingent.text());
     opened(heap, model, forms(rt, heap, times))
 }
 

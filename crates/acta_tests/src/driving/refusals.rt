@@ -3,7 +3,7 @@
 use crate::driving::books::taken;
 use crate::driving::scripts::{ADDITIONS, script, scripts};
 use crate::expecting::{holds, made, same};
-use crate::machines::model_of;
+use crate::models::model_of;
 use acta_locked::{Book, DriveError, Driven, OpenGate, Script, TakeError, drive};
 use acta_models::Standard;
 use acta_table::Event;
@@ -112,7 +112,7 @@ fn take_all<A: Allocator + Copy, B: Allocator>(
     heap: &Refusing<B>,
     alloc: A,
 ) -> u64 {
-    let model = model_of(rt, alloc, Standard::SplitJoin);
+    let model = model_of(rt, alloc, Standard::SplitJoin.text());
     let calls = script(rt, alloc, &model, CALLS);
     let mut book = made(rt, Book::new(alloc, model), "a book");
     let refused = take_calls(rt, heap, &mut book, calls.as_slice());
@@ -138,7 +138,7 @@ fn drive_refused<A: Allocator + Copy + Send + Sync, R: Threads + Wait + Sync + A
     scripts: &[Script<A>],
     nth: u64,
 ) -> (Result<usize, DriveError>, bool) {
-    let model = model_of(rt, alloc, Standard::Atomic);
+    let model = model_of(rt, alloc, Standard::Atomic.text());
     heap.refuse(nth);
     let driven = drive(rt, alloc, model, scripts, &OpenGate);
     let is_whole = heap.is_waiting();

@@ -3,7 +3,8 @@
 use crate::debugging::commands::told;
 use crate::debugging::histories::{items, on_sums, opened, sums};
 use crate::expecting::{holds, made, parted, same};
-use crate::machines::{model_of, number_in};
+use crate::models::model_of;
+use crate::showing::number_in;
 use acta_debug::{Debugger, NewError};
 use acta_models::Standard;
 use acta_table::ObjId;
@@ -104,7 +105,7 @@ fn new_refused<A: Allocator + Copy>(
     text: &str,
     nth: u64,
 ) -> bool {
-    let model = model_of(rt, heap, Standard::Contingent);
+    let model = model_of(rt, heap, Standard::Contingent.text());
     let history = items(rt, heap, &model, text);
     refusing.refuse(nth);
     let debugger = opened(heap, model, history);

@@ -2,7 +2,7 @@
 
 use crate::driving::books::taken;
 use crate::expecting::{holds, made, same};
-use crate::machines::model_of;
+use crate::models::model_of;
 use acta_locked::{Book, TakeError};
 use acta_models::Standard;
 use acta_table::{Answer, Event, Rule, TxnId};
@@ -41,7 +41,7 @@ fn is_full<A: Allocator>(book: &Book<A>) -> bool {
 
 // A full book takes no more.
 fn is_filled<A: Allocator + Copy>(rt: &impl Abort, alloc: A) {
-    let model = model_of(rt, alloc, Standard::Atomic);
+    let model = model_of(rt, alloc, Standard::Atomic.text());
     let mut book = made(rt, Book::new(alloc, model), "a book");
     fill(rt, &mut book);
     let more = taken(&mut book, Event::Commit(TxnId(1))).err();
