@@ -1,6 +1,8 @@
 ghost use Rattle.std.specs.Prelude.{◌≡◌, ◌≤◌, true, [], length, None, OnOk, OnErr, IfOk, replicate};
+ghost use Rattle.acta_table.specs.Faults.{lowest_fault};
 ghost use Rattle.acta_table.specs.WellFormed.{is_bad_number};
-ghost use Rattle.acta_machine.specs.Changes.{summary_of};
+ghost use Rattle.acta_machine.specs.Changes.{edges_due, summary_of};
+ghost use Rattle.acta_machine.specs.Rules.{lowest_broken};
 ghost use Rattle.acta_machine.specs.inside.Shown.{unbegun};
 ghost use Rattle.acta_axioms.specs.Claims.{status_at};
 ghost use Rattle.acta_axioms.specs.Edges as edges_by_places;
@@ -83,15 +85,23 @@ impl<A: Allocator + Copy> Machine<A> {
         // events that may come next the rules on dependencies refuse exactly those that would be illegal.
         ensures follows { FollowsPlaces self.new }
     {
-        let early = self.board.broken_before_edges(event)?;
-        if let Some(Refusal { rule, by }) = early {
-            return Ok(Answer::Refused { rule, by });
+        match self.board.judged(event)? {
+            Ok(due) => self.keep(event, &due),
+            Err(Refusal { rule, by }) => Ok(Answer::Refused { rule, by }),
         }
-        let due = self.board.edges_due(event)?;
-        let late = self.board.broken_from_edges(event, &due)?;
-        if let Some(Refusal { rule, by }) = late {
-            return Ok(Answer::Refused { rule, by });
-        }
+    }
+
+    // Keeps an event that breaks no rule, and forms these edges. `Err` where there is no memory: then nothing is kept.
+    #[tactic(auto, unfolding(crate::specs::Table::answer_to, crate::specs::Table::after))]
+    fn keep(&mut self, event: &Event<A>, due: &[Edge]) -> Result<Answer, AllocError>
+        requires none { lowest_broken self.old.model (summary_of self.old.model self.old.kept) event.now ≡ None }
+        requires due { due.now ≡ edges_due self.old.model (summary_of self.old.model self.old.kept) event.now }
+        requires faultless { lowest_fault self.old.model ≡ None }
+        ensures answer { IfOk result (λ answer. answer ≡ answer_to self.old event.now) }
+        ensures ok { OnOk result (self.new ≡ after self.old event.now) }
+        ensures err { OnErr result (self.new ≡ self.old) }
+        ensures follows { FollowsPlaces self.new }
+    {
         let place = self.board.next_place(event);
         let ret = self.board.return_of(event)?;
         let kept = Kept {
@@ -99,7 +109,7 @@ impl<A: Allocator + Copy> Machine<A> {
             ret,
         };
         self.board.make_room()?;
-        self.board.admit(event, kept, &due)?;
+        self.board.admit(event, kept, due)?;
         Ok(Answer::Admitted { place, ret })
     }
 

@@ -1,7 +1,8 @@
-ghost use Rattle.std.specs.Prelude.{◌≡◌, ◌+◌, ◌<◌, ◌≤◌, ◌++◌, ◌∷◌, [], filter, min, length, Some, None, option_map, option_and_then, if◌then◌else◌, IfOk};
+ghost use Rattle.std.specs.Prelude.{◌≡◌, ◌+◌, ◌<◌, ◌≤◌, ◌++◌, ◌∷◌, [], filter, min, length, Some, None, option_map, option_and_then, if◌then◌else◌, IfErr, IfOk};
 ghost use Rattle.std.specs.Option.{option_map_or};
 ghost use Rattle.acta_table.specs.declared.event.EventKind.{EventKind};
 ghost use Rattle.acta_table.specs.Events.{partner};
+ghost use Rattle.acta_table.specs.Faults.{lowest_fault};
 ghost use Rattle.acta_table.specs.Numbered.{smallest};
 ghost use Rattle.acta_table.specs.Refusals.{broken_by};
 ghost use Rattle.acta_table.specs.Sets.{is_named};
@@ -420,5 +421,26 @@ impl<A: Allocator + Copy> Board<A> {
             return Ok(Some(refusal));
         }
         Ok(self.no_heir(event))
+    }
+
+    /// The edges that the event forms, where it breaks no rule, or else the lowest that it breaks. `Err` where there is
+    /// no memory.
+    pub(crate) fn judged(
+        &self,
+        event: &Event<A>,
+    ) -> Result<Result<Vec<Edge, A>, Refusal>, AllocError>
+        ensures broken { IfOk result (λ said. IfErr said (λ refusal. lowest_broken self.now.model (shown self.now) event.now ≡ Some refusal)) }
+        ensures none { IfOk result (λ said. IfOk said (λ _. lowest_broken self.now.model (shown self.now) event.now ≡ None)) }
+        ensures due { IfOk result (λ said. IfOk said (λ due. due.items ≡ edges_due self.now.model (shown self.now) event.now)) }
+        ensures faultless { IfOk result (λ said. IfOk said (λ _. lowest_fault self.now.model ≡ None)) }
+    {
+        if let Some(refusal) = self.broken_before_edges(event)? {
+            return Ok(Err(refusal));
+        }
+        let due = self.edges_due(event)?;
+        match self.broken_from_edges(event, &due)? {
+            Some(refusal) => Ok(Err(refusal)),
+            None => Ok(Ok(due)),
+        }
     }
 }
