@@ -95,20 +95,31 @@ break_command_said m words = do
   on ← break_said m words
   Ok (Break on)
 
+-- the command that one word says
+unfoldable pub plain_command : List ℕ → Result DebugCommand LineFault
+plain_command word =
+    if bytes_eq word (codes "step") then Ok Step
+    else if bytes_eq word (codes "back") then Ok Back
+    else if bytes_eq word (codes "run") then Ok Run
+    else if bytes_eq word (codes "clear") then Ok Clear
+    else if bytes_eq word (codes "owed") then Ok Owed
+    else Err Word
+
+-- a command of one word, with no word behind it
+abbrev pub plain_said : List ℕ → List (List ℕ) → Result DebugCommand LineFault
+plain_said word words = do
+  command ← plain_command word
+  alone command words
+
 -- the command that words say
 unfoldable pub command_said : {A : Type 0} → Parts A → List (List ℕ) → Result DebugCommand LineFault
 command_said m [] = Err Empty
 command_said m (word ∷ words) =
-    if bytes_eq word (codes "step") then alone Step words
-    else if bytes_eq word (codes "back") then alone Back words
-    else if bytes_eq word (codes "goto") then goto_said words
-    else if bytes_eq word (codes "run") then alone Run words
+    if bytes_eq word (codes "goto") then goto_said words
     else if bytes_eq word (codes "break") then break_command_said m words
-    else if bytes_eq word (codes "clear") then alone Clear words
     else if bytes_eq word (codes "value") then value_said m words
     else if bytes_eq word (codes "status") then status_said words
-    else if bytes_eq word (codes "owed") then alone Owed words
-    else Err Word
+    else plain_said word words
 
 -- the command that a line says, or its lowest fault
 abbrev pub command_of : {A : Type 0} → Parts A → List ℕ → Result DebugCommand LineFault

@@ -2,7 +2,7 @@
 //! numbers, then names. So the fault that is told is the lowest. What a command does is no matter of lines.
 
 ghost use Rattle.std.specs.Prelude.{◌≡◌, map, Ok, Err, IfOk, IfErr};
-ghost use Rattle.acta_script.specs.Commands.{break_command_said, break_said, command_of, command_said, ended_break_said, goto_said, kind_break_said, object_break_said, one_word, owed_break_said, status_said, txn_break_said, value_said};
+ghost use Rattle.acta_script.specs.Commands.{break_command_said, break_said, command_of, command_said, ended_break_said, goto_said, kind_break_said, object_break_said, one_word, owed_break_said, plain_command, plain_said, status_said, txn_break_said, value_said};
 ghost use Rattle.acta_script.specs.Reading.{IsWhy};
 
 use crate::fault::{LineError, LineFault};
@@ -171,6 +171,34 @@ fn break_command_said<A: Allocator>(
     Ok(DebugCommand::Break(on))
 }
 
+// The command that the word says.
+#[tactic(auto, unfolding(crate::specs::Commands::plain_command))]
+fn plain_command(word: &[u8]) -> Result<DebugCommand, LineFault>
+    ensures { result ≡ plain_command word.now }
+{
+    if word == b"step".as_slice() {
+        Ok(DebugCommand::Step)
+    } else if word == b"back".as_slice() {
+        Ok(DebugCommand::Back)
+    } else if word == b"run".as_slice() {
+        Ok(DebugCommand::Run)
+    } else if word == b"clear".as_slice() {
+        Ok(DebugCommand::Clear)
+    } else if word == b"owed".as_slice() {
+        Ok(DebugCommand::Owed)
+    } else {
+        Err(LineFault::Word)
+    }
+}
+
+// A command of one word, with no word behind it.
+fn plain_said(word: &[u8], words: &[&[u8]]) -> Result<DebugCommand, LineFault>
+    ensures { result ≡ plain_said word.now (map (λ word. word.now) words.now) }
+{
+    let command = plain_command(word)?;
+    alone(command, words)
+}
+
 // The command that the words say.
 #[tactic(auto, unfolding(crate::specs::Commands::command_said))]
 fn command_said<A: Allocator>(model: &Model<A>, words: &[&[u8]]) -> Result<DebugCommand, LineFault>
@@ -179,26 +207,16 @@ fn command_said<A: Allocator>(model: &Model<A>, words: &[&[u8]]) -> Result<Debug
     let [word, words @ ..] = words else {
         return Err(LineFault::Empty);
     };
-    if *word == b"step".as_slice() {
-        alone(DebugCommand::Step, words)
-    } else if *word == b"back".as_slice() {
-        alone(DebugCommand::Back, words)
-    } else if *word == b"goto".as_slice() {
+    if *word == b"goto".as_slice() {
         goto_said(words)
-    } else if *word == b"run".as_slice() {
-        alone(DebugCommand::Run, words)
     } else if *word == b"break".as_slice() {
         break_command_said(model, words)
-    } else if *word == b"clear".as_slice() {
-        alone(DebugCommand::Clear, words)
     } else if *word == b"value".as_slice() {
         value_said(model, words)
     } else if *word == b"status".as_slice() {
         status_said(words)
-    } else if *word == b"owed".as_slice() {
-        alone(DebugCommand::Owed, words)
     } else {
-        Err(LineFault::Word)
+        plain_said(word, words)
     }
 }
 
