@@ -16,7 +16,7 @@ use Rattle.acta_table.specs.Events.{operations_named}
 use Rattle.acta_sets.specs.Operations.{are_open}
 use Rattle.acta_machine.proofs.Handing.{event-open}
 use Rattle.acta_machine.proofs.Histories.{summary_more, operations_few}
-use Rattle.acta_machine.proofs.Unbroken.{Admissible, unbroken, none-earlier, still-admissible, linked-room}
+use Rattle.acta_machine.proofs.Unbroken.{Admissible, Unbroken, unbroken, none-earlier, still-admissible, linked-room}
 use Rattle.acta_machine.proofs.Steps.{follows-push}
 use Rattle.acta_machine.proofs.machine.Machine.keep.Goals as goal
 
@@ -30,6 +30,9 @@ module _ {A : Type 0} (model : Parts A) (kept : List (Kept A)) (s : Summary) (ev
 
   none-shown : lowest_broken model s event ≡ None
   none-shown = ap (λ (x : Summary). lowest_broken model x event) agrees ∙ none-kept
+
+  unbroken-shown : Unbroken model s event
+  unbroken-shown = unbroken model s event (none-earlier model s event none-shown)
 
   due-kept : due ≡ edges_due model (summary_of model kept) event
   due-kept = formed ∙ sym (ap (λ (x : State A). edges_due x.model (summary_of x.model x.kept) event) is)
@@ -57,12 +60,9 @@ admit-requires-clause-few g c =
 
 pub admit-requires-clause-named : goal.admit-requires-clause-named
 admit-requires-clause-named g c =
-    let event = c.args.event.now in
-    let model = c.self.inside.board.model in
-    let s = shown c.self.inside.board in
-    let none = none-shown _ _ _ _ _ _ c.self.invariant.agrees c.self.view_is c.requires.none c.requires.due c.requires.faultless in
-    ap (λ items. are_open (operations_named event) items) (ap (λ b. b.operations) c.make_room.ensures.others)
-    ∙ event-open model s event (unbroken model s event (none-earlier model s event none))
+    let u = unbroken-shown _ _ _ _ _ _ c.self.invariant.agrees c.self.view_is c.requires.none c.requires.due c.requires.faultless in
+    ap (λ items. are_open (operations_named c.args.event.now) items) (ap (λ b. b.operations) c.make_room.ensures.others)
+    ∙ event-open _ _ _ u
 
 -- there is room for the edges
 pub admit-requires-clause-fits : goal.admit-requires-clause-fits
@@ -70,9 +70,9 @@ admit-requires-clause-fits g c =
     let event = c.args.event.now in
     let model = c.self.inside.board.model in
     let s = shown c.self.inside.board in
-    let none = none-shown _ _ _ _ _ _ c.self.invariant.agrees c.self.view_is c.requires.none c.requires.due c.requires.faultless in
+    let u = unbroken-shown _ _ _ _ _ _ c.self.invariant.agrees c.self.view_is c.requires.none c.requires.due c.requires.faultless in
     let due = due-shown _ _ _ _ _ _ c.self.invariant.agrees c.self.view_is c.requires.none c.requires.due c.requires.faultless in
-    let room = linked-room model s event (unbroken model s event (none-earlier model s event none)).edges in
+    let room = linked-room model s event u.edges in
     let roomy = ap (λ b. b.deps.edges) c.make_room.ensures.others in
     let same : length (formed c.make_room.new.self.deps.edges c.args.due.now) ≡ length (formed s.edges (edges_due model s event)) = λ i. length (formed (roomy i) (due i)) in
     omega (arith, room, same)
