@@ -11,7 +11,7 @@ use Rattle.acta_table.specs.declared.model.Parts.{Parts}
 use Rattle.acta_machine.specs.Changes.{summary_of}
 use Rattle.acta_machine.specs.Rules.{lowest_broken}
 use Rattle.acta_machine.specs.Table.{State, fresh, kept_as, answered, moved_on, answer_to, after, after_all, run_state}
-use Rattle.acta_debug.specs.Histories.{IsFirstOther, IsHistory, events_in}
+use Rattle.acta_debug.specs.Histories.{IsFirstOther, IsHistory, events_in, state_at}
 
 -- a machine whose history is this list
 abbrev pub with_kept : {A : Type 0} → Parts A → List (Kept A) → State A
@@ -178,6 +178,13 @@ kept-one {A} m h i k s t has next n admitted goes =
       so_far = subst (λ (x : List (Kept A)). IsHistory m x) (sym next) (history-on m (take i h) k n has.so_far there);
     }
 
+-- and by any item it comes to stand behind one more
+pub state-next : {A : Type 0} (m : Parts A) (h : List (Kept A)) (i : ℕ) (k : Kept A) (s t : State A) → HasKept m (take i h) s → take (i + 1) h ≡ take i h ++ k ∷ [] → t ≡ after s k.event
+    → t ≡ state_at m h (i + 1)
+state-next {A} m h i k s t has next goes =
+    goes ∙ ap (λ (x : State A). after x k.event) (has.kept ∙ sym has.so_far) ∙ sym (replay-more m (take i h) k)
+    ∙ ap (λ (x : List (Kept A)). run_state m (events_in x)) (sym next)
+
 -- in a history each item is kept
 pub kept-next : {A : Type 0} (m : Parts A) (h : List (Kept A)) → IsHistory m h → (i : ℕ) (k : Kept A) (s t : State A) → s ≡ with_kept m (take i h) → i < length h → k ≡ get_or h i k
     → t ≡ after s k.event → t ≡ with_kept m (take (i + 1) h)
@@ -185,7 +192,7 @@ kept-next {A} m h whole i k s t has below item goes =
     goes ∙ ap (λ (x : State A). after x k.event) (has ∙ sym (fronts m h whole i)) ∙ sym (replay-more m (take i h) k)
     ∙ ap (λ (x : List (Kept A)). run_state m (events_in x)) (sym (taken h i k below item)) ∙ fronts m h whole (i + 1)
 
-pub history-along : {A : Type 0} {m n : Parts A} {h j : List (Kept A)} → m ≡ n → h ≡ j → IsHistory m h → IsHistory n j
+history-along : {A : Type 0} {m n : Parts A} {h j : List (Kept A)} → m ≡ n → h ≡ j → IsHistory m h → IsHistory n j
 history-along {A} {m} {n} {h} {j} model list whole = sym (λ i. run_state (model i) (events_in (list i))) ∙ whole ∙ (λ i. with_kept (model i) (list i))
 
 -- a history has no first other place

@@ -1,5 +1,5 @@
 -- Where a debugger stands, and its moves.
-use Rattle.std.proofs.Common.{◌≡◌, ℕ, ◌+◌, ◌<◌, ◌≤◌, List, length, take, get_or, refl, sym, ap, ◌∙◌, subst, arith}
+use Rattle.std.proofs.Common.{◌≡◌, ℕ, ◌+◌, ◌-◌, ◌<◌, ◌≤◌, List, length, take, get_or, refl, sym, ap, ◌∙◌, subst, arith}
 use Rattle.std.specs.Prelude.{Ok, Err, Result}
 use Rattle.std.proofs.lemmas.Bool.Decides.{nat_tests}
 use Rattle.acta_table.specs.declared.event.Kept.{Kept}
@@ -9,7 +9,7 @@ use Rattle.acta_machine.specs.Places.{FollowsPlaces}
 use Rattle.acta_machine.specs.Table.{State, after, run_state}
 use Rattle.acta_debug.specs.declared.breaks.Break.{Break}
 use Rattle.acta_debug.specs.Histories.{IsHistory, events_in, state_at}
-use Rattle.acta_debug.specs.Moves.{stepped}
+use Rattle.acta_debug.specs.Moves.{stepped, stepped_back}
 use Rattle.acta_debug.specs.Sessions.{Session, moved_to}
 use Rattle.acta_debug.specs.inside.Shown.{IsInside, session_of}
 use Rattle.acta_debug.proofs.Replaying.{fronts, kept-next, with_kept}
@@ -33,6 +33,9 @@ shows-state s h at inside = stands s h at inside ∙ sym (fronts s.model h insid
 
 pub stepped-ahead : {A : Type 0} (s : Session A) → s.at < length s.history → stepped s ≡ Ok (moved_to s (s.at + 1))
 stepped-ahead s lt = grind (arith, nat_tests)
+
+pub stepped-behind : {A : Type 0} (s : Session A) (at : ℕ) → at ≡ s.at → ¬ (at ≡ 0) → stepped_back s ≡ Ok (moved_to s (at - 1))
+stepped-behind s at is start = grind (arith, nat_tests)
 
 pub not-both : {X E : Type 0} {r : Result X E} (x : X) (e : E) → r ≡ Ok x → r ≡ Err e → ⊥
 not-both x e ok err = cc

@@ -18,6 +18,7 @@ use crate::running::{place_of, run_on};
 use acta_machine::Machine;
 use acta_table::{Kept, Model};
 use std::alloc::{AllocError, Allocator};
+use std::mem::replace;
 
 /// A history, a place in it, the machine as it was there, and breaks (ours). Contracts see the model, the history, how
 /// many of its events are behind the debugger, and the breaks: the machine is what these events leave.
@@ -40,6 +41,24 @@ impl<A: Allocator> std::marker::Model for Debugger<A> {
     ghost invariant = { λ d. IsInside d.machine d.history.items d.at };
 }
 
+// `Ok` for a history of the model. Of any other list `NotAHistory` tells the first place, from 1, at which it is none.
+// `Memory` where there is no memory.
+fn check_history<A: Allocator + Copy>(
+    alloc: A,
+    model: &Model<A>,
+    items: &[Kept<A>],
+) -> Result<(), NewError>
+    ensures only { OnOk result (IsHistory model.now items.now) }
+    ensures few { OnOk result (length items.now ≤ MOST_EVENTS) }
+    ensures accepted { IsHistory model.now items.now → IsOkUnless result new.Memory }
+    ensures other { (n : ℕ) → result ≡ Err (new.NotAHistory n) → IsFirstOther model.now items.now n }
+{
+    match first_other(alloc, model.copy()?, items)? {
+        Some(place) => Err(NewError::NotAHistory(place)),
+        None => Ok(()),
+    }
+}
+
 impl<A: Allocator + Copy> Debugger<A> {
     /// A debugger on a history, at its start, with no break (ours). It accepts exactly the lists that a machine on the
     /// model keeps as its history when it takes their events. Of any other list `NotAHistory` tells the first place,
@@ -51,15 +70,23 @@ impl<A: Allocator + Copy> Debugger<A> {
         ensures accepted { IsHistory model history.items → IsOkUnless result new.Memory }
         ensures other { (n : ℕ) → result ≡ Err (new.NotAHistory n) → IsFirstOther model history.items n }
     {
-        if let Some(place) = first_other(alloc, model.copy()?, history.as_slice())? {
-            return Err(NewError::NotAHistory(place));
+        if let Err(error) = check_history(alloc, &model, history.as_slice()) {
+            drop(model);
+            drop(history);
+            return Err(error);
         }
-        Ok(Debugger {
-            machine: Machine::new(alloc, model)?,
-            history,
-            at: 0,
-            breaks: Vec::new(alloc),
-        })
+        match Machine::new(alloc, model) {
+            Ok(machine) => Ok(Debugger {
+                machine,
+                history,
+                at: 0,
+                breaks: Vec::new(alloc),
+            }),
+            Err(error) => {
+                drop(history);
+                Err(NewError::from(error))
+            }
+        }
     }
 
     /// Moves one event further (ours). `AtEnd` comes exactly where it stands behind the last event, and `Memory` where
@@ -88,10 +115,11 @@ impl<A: Allocator + Copy> Debugger<A> {
         ensures barred { (e : Fault) → stepped_back self.old ≡ Err e → result ≡ Err e }
         ensures only { IfErr result (λ e. (stepped_back self.old ≡ Err e) ⊎ (e ≡ MoveError.Memory)) }
     {
-        if self.at == 0 {
+        let at = self.at;
+        if at == 0 {
             return Err(MoveError::AtStart);
         }
-        self.stand_behind(self.at - 1)?;
+        self.stand_behind(at - 1)?;
         Ok(())
     }
 
@@ -120,7 +148,8 @@ impl<A: Allocator + Copy> Debugger<A> {
         let alloc = *self.history.allocator();
         let model = self.machine.model().copy()?;
         let behind = &self.history.as_slice()[..n];
-        self.machine = replayed(alloc, model, behind)?;
+        let machine = replayed(alloc, model, behind)?;
+        drop(replace(&mut self.machine, machine));
         self.at = n;
         Ok(())
     }
@@ -136,10 +165,17 @@ impl<A: Allocator + Copy> Debugger<A> {
     {
         let history = self.history.as_slice();
         let mut machine = self.machine.copy()?;
-        let stop = run_on(&mut machine, history, self.at, &self.breaks)?;
-        self.machine = machine;
-        self.at = place_of(stop, self.history.len());
-        Ok(stop)
+        match run_on(&mut machine, history, self.at, &self.breaks) {
+            Ok(stop) => {
+                drop(replace(&mut self.machine, machine));
+                self.at = place_of(stop, self.history.len());
+                Ok(stop)
+            }
+            Err(error) => {
+                drop(machine);
+                Err(error)
+            }
+        }
     }
 }
 

@@ -195,6 +195,10 @@ short-objects m has = by-place _ m.objects (short (λ o. o.name) (λ o. HasFirst
 pub short-classes : {A : Type 0} (m : Parts A) → AreOfModel m → All (λ c. length c.name ≤ LONGEST_NAME) m.classes
 short-classes m has = by-place _ m.classes (short (λ c. c.name) (λ c. HasSets c) m.classes (said-of m has).of_classes)
 
+-- and few
+pub few-names : {A : Type 0} (m : Parts A) → AreOfModel m → (length m.classes ≤ MOST_CLASSES) × (length m.objects ≤ MOST_OBJECTS)
+few-names m has = let said = said-of m has in (said.classes.1, said.objects)
+
 -- ---- the two laws
 
 pub image-again : {A : Type 0} (m : Parts A) → AreOfModel m → loaded (image m) ≡ Ok m

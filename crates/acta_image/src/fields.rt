@@ -8,10 +8,7 @@ ghost use Rattle.acta_image.specs.Reading.{byte_in, commit_in, extent_in, field,
 ghost use Rattle.acta_image.specs.inside.Gives.{Gives, is_fault, part_of, policy_by};
 
 use crate::fault::{ImageFault, LoadError};
-use acta_table::{
-    AtCommit, DepKinds, Extent, Items, Kind, Kinds, Policy, Scope, Starts, is_named_well,
-};
-use std::alloc::Allocator;
+use acta_table::{AtCommit, DepKinds, Extent, Kind, Kinds, Policy, Scope, Starts, is_named_well};
 
 /// The first bytes, and those behind them.
 pub fn part(bytes: &[u8], len: usize) -> Result<(&[u8], &[u8]), LoadError>
@@ -59,17 +56,13 @@ pub fn number(size: usize, most: u16, bytes: &[u8]) -> Result<(u16, &[u8]), Load
 }
 
 /// A name of this length.
-pub fn name<A: Allocator>(
-    alloc: A,
-    size: usize,
-    len: u8,
-    bytes: &[u8],
-) -> Result<(Items<u8, A>, &[u8]), LoadError>
-    ensures { Gives (λ x. (x.0, x.1.now)) result (field size len name_by bytes.now) }
+pub fn name(size: usize, len: u8, bytes: &[u8]) -> Result<(&[u8], &[u8]), LoadError>
+    ensures field { Gives (λ x. (x.0.now, x.1.now)) result (field size len name_by bytes.now) }
+    ensures sure { IfErr result (λ e. is_fault e ≡ true) }
 {
     let (found, rest) = part(bytes, usize::from(len))?;
     if is_named_well(found) {
-        Ok((Items::of(Vec::from_slice(alloc, found)?), rest))
+        Ok((found, rest))
     } else {
         Err(bad(size, bytes))
     }

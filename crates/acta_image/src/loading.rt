@@ -30,9 +30,10 @@ fn object<A: Allocator>(
     ensures { Gives (λ x. (x.0, x.1.now)) result (read_object size bytes.now) }
 {
     let (len, rest) = byte(size, 1, LONGEST_NAME as u8, bytes)?;
-    let (name, rest) = name(alloc, size, len, rest)?;
+    let (name, rest) = name(size, len, rest)?;
     let (code, rest) = byte(size, 0, 2, rest)?;
     let (kind, rest) = kind(size, code, rest)?;
+    let name = Items::of(Vec::from_slice(alloc, name)?);
     Ok((Object { name, kind }, rest))
 }
 
@@ -46,7 +47,7 @@ fn class<A: Allocator + Copy>(
     ensures { Gives (λ x. (x.0, x.1.now)) result (read_class size bytes.now) }
 {
     let (len, rest) = byte(size, 1, LONGEST_NAME as u8, bytes)?;
-    let (name, rest) = name(alloc, size, len, rest)?;
+    let (name, rest) = name(size, len, rest)?;
     let (starts, rest) = starts(size, rest)?;
     let (may, rest) = number(size, 255, rest)?;
     let (scope, rest) = scope(size, rest)?;
@@ -56,6 +57,7 @@ fn class<A: Allocator + Copy>(
     let (extent, rest) = extent(size, rest)?;
     let (spawn_edges, rest) = edges(alloc, size, rest)?;
     let (split_edges, rest) = edges(alloc, size, rest)?;
+    let name = Items::of(Vec::from_slice(alloc, name)?);
     let class = Class {
         name,
         starts,

@@ -2,6 +2,7 @@
 
 ghost use Rattle.std.specs.Prelude.{◌≡◌, ◌++◌, ◌∷◌, ◌≤◌, length, Ok, IfOk, OnOk};
 ghost use Rattle.std.specs.List.{All, flat_map};
+ghost use Rattle.acta_table.specs.declared.limits.TheConstants.{MOST_CLASSES, MOST_OBJECTS};
 ghost use Rattle.acta_image.specs.Reading.{loaded};
 ghost use Rattle.acta_image.specs.Spelling.{choices, class_bytes, head, image, object_bytes, row_bytes, rows_bytes};
 
@@ -118,11 +119,12 @@ fn push_head<A: Allocator>(
     image.extend_from_slice(&[b'A', b'C', b'T', b'A', 1, classes, high, low])
 }
 
-// Appends the image of a model with names that are short.
+// Appends the image of a model with names that are short and few.
 #[tactic(auto, unfolding(crate::specs::Spelling::image))]
 fn push_model<A: Allocator>(bytes: &mut Vec<u8, A>, model: &Model<A>) -> Result<(), AllocError>
     requires objects { All (λ object. length object.name ≤ LONGEST_NAME) model.now.objects }
     requires classes { All (λ class. length class.name ≤ LONGEST_NAME) model.now.classes }
+    requires few { (length model.now.classes ≤ MOST_CLASSES) × (length model.now.objects ≤ MOST_OBJECTS) }
     ensures { OnOk result (bytes.new.items ≡ bytes.old.items ++ image model.now) }
 {
     let (classes, objects) = (model.classes(), model.objects());
@@ -131,11 +133,12 @@ fn push_model<A: Allocator>(bytes: &mut Vec<u8, A>, model: &Model<A>) -> Result<
     push_classes(bytes, classes)
 }
 
-// The image of a model is loaded as the model, and its names are short.
+// The image of a model is loaded as the model, and its names are short and few.
 fn known<A: Allocator>(model: &Model<A>)
     ensures again { loaded (image model.now) ≡ Ok model.now }
     ensures objects { All (λ object. length object.name ≤ LONGEST_NAME) model.now.objects }
     ensures classes { All (λ class. length class.name ≤ LONGEST_NAME) model.now.classes }
+    ensures few { (length model.now.classes ≤ MOST_CLASSES) × (length model.now.objects ≤ MOST_OBJECTS) }
 {
     model.known();
 }

@@ -28,7 +28,7 @@ use Rattle.acta_table.specs.declared.start_edges.Dependent.{Dependent}
 use Rattle.acta_table.specs.declared.start_edges.Dependent.TheVariants.{Starter, Started}
 use Rattle.acta_table.specs.declared.start_edges.StartEdge.{StartEdge}
 use Rattle.acta_table.specs.Dependencies.{all_kinds, has_dep, is_begin_kind, word_of}
-use Rattle.acta_table.specs.Faults.{fault_if, has_begin_edge, has_begin_kind, has_twice, is_name, lacks_parents, lowest_fault}
+use Rattle.acta_table.specs.Faults.{fault_if, has_begin_edge, has_begin_kind, has_twice, is_name, lacks_parents}
 use Rattle.acta_table.specs.Kinds.{has_kind}
 use Rattle.acta_table.specs.Policies.{is_bad_policy}
 use Rattle.acta_table.specs.declared.limits.TheConstants.{MOST_CLASSES, MOST_OBJECTS}

@@ -14,8 +14,10 @@ pub fn assemble<A: Allocator + Copy>(alloc: A, text: &[u8]) -> Result<Model<A>, 
     ensures ok { IfOk result (λ model. meaning text.now ≡ Ok model) }
     ensures fault { IfErr result (IsWhy {A = A} (meaning text.now)) }
 {
-    let parts = declare_all(alloc, text)?.parts(alloc)?;
-    match Model::check(parts) {
+    let draft = declare_all(alloc, text)?;
+    let parts = draft.parts(alloc);
+    drop(draft);
+    match Model::check(parts?) {
         Ok(model) => Ok(model),
         Err(_) => unreachable!(),
     }

@@ -32,7 +32,6 @@ fn object_place<A: Allocator>(objects: &[Object<A>], word: &[u8]) -> Option<usiz
 }
 
 /// The class of the model that has this name.
-#[tactic(auto, using(crate::proofs::Checked::few_classes))]
 pub(crate) fn class_said<A: Allocator>(model: &Model<A>, word: &[u8]) -> Result<ClassId, LineFault>
     ensures said { result ≡ class_said model.now word.now }
     ensures within { IfOk result (λ class. class.0 < length model.now.classes) }
@@ -42,7 +41,6 @@ pub(crate) fn class_said<A: Allocator>(model: &Model<A>, word: &[u8]) -> Result<
 }
 
 /// The object of the model that has this name.
-#[tactic(auto, using(crate::proofs::Checked::few_objects))]
 pub(crate) fn object_said<A: Allocator>(model: &Model<A>, word: &[u8]) -> Result<ObjId, LineFault>
     ensures said { result ≡ object_said model.now word.now }
     ensures within { IfOk result (λ object. object.0 < length model.now.objects) }

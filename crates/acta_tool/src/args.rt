@@ -5,7 +5,7 @@ ghost use Rattle.std.specs.Option.{option_map_or};
 ghost use Rattle.std.specs.Str.{bytes_eq};
 ghost use Rattle.clap.specs.Words.{app_of, first_value, found_of, new_app, rule_of, subcommand_rows_of, with_rule, with_subcommand};
 ghost use Rattle.acta_models.specs.declared.texts.Standard.{Standard as StandardModel};
-ghost use Rattle.acta_tool.specs.CommandLines.{AreSeated, AsksFor, IsCommand, IsFaultOf, IsKnown, IsModel, IsUnknown, bare_app, begins_at, drive_app, faults_of, kept_rule, model_rule, named_by, named_in, run_app, standard_text, tool_app, workers_in, workers_rule};
+ghost use Rattle.acta_tool.specs.CommandLines.{AreSeated, AsksFor, IsCommand, IsFaultOf, IsKnown, IsModel, IsUnknown, bare_app, begins_at, faults_of, kept_rule, model_rule, named_by, named_in, standard_text, tool_app, workers_in, workers_rule};
 ghost use Rattle.acta_tool.specs.inside.Spelling.{IsMissing, named_of};
 
 use crate::fault::UsageFault;
@@ -178,17 +178,22 @@ fn with_command<'a>(
     program.subcommand(added)
 }
 
-// The program with the command `run` more.
-fn with_run<'a>(alloc: Global, program: clap::Command<'a>) -> Result<clap::Command<'a>, AllocError>
-    ensures { IfOk result (λ command. app_of command ≡ with_subcommand (app_of program.entry) run_app.top) }
+// The program with one command more, which has the model and this argument.
+fn with_argument<'a>(
+    alloc: Global,
+    program: clap::Command<'a>,
+    name: &'a str,
+    about: &'a str,
+    argument: Arg<'a>,
+) -> Result<clap::Command<'a>, AllocError>
+    requires { argument.global ≡ false }
+    ensures { IfOk result (λ command. app_of command ≡ with_subcommand (app_of program.entry) (with_rule (with_rule (new_app name.now) model_rule) (rule_of argument.entry)).top) }
 {
-    let run = clap::Command::new(alloc, "run")
-        .about(
-            "Answers the events of the standard input, one line for each, and tells what is owed",
-        )
+    let added = clap::Command::new(alloc, name)
+        .about(about)
         .arg(model_argument(alloc))?
-        .arg(kept_flag(alloc))?;
-    program.subcommand(run)
+        .arg(argument)?;
+    program.subcommand(added)
 }
 
 // How many threads hand the events in.
@@ -202,20 +207,6 @@ fn workers_option<'a>(alloc: Global) -> Arg<'a>
         .action(ArgAction::Set)
         .value_parser(ValueParser::Signed(1, 16))
         .help("How many threads hand in the events, from 1 to 16")
-}
-
-// The program with the command `drive` more.
-fn with_drive<'a>(
-    alloc: Global,
-    program: clap::Command<'a>,
-) -> Result<clap::Command<'a>, AllocError>
-    ensures { IfOk result (λ command. app_of command ≡ with_subcommand (app_of program.entry) drive_app.top) }
-{
-    let drive = clap::Command::new(alloc, "drive")
-        .about("Hands in the lines SEAT EVENT of the standard input by a thread for each seat")
-        .arg(model_argument(alloc))?
-        .arg(workers_option(alloc))?;
-    program.subcommand(drive)
 }
 
 // The command line that the program takes.
@@ -246,7 +237,20 @@ fn surface<'a>(alloc: Global) -> Result<clap::Command<'a>, AllocError>
         "debug",
         "Does the commands behind the line -- on the history of the events before it",
     )?;
-    with_drive(alloc, with_run(alloc, program)?)
+    let program = with_argument(
+        alloc,
+        program,
+        "run",
+        "Answers the events of the standard input, one line for each, and tells what is owed",
+        kept_flag(alloc),
+    )?;
+    with_argument(
+        alloc,
+        program,
+        "drive",
+        "Hands in the lines SEAT EVENT of the standard input by a thread for each seat",
+        workers_option(alloc),
+    )
 }
 
 // Whether the flag was set.
@@ -307,6 +311,27 @@ fn no_command(surface: &mut clap::Command<'_>) -> UsageFault
     }
 }
 
+// What the words ask the program for that takes this command line.
+fn asked_by<'a>(
+    surface: &mut clap::Command<'a>,
+    words: &'a [String],
+) -> Result<Args<'a>, UsageFault>
+    requires { app_of surface.old ≡ tool_app }
+    ensures ok { IfOk result (AsksFor (map string_bytes words.now)) }
+    ensures err { IfErr result (IsFaultOf (map string_bytes words.now)) }
+{
+    let Some(spelled) = spelled_by(surface, words)? else {
+        return Err(no_command(surface));
+    };
+    let Some(command) = command_named(&spelled) else {
+        return Err(no_command(surface));
+    };
+    match model_named(spelled.model) {
+        Some(model) => Ok(Args { command, model }),
+        None => Err(UsageFault::UnknownModel),
+    }
+}
+
 /// What the words ask for; the first is the program's name. `Usage` where they are no command with its model, with the
 /// text of `clap`; `UnknownModel` where no standard model has the name after the `@`; `Memory` where there is none.
 pub fn parse<'a>(alloc: Global, words: &'a [String]) -> Result<Args<'a>, UsageFault>
@@ -314,14 +339,7 @@ pub fn parse<'a>(alloc: Global, words: &'a [String]) -> Result<Args<'a>, UsageFa
     ensures err { IfErr result (IsFaultOf (map string_bytes words.now)) }
 {
     let mut surface = surface(alloc).map_err(UsageFault::Memory)?;
-    let Some(spelled) = spelled_by(&mut surface, words)? else {
-        return Err(no_command(&mut surface));
-    };
-    let Some(command) = command_named(&spelled) else {
-        return Err(no_command(&mut surface));
-    };
-    match model_named(spelled.model) {
-        Some(model) => Ok(Args { command, model }),
-        None => Err(UsageFault::UnknownModel),
-    }
+    let asked = asked_by(&mut surface, words);
+    drop(surface);
+    asked
 }

@@ -44,7 +44,9 @@ fn kept_of<A: Allocator + Copy>(
     ensures { IfOk result (λ history. history.items ≡ (run_state model.now events.now).kept) }
 {
     let run = Machine::run(alloc, model.copy()?, events)?;
-    copied(alloc, run.machine.history())
+    let history = copied(alloc, run.machine.history());
+    drop(run);
+    history
 }
 
 // A debugger on what a run of the events keeps: a machine's history is one, so the debugger accepts it.
@@ -85,7 +87,9 @@ fn report_commands<A: Allocator + Copy>(
 {
     let mut debugger = debugger_on(alloc, model, events)?;
     let mut text = Vec::new(alloc);
-    tell_commands(alloc, &mut debugger, commands.said.as_slice(), &mut text)?;
+    let told = tell_commands(alloc, &mut debugger, commands.said.as_slice(), &mut text);
+    drop(debugger);
+    told?;
     tell_last(&mut text, commands.stop)?;
     Ok(Report {
         text,

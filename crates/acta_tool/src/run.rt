@@ -55,9 +55,10 @@ fn run_model<A: Allocator + Copy>(
     };
     let read = read_lines(alloc, &lines, input)?;
     let run = Machine::run(alloc, model, read.said.as_slice())?;
-    let text = tell_run(alloc, is_kept, &run, read.stop)?;
+    let told = tell_run(alloc, is_kept, &run, read.stop);
+    drop(run);
     Ok(Report {
-        text,
+        text: told?,
         is_refused: read.stop.is_some(),
     })
 }

@@ -1,42 +1,10 @@
-use Rattle.std.proofs.Common.{◌≡◌, ◌+◌, ◌∙◌, ap, arith, length, subst, sym, take}
-use Rattle.std.proofs.lemmas.List.{length-take-le}
-use Rattle.acta_table.specs.declared.answer.Answer.TheVariants.{Admitted}
-use Rattle.acta_machine.specs.Table.{State, answer_to}
-use Rattle.acta_debug.specs.Histories.{IsFirstOther}
-use Rattle.acta_debug.proofs.Replaying.{HasKept, first-other, kept-one, taken, with_kept}
 use Rattle.acta_debug.proofs.replay.first_other.Goals as goal
 
-pub returns-then-not-is_admitted-clause-other : goal.returns-then-not-is_admitted-clause-other
-returns-then-not-is_admitted-clause-other g c =
-    let m = c.args.model in
-    let h = c.args.items.now in
-    let i = c.loop-item.item-index in
-    let k = c.item-item.result in
-    let inv = c.loop-item.invariant in
-    let wrong : ¬ (answer_to (with_kept m (take i h)) k.event ≡ Admitted (i + 1) k.ret) = λ due.
-    let yes = c.is_admitted.ensures.1
-    (c.in_ok-answer.ensures.answer ∙ ap (λ (s : State g.row.A.Denot). answer_to s k.event) inv.kept ∙ due ∙ ap (λ n. Admitted n k.ret) (sym inv.place)) in
-    let no = c.if-not-is_admitted.true in
-    cc in
-    subst (λ n. IsFirstOther m h n) (sym inv.place) (first-other m h i k c.loop-item-test.true (taken h i k c.loop-item-test.true c.item-item.is) inv.so_far wrong)
+pub returns-clause-history : goal.returns-clause-history
+returns-clause-history g c = rw c.in_ok-machine.ensures.fresh at c.first_other_on-other.ensures.history
 
-pub loop-item-preserved : goal.loop-item-preserved
-loop-item-preserved g c =
-    let m = c.args.model in
-    let h = c.args.items.now in
-    let i = c.loop-item.item-index in
-    let k = c.item-item.result in
-    let t = c.take.new.self in
-    let inv = c.loop-item.invariant in
-    let before : HasKept m (take i h) c.loop-item.machine = record { kept = inv.kept; so_far = inv.so_far } in
-    let admitted : answer_to c.loop-item.machine k.event ≡ Admitted c.loop-item.place k.ret = sym c.in_ok-answer.ensures.answer ∙ c.is_admitted.ensures.0 c.if-not-is_admitted.false in
-    let has = kept-one m h i k c.loop-item.machine t before (taken h i k c.loop-item-test.true c.item-item.is) c.loop-item.place admitted c.in_ok-answer.ensures.ok in
-    let size : length t.kept ≡ i + 1 = ap (λ (s : State g.row.A.Denot). length s.kept) has.kept ∙ length-take-le (i + 1) h (omega arith) in
-    let told = ap length c.history.ensures.history in
-    let few = c.history.ensures.within in
-    record {
-      place = omega (arith, told, size);
-      few = omega (arith, few, size);
-      kept = has.kept;
-      so_far = has.so_far;
-    }
+pub returns-clause-few : goal.returns-clause-few
+returns-clause-few g c = c.first_other_on-other.ensures.few
+
+pub returns-clause-other : goal.returns-clause-other
+returns-clause-other g c = rw c.in_ok-machine.ensures.fresh at c.first_other_on-other.ensures.other

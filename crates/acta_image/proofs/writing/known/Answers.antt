@@ -1,4 +1,4 @@
-use Rattle.acta_image.proofs.Images.{image-again, short-classes, short-objects}
+use Rattle.acta_image.proofs.Images.{few-names, image-again, short-classes, short-objects}
 use Rattle.acta_image.proofs.writing.known.Goals as goal
 
 pub returns-clause-again : goal.returns-clause-again
@@ -9,3 +9,6 @@ returns-clause-objects g c = short-objects c.args.model.now c.known.ensures
 
 pub returns-clause-classes : goal.returns-clause-classes
 returns-clause-classes g c = short-classes c.args.model.now c.known.ensures
+
+pub returns-clause-few : goal.returns-clause-few
+returns-clause-few g c = few-names c.args.model.now c.known.ensures

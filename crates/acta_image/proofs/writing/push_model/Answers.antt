@@ -1,9 +1,22 @@
-use Rattle.std.proofs.Common.{◌≡◌, ◌∙◌, ◌++◌, List, ℕ, ap, length, sym}
+use Rattle.std.proofs.Common.{◌≡◌, ◌∙◌, ◌++◌, List, ℕ, ap, arith, length, sym}
+use Rattle.std.proofs.lemmas.Grind.{common_steps}
 use Rattle.std.proofs.lemmas.List.{append_assoc}
 use Rattle.std.proofs.lemmas.Result.{IfOk-equal}
 use Rattle.std.specs.List.{flat_map}
 use Rattle.acta_image.specs.Spelling.{class_bytes, head, image, object_bytes}
 use Rattle.acta_image.proofs.writing.push_model.Goals as goal
+
+pub overflow_cast-classes : goal.overflow_cast-classes
+overflow_cast-classes g c = grind (arith, common_steps)
+
+pub overflow_cast-objects : goal.overflow_cast-objects
+overflow_cast-objects g c = grind (arith, common_steps)
+
+pub push_objects-requires : goal.push_objects-requires
+push_objects-requires g c = rw c.objects-objects.ensures.objects c.requires.objects
+
+pub push_classes-requires : goal.push_classes-requires
+push_classes-requires g c = rw c.classes-classes.ensures.classes c.requires.classes
 
 pub returns : goal.returns
 unfolding image

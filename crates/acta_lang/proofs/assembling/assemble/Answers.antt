@@ -8,7 +8,6 @@ use Rattle.acta_lang.proofs.assembling.assemble.Goals as goal
 -- what a text means has no fault
 pub unreachable-requires : goal.unreachable-requires
 unreachable-requires g c =
-    let draft = c.in_ok-declare_all.field-0 in
-    let none = ap lowest_fault c.in_ok-parts.ensures ∙ is_sound c.args.text.now (parts_of (shown draft)) c.in_ok-declare_all.ensures.ok in
+    let none = ap lowest_fault c.in_ok-parts.ensures ∙ is_sound c.args.text.now (parts_of (shown c.in_ok-draft.draft)) c.in_ok-draft.ensures.ok in
     let clash : None ≡ Some c.in-Err.field-0 = sym none ∙ c.in-Err.ensures.fault in
     cc

@@ -9,4 +9,4 @@ use Rattle.acta_tool.proofs.debugging.kept_of.Goals as goal
 pub returns : goal.returns
 returns g c =
     let state = c.in_ok-run.ensures.machine ∙ ap (λ (m : Parts _). run_state m c.args.events.now) c.in_ok-copy.ensures in
-    subst (λ (kept : List (Kept _)). IfOk c.copied.result (λ history. history.items ≡ kept)) (c.history.ensures.history ∙ ap (λ (s : State _). s.kept) state) c.copied.ensures
+    subst (λ (kept : List (Kept _)). IfOk c.copied-history.result (λ history. history.items ≡ kept)) (c.history.ensures.history ∙ ap (λ (s : State _). s.kept) state) c.copied-history.ensures

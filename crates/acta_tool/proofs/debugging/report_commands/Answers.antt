@@ -6,5 +6,5 @@ use Rattle.acta_tool.proofs.debugging.report_commands.Goals as goal
 pub returns : goal.returns
 returns g c =
     (λ i. record { is_refused = c.is_some.ensures i; text = c.tell_last.new.text.items })
-    ∙ whole c.args.model c.args.events.now (said_of c.args.commands.now) c.in_ok-debugger.debugger c.as_slice.result.now c.new-text.result.items c.tell_commands.new.text.items c.tell_last.new.text.items
-    c.in_ok-debugger.ensures c.as_slice.ensures.value c.new-text.ensures.items c.in_ok-tell_commands.ensures c.in_ok-tell_last.ensures
+    ∙ whole c.args.model c.args.events.now (said_of c.args.commands.now) c.in_ok-debugger.debugger c.as_slice.result.now c.new-text.result.items c.tell_commands-told.new.text.items c.tell_last.new.text.items
+    c.in_ok-debugger.ensures c.as_slice.ensures.value c.new-text.ensures.items c.in_ok-told.ensures c.in_ok-tell_last.ensures

@@ -2,7 +2,7 @@ use Rattle.std.proofs.Common.{◌≡◌, ◌+◌, ◌≤◌, take}
 use Rattle.acta_table.specs.declared.limits.TheConstants.{MOST_EVENTS}
 use Rattle.acta_debug.specs.Histories.{IsHistory}
 use Rattle.acta_debug.proofs.Replaying.{with_kept}
-use Rattle.acta_debug.proofs.replay.first_other.Given as goal
+use Rattle.acta_debug.proofs.replay.first_other_on.Given as goal
 
 -- the items so far are a history, and the machine has kept them
 abbrev pub invariant-loop-item : goal.invariant-loop-item
@@ -10,6 +10,6 @@ invariant-loop-item g l =
     record {
       place : l.place ≡ l.item-index + 1;
       few : l.item-index ≤ MOST_EVENTS;
-      kept : l.machine ≡ with_kept l.fn.model (take l.item-index l.items);
-      so_far : IsHistory l.fn.model (take l.item-index l.items);
+      kept : l.machine ≡ with_kept l.fn.machine.model (take l.item-index l.items);
+      so_far : IsHistory l.fn.machine.model (take l.item-index l.items);
     }

@@ -1,13 +1,13 @@
 use Rattle.std.proofs.Common.{◌≡◌, drop}
 use Rattle.acta_machine.specs.Places.{FollowsPlaces}
-use Rattle.acta_machine.specs.Table.{after_all, run_state}
+use Rattle.acta_machine.specs.Table.{after_all}
 use Rattle.acta_debug.specs.Histories.{events_in}
-use Rattle.acta_debug.proofs.replay.replayed.Given as goal
+use Rattle.acta_debug.proofs.replay.take_events.Given as goal
 
 -- by the events that are left the machine goes on to the same end
 abbrev pub invariant-loop-item : goal.invariant-loop-item
 invariant-loop-item g l =
     record {
-      rest : after_all l.machine (events_in (drop l.item-index l.items)) ≡ run_state l.fn.model (events_in l.items);
+      rest : after_all l.machine (events_in (drop l.item-index l.items)) ≡ after_all l.initial.machine (events_in l.items);
       follows : FollowsPlaces l.machine;
     }
