@@ -1,5 +1,8 @@
 //! The tool without its process: what the words of a command line ask for, and what is written for the bytes of a model
 //! and of an input, over any reader and writer. A program that only opens files and streams stands above it.
+//!
+//! A function that lets go of a run, a debugger or a surface of `clap` gives it to `drop` before its other ways out: who
+//! lets it go by itself lets go of each of its parts, at each way out, and each is proved there.
 #![tactic(auto)]
 
 mod args;
