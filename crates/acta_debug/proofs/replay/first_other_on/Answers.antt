@@ -22,14 +22,12 @@ returns-then-not-is_admitted-clause-other g c =
 
 pub returns-then-not-is_admitted-clause-taken : goal.returns-then-not-is_admitted-clause-taken
 returns-then-not-is_admitted-clause-taken g c =
-    let m = c.args.machine.now.model in
-    let h = c.args.items.now in
-    let i = c.loop-item.item-index in
-    let k = c.item-item.result in
-    let t = c.take.new.self in
-    let inv = c.loop-item.invariant in
-    let before : HasKept m (take i h) c.loop-item.machine = record { kept = inv.kept; so_far = inv.so_far } in
-    subst (λ n. t ≡ state_at m h n) (sym inv.place) (state-next m h i k c.loop-item.machine t before (taken h i k c.loop-item-test.true c.item-item.is) c.in_ok-answer.ensures.ok)
+    let items = c.args.items.now in
+    let at = c.loop-item.item-index in
+    let so = c.loop-item.invariant in
+    subst (λ n. c.take.new.self ≡ state_at c.args.machine.now.model items n) (sym so.place)
+    (state-next c.args.machine.now.model items at c.item-item.result c.loop-item.machine c.take.new.self (record { kept = so.kept; so_far = so.so_far })
+    (taken items at c.item-item.result c.loop-item-test.true c.item-item.is) c.in_ok-answer.ensures.ok)
 
 pub loop-item-preserved : goal.loop-item-preserved
 loop-item-preserved g c =
