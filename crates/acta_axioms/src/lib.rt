@@ -12,10 +12,12 @@ mod holding;
 mod lineage;
 mod places;
 mod seeking;
+mod taking;
 mod trail;
 mod values;
 mod walk;
 
+pub use acta_sets::Handle;
 pub use course::Course;
 pub use fault::{Axiom, Fault};
 pub use places::Places;

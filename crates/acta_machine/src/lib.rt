@@ -9,4 +9,5 @@ mod conflicts;
 mod machine;
 mod rules;
 
+pub use acta_sets::Handle;
 pub use machine::{Machine, Run};
