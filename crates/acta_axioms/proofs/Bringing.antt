@@ -20,51 +20,10 @@ use Rattle.acta_sets.specs.declared.held_op.HeldOp.{HeldOp}
 use Rattle.acta_axioms.specs.History.{places_behind, places}
 use Rattle.acta_axioms.specs.Operations.{Operation, is_operate, number_after, operation_in, operation_at, operations, Standing, held_by, ended_by, heir, followed, carried, standing, standing_of}
 use Rattle.acta_axioms.specs.Walks.{held_op, held_ops}
-use Rattle.acta_axioms.specs.inside.Holding.{in_hand, moves, brought, brought_from, op_done, followed_on, next_number}
+use Rattle.acta_axioms.specs.inside.Holding.{in_hand, brought, brought_from, op_done, followed_on, next_number}
 use Rattle.acta_axioms.specs.inside.Lineages.{heir_by}
 use Rattle.acta_axioms.specs.inside.Walking.{standing_in}
 use Rattle.acta_axioms.proofs.Growth.{found-passes, at_end, length-places, added, operations-push, number_after-push, shown-push, standing-push, standing-new, operation_place, operations_within}
-
--- a list in which those up to i are brought, and then one more
-
-brought_next : {A : Type 0} (heir : Option TxnId) (e : Event A) (n : ℕ) (xs : List HeldOp) (i : ℕ) (d : HeldOp) → i < length xs →
-    slice_set (brought_from heir e n (take i xs) ++ drop i xs) i (brought heir e (n + i) (get_or (brought_from heir e n (take i xs) ++ drop i xs) i d)) ≡ brought_from heir e n (take (suc i) xs) ++ drop (suc i) xs
-brought_next left e n [] i d within = absurd (omega arith)
-brought_next left e n (x ∷ xs) zero d within = let same : n + 0 ≡ n = omega arith in ap (λ k. brought left e k x ∷ xs) same
-brought_next left e n (x ∷ xs) (suc i) d within =
-    let same : n + suc i ≡ n + 1 + i = omega arith in
-    (λ y. brought left e n x ∷ slice_set (brought_from left e (n + 1) (take i xs) ++ drop i xs) i (brought left e (same y) (get_or (brought_from left e (n + 1) (take i xs) ++ drop i xs) i d)))
-    ∙ ap (λ ys. brought left e n x ∷ ys) (brought_next left e (n + 1) xs i d (omega arith))
-
-pub brought-more : {A : Type 0} (heir : Option TxnId) (e : Event A) (xs ys : List HeldOp) (i : ℕ) (d y : HeldOp) → i < length xs → ys ≡ brought_from heir e 1 (take i xs) ++ drop i xs → y ≡ brought heir e (i + 1) (get_or ys i d) →
-    slice_set ys i y ≡ brought_from heir e 1 (take (i + 1) xs) ++ drop (i + 1) xs
-brought-more left e xs ys i d y within so_far here =
-    let next : suc i ≡ i + 1 = omega arith in
-    let number : i + 1 ≡ 1 + i = omega arith in
-    (λ x. slice_set (so_far x) i ((here ∙ (λ z. brought left e (number z) (get_or (so_far z) i d))) x))
-    ∙ brought_next left e 1 xs i d within
-    ∙ (λ x. brought_from left e 1 (take (next x) xs) ++ drop (next x) xs)
-
-pub length-brought : {A : Type 0} (heir : Option TxnId) (e : Event A) (n : ℕ) (xs : List HeldOp) → length (brought_from heir e n xs) ≡ length xs
-length-brought left e n [] = refl
-length-brought left e n (x ∷ xs) = ap suc (length-brought left e (n + 1) xs)
-
--- an event that moves and ends none leaves each as it is
-brought-same : {A : Type 0} (heir : Option TxnId) (e : Event A) (n : ℕ) (x : HeldOp) → moves e ≡ false → brought heir e n x ≡ x
-brought-same left (Split s u class ops) n x still = absurd (true≢false still)
-brought-same left (Join s u) n x still = absurd (true≢false still)
-brought-same left (Delegate s u ops) n x still = absurd (true≢false still)
-brought-same left (Commit s) n x still = absurd (true≢false still)
-brought-same left (Abort s) n x still = absurd (true≢false still)
-brought-same left _ n x still = of_test (is_open x.fate)
-  where
-    of_test : (b : Bool) → (if b then x else x) ≡ x
-    of_test true = refl
-    of_test false = refl
-
-pub brought-still : {A : Type 0} (heir : Option TxnId) (e : Event A) (n : ℕ) (xs : List HeldOp) → moves e ≡ false → brought_from heir e n xs ≡ xs
-brought-still left e n [] still = refl
-brought-still left e n (x ∷ xs) still = λ i. brought-same left e n x still i ∷ brought-still left e (n + 1) xs still i
 
 -- how an operation stands, one item further
 brought-carried : {A : Type 0} (m : Parts A) (h : List (Kept A)) (k : Kept A) (o : Operation) (s : Standing) → brought (heir_by m h k.event) k.event o.number (held_op o s) ≡ held_op o (carried m o.number s (at_end h k))

@@ -1,5 +1,6 @@
 -- Operations that conflict by the table of pairs are of their object's kind.
-use Rattle.std.proofs.Common.{◌≡◌, ℕ, false, ◌&&◌, Option, Some, None, refl}
+use Rattle.std.proofs.Common.{◌≡◌, ℕ, Bool, true, false, ◌&&◌, Option, Some, None, refl, sym, ap, ◌∙◌}
+use Rattle.std.proofs.lemmas.Bool.{false≢true}
 use Rattle.std.specs.Option.{option_map_or}
 use Rattle.acta_table.specs.declared.event.Op.{Op}
 use Rattle.acta_table.specs.declared.event.Op.TheVariants.{Read, Write, Get, Add, Insert, Remove, Has, Size}
@@ -9,7 +10,9 @@ use Rattle.acta_table.specs.declared.model.Parts.{Parts}
 use Rattle.acta_table.specs.Classes.{kind_at}
 use Rattle.acta_objects.specs.Objects.{is_register_op, is_counter_op, is_set_op, suits}
 use Rattle.acta_objects.specs.Conflicts.{register_conflicts, counter_conflicts, set_conflicts, conflicts, conflict_on}
-use Rattle.acta_axioms.specs.Values.{do_conflict}
+use Rattle.acta_sets.specs.Operations.{ops_conflict}
+use Rattle.acta_sets.proofs.Laws.{conflicts_alike}
+use Rattle.acta_axioms.specs.Values.{do_conflict, is_well_formed}
 
 of_registers : (p q : Op) → (is_register_op p && (is_register_op q && register_conflicts p q)) ≡ register_conflicts p q
 of_registers Read Read = refl
@@ -64,3 +67,19 @@ do_conflict-on m object p q = of_object (kind_at m object)
     of_object : (k : Option Kind) → (option_map_or (λ kind. suits kind p) k false && (option_map_or (λ kind. suits kind q) k false && option_map_or (λ kind. conflicts kind p q) k false)) ≡ option_map_or (λ kind. conflicts kind p q) k false
     of_object None = refl
     of_object (Some kind) = of_kind kind p q
+
+-- where an operation is well formed, it conflicts with those that the table counts
+kind-conflicts : (k : Option Kind) (p op : Op) → option_map_or (λ kind. suits kind op) k false ≡ true → ops_conflict p op ≡ option_map_or (λ kind. conflicts kind p op) k false
+kind-conflicts None p op is = absurd (false≢true is)
+kind-conflicts (Some kind) p op is = sym (conflicts_alike kind p op is)
+
+pub suits-conflicts : {A : Type 0} (m : Parts A) (object : ℕ) (p op : Op) → is_well_formed m object op ≡ true → ops_conflict p op ≡ conflict_on m object p op
+suits-conflicts m object p op is = kind-conflicts (kind_at m object) p op is
+
+-- and where it is not, with none
+none_and : (a : Bool) → (a && false) ≡ false
+none_and true = refl
+none_and false = refl
+
+pub ill-conflicts : {A : Type 0} (m : Parts A) (object : ℕ) (p op : Op) → is_well_formed m object op ≡ false → conflict_on m object p op ≡ false
+ill-conflicts m object p op is = sym (do_conflict-on m object p op) ∙ ap (λ b. is_well_formed m object p && (b && conflict_on m object p op)) is ∙ none_and (is_well_formed m object p)

@@ -13,6 +13,7 @@ mod Named
 mod Tables
 mod Lineages
 mod Bringing
+mod Following
 mod FormedEdges
 pub mod Searches
 mod Walking

@@ -23,21 +23,25 @@ use Rattle.acta_table.specs.declared.answer.Fate.{Fate}
 use Rattle.acta_table.specs.declared.answer.Fate.TheVariants.{InProgress, Committed, Aborted}
 use Rattle.acta_table.specs.Ancestors.{ancestors_from}
 use Rattle.acta_table.specs.Classes.{spares}
-use Rattle.acta_table.specs.Fates.{is_aborted}
+use Rattle.acta_table.specs.Fates.{is_aborted, is_open}
 use Rattle.acta_table.specs.Numbered.{ascending}
 use Rattle.acta_table.specs.Policies.{refuses, edges_upon}
-use Rattle.acta_table.proofs.AscendingSets.{in-ascending}
+use Rattle.acta_table.proofs.AscendingSets.{in-ascending, any-number}
 use Rattle.acta_objects.specs.Objects.{suits, first_state, state_after}
+use Rattle.acta_objects.specs.Conflicts.{conflicts, conflict_on}
+use Rattle.acta_table.specs.Classes.{kind_at}
+use Rattle.acta_table.specs.Numbered.{numbers_from, numbers_where}
 use Rattle.acta_sets.specs.declared.held_op.HeldOp.{HeldOp}
-use Rattle.acta_axioms.specs.declared.seeking.Sought.TheVariants.{Held, Others, Against}
+use Rattle.acta_sets.specs.Operations.{is_held, ops_conflict, is_against as is_against_in, holders_against as holders_against_in}
+use Rattle.acta_axioms.specs.declared.seeking.Sought.TheVariants.{Others, Against}
 use Rattle.acta_axioms.specs.History.{has_class, class_of, ancestors}
 use Rattle.acta_axioms.specs.Operations.{Operation, Standing, standing, operations, is_spared, is_of_others, access_set, conflict_set}
-use Rattle.acta_axioms.specs.Values.{do_conflict, conflicting, value}
+use Rattle.acta_axioms.specs.Values.{do_conflict, conflicting, value, is_well_formed}
 use Rattle.acta_axioms.specs.Edges.{holders_against, formed_by}
 use Rattle.acta_axioms.specs.Walks.{held_op, held_ops, op_numbers, live_on, live_ops}
-use Rattle.acta_axioms.specs.inside.Walking.{spared, spared_numbers, is_against, is_sought, numbers_of}
+use Rattle.acta_axioms.specs.inside.Walking.{standing_in, spared, spared_numbers, is_against, is_sought, numbers_of}
 use Rattle.acta_axioms.proofs.ByOperations.{holders-shown, value-shown}
-use Rattle.acta_axioms.proofs.Conflicts.{do_conflict-on}
+use Rattle.acta_axioms.proofs.Conflicts.{do_conflict-on, suits-conflicts, ill-conflicts}
 use Rattle.acta_axioms.proofs.Numbers.{numbers-shown}
 use Rattle.acta_axioms.proofs.ValueGrowth.{filter-both}
 
@@ -71,10 +75,74 @@ against-tells m h t object op o s =
     turned false true c = refl
     turned false false c = refl
 
+-- by number, in the words of the table
+spared_by : {A : Type 0} (m : Parts A) (h : List (Kept A)) (t u : ℕ) → list_any (λ k. k == u) (spared_numbers m h t) ≡ is_spared m h t u
+spared_by m h t u = sym (any-number u (spared_numbers m h t)) ∙ in-spared m h t u
+
+moved_on : (f a b o c : Bool) → (f && a && b && o && c) ≡ (o && ((f && a && b) && c))
+moved_on true true true true c = refl
+moved_on true true true false c = refl
+moved_on true true false true c = refl
+moved_on true true false false c = refl
+moved_on true false b true c = refl
+moved_on true false b false c = refl
+moved_on false a b true c = refl
+moved_on false a b false c = refl
+
+against_by : {A : Type 0} (m : Parts A) (h : List (Kept A)) (t object : ℕ) (op : Op) (x : HeldOp) → is_well_formed m object op ≡ true → is_against_in t (spared_numbers m h t) object op x ≡ is_against m h t object op x
+against_by m h t object op x is =
+    (λ i. is_open x.fate && not (x.holder.0 == t) && not (spared_by m h t x.holder.0 i) && (x.ob.0 == object) && suits-conflicts m object x.op op is i)
+    ∙ moved_on (is_open x.fate) (not (x.holder.0 == t)) (not (is_spared m h t x.holder.0)) (x.ob.0 == object) (conflict_on m object x.op op)
+
+none_and : (a : Bool) → (a && false) ≡ false
+none_and true = refl
+none_and false = refl
+
+none_against : {A : Type 0} (m : Parts A) (h : List (Kept A)) (t object : ℕ) (op : Op) (x : HeldOp) → is_well_formed m object op ≡ false → is_against m h t object op x ≡ false
+none_against m h t object op x is =
+    ap (λ b. (x.ob.0 == object) && (is_of_others m h t (standing_in x) && b)) (ill-conflicts m object x.op op is)
+    ∙ ap (λ b. (x.ob.0 == object) && b) (none_and (is_of_others m h t (standing_in x))) ∙ none_and (x.ob.0 == object)
+
+any_none : (test : HeldOp → Bool) (xs : List HeldOp) → ((x : HeldOp) → test x ≡ false) → list_any test xs ≡ false
+any_none test [] none = refl
+any_none test (x ∷ xs) none = ap (λ b. b || list_any test xs) (none x) ∙ any_none test xs none
+
+pub any-by : {A : Type 0} (m : Parts A) (h : List (Kept A)) (t object : ℕ) (op : Op) (keys : List ℕ) (xs : List HeldOp) → keys ≡ spared_numbers m h t → is_well_formed m object op ≡ true →
+    list_any (is_against_in t keys object op) xs ≡ list_any (is_against m h t object op) xs
+any-by m h t object op keys xs same is =
+    ap (λ (ks : List ℕ). list_any (is_against_in t ks object op) xs) same ∙ ap (λ (test : HeldOp → Bool). list_any test xs) (λ i x. against_by m h t object op x is i)
+
+pub any-ill : {A : Type 0} (m : Parts A) (h : List (Kept A)) (t object : ℕ) (op : Op) (xs : List HeldOp) → is_well_formed m object op ≡ false → false ≡ list_any (is_against m h t object op) xs
+any-ill m h t object op xs is = sym (any_none (is_against m h t object op) xs (λ x. none_against m h t object op x is))
+
+-- where none is against, none is found
+none_numbered : (test : HeldOp → Bool) (n : ℕ) (xs : List HeldOp) → list_any test xs ≡ false → [] ≡ numbers_from test n xs
+none_numbered test n [] none = refl
+none_numbered test n (x ∷ xs) none = of_test (test x) none (none_numbered test (n + 1) xs)
+  where
+    of_test : (b : Bool) → (b || list_any test xs) ≡ false → (list_any test xs ≡ false → [] ≡ numbers_from test (n + 1) xs) → [] ≡ (if b then n ∷ numbers_from test (n + 1) xs else numbers_from test (n + 1) xs)
+    of_test true is later = absurd (false≢true (sym is))
+    of_test false is later = later is
+
 -- who holds those that conflict
 pub holders-found : {A : Type 0} (m : Parts A) (h : List (Kept A)) (t object : ℕ) (op : Op) → ascending (map (λ x. x.holder.0) (filter (is_against m h t object op) (held_ops m h))) ≡ holders_against m h t object op
 holders-found m h t object op =
     ap ascending (sym (holders-shown m h t object op (λ o. held_op o (standing m h o)) (is_against m h t object op) (λ x. x.holder.0) (λ o. against-tells m h t object op o (standing m h o)) (λ o. refl)))
+
+pub holders-by : {A : Type 0} (m : Parts A) (h : List (Kept A)) (t object : ℕ) (op : Op) (keys : List ℕ) → keys ≡ spared_numbers m h t → is_well_formed m object op ≡ true →
+    holders_against_in t keys object op (held_ops m h) ≡ holders_against m h t object op
+holders-by m h t object op keys same is =
+    ap (λ (ks : List ℕ). holders_against_in t ks object op (held_ops m h)) same
+    ∙ ap (λ xs. ascending (map (λ (x : HeldOp). x.holder.0) xs)) (filter_agree (is_against_in t (spared_numbers m h t) object op) (is_against m h t object op) (λ x. against_by m h t object op x is) (held_ops m h))
+    ∙ holders-found m h t object op
+
+none_held : (test : HeldOp → Bool) (xs : List HeldOp) → ((x : HeldOp) → test x ≡ false) → [] ≡ filter test xs
+none_held test [] none = refl
+none_held test (x ∷ xs) none = none_held test xs none ∙ ap (λ b. if b then x ∷ filter test xs else filter test xs) (sym (none x))
+
+pub holders-ill : {A : Type 0} (m : Parts A) (h : List (Kept A)) (t object : ℕ) (op : Op) → is_well_formed m object op ≡ false → [] ≡ holders_against m h t object op
+holders-ill m h t object op is =
+    ap (λ xs. ascending (map (λ (x : HeldOp). x.holder.0) xs)) (none_held (is_against m h t object op) (held_ops m h) (λ x. none_against m h t object op x is)) ∙ holders-found m h t object op
 
 -- the numbers of those that pass a test
 found : {A : Type 0} (m : Parts A) (h : List (Kept A)) (test : HeldOp → Bool) → numbers_of test (held_ops m h) ≡ op_numbers (filter (λ o. test (held_op o (standing m h o))) (operations h))
@@ -82,8 +150,8 @@ found m h test =
     let made : ℕ → OpNo = λ n. record { 0 = n } in
     sym (ap (map made) (numbers-shown (λ o. held_op o (standing m h o)) test h)) ∙ map-map made (λ (o : Operation). o.number) (filter (λ o. test (held_op o (standing m h o))) (operations h))
 
-pub held-found : {A : Type 0} (m : Parts A) (h : List (Kept A)) (t : ℕ) → numbers_of (is_sought m h t Held) (held_ops m h) ≡ op_numbers (access_set m h t)
-held-found m h t = found m h (is_sought m h t Held)
+pub held-found : {A : Type 0} (m : Parts A) (h : List (Kept A)) (t : ℕ) → numbers_of (is_held t) (held_ops m h) ≡ op_numbers (access_set m h t)
+held-found m h t = found m h (is_held t)
 
 pub others-found : {A : Type 0} (m : Parts A) (h : List (Kept A)) (t : ℕ) → numbers_of (is_sought m h t Others) (held_ops m h) ≡ op_numbers (conflict_set m h t)
 others-found m h t = found m h (is_sought m h t Others)
@@ -94,6 +162,11 @@ against-found m h t object op =
     ∙ ap op_numbers
     (filter_agree (λ o. is_against m h t object.0 op (held_op o (standing m h o))) (λ o. is_of_others m h t (standing m h o) && ((o.object == object.0) && do_conflict m object.0 o.op op)) (λ o. against-tells m h t object.0 op o (standing m h o)) (operations h)
     ∙ filter-both (λ o. is_of_others m h t (standing m h o)) (λ o. (o.object == object.0) && do_conflict m object.0 o.op op) (operations h))
+
+pub none-found : {A : Type 0} (m : Parts A) (h : List (Kept A)) (t : ℕ) (object : ObjId) (op : Op) → list_any (is_against m h t object.0 op) (held_ops m h) ≡ false → [] ≡ op_numbers (conflicting m h t object.0 op)
+none-found m h t object op none =
+    let made : ℕ → OpNo = λ n. record { 0 = n } in
+    ap (map made) (none_numbered (is_against m h t object.0 op) 1 (held_ops m h) none) ∙ against-found m h t object op
 
 -- the value of an object
 pick_live : (here : Bool) (fate : Fate) (fits : Bool) (op : Op) →

@@ -4,6 +4,7 @@ ghost use Rattle.acta_table.specs.declared.event.Event.TheVariants.{Operate};
 ghost use Rattle.acta_axioms.specs.Edges.{formed_by};
 
 use crate::walk::Walk;
+use acta_sets::Handle;
 use acta_table::{Edge, Event, ObjId, Op, TxnId};
 use indexmap::IndexSet;
 use std::alloc::{AllocError, Allocator};
@@ -37,6 +38,7 @@ fn form_each<A: Allocator>(edges: &mut Formed<A>, more: &[Edge]) -> Result<(), A
 /// Puts the edges behind the others, each once. `Err` where there is no memory, and then none is put.
 pub(crate) fn form_all<A: Allocator>(edges: &mut Formed<A>, more: &[Edge]) -> Result<(), AllocError>
     ensures formed { OnOk result (edges.new.keys ≡ formed edges.old.keys more.now) }
+    ensures before { OnOk result (take (length edges.old.keys) edges.new.keys ≡ edges.old.keys) }
     ensures err { OnErr result (edges.new.keys ≡ edges.old.keys) }
 {
     let count = edges.len();
@@ -49,7 +51,7 @@ pub(crate) fn form_all<A: Allocator>(edges: &mut Formed<A>, more: &[Edge]) -> Re
     }
 }
 
-impl<'a, A: Allocator + Copy> Walk<'a, A> {
+impl<'a, A: Handle> Walk<'a, A> {
     // The edges that an operation of t forms. `Err` where there is no memory.
     fn edges_upon(&self, t: TxnId, object: ObjId, op: &Op) -> Result<Vec<Edge, A>, AllocError>
         ensures { IfOk result (λ edges. edges.items ≡ formed_by self.now.model self.now.front (Operate t object op.now)) }

@@ -1,24 +1,9 @@
-ghost use Rattle.std.specs.Prelude.{◌≡◌, ◌+◌, ◌<◌, ◌++◌, if◌then◌else◌, length, vec_capacity, option_to_list};
-ghost use Rattle.acta_table.specs.Fates.{is_open};
-ghost use Rattle.acta_axioms.specs.inside.Holding.{in_hand, ended_so, moves, held_behind, brought, brought_from, op_done};
+ghost use Rattle.std.specs.Prelude.{◌≡◌, if◌then◌else◌};
+ghost use Rattle.acta_axioms.specs.inside.Holding.{in_hand, ended_so, held_behind, brought, op_done};
 
 use acta_sets::HeldOp;
-use acta_table::{Event, Fate, OpSet, TxnId};
+use acta_table::{Event, Fate, TxnId};
 use std::alloc::Allocator;
-
-// Whether the event can move operations, or end them.
-fn moves<A: Allocator>(event: &Event<A>) -> bool
-    ensures { result ≡ moves event.now }
-{
-    match event {
-        Event::Split(_, _, _, _) => true,
-        Event::Join(_, _) => true,
-        Event::Delegate(_, _, _) => true,
-        Event::Commit(_) => true,
-        Event::Abort(_) => true,
-        _ => false,
-    }
-}
 
 // The operation, in the hand of u where it goes to u.
 fn handed(item: HeldOp, goes: bool, u: TxnId) -> HeldOp
@@ -78,25 +63,6 @@ pub fn brought<A: Allocator>(
     }
 }
 
-// Brings each operation one event further.
-fn bring<A: Allocator>(heir: Option<TxnId>, event: &Event<A>, items: &mut [HeldOp])
-    ensures { items.new ≡ brought_from heir event.now 1 items.old }
-{
-    for i in 0..items.len() {
-        items[i] = brought(heir, event, i + 1, items[i]);
-    }
-}
-
-// The same of a vector; an event that moves and ends none leaves it as it is.
-fn bring_all<A: Allocator>(heir: Option<TxnId>, event: &Event<A>, items: &mut Vec<HeldOp, A>)
-    ensures brought { items.new.items ≡ brought_from heir event.now 1 items.old.items }
-    ensures room { vec_capacity items.new ≡ vec_capacity items.old }
-{
-    if moves(event) {
-        bring(heir, event, items.as_mut_slice());
-    }
-}
-
 /// The operation that the event is, in the hand of its invoker.
 pub fn op_done<A: Allocator>(event: &Event<A>) -> Option<HeldOp>
     ensures { result ≡ op_done event.now }
@@ -110,24 +76,4 @@ pub fn op_done<A: Allocator>(event: &Event<A>) -> Option<HeldOp>
         }),
         _ => None,
     }
-}
-
-// Puts the operation behind the others, if there is one. There is room for it.
-fn put<A: Allocator>(item: Option<HeldOp>, items: &mut Vec<HeldOp, A>)
-    requires { length items.old.items < vec_capacity items.old }
-    ensures { items.new.items ≡ items.old.items ++ option_to_list item }
-{
-    if let Some(item) = item {
-        let _ = items.push(item);
-    }
-}
-
-/// Brings the operations one event further, and puts the one that the event is behind them, given the heir of
-/// the one that commits by it. There is room for one more.
-pub fn follow<A: Allocator>(heir: Option<TxnId>, event: &Event<A>, items: &mut Vec<HeldOp, A>)
-    requires { length items.old.items < vec_capacity items.old }
-    ensures { items.new.items ≡ brought_from heir event.now 1 items.old.items ++ option_to_list (op_done event.now) }
-{
-    bring_all(heir, event, items);
-    put(op_done(event), items);
 }

@@ -15,10 +15,12 @@ mod places;
 mod seeking;
 mod serial;
 mod strict;
+mod taking;
 mod trail;
 mod values;
 mod walk;
 
+pub use acta_sets::Handle;
 pub use course::Course;
 pub use fault::{Axiom, Fault};
 pub use places::Places;

@@ -6,19 +6,19 @@ ghost use Rattle.acta_axioms.specs.inside.Walking.{standing_in};
 
 use crate::course::Course;
 use crate::walk::Walk;
-use acta_sets::HeldOp;
+use acta_sets::{Handle, HeldOp};
 use acta_table::{Edge, Fate, Kept, MOST_EVENTS, Model, OpNo, TxnId};
-use std::alloc::{AllocError, Allocator};
+use std::alloc::AllocError;
 
 /// A model and a list of kept items, legal or not, to be asked by places, as ACTA speaks of histories. The list is
 /// walked through once, for the first places and the edges; a question about an operation follows it along the list.
 /// Contracts see the model and the list.
 #[derive(Drop)]
-pub struct Places<'a, A: Allocator> {
+pub struct Places<'a, A: Handle> {
     walk: Walk<'a, A>,
 }
 
-impl<'a, A: Allocator> std::marker::Model for Places<'a, A> {
+impl<'a, A: Handle> std::marker::Model for Places<'a, A> {
     ghost use Rattle.std.specs.Prelude.{◌≡◌, []};
     ghost use Rattle.acta_axioms.specs.Walks.{ModelAndHistory};
 
@@ -29,7 +29,7 @@ impl<'a, A: Allocator> std::marker::Model for Places<'a, A> {
     ghost invariant = { λ p. p.walk.ahead ≡ [] };
 }
 
-impl<'a, A: Allocator + Copy> Places<'a, A> {
+impl<'a, A: Handle> Places<'a, A> {
     /// The places of a list of at most 65,536 items. `Err` where there is no memory for the walk.
     pub fn of(
         alloc: A,
@@ -47,7 +47,7 @@ impl<'a, A: Allocator + Copy> Places<'a, A> {
     }
 }
 
-impl<'a, A: Allocator> Places<'a, A> {
+impl<'a, A: Handle> Places<'a, A> {
     // How the operation stands among the first n places, if it is among them.
     fn held(&self, op: OpNo, n: u32) -> Option<HeldOp>
         ensures { option_map standing_in result ≡ standing_of self.now.model (take n self.now.history) op.0 }

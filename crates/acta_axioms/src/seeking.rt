@@ -1,35 +1,35 @@
 ghost use Rattle.std.specs.Prelude.{◌≡◌, map, IfOk};
+ghost use Rattle.std.specs.List.{list_any};
 ghost use Rattle.acta_table.specs.Numbered.{ascending};
 ghost use Rattle.acta_table.specs.Classes.{spares};
 ghost use Rattle.acta_objects.specs.Conflicts.{conflict_on};
 ghost use Rattle.acta_axioms.specs.History.{has_class, ancestors};
 ghost use Rattle.acta_axioms.specs.Edges.{holders_against};
+ghost use Rattle.acta_axioms.specs.Values.{is_well_formed};
 ghost use Rattle.acta_axioms.specs.Walks.{held_ops};
 ghost use Rattle.acta_axioms.specs.Operations.{is_spared, is_of_others};
 ghost use Rattle.acta_axioms.specs.inside.Walking.{standing_in, spared_numbers, is_against, is_sought, numbers_of};
 
 use crate::walk::Walk;
-use acta_objects::ObjectState;
-use acta_sets::HeldOp;
+use acta_objects::{ObjectState, is_of_kind};
+use acta_sets::{Handle, HeldOp};
 use acta_table::{Fate, ObjId, Op, OpNo, Scope, TxnId};
-use std::alloc::{AllocError, Allocator};
+use std::alloc::AllocError;
 use std::collections::BTreeSet;
 
 /// What is looked for among the operations, for a transaction.
 #[derive(Clone, Copy)]
 pub enum Sought {
-    /// Those that it holds in progress: ACTA's access set.
-    Held,
     /// Those in progress that others hold: ACTA's conflict set.
     Others,
     /// Those of its conflict set that conflict with this operation on this object.
     Against(ObjId, Op),
 }
 
-impl<'a, A: Allocator + Copy> Walk<'a, A> {
+impl<'a, A: Handle> Walk<'a, A> {
     // The allocator of the lists.
     pub(crate) fn allocator(&self) -> A {
-        *self.operations.allocator()
+        *self.lines.allocator()
     }
 
     // The ancestors of the transaction. `Err` where there is no memory.
@@ -60,7 +60,7 @@ impl<'a, A: Allocator + Copy> Walk<'a, A> {
 
     // The ancestors of the transaction that its class leaves out of its conflict set. `Err` where there is no
     // memory.
-    fn spared_numbers(&self, t: TxnId) -> Result<BTreeSet<u16, A>, AllocError>
+    pub(crate) fn spared_numbers(&self, t: TxnId) -> Result<BTreeSet<u16, A>, AllocError>
         ensures { IfOk result (λ numbers. numbers.keys ≡ spared_numbers self.now.model self.now.front t.0) }
     {
         if self.spares_ancestors(t) {
@@ -116,13 +116,37 @@ impl<'a, A: Allocator + Copy> Walk<'a, A> {
             && self.do_conflict(object, &item.op, op)
     }
 
+    // Whether the operation is of the kind of the object, which is in the model.
+    fn is_well_formed(&self, object: ObjId, op: &Op) -> bool
+        ensures { result ≡ is_well_formed self.now.model object.0 op.now }
+    {
+        match self.model.object(object) {
+            Some(object) => is_of_kind(&object.kind, op),
+            None => false,
+        }
+    }
+
+    /// Whether an operation on this object and in the transaction's conflict set, which spares these, conflicts with
+    /// this one.
+    pub(crate) fn has_against(
+        &self,
+        t: TxnId,
+        spared: &BTreeSet<u16, A>,
+        object: ObjId,
+        op: &Op,
+    ) -> bool
+        requires { spared.now.keys ≡ spared_numbers self.now.model self.now.front t.0 }
+        ensures { result ≡ list_any (is_against self.now.model self.now.front t.0 object.0 op.now) (held_ops self.now.model self.now.front) }
+    {
+        self.is_well_formed(object, op) && self.operations.has_against(t, spared, object, op)
+    }
+
     // Whether the operation is one of those that are looked for, for a transaction that spares these.
     fn is_sought(&self, t: TxnId, spared: &BTreeSet<u16, A>, sought: &Sought, item: &HeldOp) -> bool
         requires { spared.now.keys ≡ spared_numbers self.now.model self.now.front t.0 }
         ensures { result ≡ is_sought self.now.model self.now.front t.0 sought.now item.now }
     {
         match sought {
-            Sought::Held => matches!(item.fate, Fate::InProgress) && item.holder.0 == t.0,
             Sought::Others => self.is_of_others(t, spared, item),
             Sought::Against(object, op) => self.is_against(t, spared, *object, op, item),
         }
@@ -155,12 +179,10 @@ impl<'a, A: Allocator + Copy> Walk<'a, A> {
         ensures { IfOk result (λ holders. holders.keys ≡ holders_against self.now.model self.now.front t.0 object.0 op.now) }
     {
         let spared = self.spared_numbers(t)?;
-        let mut holders = BTreeSet::new(self.allocator());
-        for item in self.operations() {
-            if self.is_against(t, &spared, object, op, item) {
-                holders.insert(item.holder.0)?;
-            }
+        if self.is_well_formed(object, op) {
+            self.operations.holders_against(t, &spared, object, op)
+        } else {
+            Ok(BTreeSet::new(self.allocator()))
         }
-        Ok(holders)
     }
 }

@@ -6,7 +6,7 @@ ghost use Rattle.acta_axioms.specs.inside.Holding.{followed_on, next_number};
 use crate::holding::{brought, op_done};
 use crate::lineage::heir_behind;
 use crate::walk::Walk;
-use acta_sets::HeldOp;
+use acta_sets::{Handle, HeldOp};
 use acta_table::{Event, OpNo, TxnId};
 use std::alloc::Allocator;
 
@@ -38,7 +38,7 @@ fn next_number<A: Allocator>(event: &Event<A>, number: usize) -> usize
     }
 }
 
-impl<'a, A: Allocator> Walk<'a, A> {
+impl<'a, A: Handle> Walk<'a, A> {
     /// How the operation stands among the first n of the items taken, if it is among them: followed along them.
     pub(crate) fn standing(&self, op: OpNo, n: u32) -> Option<HeldOp>
         ensures { option_map standing_in result ≡ standing_of self.now.model (take n self.now.front) op.0 }

@@ -13,31 +13,31 @@ ghost use Rattle.acta_axioms.specs.Walks.{stepped, held_ops, op_numbers};
 ghost use Rattle.acta_axioms.specs.inside.Lineages.{lineage};
 
 use crate::course::Course;
-use crate::forming::{Formed, form_all};
-use crate::holding::follow;
+use crate::forming::Formed;
 use crate::lineage::{Lineage, UNBEGUN, heir_of, largest_named, lineage_of, note};
 use crate::seeking::Sought;
+use crate::taking::go_on;
 use crate::values::value_after;
 use acta_objects::ObjectState;
-use acta_sets::HeldOp;
+use acta_sets::{Handle, HeldOp, OpTable};
 use acta_table::{Class, Edge, Kept, MOST_EVENTS, Model, ObjId, Op, OpNo, Ret, TxnId};
 use indexmap::IndexSet;
-use std::alloc::{AllocError, Allocator};
+use std::alloc::AllocError;
 
 /// A walk through a list of kept items, legal or not, from its front (ours): it answers what stands before the
 /// place that it has reached, as ACTA speaks of histories. Contracts see the model, the items in front of that
 /// place, and those from it on.
 #[derive(Drop)]
-pub struct Walk<'a, A: Allocator> {
+pub struct Walk<'a, A: Handle> {
     pub(crate) model: &'a Model<A>,
     kept: &'a [Kept<A>],
     pub(crate) taken: usize,
     pub(crate) lines: Vec<Lineage, A>,
-    pub(crate) operations: Vec<HeldOp, A>,
+    pub(crate) operations: OpTable<A>,
     edges: Formed<A>,
 }
 
-impl<'a, A: Allocator> std::marker::Model for Walk<'a, A> {
+impl<'a, A: Handle> std::marker::Model for Walk<'a, A> {
     ghost use Rattle.std.specs.Prelude.{take, drop};
     ghost use Rattle.acta_axioms.specs.Walks.{Walked};
     ghost use Rattle.acta_axioms.specs.inside.Walking.{IsKept};
@@ -46,10 +46,10 @@ impl<'a, A: Allocator> std::marker::Model for Walk<'a, A> {
 
     ghost view = { λ w. record { model = w.model.now; front = take w.taken w.kept.now; ahead = drop w.taken w.kept.now } };
 
-    ghost invariant = { λ w. IsKept w.model.now w.kept.now w.taken w.lines.items w.operations.items w.edges.keys };
+    ghost invariant = { λ w. IsKept w.model.now w.kept.now w.taken w.lines.items w.operations w.edges.keys };
 }
 
-impl<'a, A: Allocator + Copy> Walk<'a, A> {
+impl<'a, A: Handle> Walk<'a, A> {
     /// A walk that stands before the first place of a list of at most `MOST_EVENTS` items. `Err` where there is no
     /// memory.
     pub fn of(alloc: A, model: &'a Model<A>, kept: &'a [Kept<A>]) -> Result<Walk<'a, A>, AllocError>
@@ -63,7 +63,7 @@ impl<'a, A: Allocator + Copy> Walk<'a, A> {
             kept,
             taken: 0,
             lines,
-            operations: Vec::new(alloc),
+            operations: OpTable::new(alloc),
             edges: IndexSet::new(alloc),
         })
     }
@@ -77,10 +77,14 @@ impl<'a, A: Allocator + Copy> Walk<'a, A> {
             return Ok(());
         };
         let due = self.edges_due(&item.event)?;
-        self.operations.reserve(1)?;
-        form_all(&mut self.edges, due.as_slice())?;
         let heir = heir_of(self.model, self.lines.as_slice(), &item.event);
-        follow(heir, &item.event, &mut self.operations);
+        go_on(
+            heir,
+            &item.event,
+            due.as_slice(),
+            &mut self.edges,
+            &mut self.operations,
+        )?;
         self.taken += 1;
         note(self.lines.as_mut_slice(), self.taken as u32, &item.event);
         Ok(())
@@ -91,7 +95,7 @@ impl<'a, A: Allocator + Copy> Walk<'a, A> {
     pub fn access_set(&self, t: TxnId) -> Result<Vec<OpNo, A>, AllocError>
         ensures { IfOk result (λ ops. ops.items ≡ op_numbers (access_set self.now.model self.now.front t.0)) }
     {
-        self.seek(t, &Sought::Held)
+        self.operations.access_set(t)
     }
 
     /// The operations in progress that others hold, but for ancestors that the transaction's class leaves out
@@ -107,7 +111,12 @@ impl<'a, A: Allocator + Copy> Walk<'a, A> {
     pub fn conflicting(&self, t: TxnId, object: ObjId, op: &Op) -> Result<Vec<OpNo, A>, AllocError>
         ensures { IfOk result (λ ops. ops.items ≡ op_numbers (conflicting self.now.model self.now.front t.0 object.0 op.now)) }
     {
-        self.seek(t, &Sought::Against(object, *op))
+        let spared = self.spared_numbers(t)?;
+        if self.has_against(t, &spared, object, op) {
+            self.seek(t, &Sought::Against(object, *op))
+        } else {
+            Ok(Vec::new(self.allocator()))
+        }
     }
 
     // The value of the object, and that a counter is far from the ends of 64 bits.
@@ -118,12 +127,7 @@ impl<'a, A: Allocator + Copy> Walk<'a, A> {
     {
         let operations = self.operations();
         match self.model.object(object) {
-            Some(of) => Ok(Some(value_after(
-                *self.operations.allocator(),
-                &of.kind,
-                operations,
-                object,
-            )?)),
+            Some(of) => Ok(Some(value_after(self.allocator(), &of.kind, operations, object)?)),
             None => Ok(None),
         }
     }
@@ -148,7 +152,7 @@ impl<'a, A: Allocator + Copy> Walk<'a, A> {
     }
 }
 
-impl<'a, A: Allocator> Walk<'a, A> {
+impl<'a, A: Handle> Walk<'a, A> {
     /// The model.
     pub fn model(&self) -> &'a Model<A>
         ensures { result.now ≡ self.now.model }
@@ -207,7 +211,7 @@ impl<'a, A: Allocator> Walk<'a, A> {
         ensures operations { result.now ≡ held_ops self.now.model self.now.front }
         ensures few { length result.now ≤ MOST_EVENTS }
     {
-        self.operations.as_slice()
+        self.operations.operations()
     }
 
     // The operation of this number, with its holder and its fate.

@@ -5,7 +5,7 @@ ghost use Rattle.acta_table.specs.Events.{kind_of};
 ghost use Rattle.acta_table.specs.Numbered.{first_number};
 ghost use Rattle.acta_debug.specs.Breaks.{ends, holds_of, is_on, is_same_kind, names};
 
-use acta_machine::Machine;
+use acta_machine::{Handle, Machine};
 use acta_table::{Event, EventKind, ObjId, TxnId};
 use std::alloc::{AllocError, Allocator};
 
@@ -78,7 +78,7 @@ fn is_end_of<A: Allocator>(event: &Event<A>, t: TxnId) -> bool
 
 impl Break {
     // Whether it holds of an event and of the machine behind it. `Err` where there is no memory.
-    fn holds<A: Allocator + Copy>(
+    fn holds<A: Handle>(
         self,
         event: &Event<A>,
         machine: &Machine<A>,
@@ -96,7 +96,7 @@ impl Break {
 }
 
 /// The lowest number of a break that holds of an event and of the machine behind it. `Err` where there is no memory.
-pub fn lowest_that_holds<A: Allocator + Copy>(
+pub fn lowest_that_holds<A: Handle>(
     breaks: &[Break],
     event: &Event<A>,
     machine: &Machine<A>,

@@ -15,22 +15,22 @@ use crate::breaks::{Break, Stop};
 use crate::errors::{MoveError, NewError};
 use crate::replay::{first_other, replayed};
 use crate::running::{place_of, run_on};
-use acta_machine::Machine;
+use acta_machine::{Handle, Machine};
 use acta_table::{Kept, Model};
-use std::alloc::{AllocError, Allocator};
+use std::alloc::AllocError;
 use std::mem::replace;
 
 /// A history, a place in it, the machine as it was there, and breaks (ours). Contracts see the model, the history, how
 /// many of its events are behind the debugger, and the breaks: the machine is what these events leave.
 #[derive(Drop)]
-pub struct Debugger<A: Allocator> {
+pub struct Debugger<A: Handle> {
     machine: Machine<A>,
     history: Vec<Kept<A>, A>,
     at: usize,
     breaks: Vec<Break, A>,
 }
 
-impl<A: Allocator> std::marker::Model for Debugger<A> {
+impl<A: Handle> std::marker::Model for Debugger<A> {
     ghost use Rattle.acta_debug.specs.Sessions.{Session};
     ghost use Rattle.acta_debug.specs.inside.Shown.{IsInside, session_of};
 
@@ -43,7 +43,7 @@ impl<A: Allocator> std::marker::Model for Debugger<A> {
 
 // `Ok` for a history of the model. Of any other list `NotAHistory` tells the first place, from 1, at which it is none.
 // `Memory` where there is no memory.
-fn check_history<A: Allocator + Copy>(
+fn check_history<A: Handle>(
     alloc: A,
     model: &Model<A>,
     items: &[Kept<A>],
@@ -59,7 +59,7 @@ fn check_history<A: Allocator + Copy>(
     }
 }
 
-impl<A: Allocator + Copy> Debugger<A> {
+impl<A: Handle> Debugger<A> {
     /// A debugger on a history, at its start, with no break (ours). It accepts exactly the lists that a machine on the
     /// model keeps as its history when it takes their events. Of any other list `NotAHistory` tells the first place,
     /// from 1, at which the machine doesn't admit the event with the return that the list has there; so a list of more
@@ -179,7 +179,7 @@ impl<A: Allocator + Copy> Debugger<A> {
     }
 }
 
-impl<A: Allocator> Debugger<A> {
+impl<A: Handle> Debugger<A> {
     /// How many events are behind it: 0 at the start (ours).
     pub fn at(&self) -> u32
         ensures at { result ≡ self.now.at }

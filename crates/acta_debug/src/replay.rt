@@ -7,13 +7,13 @@ ghost use Rattle.acta_machine.specs.Places.{FollowsPlaces};
 ghost use Rattle.acta_machine.specs.Table.{after_all, fresh, run_state};
 ghost use Rattle.acta_debug.specs.Histories.{IsFirstOther, IsHistory, events_in, state_at};
 
-use acta_machine::Machine;
+use acta_machine::{Handle, Machine};
 use acta_table::{Answer, Kept, Model, Ret};
-use std::alloc::{AllocError, Allocator};
+use std::alloc::AllocError;
 
 // Has the machine take the events of the items, in order. `Err` where there is no memory, and then it may have taken
 // some.
-fn take_events<A: Allocator + Copy>(
+fn take_events<A: Handle>(
     machine: &mut Machine<A>,
     items: &[Kept<A>],
 ) -> Result<(), AllocError>
@@ -28,7 +28,7 @@ fn take_events<A: Allocator + Copy>(
 }
 
 /// The machine that takes the events of the items, in order. `Err` where there is no memory.
-pub fn replayed<A: Allocator + Copy>(
+pub fn replayed<A: Handle>(
     alloc: A,
     model: Model<A>,
     items: &[Kept<A>],
@@ -56,7 +56,7 @@ fn is_admitted(answer: Answer, place: u32, ret: Option<Ret>) -> bool
 // Has the machine, which has kept nothing, take the events of the items, in order, up to the first that it doesn't admit
 // with the return that the item has, and answers the place of that one, from 1. Where there is none it answers nothing,
 // and has kept the items. `Err` where there is no memory, and then it may have taken some.
-fn first_other_on<A: Allocator + Copy>(
+fn first_other_on<A: Handle>(
     machine: &mut Machine<A>,
     items: &[Kept<A>],
 ) -> Result<Option<u32>, AllocError>
@@ -80,7 +80,7 @@ fn first_other_on<A: Allocator + Copy>(
 
 /// The first place, from 1, at which the items are no history: a machine doesn't admit the event there, or not with the
 /// return that the item has. Nothing where they are one. `Err` where there is no memory.
-pub fn first_other<A: Allocator + Copy>(
+pub fn first_other<A: Handle>(
     alloc: A,
     model: Model<A>,
     items: &[Kept<A>],

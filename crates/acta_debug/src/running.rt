@@ -5,9 +5,9 @@ ghost use Rattle.acta_debug.specs.Stops.{stop_of, stopped_at};
 ghost use Rattle.acta_debug.specs.inside.Shown.{IsInside, session_of};
 
 use crate::breaks::{Break, Stop, lowest_that_holds};
-use acta_machine::Machine;
+use acta_machine::{Handle, Machine};
 use acta_table::Kept;
-use std::alloc::{AllocError, Allocator};
+use std::alloc::AllocError;
 
 /// Behind how many events of so many a run has stopped.
 pub fn place_of(stop: Stop, last: usize) -> usize
@@ -21,7 +21,7 @@ pub fn place_of(stop: Stop, last: usize) -> usize
 
 /// Has the machine, which has taken the events up to the place, take those ahead, in order, up to the first behind
 /// which a break holds, and says where it stopped. `Err` where there is no memory, and then it may have taken some.
-pub fn run_on<A: Allocator + Copy>(
+pub fn run_on<A: Handle>(
     machine: &mut Machine<A>,
     history: &[Kept<A>],
     at: usize,

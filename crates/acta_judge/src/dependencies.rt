@@ -13,27 +13,27 @@ ghost use Rattle.acta_judge.specs.inside.Edges.{aborting, clashes_among, clashin
 
 use crate::formulas::{debt, place_by};
 use crate::reporting::Breach;
-use acta_axioms::{Axiom, Fault, Walk};
+use acta_axioms::{Axiom, Fault, Handle, Walk};
 use acta_table::{Edge, EdgeNo, Missing, Owed};
-use std::alloc::{AllocError, Allocator};
+use std::alloc::AllocError;
 use std::collections::BTreeSet;
 
 // Where the formula of the edge is false with nothing owed.
-fn place_in<'a, A: Allocator>(walk: &Walk<'a, A>, e: &Edge) -> Option<u32>
+fn place_in<'a, A: Handle>(walk: &Walk<'a, A>, e: &Edge) -> Option<u32>
     ensures { result ≡ place_in walk.now.front e.now }
 {
     place_by(e.kind, walk.course(e.j), walk.course(e.i))
 }
 
 // What is owed by the edge.
-fn debt_in<'a, A: Allocator>(walk: &Walk<'a, A>, e: &Edge) -> Option<Missing>
+fn debt_in<'a, A: Handle>(walk: &Walk<'a, A>, e: &Edge) -> Option<Missing>
     ensures { result ≡ debt_in walk.now.front e.now }
 {
     debt(e.kind, walk.course(e.j), walk.course(e.i))
 }
 
 // Tells the fault by the edge of this number, if there is one. `Err` where there is no memory.
-fn tell_edge<'a, A: Allocator + Copy>(
+fn tell_edge<'a, A: Handle>(
     walk: &Walk<'a, A>,
     number: u64,
     e: &Edge,
@@ -54,7 +54,7 @@ fn tell_edge<'a, A: Allocator + Copy>(
 /// Tells the faults by the edges that the items in front form, and answers what is owed by them, by edge number: one
 /// pass over the edges. `Err` where there is no memory.
 #[tactic(auto, unfolding(acta_axioms::specs::Legal::owed))]
-pub(crate) fn tell_edges<'a, A: Allocator + Copy>(
+pub(crate) fn tell_edges<'a, A: Handle>(
     alloc: A,
     walk: &Walk<'a, A>,
     faults: &mut BTreeSet<Fault, A>,
@@ -80,10 +80,7 @@ pub(crate) fn tell_edges<'a, A: Allocator + Copy>(
 }
 
 // Puts the one who owes among the others, where an abort is owed. `Err` where there is no memory.
-fn put_aborting<A: Allocator + Copy>(
-    debt: &Owed,
-    txns: &mut BTreeSet<u16, A>,
-) -> Result<(), AllocError>
+fn put_aborting<A: Handle>(debt: &Owed, txns: &mut BTreeSet<u16, A>) -> Result<(), AllocError>
     ensures { IfOk result (λ _. txns.new.keys ≡ (if is_abort (Some debt.now.missing) then insert_key nat_cmp txns.old.keys debt.now.txn.0 else txns.old.keys)) }
 {
     if matches!(debt.missing, Missing::Abort) {
@@ -93,7 +90,7 @@ fn put_aborting<A: Allocator + Copy>(
 }
 
 // Who owes an abort. `Err` where there is no memory.
-fn aborting<A: Allocator + Copy>(alloc: A, debts: &[Owed]) -> Result<BTreeSet<u16, A>, AllocError>
+fn aborting<A: Handle>(alloc: A, debts: &[Owed]) -> Result<BTreeSet<u16, A>, AllocError>
     ensures { IfOk result (λ txns. txns.keys ≡ aborting debts.now) }
 {
     let mut txns = BTreeSet::new(alloc);
@@ -105,7 +102,7 @@ fn aborting<A: Allocator + Copy>(alloc: A, debts: &[Owed]) -> Result<BTreeSet<u1
 
 // Whether a commit is owed by this debt, by one of those who owe an abort by some of these.
 #[tactic(auto, using(crate::proofs::Clashing::in_aborting))]
-fn clashes_among<A: Allocator + Copy>(owing: &BTreeSet<u16, A>, debts: &[Owed], debt: &Owed) -> bool
+fn clashes_among<A: Handle>(owing: &BTreeSet<u16, A>, debts: &[Owed], debt: &Owed) -> bool
     requires { owing.now.keys ≡ aborting debts.now }
     ensures { result ≡ clashes_among debts.now debt.now }
 {
@@ -113,7 +110,7 @@ fn clashes_among<A: Allocator + Copy>(owing: &BTreeSet<u16, A>, debts: &[Owed], 
 }
 
 /// Tells who owes both a commit and an abort by these debts, at this place. `Err` where there is no memory.
-pub(crate) fn tell_clashes<A: Allocator + Copy>(
+pub(crate) fn tell_clashes<A: Handle>(
     alloc: A,
     place: u32,
     debts: &[Owed],

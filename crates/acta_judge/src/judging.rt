@@ -9,13 +9,13 @@ ghost use Rattle.acta_judge.specs.Verdicts.{verdict};
 use crate::dependencies::{tell_clashes, tell_edges};
 use crate::telling::tell_item;
 use crate::verdict::{JudgeError, Verdict};
-use acta_axioms::{Fault, Walk};
+use acta_axioms::{Fault, Handle, Walk};
 use acta_table::{Items, Kept, MOST_EVENTS, Model};
-use std::alloc::{AllocError, Allocator};
+use std::alloc::AllocError;
 use std::collections::BTreeSet;
 
 // Tells the faults at all places, and leaves the walk behind the last. `Err` where there is no memory.
-fn tell_places<'a, A: Allocator + Copy>(
+fn tell_places<'a, A: Handle>(
     walk: &mut Walk<'a, A>,
     kept: &'a [Kept<A>],
     faults: &mut BTreeSet<Fault, A>,
@@ -32,10 +32,7 @@ fn tell_places<'a, A: Allocator + Copy>(
 }
 
 // The faults, in order.
-fn listed<A: Allocator + Copy>(
-    alloc: A,
-    faults: &BTreeSet<Fault, A>,
-) -> Result<Vec<Fault, A>, AllocError>
+fn listed<A: Handle>(alloc: A, faults: &BTreeSet<Fault, A>) -> Result<Vec<Fault, A>, AllocError>
     ensures { IfOk result (λ listed. listed.items ≡ faults.now.keys) }
 {
     let mut listed = Vec::with_capacity(alloc, faults.len())?;
@@ -46,7 +43,7 @@ fn listed<A: Allocator + Copy>(
 }
 
 // The verdict on a list that a walk goes through.
-fn told<'a, A: Allocator + Copy>(
+fn told<'a, A: Handle>(
     alloc: A,
     walk: &mut Walk<'a, A>,
     kept: &'a [Kept<A>],
@@ -66,7 +63,7 @@ fn told<'a, A: Allocator + Copy>(
 
 /// What is wrong with a list of kept items, legal or not, and what is owed at its end (ours, by ACTA's axioms and those
 /// of the model). `Err` where the list has more than `MOST_EVENTS` items, and where there is no memory.
-pub fn judge<A: Allocator + Copy>(
+pub fn judge<A: Handle>(
     alloc: A,
     model: &Model<A>,
     kept: &[Kept<A>],

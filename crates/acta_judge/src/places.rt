@@ -11,7 +11,7 @@ ghost use Rattle.acta_axioms.specs.Operations.{number_after, access_set};
 ghost use Rattle.acta_axioms.specs.Values.{is_well_formed};
 ghost use Rattle.acta_axioms.specs.Faults.{when, first_named, ended, begun_again, ended_unbegun, ended_again, operated_idle, ill_formed, lacks_start, lacks_kind, cannot_form, not_allowed, party, has_number, is_same_ret, is_due, wrong_return, without_heir, not_in_time};
 
-use acta_axioms::Walk;
+use acta_axioms::{Handle, Walk};
 use acta_objects::{form_refusal, is_of_kind};
 use acta_table::{
     AtCommit, Event, EventKind, Extent, Kept, Model, ObjId, Op, Ret, TxnId, smallest_of,
@@ -53,7 +53,7 @@ fn ended<A: Allocator>(event: &Event<A>) -> Option<TxnId>
 }
 
 /// The one that is started, where it has begun already.
-pub(crate) fn begun_again<'a, A: Allocator>(walk: &Walk<'a, A>, event: &Event<A>) -> Option<u32>
+pub(crate) fn begun_again<'a, A: Handle>(walk: &Walk<'a, A>, event: &Event<A>) -> Option<u32>
     ensures { option_to_list result ≡ begun_again walk.now.front event.now }
 {
     let t = event.started()?;
@@ -61,7 +61,7 @@ pub(crate) fn begun_again<'a, A: Allocator>(walk: &Walk<'a, A>, event: &Event<A>
 }
 
 /// The one that ends, where it has not begun.
-pub(crate) fn ended_unbegun<'a, A: Allocator>(walk: &Walk<'a, A>, event: &Event<A>) -> Option<u32>
+pub(crate) fn ended_unbegun<'a, A: Handle>(walk: &Walk<'a, A>, event: &Event<A>) -> Option<u32>
     ensures { option_to_list result ≡ ended_unbegun walk.now.front event.now }
 {
     let t = ended(event)?;
@@ -69,7 +69,7 @@ pub(crate) fn ended_unbegun<'a, A: Allocator>(walk: &Walk<'a, A>, event: &Event<
 }
 
 /// The one that ends, where it has ended already.
-pub(crate) fn ended_again<'a, A: Allocator>(walk: &Walk<'a, A>, event: &Event<A>) -> Option<u32>
+pub(crate) fn ended_again<'a, A: Handle>(walk: &Walk<'a, A>, event: &Event<A>) -> Option<u32>
     ensures { option_to_list result ≡ ended_again walk.now.front event.now }
 {
     let t = ended(event)?;
@@ -77,7 +77,7 @@ pub(crate) fn ended_again<'a, A: Allocator>(walk: &Walk<'a, A>, event: &Event<A>
 }
 
 /// The one that does an operation, where it is not in progress.
-pub(crate) fn operated_idle<'a, A: Allocator>(walk: &Walk<'a, A>, event: &Event<A>) -> Option<u32>
+pub(crate) fn operated_idle<'a, A: Handle>(walk: &Walk<'a, A>, event: &Event<A>) -> Option<u32>
     ensures { option_to_list result ≡ operated_idle walk.now.front event.now }
 {
     match event {
@@ -118,7 +118,7 @@ fn lacks_start<A: Allocator>(model: &Model<A>, event: &Event<A>) -> bool
 }
 
 // Whether the class of the transaction may not do such an event.
-fn lacks_kind<'a, A: Allocator>(walk: &Walk<'a, A>, kind: EventKind, t: TxnId) -> bool
+fn lacks_kind<'a, A: Handle>(walk: &Walk<'a, A>, kind: EventKind, t: TxnId) -> bool
     ensures { result ≡ lacks_kind walk.now.model walk.now.front kind t.0 }
 {
     match walk.class(t) {
@@ -128,7 +128,7 @@ fn lacks_kind<'a, A: Allocator>(walk: &Walk<'a, A>, kind: EventKind, t: TxnId) -
 }
 
 // Whether the class of the acting transaction may not do the event.
-fn lacks_its_kind<'a, A: Allocator>(walk: &Walk<'a, A>, event: &Event<A>) -> bool
+fn lacks_its_kind<'a, A: Handle>(walk: &Walk<'a, A>, event: &Event<A>) -> bool
     ensures { result ≡ option_map_or (lacks_kind walk.now.model walk.now.front (kind_of event.now)) (acting event.now) false }
 {
     match event.acting() {
@@ -138,7 +138,7 @@ fn lacks_its_kind<'a, A: Allocator>(walk: &Walk<'a, A>, event: &Event<A>) -> boo
 }
 
 // Whether an edge is formed where no class may form any, or of one whose class may not.
-fn cannot_form<'a, A: Allocator>(walk: &Walk<'a, A>, event: &Event<A>) -> bool
+fn cannot_form<'a, A: Handle>(walk: &Walk<'a, A>, event: &Event<A>) -> bool
     ensures { result ≡ cannot_form walk.now.model walk.now.front event.now }
 {
     match event {
@@ -152,7 +152,7 @@ fn cannot_form<'a, A: Allocator>(walk: &Walk<'a, A>, event: &Event<A>) -> bool
 }
 
 /// The first transaction that the event names, where the model does not let it happen.
-pub(crate) fn not_allowed<'a, A: Allocator>(walk: &Walk<'a, A>, event: &Event<A>) -> Option<u32>
+pub(crate) fn not_allowed<'a, A: Handle>(walk: &Walk<'a, A>, event: &Event<A>) -> Option<u32>
     ensures { option_to_list result ≡ not_allowed walk.now.model walk.now.front event.now }
 {
     let is_barred = lacks_start(walk.model(), event)
@@ -179,7 +179,7 @@ pub(crate) fn party<A: Allocator>(event: &Event<A>) -> (Option<TxnId>, Option<Tx
 }
 
 /// The one that takes part, where it is not in progress.
-pub(crate) fn idle<'a, A: Allocator>(walk: &Walk<'a, A>, t: Option<TxnId>) -> Option<u32>
+pub(crate) fn idle<'a, A: Handle>(walk: &Walk<'a, A>, t: Option<TxnId>) -> Option<u32>
     ensures { option_to_list result ≡ filter (λ t. not (is_in_progress walk.now.front t)) (option_to_list (option_map (λ t. t.0) t)) }
 {
     let t = t?;
@@ -187,7 +187,7 @@ pub(crate) fn idle<'a, A: Allocator>(walk: &Walk<'a, A>, t: Option<TxnId>) -> Op
 }
 
 /// Whether the transaction's class wants all that it holds handed over.
-pub(crate) fn wants_whole<'a, A: Allocator>(walk: &Walk<'a, A>, t: TxnId) -> bool
+pub(crate) fn wants_whole<'a, A: Handle>(walk: &Walk<'a, A>, t: TxnId) -> bool
     ensures { result ≡ has_class (λ k. is_whole k.extent) walk.now.model walk.now.front t.0 }
 {
     match walk.class(t) {
@@ -197,7 +197,7 @@ pub(crate) fn wants_whole<'a, A: Allocator>(walk: &Walk<'a, A>, t: TxnId) -> boo
 }
 
 /// Whether the transaction's class refuses operations that conflict.
-pub(crate) fn refuses<'a, A: Allocator>(walk: &Walk<'a, A>, t: TxnId) -> bool
+pub(crate) fn refuses<'a, A: Handle>(walk: &Walk<'a, A>, t: TxnId) -> bool
     ensures { result ≡ has_class (λ k. refuses k.policy) walk.now.model walk.now.front t.0 }
 {
     match walk.class(t) {
@@ -238,7 +238,7 @@ fn is_due(due: Option<Ret>, ret: Option<Ret>) -> bool
 }
 
 // The number of an operation at the place that is reached.
-fn number_here<'a, A: Allocator>(walk: &Walk<'a, A>) -> u32
+fn number_here<'a, A: Handle>(walk: &Walk<'a, A>) -> u32
     ensures { result ≡ number_after walk.now.front }
 {
     walk.operations().len() as u32 + 1
@@ -246,7 +246,7 @@ fn number_here<'a, A: Allocator>(walk: &Walk<'a, A>) -> u32
 
 /// The number of the operation whose return is not the one due, or 0 where what is no operation has a return. `Err`
 /// where there is no memory.
-pub(crate) fn wrong_return<'a, A: Allocator + Copy>(
+pub(crate) fn wrong_return<'a, A: Handle>(
     walk: &Walk<'a, A>,
     item: &Kept<A>,
 ) -> Result<Option<u32>, AllocError>
@@ -268,7 +268,7 @@ pub(crate) fn wrong_return<'a, A: Allocator + Copy>(
 }
 
 // Whether the transaction's class commits to parents.
-fn commits_to_parent<'a, A: Allocator>(walk: &Walk<'a, A>, t: TxnId) -> bool
+fn commits_to_parent<'a, A: Handle>(walk: &Walk<'a, A>, t: TxnId) -> bool
     ensures { result ≡ has_class (λ k. has_heir k.at_commit) walk.now.model walk.now.front t.0 }
 {
     match walk.class(t) {
@@ -278,7 +278,7 @@ fn commits_to_parent<'a, A: Allocator>(walk: &Walk<'a, A>, t: TxnId) -> bool
 }
 
 /// The parent of one that commits to it, where it is not in progress, or 0 where there is none.
-pub(crate) fn without_heir<'a, A: Allocator>(walk: &Walk<'a, A>, event: &Event<A>) -> Option<u32>
+pub(crate) fn without_heir<'a, A: Handle>(walk: &Walk<'a, A>, event: &Event<A>) -> Option<u32>
     ensures { option_to_list result ≡ without_heir walk.now.model walk.now.front event.now }
 {
     let Event::Commit(t) = event else {
@@ -294,7 +294,7 @@ pub(crate) fn without_heir<'a, A: Allocator>(walk: &Walk<'a, A>, event: &Event<A
 }
 
 /// The one that is too far on for the edge that is formed, the smaller of the two where both are.
-pub(crate) fn not_in_time<'a, A: Allocator>(walk: &Walk<'a, A>, event: &Event<A>) -> Option<u32>
+pub(crate) fn not_in_time<'a, A: Handle>(walk: &Walk<'a, A>, event: &Event<A>) -> Option<u32>
     ensures { option_to_list result ≡ not_in_time walk.now.front event.now }
 {
     let Event::Form(kind, j, i) = event else {

@@ -4,9 +4,9 @@ ghost use Rattle.std.specs.Prelude.{◌≡◌, ◌∷◌, [], OnOk, map, option_
 ghost use Rattle.acta_axioms.specs.Faults.{faults_of};
 ghost use Rattle.acta_judge.specs.Order.{merged};
 
-use acta_axioms::{Axiom, Fault};
+use acta_axioms::{Axiom, Fault, Handle};
 use acta_table::OpNo;
-use std::alloc::{AllocError, Allocator};
+use std::alloc::AllocError;
 use std::collections::BTreeSet;
 
 /// An axiom, and a place at which it may be broken.
@@ -18,7 +18,7 @@ pub(crate) struct Breach {
 
 impl Breach {
     /// The axiom is broken by this number. `Err` where there is no memory.
-    pub(crate) fn tell<A: Allocator + Copy>(
+    pub(crate) fn tell<A: Handle>(
         self,
         by: u64,
         faults: &mut BTreeSet<Fault, A>,
@@ -34,7 +34,7 @@ impl Breach {
     }
 
     /// The axiom is broken by this number, if there is one. `Err` where there is no memory.
-    pub(crate) fn tell_any<A: Allocator + Copy>(
+    pub(crate) fn tell_any<A: Handle>(
         self,
         by: Option<u32>,
         faults: &mut BTreeSet<Fault, A>,
@@ -48,7 +48,7 @@ impl Breach {
     }
 
     /// The axiom is broken by each of these operations. `Err` where there is no memory.
-    pub(crate) fn tell_each<A: Allocator + Copy>(
+    pub(crate) fn tell_each<A: Handle>(
         self,
         ops: &[OpNo],
         faults: &mut BTreeSet<Fault, A>,

@@ -13,9 +13,9 @@ use crate::places::{
     operated_idle, party, refuses, wants_whole, without_heir, wrong_return,
 };
 use crate::reporting::Breach;
-use acta_axioms::{Axiom, Fault, Walk};
+use acta_axioms::{Axiom, Fault, Handle, Walk};
 use acta_table::{Event, Kept, OpNo, OpSet, TxnId};
-use std::alloc::{AllocError, Allocator};
+use std::alloc::AllocError;
 use std::collections::BTreeSet;
 
 // The axiom, at this place.
@@ -26,7 +26,7 @@ fn breach(broken: Axiom, place: u32) -> Breach
 }
 
 // Who begins, ends or operates where it cannot.
-fn tell_course<'a, A: Allocator + Copy>(
+fn tell_course<'a, A: Handle>(
     walk: &Walk<'a, A>,
     place: u32,
     event: &Event<A>,
@@ -41,7 +41,7 @@ fn tell_course<'a, A: Allocator + Copy>(
 }
 
 // What the model does not have or let.
-fn tell_model<'a, A: Allocator + Copy>(
+fn tell_model<'a, A: Handle>(
     walk: &Walk<'a, A>,
     place: u32,
     event: &Event<A>,
@@ -54,7 +54,7 @@ fn tell_model<'a, A: Allocator + Copy>(
 }
 
 // Who takes part and is not in progress.
-fn tell_party<'a, A: Allocator + Copy>(
+fn tell_party<'a, A: Handle>(
     walk: &Walk<'a, A>,
     place: u32,
     event: &Event<A>,
@@ -69,7 +69,7 @@ fn tell_party<'a, A: Allocator + Copy>(
 }
 
 // Which of these operations the transaction does not hold in progress.
-fn tell_unheld<'a, A: Allocator + Copy>(
+fn tell_unheld<'a, A: Handle>(
     walk: &Walk<'a, A>,
     breach: Breach,
     t: TxnId,
@@ -87,7 +87,7 @@ fn tell_unheld<'a, A: Allocator + Copy>(
 }
 
 // What is handed over, and not held in progress by the one that hands it over.
-fn tell_handed<'a, A: Allocator + Copy>(
+fn tell_handed<'a, A: Handle>(
     walk: &Walk<'a, A>,
     place: u32,
     event: &Event<A>,
@@ -110,7 +110,7 @@ fn tell_handed<'a, A: Allocator + Copy>(
 }
 
 // Which of the operations that are held are not among these.
-fn tell_unnamed<A: Allocator + Copy>(
+fn tell_unnamed<A: Handle>(
     breach: Breach,
     held: &[OpNo],
     ops: &OpSet<A>,
@@ -127,7 +127,7 @@ fn tell_unnamed<A: Allocator + Copy>(
 }
 
 // Which operations the transaction holds in progress that are not among these.
-fn tell_left<'a, A: Allocator + Copy>(
+fn tell_left<'a, A: Handle>(
     walk: &Walk<'a, A>,
     breach: Breach,
     t: TxnId,
@@ -141,7 +141,7 @@ fn tell_left<'a, A: Allocator + Copy>(
 }
 
 // What one that has to hand over all keeps back.
-fn tell_kept_back<'a, A: Allocator + Copy>(
+fn tell_kept_back<'a, A: Handle>(
     walk: &Walk<'a, A>,
     place: u32,
     event: &Event<A>,
@@ -158,7 +158,7 @@ fn tell_kept_back<'a, A: Allocator + Copy>(
 }
 
 // Who takes part, or hands over, what it cannot.
-fn tell_handing<'a, A: Allocator + Copy>(
+fn tell_handing<'a, A: Handle>(
     walk: &Walk<'a, A>,
     place: u32,
     event: &Event<A>,
@@ -172,7 +172,7 @@ fn tell_handing<'a, A: Allocator + Copy>(
 }
 
 // The operations that one conflicts with whose class refuses it.
-fn tell_conflicts<'a, A: Allocator + Copy>(
+fn tell_conflicts<'a, A: Handle>(
     walk: &Walk<'a, A>,
     place: u32,
     event: &Event<A>,
@@ -190,7 +190,7 @@ fn tell_conflicts<'a, A: Allocator + Copy>(
 }
 
 // An operation that conflicts, and a return that is not due.
-fn tell_operation<'a, A: Allocator + Copy>(
+fn tell_operation<'a, A: Handle>(
     walk: &Walk<'a, A>,
     place: u32,
     item: &Kept<A>,
@@ -204,7 +204,7 @@ fn tell_operation<'a, A: Allocator + Copy>(
 }
 
 // A commit without an heir, and an edge that is formed too late.
-fn tell_lateness<'a, A: Allocator + Copy>(
+fn tell_lateness<'a, A: Handle>(
     walk: &Walk<'a, A>,
     place: u32,
     event: &Event<A>,
@@ -217,7 +217,7 @@ fn tell_lateness<'a, A: Allocator + Copy>(
 }
 
 /// Tells the faults of this item at the place that the walk has reached. `Err` where there is no memory.
-pub(crate) fn tell_item<'a, A: Allocator + Copy>(
+pub(crate) fn tell_item<'a, A: Handle>(
     walk: &Walk<'a, A>,
     item: &Kept<A>,
     faults: &mut BTreeSet<Fault, A>,

@@ -7,7 +7,7 @@ ghost use Rattle.acta_locked.specs.Books.{IsRun, entered, entry_of, no_entries, 
 ghost use Rattle.acta_locked.specs.declared.book.TakeError.TheVariants.{Memory};
 
 use acta_judge::{JudgeError, Verdict, judge};
-use acta_machine::Machine;
+use acta_machine::{Handle, Machine};
 use acta_table::{Answer, Event, MOST_EVENTS, Model};
 use std::alloc::{AllocError, AllocFailed, Allocator};
 
@@ -75,12 +75,12 @@ impl<T: Drop> From<AllocFailed<T>> for TakeError {
 /// A machine, and every call that was made of it, in order, with its answer (ours). Contracts see the model and
 /// the entries: the machine is what they leave.
 #[derive(Drop)]
-pub struct Book<A: Allocator> {
+pub struct Book<A: Handle> {
     machine: Machine<A>,
     entries: Vec<Entry<A>, A>,
 }
 
-impl<A: Allocator> std::marker::Model for Book<A> {
+impl<A: Handle> std::marker::Model for Book<A> {
     ghost use Rattle.acta_locked.specs.Books.{Entries};
     ghost use Rattle.acta_locked.specs.inside.Shown.{IsMachineOf};
 
@@ -92,7 +92,7 @@ impl<A: Allocator> std::marker::Model for Book<A> {
 }
 
 // What the machine answers the event, with a copy of the event, which is made first.
-fn answered<A: Allocator + Copy>(
+fn answered<A: Handle>(
     machine: &mut Machine<A>,
     event: &Event<A>,
 ) -> Result<(Event<A>, Answer), AllocError>
@@ -107,7 +107,7 @@ fn answered<A: Allocator + Copy>(
     Ok((copied, answer))
 }
 
-impl<A: Allocator + Copy> Book<A> {
+impl<A: Handle> Book<A> {
     /// A book on the model, with no entry (ours). `Err` where there is no memory.
     pub fn new(alloc: A, model: Model<A>) -> Result<Book<A>, AllocError>
         ensures { IfOk result (λ book. book ≡ no_entries model) }
@@ -175,7 +175,7 @@ impl<A: Allocator + Copy> Book<A> {
     }
 }
 
-impl<A: Allocator> Book<A> {
+impl<A: Handle> Book<A> {
     /// The entries, in order; at most 65,536 (ours).
     pub fn entries(&self) -> &[Entry<A>]
         ensures entries { result.now ≡ self.now.entries }
@@ -194,7 +194,7 @@ impl<A: Allocator> Book<A> {
     }
 }
 
-impl<A: Allocator + Copy> Book<A> {
+impl<A: Handle> Book<A> {
     /// The verdict on the history that the machine keeps (ours): it has no fault, and what is owed is what the machine
     /// owes. `Err` where there is no memory.
     pub fn verdict(&self) -> Result<Verdict<A>, AllocError>

@@ -4,8 +4,9 @@ ghost use Rattle.std.specs.Prelude.{◌≡◌, ◌++◌, ◌∷◌, [], ℕ, Lis
 ghost use Rattle.acta_locked.specs.Books.{entered, entry_of, no_entries, with_entries};
 
 use crate::book::{Book, Entry, TakeError};
+use acta_machine::Handle;
 use acta_table::{Event, MOST_EVENTS, Model};
-use std::alloc::{AllocError, Allocator};
+use std::alloc::AllocError;
 
 /// Where a worker hands in its events, of the type E, and gets entries of the type X (ours).
 pub trait Desk<E, X> {
@@ -44,12 +45,12 @@ pub trait Desk<E, X> {
 
 /// A desk with a book of its own (ours).
 #[derive(Drop)]
-pub struct PlainDesk<A: Allocator> {
+pub struct PlainDesk<A: Handle> {
     pub seat: u8,
     pub book: Book<A>,
 }
 
-impl<A: Allocator + Copy> PlainDesk<A> {
+impl<A: Handle> PlainDesk<A> {
     /// A desk at this seat, with a book on the model that has no entry. `Err` where there is no memory.
     pub fn new(alloc: A, seat: u8, model: Model<A>) -> Result<PlainDesk<A>, AllocError>
         ensures { IfOk result (λ desk. desk ≡ record { seat = seat; book = no_entries model }) }
@@ -61,7 +62,7 @@ impl<A: Allocator + Copy> PlainDesk<A> {
     }
 }
 
-impl<A: Allocator + Copy> Desk<Event<A>, Entry<A>> for PlainDesk<A> {
+impl<A: Handle> Desk<Event<A>, Entry<A>> for PlainDesk<A> {
     ghost use Rattle.acta_table.specs.declared.limits.TheConstants.{MOST_EVENTS};
     ghost use Rattle.acta_locked.specs.inside.Growth.{book-nothing, book-further};
 

@@ -12,6 +12,7 @@ use crate::settle::are_settled;
 use crate::threads::{Back, Done, in_scope};
 use crate::vault::{Job, Vault};
 use crate::worker::{Gate, Report, Script, WorkError};
+use acta_machine::Handle;
 use acta_table::{Items, MOST_EVENTS, Model};
 use std::alloc::{AllocError, Allocator};
 use std::marker::Brand;
@@ -21,7 +22,7 @@ use std::thread::Threads;
 
 /// What a driven run leaves: the book, and the reports in order of seats (ours).
 #[derive(Drop)]
-pub struct Driven<A: Allocator> {
+pub struct Driven<A: Handle> {
     pub book: Book<A>,
     pub reports: Items<Report<A>, A>,
 }
@@ -123,7 +124,7 @@ fn gathered<A: Allocator, J: Job<A>>(
 }
 
 // The book and the reports, where these are its parts and answer the scripts.
-fn closed<A: Allocator + Copy, J: Job<A>>(
+fn closed<A: Handle, J: Job<A>>(
     vault: Vault<A, J>,
     back: Back<A, J>,
     scripts: &[Script<A>],
@@ -146,7 +147,7 @@ fn closed<A: Allocator + Copy, J: Job<A>>(
 
 // The run of scripts that nothing bars, with a ledger of one part for each worker and one more.
 fn run<
-    A: Allocator + Copy + Send + Sync,
+    A: Handle + Send + Sync,
     J: Job<A> + Send + Sync,
     R: Threads + Wait + Sync,
     G: Gate<Entry<A>> + Sync,
@@ -178,7 +179,7 @@ fn run<
 /// first, exactly where they hold, before any thread starts. Later all threads that were started have ended, and the
 /// answer is `NoThread` where one could not be started, else the fault of the lowest seat that failed (`GaveUp` or
 /// `Memory`), else `Unsettled`. Not promised: which order of the threads the book gets, fairness, and that it returns.
-pub fn drive<A: Allocator + Copy + Send + Sync, R: Threads + Wait + Sync, G: Gate<Entry<A>> + Sync>(
+pub fn drive<A: Handle + Send + Sync, R: Threads + Wait + Sync, G: Gate<Entry<A>> + Sync>(
     rt: &R,
     alloc: A,
     model: Model<A>,

@@ -8,6 +8,7 @@ ghost use Rattle.acta_locked.specs.Drives.{AreParts, IsPart};
 use crate::book::{Book, Entry};
 use crate::limits::MOST_WORKERS;
 use crate::worker::{Report, Script};
+use acta_machine::Handle;
 use acta_table::Event;
 use std::alloc::Allocator;
 
@@ -43,7 +44,7 @@ fn is_part<A: Allocator>(entries: &[Entry<A>], seat: u8, report: &[Entry<A>]) ->
 }
 
 // Whether the report is that seat's, its part of the book, and answers the script.
-fn is_settled<A: Allocator>(
+fn is_settled<A: Handle>(
     book: &Book<A>,
     seat: u8,
     script: &Script<A>,
@@ -57,7 +58,7 @@ fn is_settled<A: Allocator>(
 }
 
 /// Whether each report is its seat's part of the book, and answers its script.
-pub fn are_settled<A: Allocator>(
+pub fn are_settled<A: Handle>(
     book: &Book<A>,
     scripts: &[Script<A>],
     reports: &[Report<A>],

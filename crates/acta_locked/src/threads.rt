@@ -9,6 +9,7 @@ use crate::limits::MOST_WORKERS;
 use crate::run::DriveError;
 use crate::vault::{Job, LockedDesk, Vault};
 use crate::worker::{Gate, Report, Script, WorkError, work};
+use acta_machine::Handle;
 use std::alloc::Allocator;
 use std::sync::ledger::Share;
 use std::sync::{Mutex, Wait};
@@ -38,7 +39,7 @@ pub struct Back<A: Allocator, J: Job<A>> {
 }
 
 // The work of one thread.
-fn sit<A: Allocator + Copy, J: Job<A>, R: Wait, G: Gate<Entry<A>>>(
+fn sit<A: Handle, J: Job<A>, R: Wait, G: Gate<Entry<A>>>(
     rt: &R,
     alloc: A,
     vault: &Mutex<Vault<A, J>>,
@@ -89,7 +90,7 @@ fn joined<A: Allocator, J: Job<A>, R: Threads>(
 fn run_in<
     's,
     E: 's,
-    A: Allocator + Copy + Send + Sync + 's,
+    A: Handle + Send + Sync + 's,
     J: Job<A> + Send + Sync + 's,
     R: Threads + Wait + Sync + 's,
     G: Gate<Entry<A>> + Sync + 's,
@@ -139,7 +140,7 @@ fn run_in<
 // All references are at one lifetime, and the scope stands in a function of its own.
 pub fn in_scope<
     'x,
-    A: Allocator + Copy + Send + Sync,
+    A: Handle + Send + Sync,
     J: Job<A> + Send + Sync,
     R: Threads + Wait + Sync,
     G: Gate<Entry<A>> + Sync,

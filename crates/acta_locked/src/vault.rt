@@ -5,8 +5,8 @@ ghost use Rattle.acta_locked.specs.Books.{IsRun, entered, entry_of};
 
 use crate::book::{Book, Entry, TakeError};
 use crate::desk::Desk;
+use acta_machine::Handle;
 use acta_table::{Event, MOST_EVENTS};
-use std::alloc::Allocator;
 use std::marker::Brand;
 use std::sync::ledger::{Ledger, Share};
 use std::sync::{Mutex, Wait, ledger};
@@ -27,14 +27,14 @@ impl<A> Job<A> for Brand {
 /// What lies under the lock (ours): a book of the run's model, and the ledger, whose total is the number of its
 /// entries.
 #[derive(Drop)]
-pub struct Vault<A: Allocator, J: Job<A>> {
+pub struct Vault<A: Handle, J: Job<A>> {
     book: Book<A>,
     calls: ledger::Book<J>,
     ghost counted: { length book.entries ≡ calls.total },
     ghost of_model: { book.model ≡ J.model },
 }
 
-impl<A: Allocator + Copy, J: Job<A>> Vault<A, J> {
+impl<A: Handle, J: Job<A>> Vault<A, J> {
     /// A book with no entry, and a ledger that has counted none (ours).
     pub fn new(book: Book<A>, calls: ledger::Book<J>) -> Vault<A, J>
         requires empty { book.entries ≡ [] }
@@ -87,7 +87,7 @@ impl<A: Allocator + Copy, J: Job<A>> Vault<A, J> {
 }
 
 /// A worker's desk at the shared book (ours): its seat, its share of the ledger, and the lock.
-pub struct LockedDesk<'a, A: Allocator, J: Job<A>, R: Wait> {
+pub struct LockedDesk<'a, A: Handle, J: Job<A>, R: Wait> {
     pub seat: u8,
     pub share: Share<J>,
     pub vault: &'a Mutex<Vault<A, J>>,
@@ -95,7 +95,7 @@ pub struct LockedDesk<'a, A: Allocator, J: Job<A>, R: Wait> {
     pub ghost some: { 0 < share.parts },
 }
 
-impl<'a, A: Allocator + Copy, J: Job<A>, R: Wait> Desk<Event<A>, Entry<A>>
+impl<'a, A: Handle, J: Job<A>, R: Wait> Desk<Event<A>, Entry<A>>
     for LockedDesk<'a, A, J, R> {
     ghost use Rattle.std.specs.Prelude.{◌≡◌, ◌∷◌, [], IfOk, OnErr};
     ghost use Rattle.acta_locked.specs.Desks.{Counts, IsOfSomeRun};

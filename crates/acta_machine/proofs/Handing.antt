@@ -9,14 +9,14 @@ use Rattle.acta_table.specs.declared.event.Event.{Event}
 use Rattle.acta_table.specs.declared.event.Event.TheVariants.{Begin, Spawn, Split, Join, Delegate, Form, Operate, Commit, Abort}
 use Rattle.acta_table.specs.declared.event.OpNo.{OpNo}
 use Rattle.acta_table.specs.declared.model.Parts.{Parts}
-use Rattle.acta_table.specs.Events.{operations_named}
+use Rattle.acta_table.specs.Events.{acting, operations_named}
 use Rattle.acta_table.specs.Numbered.{numbers_where, smallest}
 use Rattle.acta_table.specs.Sets.{numbers_of, is_named}
 use Rattle.acta_table.specs.Fates.{is_open}
 use Rattle.acta_axioms.specs.Faults.{has_number}
 use Rattle.acta_axioms.proofs.Numbers.{holds, has-held}
 use Rattle.acta_sets.specs.declared.held_op.HeldOp.{HeldOp}
-use Rattle.acta_sets.specs.Operations.{is_held, operation_at, are_open}
+use Rattle.acta_sets.specs.Operations.{is_held, operation_at, are_held}
 use Rattle.acta_machine.specs.Summary.{Summary}
 use Rattle.acta_machine.specs.Rules.{is_of_another, not_held, unknown_in, left_out, not_responsible, bad_set}
 use Rattle.acta_machine.proofs.Broken.{by_none}
@@ -55,18 +55,10 @@ pub named-held : (s : Summary) (ops : List OpNo) (t : ℕ) → not_held s ops t 
 named-held s ops t others none =
     all-held s t (numbers_of ops) (none-smallest _ others) (none-smallest _ none)
 
-open-held : (t : ℕ) (i : Option HeldOp) → option_map_or (is_held t) i false ≡ true → option_map_or (λ x. is_open x.fate) i false ≡ true
-open-held t None e = absurd (true≢false (sym e))
-open-held t (Some i) e = of (i.holder.0 == t) e
-  where
-    of : (b : Bool) → (b && is_open i.fate) ≡ true → is_open i.fate ≡ true
-    of true is = is
-    of false is = absurd (true≢false (sym is))
-
--- so all that is named is in progress
-pub named-open : (items : List HeldOp) (t : ℕ) (ops : List OpNo) → AllByRecursion (λ n. holds items t n ≡ true) (numbers_of ops) → are_open ops items ≡ true
-named-open items t [] all = refl
-named-open items t (o ∷ ops) all = λ i. open-held t (operation_at items o.0) all.0 i && named-open items t ops all.1 i
+-- so t holds all that is named, as the table asks
+pub named-all : (items : List HeldOp) (t : ℕ) (ops : List OpNo) → AllByRecursion (λ n. holds items t n ≡ true) (numbers_of ops) → are_held t ops items ≡ true
+named-all items t [] all = refl
+named-all items t (o ∷ ops) all = λ i. all.0 i && named-all items t ops all.1 i
 
 -- an operation that is named is one of those
 pub held-named : (items : List HeldOp) (t : ℕ) (ops : List OpNo) → AllByRecursion (λ n. holds items t n ≡ true) (numbers_of ops) → (n : ℕ) → is_named ops n ≡ true → holds items t n ≡ true
@@ -98,14 +90,14 @@ none-left s ops t true none = none-found (λ n. not (is_named ops n)) (numbers_w
 none-left s ops t false none = refl
 
 -- so for each event that breaks none of the earlier rules
-pub event-open : {A : Type 0} (m : Parts A) (s : Summary) (e : Event A) → Unbroken m s e → are_open (operations_named e) s.operations ≡ true
+pub event-held : {A : Type 0} (m : Parts A) (s : Summary) (e : Event A) → Unbroken m s e → option_map_or (λ t. are_held t (operations_named e) s.operations) (acting e) true ≡ true
 unfolding not_responsible bad_set
-event-open m s (Begin t class) u = refl
-event-open m s (Spawn t c class) u = refl
-event-open m s (Split t v class ops) u = named-open s.operations t.0 ops (named-held s ops t.0 (by_none NotResponsible _ u.responsible) (by_none BadSet _ u.set))
-event-open m s (Join t v) u = refl
-event-open m s (Delegate t v ops) u = named-open s.operations t.0 ops (named-held s ops t.0 (by_none NotResponsible _ u.responsible) (by_none BadSet _ u.set))
-event-open m s (Form kind j i) u = refl
-event-open m s (Operate t ob op) u = refl
-event-open m s (Commit t) u = refl
-event-open m s (Abort t) u = refl
+event-held m s (Begin t class) u = refl
+event-held m s (Spawn t c class) u = refl
+event-held m s (Split t v class ops) u = named-all s.operations t.0 ops (named-held s ops t.0 (by_none NotResponsible _ u.responsible) (by_none BadSet _ u.set))
+event-held m s (Join t v) u = refl
+event-held m s (Delegate t v ops) u = named-all s.operations t.0 ops (named-held s ops t.0 (by_none NotResponsible _ u.responsible) (by_none BadSet _ u.set))
+event-held m s (Form kind j i) u = refl
+event-held m s (Operate t ob op) u = refl
+event-held m s (Commit t) u = refl
+event-held m s (Abort t) u = refl

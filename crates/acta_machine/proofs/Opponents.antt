@@ -1,19 +1,68 @@
--- Who is spared, by number.
-use Rattle.std.proofs.Common.{◌≡◌, ℕ, ◌||◌, ◌==◌, List, [], ◌∷◌, map, refl, ap, ◌∙◌}
-use Rattle.std.specs.List.{list_any}
+-- What stands against an operation by the table is what does by the rules.
+use Rattle.std.proofs.Common.{◌≡◌, ℕ, ◌+◌, Bool, true, false, not, ◌&&◌, ◌||◌, ◌==◌, cond, List, [], ◌∷◌, map, filter, Option, Some, None, refl, sym, ap, ◌∙◌}
+use Rattle.std.specs.List.{list_any, position_from}
 use Rattle.std.specs.Ordering.{nat_cmp}
 use Rattle.std.specs.BTreeMap.{is_at}
 use Rattle.acta_table.specs.declared.model.Parts.{Parts}
-use Rattle.acta_table.proofs.AscendingSets.{in-ascending}
-use Rattle.acta_sets.specs.Operations.{is_among}
-use Rattle.acta_machine.specs.Summary.{Summary}
-use Rattle.acta_machine.specs.Families.{spared, spared_numbers}
+use Rattle.acta_table.specs.declared.event.ObjId.{ObjId}
+use Rattle.acta_table.specs.declared.event.Op.{Op}
 use Rattle.acta_table.specs.declared.event.TxnId.{TxnId}
+use Rattle.acta_table.specs.Fates.{is_open}
+use Rattle.acta_table.specs.Numbered.{first_number, ascending}
+use Rattle.acta_table.proofs.AscendingSets.{in-ascending, any-number}
+use Rattle.acta_objects.specs.Conflicts.{conflict_on}
+use Rattle.acta_sets.specs.declared.held_op.HeldOp.{HeldOp}
+use Rattle.acta_sets.specs.Operations.{is_among, is_of_others, is_against, holders_against}
+use Rattle.acta_axioms.specs.Values.{is_well_formed}
+use Rattle.acta_axioms.proofs.Conflicts.{suits-conflicts, ill-conflicts}
+use Rattle.acta_machine.specs.Summary.{Summary}
+use Rattle.acta_machine.specs.Conflicts.{stands_against, opponents}
+use Rattle.acta_machine.specs.Families.{spared, spared_numbers}
 
 by-number : (ts : List TxnId) (u : TxnId) → list_any (λ n. n == u.0) (map (λ t. t.0) ts) ≡ is_among ts u
 by-number [] u = refl
 by-number (t ∷ ts) u = ap (λ b. (t.0 == u.0) || b) (by-number ts u)
 
 -- one is in the set where it is spared
-pub in_spared : {A : Type 0} (m : Parts A) (s : Summary) (t : ℕ) (u : TxnId) → list_any (is_at (nat_cmp u.0)) (spared_numbers m s t) ≡ is_among (spared m s t) u
-in_spared m s t u = in-ascending u.0 (map (λ x. x.0) (spared m s t)) ∙ by-number (spared m s t) u
+in_spared : {A : Type 0} (m : Parts A) (s : Summary) (t : ℕ) (u : TxnId) → list_any (λ k. k == u.0) (spared_numbers m s t) ≡ is_among (spared m s t) u
+in_spared m s t u = sym (any-number u.0 (spared_numbers m s t)) ∙ in-ascending u.0 (map (λ x. x.0) (spared m s t)) ∙ by-number (spared m s t) u
+
+against_is : {A : Type 0} (m : Parts A) (s : Summary) (t : ℕ) (ob : ObjId) (op : Op) (i : HeldOp) → is_well_formed m ob.0 op ≡ true → is_against t (spared_numbers m s t) ob.0 op i ≡ stands_against m s t ob op i
+against_is m s t ob op i is =
+    λ x. is_open i.fate && not (i.holder.0 == t) && not (in_spared m s t i.holder x) && (i.ob.0 == ob.0) && suits-conflicts m ob.0 i.op op is x
+
+none_and : (a : Bool) → (a && false) ≡ false
+none_and true = refl
+none_and false = refl
+
+ill_stands : {A : Type 0} (m : Parts A) (s : Summary) (t : ℕ) (ob : ObjId) (op : Op) (i : HeldOp) → is_well_formed m ob.0 op ≡ false → stands_against m s t ob op i ≡ false
+ill_stands m s t ob op i is =
+    ap (λ b. is_of_others t (spared m s t) i && (i.ob.0 == ob.0) && b) (ill-conflicts m ob.0 i.op op is) ∙ none_and (is_of_others t (spared m s t) i && (i.ob.0 == ob.0))
+
+-- the first that stands against it
+pub first-is : {A : Type 0} (m : Parts A) (s : Summary) (t : ℕ) (ob : ObjId) (op : Op) (keys : List ℕ) → keys ≡ spared_numbers m s t → is_well_formed m ob.0 op ≡ true →
+    first_number (is_against t keys ob.0 op) s.operations ≡ first_number (stands_against m s t ob op) s.operations
+first-is m s t ob op keys same is =
+    ap (λ (ks : List ℕ). first_number (is_against t ks ob.0 op) s.operations) same
+    ∙ ap (λ (test : HeldOp → Bool). first_number test s.operations) (λ x i. against_is m s t ob op i is x)
+
+none_first : (test : HeldOp → Bool) (n : ℕ) (xs : List HeldOp) → ((i : HeldOp) → test i ≡ false) → None ≡ position_from test n xs
+none_first test n [] none = refl
+none_first test n (i ∷ xs) none = none_first test (n + 1) xs none ∙ ap (λ b. cond b (Some n) (position_from test (n + 1) xs)) (sym (none i))
+
+pub no-first : {A : Type 0} (m : Parts A) (s : Summary) (t : ℕ) (ob : ObjId) (op : Op) → is_well_formed m ob.0 op ≡ false → None ≡ first_number (stands_against m s t ob op) s.operations
+no-first m s t ob op is = none_first (stands_against m s t ob op) 1 s.operations (λ i. ill_stands m s t ob op i is)
+
+-- who holds those that do
+pub opponents-are : {A : Type 0} (m : Parts A) (s : Summary) (t : ℕ) (ob : ObjId) (op : Op) (keys : List ℕ) → keys ≡ spared_numbers m s t → is_well_formed m ob.0 op ≡ true →
+    holders_against t keys ob.0 op s.operations ≡ opponents m s t ob op
+opponents-are m s t ob op keys same is =
+    ap (λ (ks : List ℕ). holders_against t ks ob.0 op s.operations) same
+    ∙ ap (λ (test : HeldOp → Bool). ascending (map (λ (i : HeldOp). i.holder.0) (filter test s.operations))) (λ x i. against_is m s t ob op i is x)
+
+none_held : (test : HeldOp → Bool) (xs : List HeldOp) → ((i : HeldOp) → test i ≡ false) → [] ≡ filter test xs
+none_held test [] none = refl
+none_held test (i ∷ xs) none = none_held test xs none ∙ ap (λ b. cond b (i ∷ filter test xs) (filter test xs)) (sym (none i))
+
+pub no-opponents : {A : Type 0} (m : Parts A) (s : Summary) (t : ℕ) (ob : ObjId) (op : Op) → is_well_formed m ob.0 op ≡ false → [] ≡ opponents m s t ob op
+no-opponents m s t ob op is = ap (λ xs. ascending (map (λ (i : HeldOp). i.holder.0) xs)) (none_held (stands_against m s t ob op) s.operations (λ i. ill_stands m s t ob op i is))

@@ -18,7 +18,7 @@ ghost use Rattle.acta_machine.specs.Rules.{lowest_broken};
 use acta_axioms::value_after;
 use acta_deps::Deps;
 use acta_objects::ObjectState;
-use acta_sets::OpTable;
+use acta_sets::{Handle, OpTable};
 use acta_table::{
     AtCommit, Class, ClassId, Event, Kept, MOST_EVENTS, Model, ObjId, OpNo, Owed, Ret, Scope,
     Status, TxnId,
@@ -43,7 +43,7 @@ impl Origin {
 
 /// All that a machine keeps, in plain lists. It has no model of its own: `shown` says what it stands for.
 #[derive(Drop)]
-pub(crate) struct Board<A: Allocator> {
+pub(crate) struct Board<A: Handle> {
     pub(crate) model: Model<A>,
     pub(crate) deps: Deps<A>,
     pub(crate) origins: Vec<Origin, A>,
@@ -76,7 +76,7 @@ fn txn_numbers<A: Allocator + Copy>(
     Ok(numbers)
 }
 
-impl<A: Allocator + Copy> Board<A> {
+impl<A: Handle> Board<A> {
     /// The allocator of the lists.
     pub(crate) fn allocator(&self) -> A {
         *self.kept.allocator()
@@ -149,7 +149,7 @@ impl<A: Allocator + Copy> Board<A> {
     }
 }
 
-impl<A: Allocator + Copy> Board<A> {
+impl<A: Handle> Board<A> {
     /// All that is owed, by edge number.
     pub(crate) fn owed(&self) -> Result<Vec<Owed, A>, AllocError>
         ensures { IfOk result (λ owed. owed.items ≡ owed_in (shown self.now).status (shown self.now).edges) }
@@ -208,7 +208,7 @@ impl<A: Allocator + Copy> Board<A> {
     }
 }
 
-impl<A: Allocator> Board<A> {
+impl<A: Handle> Board<A> {
     /// How the transaction stands.
     pub(crate) fn status(&self, t: TxnId) -> Status
         ensures status { result ≡ (shown self.now).status t.0 }

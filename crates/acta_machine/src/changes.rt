@@ -4,9 +4,10 @@
 ghost use Rattle.std.specs.Prelude.{◌≡◌, take, ◌+◌, ◌-◌, ◌<◌, ◌≤◌, ◌++◌, ◌∷◌, [], true, false, length, OnOk, OnErr, IfOk, vec_capacity, None};
 ghost use Rattle.acta_table.specs.declared.answer.Status.{Status};
 ghost use Rattle.acta_table.specs.WellFormed.{bad_number};
-ghost use Rattle.acta_table.specs.Events.{operations_named};
+ghost use Rattle.acta_table.specs.Events.{acting, operations_named};
 ghost use Rattle.acta_table.specs.Fates.{is_open};
-ghost use Rattle.acta_sets.specs.Operations.{are_open};
+ghost use Rattle.std.specs.Option.{option_map_or};
+ghost use Rattle.acta_sets.specs.Operations.{are_held};
 ghost use Rattle.acta_table.specs.Edges.{formed};
 ghost use Rattle.acta_deps.specs.Dependencies.{start_refusal, join_refusal};
 ghost use Rattle.acta_machine.specs.Families.{heir_of};
@@ -16,13 +17,14 @@ ghost use Rattle.acta_machine.specs.Rules.{not_in_progress, already_begun, depen
 ghost use Rattle.acta_machine.specs.inside.Shown.{shown};
 
 use crate::board::{Board, Origin};
+use acta_sets::Handle;
 use acta_table::{
     ClassId, Edge, Event, Fate, Kept, LAST_TXN, MOST_EDGES, MOST_EVENTS, ObjId, Op, OpSet,
     TABLE_SIZE, TxnId,
 };
-use std::alloc::{AllocError, Allocator};
+use std::alloc::AllocError;
 
-impl<A: Allocator> Board<A> {
+impl<A: Handle> Board<A> {
     // The last edges, so many of them, are in force no longer.
     fn unlink(&mut self, count: usize)
         requires { count ≤ length (shown self.old).edges }
@@ -43,15 +45,13 @@ impl<A: Allocator> Board<A> {
     }
 
     #[tactic(auto, unfolding(crate::specs::Summary::given))]
-    fn give(&mut self, ops: &OpSet<A>, u: TxnId) -> Result<(), AllocError>
-        requires named { are_open ops.now self.old.operations ≡ true }
-        requires low { 0 < u.0 }
-        requires high { u.0 ≤ LAST_TXN }
+    fn give(&mut self, from: TxnId, ops: &OpSet<A>, u: TxnId) -> Result<(), AllocError>
+        requires { are_held from.0 ops.now self.old.operations ≡ true }
         ensures shows { OnOk result (shown self.new ≡ given (shown self.old) ops.now u) }
         ensures err { OnErr result (shown self.new ≡ shown self.old) }
         ensures others { self.new ≡ record self.old { operations = self.new.operations } }
     {
-        self.operations.move_to(ops.as_slice(), u)
+        self.operations.move_to(from, ops, u)
     }
 
     #[tactic(auto, unfolding(crate::specs::Summary::inherited))]
@@ -154,9 +154,7 @@ impl<A: Allocator> Board<A> {
 
     #[tactic(auto, unfolding(crate::specs::Summary::operated))]
     fn operate(&mut self, t: TxnId, ob: ObjId, op: Op) -> Result<(), AllocError>
-        requires number { 0 < t.0 }
-        requires high { t.0 ≤ LAST_TXN }
-        requires few { length self.old.operations < MOST_EVENTS }
+        requires { length self.old.operations < MOST_EVENTS }
         ensures shows { OnOk result (shown self.new ≡ operated (shown self.old) t ob op) }
         ensures err { OnErr result (shown self.new ≡ shown self.old) }
         ensures others { self.new ≡ record self.old { operations = self.new.operations } }
@@ -174,7 +172,7 @@ impl<A: Allocator> Board<A> {
         requires progress { not_in_progress (shown self.old) event.now ≡ None }
         requires new { already_begun (shown self.old) event.now ≡ None }
         requires allowed { dependency (shown self.old) event.now ≡ None }
-        requires named { are_open (operations_named event.now) self.old.operations ≡ true }
+        requires named { option_map_or (λ t. are_held t (operations_named event.now) self.old.operations) (acting event.now) true ≡ true }
         ensures shows { OnOk result (shown self.new ≡ changed self.old.model (shown self.old) event.now) }
         ensures err { OnErr result (shown self.new ≡ shown self.old) }
         ensures origins { length self.new.origins.items ≡ TABLE_SIZE }
@@ -183,12 +181,12 @@ impl<A: Allocator> Board<A> {
         match event {
             Event::Begin(t, class) => self.begin(*t, *class, None),
             Event::Spawn(t, c, class) => self.begin(*c, *class, Some(*t)),
-            Event::Split(_, u, class, ops) => {
-                self.give(ops, *u)?;
+            Event::Split(t, u, class, ops) => {
+                self.give(*t, ops, *u)?;
                 self.begin(*u, *class, None);
             }
             Event::Join(t, u) => return self.join(*t, *u),
-            Event::Delegate(_, u, ops) => return self.give(ops, *u),
+            Event::Delegate(t, u, ops) => return self.give(*t, ops, *u),
             Event::Form(_, _, _) => {}
             Event::Operate(t, ob, op) => return self.operate(*t, *ob, *op),
             Event::Commit(t) => return self.commit(*t),
@@ -198,7 +196,7 @@ impl<A: Allocator> Board<A> {
     }
 }
 
-impl<A: Allocator + Copy> Board<A> {
+impl<A: Handle> Board<A> {
     /// Room for one more event.
     pub(crate) fn make_room(&mut self) -> Result<(), AllocError>
         ensures shows { shown self.new ≡ shown self.old }
@@ -239,7 +237,7 @@ impl<A: Allocator + Copy> Board<A> {
         requires progress { not_in_progress (linked (shown self.old) due.now) event.now ≡ None }
         requires new { already_begun (linked (shown self.old) due.now) event.now ≡ None }
         requires allowed { dependency (linked (shown self.old) due.now) event.now ≡ None }
-        requires named { are_open (operations_named event.now) self.old.operations ≡ true }
+        requires named { option_map_or (λ t. are_held t (operations_named event.now) self.old.operations) (acting event.now) true ≡ true }
         ensures shows { OnOk result (shown self.new ≡ counted (changed self.old.model (linked (shown self.old) due.now) event.now)) }
         ensures kept { OnOk result (self.new.kept.items ≡ self.old.kept.items ++ kept ∷ []) }
         ensures model { self.new.model ≡ self.old.model }

@@ -10,5 +10,6 @@ mod machine;
 mod rules;
 mod serial;
 
+pub use acta_sets::Handle;
 pub use machine::{Machine, Run};
 pub use serial::SerialError;

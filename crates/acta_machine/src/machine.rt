@@ -18,7 +18,7 @@ use crate::serial::SerialError;
 use acta_axioms::{SerialItem, is_strict, serial_items};
 use acta_deps::Deps;
 use acta_objects::ObjectState;
-use acta_sets::OpTable;
+use acta_sets::{Handle, OpTable};
 use acta_table::{
     Answer, Edge, Event, Items, Kept, MOST_EVENTS, Model, ObjId, OpNo, Owed, Refusal, Status,
     TABLE_SIZE, TxnId,
@@ -28,11 +28,11 @@ use std::alloc::{AllocError, Allocator};
 /// A machine: it admits events of transactions by its model, or refuses them. Contracts see the model and
 /// the history that was kept.
 #[derive(Drop)]
-pub struct Machine<A: Allocator> {
+pub struct Machine<A: Handle> {
     board: Board<A>,
 }
 
-impl<A: Allocator> std::marker::Model for Machine<A> {
+impl<A: Handle> std::marker::Model for Machine<A> {
     ghost use Rattle.std.specs.Prelude.{◌≡◌, ◌≤◌, length};
     ghost use Rattle.acta_machine.specs.Table.{State};
 
@@ -61,7 +61,7 @@ fn no_origins<A: Allocator>(alloc: A, count: usize) -> Result<Vec<Origin, A>, Al
     vec![in alloc; origin; count]
 }
 
-impl<A: Allocator + Copy> Machine<A> {
+impl<A: Handle> Machine<A> {
     /// A machine on the model, which has kept nothing. `Err` where there is no memory.
     pub fn new(alloc: A, model: Model<A>) -> Result<Machine<A>, AllocError>
         ensures fresh { IfOk result (λ machine. machine ≡ fresh model) }
@@ -216,7 +216,7 @@ impl<A: Allocator + Copy> Machine<A> {
     }
 }
 
-impl<A: Allocator> Machine<A> {
+impl<A: Handle> Machine<A> {
     /// The model on which the machine runs.
     pub fn model(&self) -> &Model<A>
         ensures { result.now ≡ self.now.model }
@@ -256,7 +256,7 @@ impl<A: Allocator> Machine<A> {
 
 /// What a run leaves: the answer to each event, and the machine after the last.
 #[derive(Drop)]
-pub struct Run<A: Allocator> {
+pub struct Run<A: Handle> {
     pub answers: Items<Answer, A>,
     pub machine: Machine<A>,
 }

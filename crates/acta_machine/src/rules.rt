@@ -15,7 +15,7 @@ ghost use Rattle.acta_machine.specs.inside.Shown.{shown};
 
 use crate::board::Board;
 use acta_objects::form_refusal;
-use acta_sets::HeldOp;
+use acta_sets::{Handle, HeldOp};
 use acta_table::{
     ClassId, Dep, Edge, Event, EventKind, Extent, MOST_EDGES, MOST_EVENTS, OpNo, OpSet, Refusal,
     Rule, Status, TxnId, lesser, smallest_of,
@@ -48,7 +48,7 @@ fn has_ended(status: Status) -> bool
     !matches!(status, Status::NotBegun | Status::InProgress)
 }
 
-impl<A: Allocator + Copy> Board<A> {
+impl<A: Handle> Board<A> {
     #[tactic(auto, unfolding(crate::specs::Rules::full))]
     fn full(&self) -> Option<Refusal>
         ensures { result ≡ full (shown self.now) }

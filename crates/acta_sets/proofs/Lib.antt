@@ -1,1 +1,9 @@
-mod Moves
+mod Lists
+mod Keys
+pub mod Laws
+mod Filed
+mod Others
+mod Listed
+mod Searching
+mod Access
+mod Among

@@ -1,5 +1,5 @@
 -- The operations of a history, numbered from 1 on: the sets of them, and what changes them.
-use Rattle.std.specs.Prelude.{ℕ, zero, suc, ◌+◌, Bool, false, ◌&&◌, not, ◌==◌, List, [], ◌∷◌, ◌++◌, map, if◌then◌else◌, Option, None, slice_get}
+use Rattle.std.specs.Prelude.{ℕ, zero, suc, ◌+◌, Bool, false, ◌&&◌, ◌||◌, not, ◌==◌, List, [], ◌∷◌, ◌++◌, map, filter, if◌then◌else◌, Option, None, slice_get}
 use Rattle.std.specs.List.{list_any, list_all}
 use Rattle.std.specs.Option.{option_map_or}
 use Rattle.acta_table.specs.declared.event.TxnId.{TxnId}
@@ -8,9 +8,10 @@ use Rattle.acta_table.specs.declared.event.OpNo.{OpNo}
 use Rattle.acta_table.specs.declared.event.Op.{Op}
 use Rattle.acta_table.specs.declared.answer.Fate.{Fate}
 use Rattle.acta_table.specs.declared.answer.Fate.TheVariants.{InProgress}
-use Rattle.acta_table.specs.Numbered.{numbers_where}
+use Rattle.acta_table.specs.Numbered.{numbers_where, ascending}
 use Rattle.acta_table.specs.Sets.{is_named}
 use Rattle.acta_table.specs.Fates.{is_open, is_aborted}
+use Rattle.acta_objects.specs.Conflicts.{register_conflicts, counter_conflicts, set_conflicts}
 use Rattle.acta_sets.specs.declared.held_op.HeldOp.{HeldOp}
 
 -- whether t holds the operation in progress
@@ -64,6 +65,14 @@ is_open_in items o = option_map_or (λ i. is_open i.fate) (operation_at items o.
 abbrev pub are_open : List OpNo → List HeldOp → Bool
 are_open ops items = list_all (is_open_in items) ops
 
+-- whether t holds the operation of this number in progress
+abbrev pub is_held_in : ℕ → List HeldOp → OpNo → Bool
+is_held_in t items o = option_map_or (is_held t) (operation_at items o.0) false
+
+-- whether t holds all that are named in progress
+abbrev pub are_held : ℕ → List OpNo → List HeldOp → Bool
+are_held t ops items = list_all (is_held_in t items) ops
+
 -- the same as below, where the first item has the number n
 abbrev pub moved_from : ℕ → List OpNo → TxnId → List HeldOp → List HeldOp
 moved_from n ops u [] = []
@@ -89,3 +98,38 @@ handed_op t u i = if is_held t i then record i { holder = u } else i
 -- the operations, where u holds all that t holds in progress
 abbrev pub handed : ℕ → TxnId → List HeldOp → List HeldOp
 handed t u items = map (handed_op t u) items
+
+-- the same as below, where the first item has the number n
+abbrev pub handed_from : ℕ → ℕ → List OpNo → TxnId → List HeldOp → List HeldOp
+handed_from n t ops u [] = []
+handed_from n t ops u (i ∷ items) =
+    (if is_held t i && is_named ops n then record i { holder = u } else i) ∷ handed_from (n + 1) t ops u items
+
+-- the operations, where u holds those of these that t holds in progress
+abbrev pub handed_of : ℕ → List OpNo → TxnId → List HeldOp → List HeldOp
+handed_of t ops u items = handed_from 1 t ops u items
+
+-- whether two operations conflict on an object of whose kind they are
+abbrev pub ops_conflict : Op → Op → Bool
+ops_conflict p q = register_conflicts p q || counter_conflicts p q || set_conflicts p q
+
+-- whether t holds the operation in progress, on this object, and it conflicts with the other
+abbrev pub is_held_against : ℕ → ℕ → Op → HeldOp → Bool
+is_held_against t ob op i = is_held t i && (i.ob.0 == ob) && ops_conflict i.op op
+
+-- whether the operation is in progress, on this object, held neither by t nor by one of these, and conflicts with the
+-- other
+abbrev pub is_against : ℕ → List ℕ → ℕ → Op → HeldOp → Bool
+is_against t spared ob op i =
+    is_open i.fate && not (i.holder.0 == t) && not (list_any (λ k. k == i.holder.0) spared) && (i.ob.0 == ob) && ops_conflict i.op op
+
+-- whether u is another than t, none of these, and holds an operation in progress, on this object, that conflicts with
+-- the other
+abbrev pub is_opponent : ℕ → List ℕ → ℕ → Op → List HeldOp → ℕ → Bool
+is_opponent t spared ob op items u =
+    (not (u == t) && not (list_any (λ k. k == u) spared)) && list_any (is_held_against u ob op) items
+
+-- who holds the operations that are against the other, ascending, each once
+abbrev pub holders_against : ℕ → List ℕ → ℕ → Op → List HeldOp → List ℕ
+holders_against t spared ob op items =
+    ascending (map (λ i. i.holder.0) (filter (is_against t spared ob op) items))

@@ -1,67 +1,193 @@
-ghost use Rattle.std.specs.Prelude.{◌≡◌, ◌<◌, ◌≤◌, ◌+◌, [], true, false, IfOk, OnOk, OnErr, length};
+ghost use Rattle.std.specs.Prelude.{◌≡◌, ◌<◌, ◌≤◌, ◌+◌, ◌*◌, ◌++◌, ◌∷◌, [], true, false, IfOk, OnOk, OnErr, length};
 ghost use Rattle.acta_table.specs.Fates.{is_open};
-ghost use Rattle.acta_sets.specs.Operations.{are_open, access_set, conflict_set, view_set, added, moved, ended, handed};
+ghost use Rattle.acta_sets.specs.Operations.{are_held, access_set, conflict_set, view_set, added, moved, ended, ended_op, handed, handed_op, handed_of, is_held_against, is_against, is_opponent, holders_against};
+ghost use Rattle.std.specs.List.{list_any};
+ghost use Rattle.acta_sets.specs.inside.Held.{changed_at, changed_each};
+ghost use Rattle.acta_sets.specs.declared.filing.Key.{Key as filing_key};
+ghost use Rattle.acta_table.specs.Numbered.{first_number};
+ghost use Rattle.acta_sets.specs.inside.Listing.{numbers_in, FrontsHold};
+ghost use Rattle.acta_sets.specs.inside.Filing.{AreFiled};
+ghost use Rattle.std.specs.HashMap.{spare};
 
+use crate::counts::Counts;
+use crate::filing::Whose;
+use crate::handle::Handle;
+use crate::held::{
+    Held, Holders, add_held, clear_held, leave_out_at, list_of, named_in, numbered, share_held,
+};
 use crate::held_op::HeldOp;
+use crate::listing::Lists;
 use crate::selection::{Selection, selected};
-use acta_table::{Fate, LAST_TXN, MOST_EVENTS, ObjId, Op, OpNo, TxnId};
+use crate::{counts, listing};
+use acta_table::{Fate, MOST_EVENTS, ObjId, Op, OpNo, OpSet, TxnId};
 use std::alloc::{AllocError, Allocator};
+use std::collections::BTreeSet;
 
 /// The operations of a history, with who holds each and what became of it: at most `MOST_EVENTS`.
 /// Contracts see the list of them, in the order in which they were added. The first has the
 /// number 1.
 #[derive(Drop)]
-pub struct OpTable<A: Allocator> {
+pub struct OpTable<A: Handle> {
     items: Vec<HeldOp, A>,
+    held: Held<A>,
+    holders: Holders<A>,
+    counts: Counts<A>,
+    broad: Lists<A>,
+    narrow: Lists<A>,
 }
 
-impl<A: Allocator> std::marker::Model for OpTable<A> {
-    ghost use Rattle.std.specs.Prelude.{◌≤◌, List, length};
+impl<A: Handle> std::marker::Model for OpTable<A> {
+    ghost use Rattle.std.specs.Prelude.{List};
     ghost use Rattle.acta_sets.specs.declared.held_op.HeldOp.{HeldOp};
-    ghost use Rattle.acta_table.specs.declared.limits.TheConstants.{MOST_EVENTS};
+    ghost use Rattle.acta_sets.specs.inside.Indexed.{IsIndexed};
 
     ghost Value = { List HeldOp };
 
     ghost view = { λ table. table.items.items };
 
-    ghost invariant = { λ table. length table.items.items ≤ MOST_EVENTS };
+    ghost invariant = { λ table. IsIndexed table.items.items table.held.items table.holders.keys table.counts table.broad table.narrow };
 }
 
-// The named operations, each of them there and in progress, are held by `u`.
-fn move_all(items: &mut [HeldOp], ops: &[OpNo], u: TxnId)
-    requires { are_open ops.now items.old ≡ true }
-    ensures { items.new ≡ moved ops.now u items.old }
+// The operation of this number gets this fate, where the transaction holds it in progress.
+fn end_one<A: Allocator + Copy>(
+    items: &mut Vec<HeldOp, A>,
+    counts: &mut Counts<A>,
+    number: u32,
+    t: TxnId,
+    fate: Fate,
+)
+    requires { is_open fate ≡ false }
+    ensures items { items.new.items ≡ changed_at (ended_op t.0 fate) number items.old.items }
+    ensures filed { AreFiled items.old.items counts.old → AreFiled items.new.items counts.new }
 {
-    for op in ops {
-        items[op.0 as usize - 1].holder = u;
+    let Some(place) = number.checked_sub(1) else {
+        return;
+    };
+    let place = place as usize;
+    if place < items.len() {
+        let item = items[place];
+        items[place] = counts::end(counts, item, t, fate);
     }
 }
 
-// All that the transaction holds in progress gets this fate.
-fn end_each(items: &mut [HeldOp], t: TxnId, fate: Fate)
-    ensures { items.new ≡ ended t.0 fate items.old }
+// The operations of these numbers get this fate, where the transaction holds them in progress.
+fn end_each<A: Allocator + Copy>(
+    items: &mut Vec<HeldOp, A>,
+    counts: &mut Counts<A>,
+    numbers: &[u32],
+    t: TxnId,
+    fate: Fate,
+)
+    requires { is_open fate ≡ false }
+    ensures items { items.new.items ≡ changed_each (ended_op t.0 fate) items.old.items numbers.now }
+    ensures filed { AreFiled items.old.items counts.old → AreFiled items.new.items counts.new }
 {
-    for item in items.iter_mut() {
-        *item = item.ended(t, fate);
+    for number in numbers {
+        end_one(items, counts, *number, t, fate);
     }
 }
 
-// All that `t` holds in progress is held by `u`.
-fn hand_each(items: &mut [HeldOp], t: TxnId, u: TxnId)
-    ensures { items.new ≡ handed t.0 u items.old }
+// Finds out again how many of the classes of an operation have ended.
+fn advance_one<A: Allocator + Copy>(
+    broad: &mut Lists<A>,
+    narrow: &mut Lists<A>,
+    items: &[HeldOp],
+    number: u32,
+)
+    requires broad { FrontsHold items.now broad.old }
+    requires narrow { FrontsHold items.now narrow.old }
+    ensures broad { (q : filing_key) → numbers_in broad.new q ≡ numbers_in broad.old q }
+    ensures narrow { (q : filing_key) → numbers_in narrow.new q ≡ numbers_in narrow.old q }
+    ensures broad_fronts { FrontsHold items.now broad.new }
+    ensures narrow_fronts { FrontsHold items.now narrow.new }
 {
-    for item in items.iter_mut() {
-        *item = item.handed(t, u);
+    let Some(place) = number.checked_sub(1) else {
+        return;
+    };
+    let place = place as usize;
+    if place < items.len() {
+        let item = items[place];
+        listing::advance_under(broad, items, item.ob.0, counts::broad(&item.op));
+        listing::advance_under(narrow, items, item.ob.0, counts::narrow(&item.op));
     }
 }
 
-impl<A: Allocator> OpTable<A> {
+// Finds out again how many of the classes of these operations have ended.
+fn advance_each<A: Allocator + Copy>(
+    broad: &mut Lists<A>,
+    narrow: &mut Lists<A>,
+    items: &[HeldOp],
+    numbers: &[u32],
+)
+    requires broad { FrontsHold items.now broad.old }
+    requires narrow { FrontsHold items.now narrow.old }
+    ensures broad { (q : filing_key) → numbers_in broad.new q ≡ numbers_in broad.old q }
+    ensures narrow { (q : filing_key) → numbers_in narrow.new q ≡ numbers_in narrow.old q }
+    ensures broad_fronts { FrontsHold items.now broad.new }
+    ensures narrow_fronts { FrontsHold items.now narrow.new }
+{
+    for number in numbers {
+        advance_one(broad, narrow, items, *number);
+    }
+}
+
+// The operation of this number is held by `u`, where the transaction holds it in progress.
+fn hand_one<A: Allocator + Copy>(
+    items: &mut Vec<HeldOp, A>,
+    counts: &mut Counts<A>,
+    number: u32,
+    t: TxnId,
+    u: TxnId,
+)
+    requires few { length items.old.items ≤ MOST_EVENTS }
+    requires filed { AreFiled items.old.items counts.old }
+    requires room { 1 < spare counts.old }
+    ensures items { items.new.items ≡ changed_at (handed_op t.0 u) number items.old.items }
+    ensures filed { AreFiled items.new.items counts.new }
+    ensures room { spare counts.old ≤ spare counts.new + 2 }
+    ensures long { length items.new.items ≡ length items.old.items }
+{
+    let Some(place) = number.checked_sub(1) else {
+        return;
+    };
+    let place = place as usize;
+    if place < items.len() {
+        let item = items[place];
+        items[place] = counts::hand(counts, item, t, u);
+    }
+}
+
+// The operations of these numbers are held by `u`, where the transaction holds them in progress.
+fn hand_each<A: Allocator + Copy>(
+    items: &mut Vec<HeldOp, A>,
+    counts: &mut Counts<A>,
+    numbers: &[u32],
+    t: TxnId,
+    u: TxnId,
+)
+    requires few { length items.old.items ≤ MOST_EVENTS }
+    requires filed { AreFiled items.old.items counts.old }
+    requires room { 2 * length numbers.now ≤ spare counts.old }
+    ensures items { items.new.items ≡ changed_each (handed_op t.0 u) items.old.items numbers.now }
+    ensures filed { AreFiled items.new.items counts.new }
+{
+    for number in numbers {
+        hand_one(items, counts, *number, t, u);
+    }
+}
+
+impl<A: Handle> OpTable<A> {
     /// No operation. Takes no memory.
     pub fn new(alloc: A) -> OpTable<A>
         ensures { result ≡ [] }
     {
         OpTable {
             items: Vec::new(alloc),
+            held: Vec::new(alloc),
+            holders: Holders::new(alloc),
+            counts: Counts::new(alloc),
+            broad: Lists::new(alloc),
+            narrow: Lists::new(alloc),
         }
     }
 
@@ -74,40 +200,97 @@ impl<A: Allocator> OpTable<A> {
         self.items.as_slice()
     }
 
-    /// Adds an operation in progress, which `t`, a number of a transaction, holds: whoever invokes
-    /// an operation is responsible for it at first (ACTA's). Answers its number, one more than
-    /// there were operations, fewer than `MOST_EVENTS`. `Err` where there is no memory, and then none is
-    /// added.
+    /// Adds an operation in progress, which `t` holds: whoever invokes an operation is responsible for
+    /// it at first (ACTA's). Answers its number, one more than there were operations, fewer than
+    /// `MOST_EVENTS`. `Err` where there is no memory, and then none is added.
     pub fn add(&mut self, t: TxnId, ob: ObjId, op: Op) -> Result<OpNo, AllocError>
-        requires room { length self.old < MOST_EVENTS }
-        requires low { 0 < t.0 }
-        requires high { t.0 ≤ LAST_TXN }
+        requires { length self.old < MOST_EVENTS }
         ensures number { IfOk result (λ number. number.0 ≡ length self.old + 1) }
         ensures added { OnOk result (self.new ≡ added self.old t ob op) }
         ensures err { OnErr result (self.new ≡ self.old) }
     {
         let number = self.items.len() as u32 + 1;
-        self.items.push(HeldOp {
+        let item = HeldOp {
             ob,
             op,
             holder: t,
             fate: Fate::InProgress,
-        })?;
+        };
+        self.items.reserve(1)?;
+        let alloc = *self.items.allocator();
+        let broad = counts::broad(&op);
+        let narrow = counts::narrow(&op);
+        listing::make_place(alloc, &mut self.broad, ob.0, broad)?;
+        listing::make_place(alloc, &mut self.narrow, ob.0, narrow)?;
+        counts::make_room(&mut self.counts, 4)?;
+        add_held(&mut self.held, &mut self.holders, t.0, number)?;
+        counts::file(&mut self.counts, &item);
+        listing::list_under(&mut self.broad, ob.0, broad, number);
+        listing::list_under(&mut self.narrow, ob.0, narrow, number);
+        self.items.push_reserved(item);
         Ok(OpNo(number))
     }
 
-    /// From now on `u`, a number of a transaction, holds the named operations (ACTA's delegation).
-    /// Each of them is there and in progress. Their order says nothing, nor how often each is
-    /// named. `Err` where there is no memory, and then none is moved.
-    pub fn move_to(&mut self, ops: &[OpNo], u: TxnId) -> Result<(), AllocError>
-        requires named { are_open ops.now self.old ≡ true }
-        requires low { 0 < u.0 }
-        requires high { u.0 ≤ LAST_TXN }
+    // Adds an operation that is in progress no more. `Err` where there is no memory, and then it is not added.
+    fn add_past(&mut self, item: HeldOp) -> Result<(), AllocError>
+        requires room { length self.old < MOST_EVENTS }
+        requires past { is_open item.fate ≡ false }
+        ensures added { OnOk result (self.new ≡ self.old ++ item ∷ []) }
+        ensures err { OnErr result (self.new ≡ self.old) }
+    {
+        let number = self.items.len() as u32 + 1;
+        let alloc = *self.items.allocator();
+        let broad = counts::broad(&item.op);
+        let narrow = counts::narrow(&item.op);
+        self.items.reserve(1)?;
+        listing::make_place(alloc, &mut self.broad, item.ob.0, broad)?;
+        listing::make_place(alloc, &mut self.narrow, item.ob.0, narrow)?;
+        listing::list_under(&mut self.broad, item.ob.0, broad, number);
+        listing::list_under(&mut self.narrow, item.ob.0, narrow, number);
+        self.items.push_reserved(item);
+        Ok(())
+    }
+
+    // Adds an operation as it is. `Err` where there is no memory, and then it is not added.
+    fn add_item(&mut self, item: HeldOp) -> Result<(), AllocError>
+        requires room { length self.old < MOST_EVENTS }
+        ensures added { OnOk result (self.new ≡ self.old ++ item ∷ []) }
+        ensures err { OnErr result (self.new ≡ self.old) }
+    {
+        if item.fate == Fate::InProgress {
+            return match self.add(item.holder, item.ob, item.op) {
+                Ok(_) => Ok(()),
+                Err(error) => Err(error),
+            };
+        }
+        self.add_past(item)
+    }
+
+    /// From now on `u` holds those of the named operations that `from` holds in progress (ACTA's delegation of
+    /// operations). `Err` where there is no memory, and then none is handed on.
+    pub fn hand(&mut self, from: TxnId, ops: &OpSet<A>, u: TxnId) -> Result<(), AllocError>
+        ensures handed { OnOk result (self.new ≡ handed_of from.0 ops.now u self.old) }
+        ensures err { OnErr result (self.new ≡ self.old) }
+    {
+        if from.0 == u.0 {
+            return Ok(());
+        }
+        let named = named_in(*self.items.allocator(), list_of(&self.held, from.0), ops)?;
+        counts::make_room(&mut self.counts, 2 * named.len())?;
+        share_held(&mut self.held, &mut self.holders, u.0, named.as_slice())?;
+        leave_out_at(&mut self.held, from.0, ops);
+        hand_each(&mut self.items, &mut self.counts, named.as_slice(), from, u);
+        Ok(())
+    }
+
+    /// From now on `u` holds the named operations (ACTA's delegation), which `from` holds in progress. `Err` where
+    /// there is no memory, and then none is moved.
+    pub fn move_to(&mut self, from: TxnId, ops: &OpSet<A>, u: TxnId) -> Result<(), AllocError>
+        requires { are_held from.0 ops.now self.old ≡ true }
         ensures moved { OnOk result (self.new ≡ moved ops.now u self.old) }
         ensures err { OnErr result (self.new ≡ self.old) }
     {
-        move_all(&mut self.items, ops, u);
-        Ok(())
+        self.hand(from, ops, u)
     }
 
     /// From now on `u` holds all that `t` holds in progress (ACTA's join of split transactions, and a
@@ -116,7 +299,14 @@ impl<A: Allocator> OpTable<A> {
         ensures handed { OnOk result (self.new ≡ handed t.0 u self.old) }
         ensures err { OnErr result (self.new ≡ self.old) }
     {
-        hand_each(&mut self.items, t, u);
+        if t.0 == u.0 {
+            return Ok(());
+        }
+        let given = Vec::from_slice(*self.items.allocator(), list_of(&self.held, t.0))?;
+        counts::make_room(&mut self.counts, 2 * given.len())?;
+        share_held(&mut self.held, &mut self.holders, u.0, given.as_slice())?;
+        clear_held(&mut self.held, &mut self.holders, t.0);
+        hand_each(&mut self.items, &mut self.counts, given.as_slice(), t, u);
         Ok(())
     }
 
@@ -126,11 +316,123 @@ impl<A: Allocator> OpTable<A> {
         requires { is_open fate ≡ false }
         ensures { self.new ≡ ended t.0 fate self.old }
     {
-        end_each(&mut self.items, t, fate);
+        end_each(
+            &mut self.items,
+            &mut self.counts,
+            list_of(&self.held, t.0),
+            t,
+            fate,
+        );
+        advance_each(
+            &mut self.broad,
+            &mut self.narrow,
+            self.items.as_slice(),
+            list_of(&self.held, t.0),
+        );
+        clear_held(&mut self.held, &mut self.holders, t.0);
     }
 }
 
-impl<A: Allocator + Copy> OpTable<A> {
+// Which operations stand against another.
+impl<A: Handle> OpTable<A> {
+    /// Whether the transaction holds an operation in progress, on the object, that conflicts with the operation.
+    pub fn is_held_against(&self, t: TxnId, ob: ObjId, op: &Op) -> bool
+        ensures { result ≡ list_any (is_held_against t.0 ob.0 op.now) self.now }
+    {
+        counts::number_against(&self.counts, Whose::One(t.0), ob.0, op) > 0
+    }
+
+    /// Whether an operation in progress, on the object, held neither by the transaction nor by one of those that it
+    /// spares, conflicts with the operation.
+    pub fn has_against(&self, t: TxnId, spares: &BTreeSet<u16, A>, ob: ObjId, op: &Op) -> bool
+        ensures { result ≡ list_any (is_against t.0 spares.now.keys ob.0 op.now) self.now }
+    {
+        counts::others_against(&self.counts, t, spares, ob, op) > 0
+    }
+
+    /// The number of the first operation in progress, on the object, held neither by the transaction nor by one of
+    /// those that it spares, that conflicts with the operation.
+    pub fn first_against(
+        &self,
+        t: TxnId,
+        spares: &BTreeSet<u16, A>,
+        ob: ObjId,
+        op: &Op,
+    ) -> Option<u32>
+        ensures { result ≡ first_number (is_against t.0 spares.now.keys ob.0 op.now) self.now }
+    {
+        if self.has_against(t, spares, ob, op) {
+            listing::first_against(
+                &self.broad,
+                &self.narrow,
+                self.items.as_slice(),
+                t,
+                spares,
+                ob,
+                op,
+            )
+        } else {
+            None
+        }
+    }
+}
+
+// Who stands against an operation.
+impl<A: Handle> OpTable<A> {
+    // Whether the one of this number is another than the transaction and than those that it spares, and holds an
+    // operation in progress, on the object, that conflicts with the operation.
+    fn is_opponent(
+        &self,
+        t: TxnId,
+        spares: &BTreeSet<u16, A>,
+        ob: ObjId,
+        op: &Op,
+        number: u16,
+    ) -> bool
+        ensures { result ≡ is_opponent t.0 spares.now.keys ob.0 op.now self.now number }
+    {
+        number != t.0 && !spares.contains(&number) && self.is_held_against(TxnId(number), ob, op)
+    }
+
+    // Those of the holders who are.
+    fn opponents(
+        &self,
+        t: TxnId,
+        spares: &BTreeSet<u16, A>,
+        ob: ObjId,
+        op: &Op,
+    ) -> Result<BTreeSet<u16, A>, AllocError>
+        ensures { IfOk result (λ numbers. numbers.keys ≡ holders_against t.0 spares.now.keys ob.0 op.now self.now) }
+    {
+        let mut numbers = BTreeSet::new(self.allocator());
+        for number in self.holders.iter() {
+            if self.is_opponent(t, spares, ob, op, *number) {
+                numbers.insert(*number)?;
+            }
+        }
+        Ok(numbers)
+    }
+
+    /// Who holds the operations in progress, on the object, that conflict with the operation, but for the transaction
+    /// and those that it spares. `Err` where there is no memory.
+    pub fn holders_against(
+        &self,
+        t: TxnId,
+        spares: &BTreeSet<u16, A>,
+        ob: ObjId,
+        op: &Op,
+    ) -> Result<BTreeSet<u16, A>, AllocError>
+        ensures { IfOk result (λ numbers. numbers.keys ≡ holders_against t.0 spares.now.keys ob.0 op.now self.now) }
+    {
+        if self.has_against(t, spares, ob, op) {
+            self.opponents(t, spares, ob, op)
+        } else {
+            Ok(BTreeSet::new(self.allocator()))
+        }
+    }
+}
+
+impl<A: Handle> OpTable<A> {
     // The allocator of the list.
     fn allocator(&self) -> A {
         *self.items.allocator()
@@ -141,7 +443,7 @@ impl<A: Allocator + Copy> OpTable<A> {
     pub fn access_set(&self, t: TxnId) -> Result<Vec<OpNo, A>, AllocError>
         ensures { IfOk result (λ ops. ops.items ≡ access_set t.0 self.now) }
     {
-        selected(self.allocator(), Selection::Access(t), self.operations())
+        numbered(self.allocator(), list_of(&self.held, t.0))
     }
 
     /// The operations in progress that are held neither by `t` nor by one of these ancestors of it,
@@ -169,8 +471,18 @@ impl<A: Allocator + Copy> OpTable<A> {
     pub fn copy(&self) -> Result<OpTable<A>, AllocError>
         ensures { IfOk result (λ table. table ≡ self.now) }
     {
-        Ok(OpTable {
-            items: self.items.clone()?,
-        })
+        copied(self.allocator(), self.operations())
     }
+}
+
+// A table of these operations. `Err` where there is no memory.
+fn copied<A: Handle>(alloc: A, items: &[HeldOp]) -> Result<OpTable<A>, AllocError>
+    requires { length items.now ≤ MOST_EVENTS }
+    ensures { IfOk result (λ table. table ≡ items.now) }
+{
+    let mut table = OpTable::new(alloc);
+    for item in items {
+        table.add_item(*item)?;
+    }
+    Ok(table)
 }

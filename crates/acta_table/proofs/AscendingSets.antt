@@ -25,7 +25,8 @@ inserted-by test x k xs rest Less is later = refl
 inserted-by test x k xs rest Equal is later = once (test x) (list_any test xs) ∙ ap (λ y. test y || (test x || list_any test xs)) (sym (exact_unsigned k x is))
 inserted-by test x k xs rest Greater is later = ap (λ b. test x || b) later ∙ swapped (test x) (test k) (list_any test xs)
 
-any-inserted : (test : ℕ → Bool) (keys : List ℕ) (k : ℕ) → list_any test (insert_key nat_cmp keys k) ≡ (test k || list_any test keys)
+-- one passes, with one more in the set
+pub any-inserted : (test : ℕ → Bool) (keys : List ℕ) (k : ℕ) → list_any test (insert_key nat_cmp keys k) ≡ (test k || list_any test keys)
 any-inserted test [] k = refl
 any-inserted test (x ∷ xs) k = inserted-by test x k xs (insert_key nat_cmp xs k) (nat_cmp k x) refl (any-inserted test xs k)
 
@@ -54,14 +55,16 @@ at-other u n Less is other = refl
 at-other u n Equal is other = absurd (other (sym (exact_unsigned u n is)))
 at-other u n Greater is other = refl
 
-at-number : (u n : ℕ) → is_at (nat_cmp u) n ≡ (n == u)
+-- whether two numbers are one, by comparing
+pub at-number : (u n : ℕ) → is_at (nat_cmp u) n ≡ (n == u)
 at-number u n =
     elim (cases_eq n u) [
       | inl e ↦ ap is_eq (sym (nat_cmp_is u n Equal (sym e))) ∙ sym (eq-eqb n u e)
       | inr ne ↦ at-other u n (nat_cmp u n) refl ne ∙ sym (ne_eqb n u ne)
     ]
 
-any-number : (u : ℕ) (ns : List ℕ) → list_any (is_at (nat_cmp u)) ns ≡ list_any (λ n. n == u) ns
+-- whether a number is among some, by comparing
+pub any-number : (u : ℕ) (ns : List ℕ) → list_any (is_at (nat_cmp u)) ns ≡ list_any (λ n. n == u) ns
 any-number u [] = refl
 any-number u (n ∷ ns) = (λ i. at-number u n i || any-number u ns i)
 

@@ -6,7 +6,7 @@ use crate::expecting::made;
 use crate::formulas::{course_of, is_false, payment};
 use crate::walking::follows_machine;
 use acta_axioms::{Course, Places};
-use acta_machine::Machine;
+use acta_machine::{Handle, Machine};
 use acta_table::{
     ClassId, Edge, EdgeNo, Event, Fate, Kept, Missing, Model, OpNo, Owed, Scope, Status, TxnId,
 };
@@ -96,7 +96,7 @@ pub fn status_by(course: Course) -> Status {
 }
 
 // Whether t holds the operation in progress, and whether another does whose operations are in t's conflict set.
-fn standing<A: Allocator + Copy>(
+fn standing<A: Handle>(
     model: &Model<A>,
     history: &[Kept<A>],
     places: &Places<'_, A>,
@@ -110,7 +110,7 @@ fn standing<A: Allocator + Copy>(
 }
 
 // The machine shows how a transaction stands, and its sets, operation by operation.
-fn shows_txn<A: Allocator + Copy>(
+fn shows_txn<A: Handle>(
     rt: &impl Abort,
     model: &Model<A>,
     machine: &Machine<A>,
@@ -129,7 +129,7 @@ fn shows_txn<A: Allocator + Copy>(
 }
 
 // The machine shows the view, which with the access sets says what became of each operation.
-fn shows_view<A: Allocator + Copy>(
+fn shows_view<A: Handle>(
     rt: &impl Abort,
     machine: &Machine<A>,
     places: &Places<'_, A>,
@@ -148,7 +148,7 @@ fn shows_view<A: Allocator + Copy>(
 }
 
 // What is owed by the edge.
-fn missing_by<A: Allocator + Copy>(places: &Places<'_, A>, edge: &Edge) -> Option<Missing> {
+fn missing_by<A: Handle>(places: &Places<'_, A>, edge: &Edge) -> Option<Missing> {
     let (j, i) = (course_of(places, edge.j), course_of(places, edge.i));
     match payment(edge.kind) {
         Some(missing) if !j.has_ended() && is_false(edge.kind, j, i) => Some(missing),
@@ -157,7 +157,7 @@ fn missing_by<A: Allocator + Copy>(places: &Places<'_, A>, edge: &Edge) -> Optio
 }
 
 // What is owed by the edges of these places.
-fn debts_of<A: Allocator + Copy>(
+fn debts_of<A: Handle>(
     rt: &impl Abort,
     alloc: A,
     places: &Places<'_, A>,
@@ -175,7 +175,7 @@ fn debts_of<A: Allocator + Copy>(
 }
 
 // The machine shows the edges, and what is owed by them.
-fn shows_edges<A: Allocator + Copy>(
+fn shows_edges<A: Handle>(
     rt: &impl Abort,
     alloc: A,
     machine: &Machine<A>,
@@ -187,7 +187,7 @@ fn shows_edges<A: Allocator + Copy>(
 }
 
 // The machine shows of each transaction what these places say.
-fn shows_txns<A: Allocator + Copy>(
+fn shows_txns<A: Handle>(
     rt: &impl Abort,
     model: &Model<A>,
     machine: &Machine<A>,
@@ -201,7 +201,7 @@ fn shows_txns<A: Allocator + Copy>(
 }
 
 // What the machine shows that isn't what these places say.
-fn differing_from<A: Allocator + Copy>(
+fn differing_from<A: Handle>(
     rt: &impl Abort,
     alloc: A,
     model: &Model<A>,
@@ -220,7 +220,7 @@ fn differing_from<A: Allocator + Copy>(
 }
 
 /// What the machine shows that isn't what the places of its history say.
-pub fn differing<A: Allocator + Copy>(
+pub fn differing<A: Handle>(
     rt: &impl Abort,
     alloc: A,
     model: &Model<A>,

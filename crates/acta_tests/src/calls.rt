@@ -2,12 +2,12 @@
 //! compared when they run.
 
 use acta_axioms::{Places, SerialItem, Walk};
-use acta_machine::{Machine, Run, SerialError};
+use acta_machine::{Handle, Machine, Run, SerialError};
 use acta_table::{Answer, Event, Items, Kept, MOST_EVENTS, Model, Owed};
-use std::alloc::{AllocError, Allocator};
+use std::alloc::AllocError;
 
 /// A machine on a copy of the model.
-pub fn new_machine<A: Allocator + Copy>(
+pub fn new_machine<A: Handle>(
     alloc: A,
     model: &Model<A>,
 ) -> Result<Machine<A>, AllocError> {
@@ -15,7 +15,7 @@ pub fn new_machine<A: Allocator + Copy>(
 }
 
 /// A run on a copy of the model.
-pub fn run_on<A: Allocator + Copy>(
+pub fn run_on<A: Handle>(
     alloc: A,
     model: &Model<A>,
     events: &[Event<A>],
@@ -24,7 +24,7 @@ pub fn run_on<A: Allocator + Copy>(
 }
 
 /// What the machine answers the event.
-pub fn take<A: Allocator + Copy>(
+pub fn take<A: Handle>(
     machine: &mut Machine<A>,
     event: &Event<A>,
 ) -> Result<Answer, AllocError> {
@@ -32,24 +32,24 @@ pub fn take<A: Allocator + Copy>(
 }
 
 /// A copy of the machine.
-pub fn copy_of<A: Allocator + Copy>(machine: &Machine<A>) -> Result<Machine<A>, AllocError> {
+pub fn copy_of<A: Handle>(machine: &Machine<A>) -> Result<Machine<A>, AllocError> {
     machine.copy()
 }
 
 /// What the machine says is owed.
-pub fn owed_by<A: Allocator + Copy>(machine: &Machine<A>) -> Result<Vec<Owed, A>, AllocError> {
+pub fn owed_by<A: Handle>(machine: &Machine<A>) -> Result<Vec<Owed, A>, AllocError> {
     machine.owed()
 }
 
 /// The machine's committed operations in serial order.
-pub fn serial_of<A: Allocator + Copy>(
+pub fn serial_of<A: Handle>(
     machine: &Machine<A>,
 ) -> Result<Items<SerialItem, A>, SerialError> {
     machine.serial()
 }
 
 /// A walk that stands before a list, which is no longer than a history may be.
-pub fn walk_of<'a, A: Allocator + Copy>(
+pub fn walk_of<'a, A: Handle>(
     alloc: A,
     model: &'a Model<A>,
     kept: &'a [Kept<A>],
@@ -61,7 +61,7 @@ pub fn walk_of<'a, A: Allocator + Copy>(
 }
 
 /// The places of such a list.
-pub fn places_of<'a, A: Allocator + Copy>(
+pub fn places_of<'a, A: Handle>(
     alloc: A,
     model: &'a Model<A>,
     kept: &'a [Kept<A>],

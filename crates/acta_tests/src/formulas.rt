@@ -1,11 +1,11 @@
 //! The formulas of the kinds of dependency over first places, written out once more by hand.
 
 use acta_axioms::{Course, Places};
+use acta_machine::Handle;
 use acta_table::{Dep, Missing, TxnId};
-use std::alloc::Allocator;
 
 /// The first places of a transaction.
-pub fn course_of<A: Allocator>(places: &Places<'_, A>, t: TxnId) -> Course {
+pub fn course_of<A: Handle>(places: &Places<'_, A>, t: TxnId) -> Course {
     Course {
         start: places.start(t),
         commit: places.commit(t),

@@ -3,7 +3,7 @@
 use crate::calls::{copy_of, new_machine, owed_by, places_of, run_on, take};
 use crate::expecting::{holds, made, number_of, parted, same, tells};
 use crate::models::{PARTING, event_of, model_of};
-use acta_machine::Machine;
+use acta_machine::{Handle, Machine};
 use acta_models::Standard;
 use acta_objects::{ObjectState, replay};
 use acta_script::answer_line;
@@ -21,7 +21,7 @@ const ONE: TxnId = TxnId(1);
 const MOST: u64 = 40;
 
 // How many events and edges the machine has, and how the first transaction stands.
-fn shape<A: Allocator>(machine: &Machine<A>) -> (usize, usize, Status) {
+fn shape<A: Handle>(machine: &Machine<A>) -> (usize, usize, Status) {
     (
         machine.history().len(),
         machine.edges().len(),
@@ -31,7 +31,7 @@ fn shape<A: Allocator>(machine: &Machine<A>) -> (usize, usize, Status) {
 
 // Takes the event, its first allocation refused, then the second, and so on, until it succeeds: each refused call has
 // to answer `Err`, and leaves the machine as it was. Gives the answer in the end, and how many calls were refused.
-fn refuse_each<A: Allocator + Copy, B: Allocator>(
+fn refuse_each<A: Handle, B: Allocator>(
     rt: &impl Abort,
     heap: &Refusing<B>,
     machine: &mut Machine<A>,
@@ -52,7 +52,7 @@ fn refuse_each<A: Allocator + Copy, B: Allocator>(
 
 // Takes the event of the line, each growth refused in turn. The line has an event, its answer, and how many growths
 // were refused.
-fn grow_line<A: Allocator + Copy, B: Allocator>(
+fn grow_line<A: Handle, B: Allocator>(
     rt: &impl Abort,
     heap: &Refusing<B>,
     alloc: A,
@@ -70,7 +70,7 @@ fn grow_line<A: Allocator + Copy, B: Allocator>(
 }
 
 // Takes the events of the lines on the machine.
-fn grow_lines<A: Allocator + Copy, B: Allocator>(
+fn grow_lines<A: Handle, B: Allocator>(
     rt: &impl Abort,
     heap: &Refusing<B>,
     alloc: A,
@@ -83,7 +83,7 @@ fn grow_lines<A: Allocator + Copy, B: Allocator>(
 }
 
 // Takes the events of the lines on a new machine.
-fn grow_each<A: Allocator + Copy, B: Allocator>(
+fn grow_each<A: Handle, B: Allocator>(
     rt: &impl Abort,
     heap: &Refusing<B>,
     alloc: A,
@@ -190,12 +190,12 @@ fn numbers(ops: &[OpNo]) -> usize {
 }
 
 // How many debts the machine shows.
-fn debts<A: Allocator + Copy>(machine: &Machine<A>) -> Result<usize, AllocError> {
+fn debts<A: Handle>(machine: &Machine<A>) -> Result<usize, AllocError> {
     Ok(owed_by(machine)?.len())
 }
 
 // How many events, edges and debts the machine shows, as digits.
-fn counted<A: Allocator + Copy>(machine: &Machine<A>) -> Result<usize, AllocError> {
+fn counted<A: Handle>(machine: &Machine<A>) -> Result<usize, AllocError> {
     let debts = debts(machine)?;
     let (events, edges) = (machine.history().len(), machine.edges().len());
     let digits = events.wrapping_mul(10).wrapping_add(edges);
@@ -203,17 +203,17 @@ fn counted<A: Allocator + Copy>(machine: &Machine<A>) -> Result<usize, AllocErro
 }
 
 // The same of a copy of the machine.
-fn copied<A: Allocator + Copy>(machine: &Machine<A>) -> Result<usize, AllocError> {
+fn copied<A: Handle>(machine: &Machine<A>) -> Result<usize, AllocError> {
     counted(&copy_of(machine)?)
 }
 
 // Whether an object has a value, as a number.
-fn valued<A: Allocator + Copy>(machine: &Machine<A>) -> Result<usize, AllocError> {
+fn valued<A: Handle>(machine: &Machine<A>) -> Result<usize, AllocError> {
     Ok(usize::from(machine.value(ObjId(3))?.is_some()))
 }
 
 // How many events a run has kept.
-fn ran<A: Allocator + Copy>(
+fn ran<A: Handle>(
     alloc: A,
     model: &Model<A>,
     events: &[Event<A>],
@@ -227,12 +227,12 @@ fn classes<A: Allocator + Copy>(model: &Model<A>) -> Result<usize, AllocError> {
 }
 
 // How many events a new machine has.
-fn begun<A: Allocator + Copy>(alloc: A, model: &Model<A>) -> Result<usize, AllocError> {
+fn begun<A: Handle>(alloc: A, model: &Model<A>) -> Result<usize, AllocError> {
     Ok(new_machine(alloc, model)?.history().len())
 }
 
 // Where the first transaction starts, by an index of the history.
-fn first_start<A: Allocator + Copy>(alloc: A, machine: &Machine<A>) -> Result<usize, AllocError> {
+fn first_start<A: Handle>(alloc: A, machine: &Machine<A>) -> Result<usize, AllocError> {
     let places = places_of(alloc, machine.model(), machine.history())?;
     Ok(places.start(ONE).unwrap_or(0) as usize)
 }
@@ -302,7 +302,7 @@ fn one_item<A: Allocator + Copy>(alloc: A) -> Result<usize, AllocError> {
 }
 
 // The numbers of a set of operations that the machine shows, or none where another call is meant.
-fn of_sets<A: Allocator + Copy>(
+fn of_sets<A: Handle>(
     machine: &Machine<A>,
     call: &str,
 ) -> Result<Option<usize>, AllocError> {
@@ -318,7 +318,7 @@ fn of_sets<A: Allocator + Copy>(
 
 // What a call on a machine answers, as a number, or none where it is another call: the numbers of operations, whether
 // an object has a value, how many debts there are, and where the first transaction starts.
-fn of_machine<A: Allocator + Copy>(
+fn of_machine<A: Handle>(
     alloc: A,
     machine: &Machine<A>,
     call: &str,
@@ -335,7 +335,7 @@ fn of_machine<A: Allocator + Copy>(
 
 // What a call on a model answers, as a number, or on less: how many events were kept, how many classes there are, how
 // many returns are told, and how long a list is.
-fn of_model<A: Allocator + Copy>(
+fn of_model<A: Handle>(
     alloc: A,
     model: &Model<A>,
     events: &[Event<A>],
@@ -355,7 +355,7 @@ fn of_model<A: Allocator + Copy>(
 }
 
 // What a call answers, as a number.
-fn answer<A: Allocator + Copy>(
+fn answer<A: Handle>(
     alloc: A,
     machine: &Machine<A>,
     events: &[Event<A>],
@@ -368,7 +368,7 @@ fn answer<A: Allocator + Copy>(
 }
 
 // What the call answers where its nth growth is refused, and whether it has as many.
-fn refused<A: Allocator + Copy, B: Allocator>(
+fn refused<A: Handle, B: Allocator>(
     heap: &Refusing<B>,
     alloc: A,
     machine: &Machine<A>,
@@ -383,7 +383,7 @@ fn refused<A: Allocator + Copy, B: Allocator>(
 }
 
 // Each growth of the call of the line is refused in turn, until it succeeds: it has as many growths, and answers this.
-fn grow<A: Allocator + Copy, B: Allocator>(
+fn grow<A: Handle, B: Allocator>(
     rt: &impl Abort,
     heap: &Refusing<B>,
     alloc: A,
@@ -416,7 +416,7 @@ fn read<A: Allocator + Copy>(rt: &impl Abort, alloc: A, model: &Model<A>) -> Vec
 }
 
 // The growths of each call on the machine, and on its events.
-fn grow_all<A: Allocator + Copy, B: Allocator>(
+fn grow_all<A: Handle, B: Allocator>(
     rt: &impl Abort,
     heap: &Refusing<B>,
     alloc: A,
@@ -429,7 +429,7 @@ fn grow_all<A: Allocator + Copy, B: Allocator>(
 }
 
 // The growths of each call on the model of nested transactions, after the events that are read.
-fn grow_calls<A: Allocator + Copy, B: Allocator>(rt: &impl Abort, heap: &Refusing<B>, alloc: A) {
+fn grow_calls<A: Handle, B: Allocator>(rt: &impl Abort, heap: &Refusing<B>, alloc: A) {
     let model = model_of(rt, alloc, Standard::Nested.text());
     let events = read(rt, alloc, &model);
     let run = made(rt, run_on(alloc, &model, &events), "a run");

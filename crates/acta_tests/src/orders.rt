@@ -6,7 +6,7 @@ use crate::expecting::{holds, made, same};
 use crate::formulas::{course_of, is_false, payment};
 use crate::models::{event_of, model_of};
 use acta_axioms::Places;
-use acta_machine::Machine;
+use acta_machine::{Handle, Machine};
 use acta_models::Standard;
 use acta_table::{Answer, Dep, Edge, EdgeNo, Event, Kept, Missing, Model, Owed, Rule, TxnId};
 use std::alloc::Allocator;
@@ -34,7 +34,7 @@ fn with<A: Allocator + Copy>(
 }
 
 // What the places of a history say of the one edge in it: whether it is broken, and what is owed by it.
-fn finding_of<A: Allocator + Copy>(kind: Dep, places: &Places<'_, A>) -> (bool, Option<Missing>) {
+fn finding_of<A: Handle>(kind: Dep, places: &Places<'_, A>) -> (bool, Option<Missing>) {
     let (j, i) = (course_of(places, TWO), course_of(places, ONE));
     if !is_false(kind, j, i) {
         return (false, None);
@@ -46,7 +46,7 @@ fn finding_of<A: Allocator + Copy>(kind: Dep, places: &Places<'_, A>) -> (bool, 
 }
 
 // What would be found in the history of the machine, were the event added.
-fn found_after<A: Allocator + Copy>(
+fn found_after<A: Handle>(
     rt: &impl Abort,
     alloc: A,
     machine: &Machine<A>,
@@ -75,7 +75,7 @@ fn is_due(owed: &[Owed], missing: Option<Missing>) -> bool {
 // A machine with one edge takes an event, and what it says is what the places of its history say: an answer by a
 // rule on dependencies exactly where the edge would be broken, and the debt. Gives whether it refused so, and
 // whether there is a debt.
-fn agrees<A: Allocator + Copy>(
+fn agrees<A: Handle>(
     rt: &impl Abort,
     alloc: A,
     machine: &mut Machine<A>,
@@ -100,7 +100,7 @@ fn agrees<A: Allocator + Copy>(
 }
 
 // A new machine, on which an edge of this kind is formed, of the second transaction on the first.
-fn formed<A: Allocator + Copy>(
+fn formed<A: Handle>(
     rt: &impl Abort,
     alloc: A,
     model: &Model<A>,
@@ -122,7 +122,7 @@ fn has_one_edge(edges: &[Edge], kind: Dep) -> bool {
 
 // A machine with one edge agrees along one order. Gives whether it refused an event by a rule on dependencies, and
 // whether there was a debt.
-fn along_on<A: Allocator + Copy>(
+fn along_on<A: Handle>(
     rt: &impl Abort,
     alloc: A,
     machine: &mut Machine<A>,
@@ -141,7 +141,7 @@ fn along_on<A: Allocator + Copy>(
 }
 
 // The same of a new machine with one edge of this kind.
-fn along<A: Allocator + Copy>(
+fn along<A: Handle>(
     rt: &impl Abort,
     alloc: A,
     model: &Model<A>,
@@ -155,7 +155,7 @@ fn along<A: Allocator + Copy>(
 }
 
 // Machines with an edge of one kind agree along each order.
-fn through_each_order<A: Allocator + Copy>(
+fn through_each_order<A: Handle>(
     rt: &impl Abort,
     alloc: A,
     model: &Model<A>,

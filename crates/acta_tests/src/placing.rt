@@ -17,6 +17,7 @@ use crate::models::{Models, event_of};
 use crate::showing::{put_edges, put_number, put_word, txn};
 use crate::walking::follows_places;
 use acta_axioms::Places;
+use acta_machine::Handle;
 use acta_table::{Event, Fate, Kept, Model, OpNo, Ret, TxnId};
 use acta_words::read_u32;
 use std::alloc::Allocator;
@@ -37,7 +38,7 @@ fn fate_word(fate: Option<Fate>) -> &'static str {
 }
 
 // Writes who holds an operation after so many places, if anyone, and what became of it: `OP at N` asks for it.
-fn put_standing<A: Allocator + Copy>(
+fn put_standing<A: Handle>(
     rt: &impl Abort,
     line: &mut Vec<u8, A>,
     places: &Places<'_, A>,
@@ -52,7 +53,7 @@ fn put_standing<A: Allocator + Copy>(
 }
 
 // The first place of the event of a transaction that the word names.
-fn place_of<A: Allocator + Copy>(
+fn place_of<A: Handle>(
     rt: &impl Abort,
     places: &Places<'_, A>,
     word: &str,
@@ -76,7 +77,7 @@ fn put_place<A: Allocator + Copy>(rt: &impl Abort, line: &mut Vec<u8, A>, place:
 }
 
 // Writes what the places say of what is asked.
-fn put_said<A: Allocator + Copy>(
+fn put_said<A: Handle>(
     rt: &impl Abort,
     line: &mut Vec<u8, A>,
     places: &Places<'_, A>,
@@ -91,7 +92,7 @@ fn put_said<A: Allocator + Copy>(
 }
 
 // The places of the items say what the line does.
-fn ask<A: Allocator + Copy>(
+fn ask<A: Handle>(
     rt: &impl Abort,
     alloc: A,
     model: &Model<A>,
@@ -117,7 +118,7 @@ fn kept<A: Allocator + Copy>(rt: &impl Abort, alloc: A, model: &Model<A>, line: 
 }
 
 // A line begins a list, asks something of it, or puts an event behind it.
-fn follow<A: Allocator + Copy>(
+fn follow<A: Handle>(
     rt: &impl Abort,
     alloc: A,
     models: &Models<A>,
@@ -136,7 +137,7 @@ fn follow<A: Allocator + Copy>(
 }
 
 // Goes through the lists of the model that the text means.
-fn expect<A: Allocator + Copy>(rt: &impl Abort, alloc: A, model: &str, lists: &str) {
+fn expect<A: Handle>(rt: &impl Abort, alloc: A, model: &str, lists: &str) {
     let models = Models::of(rt, alloc, model);
     let mut items = Vec::new(alloc);
     for line in lists.lines() {

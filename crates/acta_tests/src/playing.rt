@@ -16,22 +16,21 @@ use crate::expecting::{made, parted, same, tells};
 use crate::histories::by_model;
 use crate::models::{Models, event_of};
 use crate::showing::shown;
-use acta_machine::Machine;
+use acta_machine::{Handle, Machine};
 use acta_script::answer_line;
 use acta_table::{Answer, Event, Model};
-use std::alloc::Allocator;
 use std::process::Abort;
 
 // A history as far as it was played.
 #[derive(Drop)]
-struct Played<A: Allocator> {
+struct Played<A: Handle> {
     machine: Machine<A>,
     events: Vec<Event<A>, A>,
     answers: Vec<Answer, A>,
 }
 
 // The machine shows what is due where it is asked.
-fn shows<A: Allocator + Copy>(
+fn shows<A: Handle>(
     rt: &impl Abort,
     alloc: A,
     models: &Models<A>,
@@ -42,7 +41,7 @@ fn shows<A: Allocator + Copy>(
     tells(rt, told.as_slice(), due, asked);
 }
 
-impl<A: Allocator + Copy> Played<A> {
+impl<A: Handle> Played<A> {
     // Nothing of a history.
     fn new(rt: &impl Abort, alloc: A, model: &Model<A>) -> Played<A> {
         Played {
@@ -108,7 +107,7 @@ fn rules_met(answers: &[Answer]) -> u32 {
 
 // A line begins a history, asks what the machine shows, or has an event. Gives the rules that a history has met, where
 // it is over.
-fn follow<A: Allocator + Copy>(
+fn follow<A: Handle>(
     rt: &impl Abort,
     alloc: A,
     models: &Models<A>,
@@ -126,7 +125,7 @@ fn follow<A: Allocator + Copy>(
 }
 
 // Does what the lines say. Gives the rules that the histories have met which are over.
-fn follow_all<A: Allocator + Copy>(
+fn follow_all<A: Handle>(
     rt: &impl Abort,
     alloc: A,
     models: &Models<A>,
@@ -141,7 +140,7 @@ fn follow_all<A: Allocator + Copy>(
 }
 
 // Plays the histories of the model that the text means. Gives the rules that they met.
-fn play<A: Allocator + Copy>(rt: &impl Abort, alloc: A, model: &str, histories: &str) -> u32 {
+fn play<A: Handle>(rt: &impl Abort, alloc: A, model: &str, histories: &str) -> u32 {
     let models = Models::of(rt, alloc, model);
     let mut played = Played::new(rt, alloc, &models.model);
     let mut met = follow_all(rt, alloc, &models, &mut played, histories);

@@ -7,7 +7,7 @@ use crate::calls::{new_machine, serial_of, take};
 use crate::expecting::{holds, made, number, parted, same, tells};
 use crate::models::{DELEGATING, event_of, model_of};
 use acta_axioms::SerialItem;
-use acta_machine::{Machine, SerialError};
+use acta_machine::{Handle, Machine, SerialError};
 use acta_models::Standard;
 use acta_script::{answer_line, read_kept};
 use acta_table::{Event, Model};
@@ -63,7 +63,7 @@ const CLEARED_ORDER: &str = "\
 6 : do 4095 s size = 2";
 
 // Takes the events of the lines on a new machine, which answers as they say.
-fn machine_after<A: Allocator + Copy>(
+fn machine_after<A: Handle>(
     rt: &impl Abort,
     alloc: A,
     model: &Model<A>,
@@ -101,7 +101,7 @@ fn is_listed<A: Allocator + Copy>(
 }
 
 // The machine's serial order is that of the lines.
-fn lists<A: Allocator + Copy>(
+fn lists<A: Handle>(
     rt: &impl Abort,
     alloc: A,
     model: &Model<A>,
@@ -116,7 +116,7 @@ fn lists<A: Allocator + Copy>(
 }
 
 // The events on a model, and then its serial order.
-fn plays<A: Allocator + Copy>(rt: &impl Abort, alloc: A, text: &str, order: &str) {
+fn plays<A: Handle>(rt: &impl Abort, alloc: A, text: &str, order: &str) {
     let model = model_of(rt, alloc, Standard::Atomic.text());
     let machine = machine_after(rt, alloc, &model, text);
     lists(rt, alloc, &model, &machine, order);
@@ -132,7 +132,7 @@ fn orders_by_commits(rt: HostRuntime) {
 }
 
 // A new machine on the model has no serial order, or an empty one.
-fn is_strict<A: Allocator + Copy>(rt: &impl Abort, alloc: A, text: &str) -> bool {
+fn is_strict<A: Handle>(rt: &impl Abort, alloc: A, text: &str) -> bool {
     let model = model_of(rt, alloc, text);
     let machine = made(rt, new_machine(alloc, &model), "a machine");
     let is_strict = match serial_of(&machine) {
@@ -162,7 +162,7 @@ fn asks_for_strictness(rt: HostRuntime) {
 }
 
 // Each growth of the call refused in turn, until it succeeds: how many it has.
-fn growths<A: Allocator + Copy, B: Allocator>(
+fn growths<A: Handle, B: Allocator>(
     rt: &impl Abort,
     heap: &Refusing<B>,
     machine: &Machine<A>,
@@ -185,7 +185,7 @@ fn growths<A: Allocator + Copy, B: Allocator>(
 }
 
 // After the events, the call has so many growths.
-fn grows<A: Allocator + Copy, B: Allocator>(
+fn grows<A: Handle, B: Allocator>(
     rt: &impl Abort,
     heap: &Refusing<B>,
     alloc: A,

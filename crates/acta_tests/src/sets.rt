@@ -1,9 +1,9 @@
 //! Operations of which some have ended, while the one that holds them goes on.
 
 use crate::expecting::{holds, made};
+use acta_machine::Handle;
 use acta_sets::{HeldOp, OpTable};
 use acta_table::{Fate, ObjId, Op, OpNo, TxnId};
-use std::alloc::Allocator;
 use std::process::Abort;
 
 const ONE: TxnId = TxnId(1);
@@ -11,7 +11,7 @@ const ONE: TxnId = TxnId(1);
 const THREE: TxnId = TxnId(3);
 
 // An operation of 2, and two of 1, of which the first has ended.
-fn ended<A: Allocator + Copy>(rt: &impl Abort, alloc: A) -> OpTable<A> {
+fn ended<A: Handle>(rt: &impl Abort, alloc: A) -> OpTable<A> {
     let mut table = OpTable::new(alloc);
     made(rt, table.add(TxnId(2), ObjId(0), Op::Get), "the first");
     made(rt, table.add(ONE, ObjId(0), Op::Get), "the second");

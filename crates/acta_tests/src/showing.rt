@@ -3,7 +3,7 @@
 use crate::calls::owed_by;
 use crate::expecting::made;
 use crate::models::Models;
-use acta_machine::Machine;
+use acta_machine::{Handle, Machine};
 use acta_objects::ObjectState;
 use acta_script::owed_line;
 use acta_table::{Edge, ObjId, OpNo, Status, TxnId};
@@ -42,7 +42,7 @@ pub fn put_edges<A: Allocator>(rt: &impl Abort, line: &mut Vec<u8, A>, edges: &[
 }
 
 // Writes what is owed.
-fn put_debts<A: Allocator + Copy>(
+fn put_debts<A: Handle>(
     rt: &impl Abort,
     alloc: A,
     line: &mut Vec<u8, A>,
@@ -83,7 +83,7 @@ pub fn txn(rt: &impl Abort, word: &str) -> TxnId {
 }
 
 // Writes what the machine shows of a transaction.
-fn put_of_txn<A: Allocator + Copy>(
+fn put_of_txn<A: Handle>(
     rt: &impl Abort,
     line: &mut Vec<u8, A>,
     machine: &Machine<A>,
@@ -111,7 +111,7 @@ fn object_of<A: Allocator + Copy>(rt: &impl Abort, models: &Models<A>, name: &st
 }
 
 // Writes the value of an object, where there is one.
-fn put_object<A: Allocator + Copy>(
+fn put_object<A: Handle>(
     rt: &impl Abort,
     line: &mut Vec<u8, A>,
     machine: &Machine<A>,
@@ -123,7 +123,7 @@ fn put_object<A: Allocator + Copy>(
 }
 
 // Writes what the machine shows of what is asked.
-fn put_shown<A: Allocator + Copy>(
+fn put_shown<A: Handle>(
     rt: &impl Abort,
     alloc: A,
     line: &mut Vec<u8, A>,
@@ -143,7 +143,7 @@ fn put_shown<A: Allocator + Copy>(
 
 /// What the machine shows of what is asked: `status T`, `access T`, `conflict T`, `view`, `value OBJECT`, `edges`,
 /// `owed`.
-pub fn shown<A: Allocator + Copy>(
+pub fn shown<A: Handle>(
     rt: &impl Abort,
     alloc: A,
     models: &Models<A>,
@@ -156,7 +156,7 @@ pub fn shown<A: Allocator + Copy>(
 }
 
 /// The number that a register or a counter has.
-pub fn number_in<A: Allocator + Copy>(
+pub fn number_in<A: Handle>(
     rt: &impl Abort,
     machine: &Machine<A>,
     ob: ObjId,

@@ -4,6 +4,7 @@ use crate::calls::walk_of;
 use crate::expecting::{holds, made, number_of, parted, same};
 use crate::models::{FOLLOWING, LENDING, event_of, model_of};
 use acta_axioms::Walk;
+use acta_machine::Handle;
 use acta_table::{Kept, Model};
 use refusing::Refusing;
 use std::alloc::Allocator;
@@ -13,7 +14,7 @@ use std::process::Abort;
 const MOST: u64 = 20;
 
 // How many items the walk has taken, and how many operations and edges it shows.
-fn counts<A: Allocator>(walk: &Walk<'_, A>) -> (usize, usize, usize) {
+fn counts<A: Handle>(walk: &Walk<'_, A>) -> (usize, usize, usize) {
     (
         walk.front().len(),
         walk.operations().len(),
@@ -22,7 +23,7 @@ fn counts<A: Allocator>(walk: &Walk<'_, A>) -> (usize, usize, usize) {
 }
 
 // Steps, the first growth refused, then the second, and so on, until it succeeds. Gives how many were refused.
-fn step_each<A: Allocator + Copy, B: Allocator>(
+fn step_each<A: Handle, B: Allocator>(
     rt: &impl Abort,
     heap: &Refusing<B>,
     walk: &mut Walk<'_, A>,
@@ -60,7 +61,7 @@ fn read<A: Allocator + Copy>(
 
 // Steps over the events of the lines, each growth refused in turn: behind each event stands how many growths the step
 // over it has.
-fn step_over<A: Allocator + Copy, B: Allocator>(
+fn step_over<A: Handle, B: Allocator>(
     rt: &impl Abort,
     heap: &Refusing<B>,
     walk: &mut Walk<'_, A>,
@@ -74,7 +75,7 @@ fn step_over<A: Allocator + Copy, B: Allocator>(
 }
 
 // Steps through the list that the text means, on this model.
-fn steps_on<A: Allocator + Copy, B: Allocator>(
+fn steps_on<A: Handle, B: Allocator>(
     rt: &impl Abort,
     heap: &Refusing<B>,
     alloc: A,
@@ -88,7 +89,7 @@ fn steps_on<A: Allocator + Copy, B: Allocator>(
 }
 
 // Steps through the list that the text means.
-fn steps<A: Allocator + Copy, B: Allocator>(
+fn steps<A: Handle, B: Allocator>(
     rt: &impl Abort,
     heap: &Refusing<B>,
     alloc: A,

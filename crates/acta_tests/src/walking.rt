@@ -6,7 +6,7 @@ use crate::calls::{places_of, walk_of};
 use crate::expecting::made;
 use crate::formulas::course_of;
 use acta_axioms::{Places, Walk};
-use acta_machine::Machine;
+use acta_machine::{Handle, Machine};
 use acta_objects::{Members, ObjectState};
 use acta_table::{Class, Fate, Kept, Kind, Model, ObjId, Op, OpNo, TxnId};
 use std::alloc::Allocator;
@@ -40,7 +40,7 @@ fn asked_op(number: u8) -> (ObjId, Op) {
 }
 
 // A walk that has taken all items of the list.
-fn walked<'a, A: Allocator + Copy>(
+fn walked<'a, A: Handle>(
     rt: &impl Abort,
     alloc: A,
     model: &'a Model<A>,
@@ -81,7 +81,7 @@ fn is_same<A: Allocator + Copy>(p: Option<&ObjectState<A>>, q: Option<&ObjectSta
 }
 
 // The machine and the walk show the same value of the object.
-fn same_value<A: Allocator + Copy>(
+fn same_value<A: Handle>(
     rt: &impl Abort,
     walk: &Walk<'_, A>,
     machine: &Machine<A>,
@@ -93,7 +93,7 @@ fn same_value<A: Allocator + Copy>(
 }
 
 // Those of the operations with which this one conflicts, on an object of this kind.
-fn conflicting<A: Allocator + Copy>(
+fn conflicting<A: Handle>(
     rt: &impl Abort,
     alloc: A,
     walk: &Walk<'_, A>,
@@ -115,7 +115,7 @@ fn conflicting<A: Allocator + Copy>(
 
 // The walk finds the operations with which a transaction's operation on an object conflicts: those of its conflict set
 // that do.
-fn finds_conflict<A: Allocator + Copy>(
+fn finds_conflict<A: Handle>(
     rt: &impl Abort,
     alloc: A,
     walk: &Walk<'_, A>,
@@ -132,7 +132,7 @@ fn finds_conflict<A: Allocator + Copy>(
 }
 
 // The walk names the class with which a transaction started, and its parent, as the history has them.
-fn knows<A: Allocator + Copy>(walk: &Walk<'_, A>, history: &[Kept<A>], t: TxnId) -> bool {
+fn knows<A: Handle>(walk: &Walk<'_, A>, history: &[Kept<A>], t: TxnId) -> bool {
     let mut class: Option<&Class<A>> = None;
     if let Some(named) = class_in(history, t) {
         class = walk.model().class(named);
@@ -145,7 +145,7 @@ fn knows<A: Allocator + Copy>(walk: &Walk<'_, A>, history: &[Kept<A>], t: TxnId)
 }
 
 // The machine and the walk show the same access set.
-fn same_access<A: Allocator + Copy>(
+fn same_access<A: Handle>(
     rt: &impl Abort,
     walk: &Walk<'_, A>,
     machine: &Machine<A>,
@@ -157,7 +157,7 @@ fn same_access<A: Allocator + Copy>(
 }
 
 // The walk finds conflicts among the operations of a transaction's conflict set.
-fn finds_conflicts<A: Allocator + Copy>(
+fn finds_conflicts<A: Handle>(
     rt: &impl Abort,
     alloc: A,
     walk: &Walk<'_, A>,
@@ -173,7 +173,7 @@ fn finds_conflicts<A: Allocator + Copy>(
 }
 
 // The machine and the walk show the same conflict set, and the walk finds conflicts in it.
-fn same_conflicts<A: Allocator + Copy>(
+fn same_conflicts<A: Handle>(
     rt: &impl Abort,
     alloc: A,
     walk: &Walk<'_, A>,
@@ -187,7 +187,7 @@ fn same_conflicts<A: Allocator + Copy>(
 }
 
 // The machine and the walk show the same values, and the same of each transaction.
-fn same_as_machine<A: Allocator + Copy>(
+fn same_as_machine<A: Handle>(
     rt: &impl Abort,
     alloc: A,
     walk: &Walk<'_, A>,
@@ -208,7 +208,7 @@ fn same_as_machine<A: Allocator + Copy>(
 }
 
 /// Whether a walk through the machine's history shows what the machine does.
-pub fn follows_machine<A: Allocator + Copy>(
+pub fn follows_machine<A: Handle>(
     rt: &impl Abort,
     alloc: A,
     machine: &Machine<A>,
@@ -220,7 +220,7 @@ pub fn follows_machine<A: Allocator + Copy>(
 }
 
 // The walk's operations stand as the places say at the end of the list.
-fn same_operations<A: Allocator + Copy>(walk: &Walk<'_, A>, places: &Places<'_, A>) -> bool {
+fn same_operations<A: Handle>(walk: &Walk<'_, A>, places: &Places<'_, A>) -> bool {
     let end = walk.front().len() as u32;
     let mut same = true;
     let mut number = 0u32;
@@ -234,7 +234,7 @@ fn same_operations<A: Allocator + Copy>(walk: &Walk<'_, A>, places: &Places<'_, 
 }
 
 // The places and the walk say the same of a transaction: its course, and the operations that it holds in progress.
-fn same_course<A: Allocator + Copy>(
+fn same_course<A: Handle>(
     rt: &impl Abort,
     walk: &Walk<'_, A>,
     places: &Places<'_, A>,
@@ -253,7 +253,7 @@ fn same_course<A: Allocator + Copy>(
 }
 
 // The places and the walk say the same.
-fn same_places<A: Allocator + Copy>(
+fn same_places<A: Handle>(
     rt: &impl Abort,
     walk: &Walk<'_, A>,
     places: &Places<'_, A>,
@@ -266,7 +266,7 @@ fn same_places<A: Allocator + Copy>(
 }
 
 // The walk shows what the places of the items that it has taken say.
-fn follows<A: Allocator + Copy>(rt: &impl Abort, alloc: A, walk: &Walk<'_, A>) -> bool {
+fn follows<A: Handle>(rt: &impl Abort, alloc: A, walk: &Walk<'_, A>) -> bool {
     let places = made(rt, places_of(alloc, walk.model(), walk.front()), "places");
     let same = same_places(rt, walk, &places);
     drop(places);
@@ -274,7 +274,7 @@ fn follows<A: Allocator + Copy>(rt: &impl Abort, alloc: A, walk: &Walk<'_, A>) -
 }
 
 /// Whether a walk through any list shows what the places of the list say.
-pub fn follows_places<A: Allocator + Copy>(
+pub fn follows_places<A: Handle>(
     rt: &impl Abort,
     alloc: A,
     model: &Model<A>,

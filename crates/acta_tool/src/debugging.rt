@@ -18,7 +18,7 @@ use crate::reports::{Report, refuse_line};
 use crate::session::tell_commands;
 use crate::telling::tell_stop;
 use acta_debug::{Debugger, NewError, kept_histories};
-use acta_machine::Machine;
+use acta_machine::{Handle, Machine};
 use acta_script::DebugCommand;
 use acta_table::{Event, Kept, Model};
 use acta_words::{Lines, words_of};
@@ -36,7 +36,7 @@ fn copied<A: Allocator + Copy>(alloc: A, items: &[Kept<A>]) -> Result<Vec<Kept<A
 }
 
 // What a run of the events keeps.
-fn kept_of<A: Allocator + Copy>(
+fn kept_of<A: Handle>(
     alloc: A,
     model: &Model<A>,
     events: &[Event<A>],
@@ -50,7 +50,7 @@ fn kept_of<A: Allocator + Copy>(
 }
 
 // A debugger on what a run of the events keeps: a machine's history is one, so the debugger accepts it.
-fn debugger_on<A: Allocator + Copy>(
+fn debugger_on<A: Handle>(
     alloc: A,
     model: Model<A>,
     events: &[Event<A>],
@@ -77,7 +77,7 @@ fn tell_last<A: Allocator>(text: &mut Vec<u8, A>, stop: Option<BadLine>) -> Resu
 }
 
 // What is told of the commands, up to the line that stopped them, if one did.
-fn report_commands<A: Allocator + Copy>(
+fn report_commands<A: Handle>(
     alloc: A,
     model: Model<A>,
     events: &[Event<A>],
@@ -144,7 +144,7 @@ fn commands_behind<A: Allocator + Copy>(
 }
 
 // What is told where this line stopped the events: of the commands, if it ends the events, or else of the line alone.
-fn debug_behind<A: Allocator + Copy>(
+fn debug_behind<A: Handle>(
     alloc: A,
     model: Model<A>,
     input: &[u8],
@@ -163,7 +163,7 @@ fn debug_behind<A: Allocator + Copy>(
 
 /// What is told of a debugging run. A line `--` says no event: so the events stop there, and where the line that stops
 /// them is this one, it is no fault.
-pub fn debug_model<A: Allocator + Copy>(
+pub fn debug_model<A: Handle>(
     alloc: A,
     model: Model<A>,
     input: &[u8],

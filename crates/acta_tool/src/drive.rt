@@ -21,6 +21,7 @@ use crate::sink::Sink;
 use crate::source::Source;
 use crate::telling::tell_book;
 use acta_locked::{Book, DriveError, OpenGate, Script, drive};
+use acta_machine::Handle;
 use acta_script::Seated;
 use acta_table::Model;
 use std::alloc::{AllocError, Allocator};
@@ -61,7 +62,7 @@ fn scripts_of<A: Allocator + Copy>(
 }
 
 // What is told of the book that a driven run leaves.
-fn report_book<A: Allocator + Copy>(alloc: A, book: &Book<A>) -> Result<Report<A>, DriveError>
+fn report_book<A: Handle>(alloc: A, book: &Book<A>) -> Result<Report<A>, DriveError>
     requires { All (λ e. IsInModel book.now.model e.event) book.now.entries }
     ensures told { IfOk result (λ report. output_of report ≡ record { is_refused = false; text = text_of (book_lines book.now) }) }
     ensures memory { IfErr result (λ e. e ≡ Memory) }
@@ -75,7 +76,7 @@ fn report_book<A: Allocator + Copy>(alloc: A, book: &Book<A>) -> Result<Report<A
 }
 
 // What is told of a driven run of the scripts.
-fn drive_scripts<A: Allocator + Copy + Send + Sync, R: Threads + Wait + Sync>(
+fn drive_scripts<A: Handle + Send + Sync, R: Threads + Wait + Sync>(
     rt: &R,
     alloc: A,
     model: Model<A>,
@@ -94,7 +95,7 @@ fn drive_scripts<A: Allocator + Copy + Send + Sync, R: Threads + Wait + Sync>(
 }
 
 // What is told of a driven run of what the lines say.
-fn drive_said<A: Allocator + Copy + Send + Sync, R: Threads + Wait + Sync>(
+fn drive_said<A: Handle + Send + Sync, R: Threads + Wait + Sync>(
     rt: &R,
     alloc: A,
     workers: u8,
@@ -111,7 +112,7 @@ fn drive_said<A: Allocator + Copy + Send + Sync, R: Threads + Wait + Sync>(
 }
 
 // What is told of the lines on a model.
-fn drive_lines<A: Allocator + Copy + Send + Sync, R: Threads + Wait + Sync>(
+fn drive_lines<A: Handle + Send + Sync, R: Threads + Wait + Sync>(
     rt: &R,
     alloc: A,
     workers: u8,
@@ -133,7 +134,7 @@ fn drive_lines<A: Allocator + Copy + Send + Sync, R: Threads + Wait + Sync>(
 }
 
 // What is told for the bytes of a model and of an input.
-fn answer<A: Allocator + Copy + Send + Sync, R: Threads + Wait + Sync>(
+fn answer<A: Handle + Send + Sync, R: Threads + Wait + Sync>(
     rt: &R,
     alloc: A,
     workers: u8,
@@ -154,7 +155,7 @@ fn answer<A: Allocator + Copy + Send + Sync, R: Threads + Wait + Sync>(
 /// more than 65,536 lines, that alone is written. `Unread` and `Unwritten` come as of `run_tool`, and `Undriven` where
 /// the threads have no result; then nothing is written. Not promised: which order of the threads' events the book has,
 /// and that the call returns.
-pub fn drive_tool<A: Allocator + Copy + Send + Sync, R: Threads + Wait + Sync, S: Source, W: Sink>(
+pub fn drive_tool<A: Handle + Send + Sync, R: Threads + Wait + Sync, S: Source, W: Sink>(
     rt: &R,
     alloc: A,
     args: &Args<'_>,

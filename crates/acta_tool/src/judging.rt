@@ -10,6 +10,7 @@ use crate::input::{KeptLines, read_lines};
 use crate::reports::{Report, refuse_by, refuse_line};
 use crate::telling::tell_verdict;
 use acta_judge::{JudgeError, Verdict, judge};
+use acta_machine::Handle;
 use acta_table::{Kept, Model};
 use std::alloc::{AllocError, Allocator};
 
@@ -29,7 +30,7 @@ fn report_verdict<A: Allocator + Copy>(
 }
 
 // What is told of kept items.
-fn judge_kept<A: Allocator + Copy>(
+fn judge_kept<A: Handle>(
     alloc: A,
     model: &Model<A>,
     kept: &[Kept<A>],
@@ -44,7 +45,7 @@ fn judge_kept<A: Allocator + Copy>(
 }
 
 /// What is told of the kept lines of the input.
-pub fn judge_model<A: Allocator + Copy>(
+pub fn judge_model<A: Handle>(
     alloc: A,
     model: &Model<A>,
     input: &[u8],

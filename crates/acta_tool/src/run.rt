@@ -21,12 +21,12 @@ use crate::source::{MOST_BYTES, ReadFault, Source, read_all};
 use crate::telling::{tell_end, tell_events};
 use acta_image::write_image;
 use acta_lang::print_model;
-use acta_machine::{Machine, Run};
+use acta_machine::{Handle, Machine, Run};
 use acta_table::Model;
 use std::alloc::{AllocError, Allocator};
 
 // What is told of a run that this line stopped, if one did: the answers and what is owed, or the kept events alone.
-fn tell_run<A: Allocator + Copy>(
+fn tell_run<A: Handle>(
     alloc: A,
     is_kept: bool,
     run: &Run<A>,
@@ -42,7 +42,7 @@ fn tell_run<A: Allocator + Copy>(
 }
 
 // What a run of the events of the input tells.
-fn run_model<A: Allocator + Copy>(
+fn run_model<A: Handle>(
     alloc: A,
     is_kept: bool,
     model: Model<A>,
@@ -65,7 +65,7 @@ fn run_model<A: Allocator + Copy>(
 }
 
 // What a command tells of a model.
-fn tell_model<A: Allocator + Copy>(
+fn tell_model<A: Handle>(
     alloc: A,
     command: Command,
     model: Model<A>,
@@ -90,7 +90,7 @@ fn tell_model<A: Allocator + Copy>(
 }
 
 // What is told for the bytes of a model and of an input.
-fn answer<A: Allocator + Copy>(
+fn answer<A: Handle>(
     alloc: A,
     command: Command,
     model: &[u8],
@@ -153,7 +153,7 @@ pub fn read_within<A: Allocator, S: Source>(
 /// and writes the answer in one go. `Unread` with `Device` where a read fails, with `TooMuch` where the model or the
 /// input is over 16,777,216 bytes or the input doesn't end, and with `Memory` where there is none, and then nothing is
 /// written; `Unwritten` where a write fails. It is not for `drive`, which `drive_tool` serves.
-pub fn run_tool<A: Allocator + Copy, S: Source, W: Sink>(
+pub fn run_tool<A: Handle, S: Source, W: Sink>(
     alloc: A,
     args: &Args<'_>,
     model: &[u8],

@@ -9,7 +9,7 @@ ghost use Rattle.acta_tool.specs.inside.Reports.{output_of};
 use crate::input::{EventLines, read_lines};
 use crate::reports::{Report, refuse_by, refuse_line};
 use acta_axioms::SerialItem;
-use acta_machine::{Machine, SerialError};
+use acta_machine::{Handle, Machine, SerialError};
 use acta_script::write_kept;
 use acta_table::{Event, Kept, Model};
 use acta_words::push_line;
@@ -53,7 +53,7 @@ fn report_order<A: Allocator + Copy>(
 }
 
 // What is told of what the machine kept.
-fn serialize<A: Allocator + Copy>(alloc: A, machine: &Machine<A>) -> Result<Report<A>, AllocError>
+fn serialize<A: Handle>(alloc: A, machine: &Machine<A>) -> Result<Report<A>, AllocError>
     ensures { IfOk result (λ report. output_of report ≡ serialized_on machine.now.model machine.now.kept None) }
 {
     match machine.serial() {
@@ -64,7 +64,7 @@ fn serialize<A: Allocator + Copy>(alloc: A, machine: &Machine<A>) -> Result<Repo
 }
 
 /// What is told of the event lines of the input.
-pub fn serial_model<A: Allocator + Copy>(
+pub fn serial_model<A: Handle>(
     alloc: A,
     model: Model<A>,
     input: &[u8],

@@ -13,7 +13,7 @@ ghost use Rattle.acta_tool.specs.Debugging.{at_line, barred_line, behind, break_
 
 use crate::telling::tell_debts;
 use acta_debug::{Break, Debugger, MoveError, Stop};
-use acta_machine::Machine;
+use acta_machine::{Handle, Machine};
 use acta_objects::{Members, ObjectState};
 use acta_script::{BreakOn, DebugCommand, object_name};
 use acta_table::{ObjId, Status, TxnId};
@@ -68,7 +68,7 @@ fn tell_barred<A: Allocator>(text: &mut Vec<u8, A>, error: MoveError) -> Result<
 }
 
 // Moves one event further.
-fn tell_step<A: Allocator + Copy>(
+fn tell_step<A: Handle>(
     debugger: &mut Debugger<A>,
     text: &mut Vec<u8, A>,
 ) -> Result<(), AllocError>
@@ -82,7 +82,7 @@ fn tell_step<A: Allocator + Copy>(
 }
 
 // Moves one event back.
-fn tell_back<A: Allocator + Copy>(
+fn tell_back<A: Handle>(
     debugger: &mut Debugger<A>,
     text: &mut Vec<u8, A>,
 ) -> Result<(), AllocError>
@@ -96,7 +96,7 @@ fn tell_back<A: Allocator + Copy>(
 }
 
 // Moves to behind so many events.
-fn tell_goto<A: Allocator + Copy>(
+fn tell_goto<A: Handle>(
     debugger: &mut Debugger<A>,
     n: u32,
     text: &mut Vec<u8, A>,
@@ -131,7 +131,7 @@ fn tell_stop<A: Allocator>(text: &mut Vec<u8, A>, last: u32, stop: Stop) -> Resu
 }
 
 // Runs on.
-fn tell_run<A: Allocator + Copy>(
+fn tell_run<A: Handle>(
     debugger: &mut Debugger<A>,
     text: &mut Vec<u8, A>,
 ) -> Result<(), AllocError>
@@ -144,7 +144,7 @@ fn tell_run<A: Allocator + Copy>(
 }
 
 // Adds a break.
-fn tell_break<A: Allocator>(
+fn tell_break<A: Handle>(
     debugger: &mut Debugger<A>,
     on: BreakOn,
     text: &mut Vec<u8, A>,
@@ -160,7 +160,7 @@ fn tell_break<A: Allocator>(
 }
 
 // Takes away all breaks.
-fn tell_clear<A: Allocator>(
+fn tell_clear<A: Handle>(
     debugger: &mut Debugger<A>,
     text: &mut Vec<u8, A>,
 ) -> Result<(), AllocError>
@@ -242,7 +242,7 @@ fn push_state<A: Allocator + Copy>(
 }
 
 // Writes a space and the value of an object, if it has one.
-fn push_value<A: Allocator + Copy>(
+fn push_value<A: Handle>(
     alloc: A,
     machine: &Machine<A>,
     object: ObjId,
@@ -257,7 +257,7 @@ fn push_value<A: Allocator + Copy>(
 }
 
 // Tells the value of an object.
-fn tell_value<A: Allocator + Copy>(
+fn tell_value<A: Handle>(
     alloc: A,
     machine: &Machine<A>,
     object: ObjId,
@@ -285,7 +285,7 @@ fn status_word(status: Status) -> &'static [u8]
 }
 
 // Tells how a transaction stands.
-fn tell_status<A: Allocator>(
+fn tell_status<A: Handle>(
     machine: &Machine<A>,
     t: TxnId,
     text: &mut Vec<u8, A>,
@@ -300,7 +300,7 @@ fn tell_status<A: Allocator>(
 
 // Does a command, and tells its text.
 #[tactic(auto, unfolding(crate::specs::Debugging::told_by, crate::specs::Debugging::behind))]
-fn tell_command<A: Allocator + Copy>(
+fn tell_command<A: Handle>(
     alloc: A,
     debugger: &mut Debugger<A>,
     command: DebugCommand,
@@ -324,7 +324,7 @@ fn tell_command<A: Allocator + Copy>(
 
 /// Does the commands, one after another, and tells their texts. `Err` where there is no memory, and then some may have
 /// been done.
-pub fn tell_commands<A: Allocator + Copy>(
+pub fn tell_commands<A: Handle>(
     alloc: A,
     debugger: &mut Debugger<A>,
     commands: &[DebugCommand],

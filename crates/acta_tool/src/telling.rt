@@ -19,7 +19,7 @@ use acta_image::ImageFault;
 use acta_judge::Verdict;
 use acta_lang::AsmFault;
 use acta_locked::{Book, Entry};
-use acta_machine::{Machine, Run};
+use acta_machine::{Handle, Machine, Run};
 use acta_script::{answer_line, fault_line, owed_line, write_event, write_kept};
 use acta_table::{Answer, Model, Owed};
 use acta_words::{push_line, push_natural, push_word};
@@ -41,7 +41,7 @@ fn tell_answers<A: Allocator + Copy>(
 }
 
 // Tells the events that the machine kept, with what they returned, a line each.
-fn tell_history<A: Allocator + Copy>(
+fn tell_history<A: Handle>(
     alloc: A,
     machine: &Machine<A>,
     text: &mut Vec<u8, A>,
@@ -70,7 +70,7 @@ fn tell_owed<A: Allocator + Copy>(
 }
 
 /// Tells what is owed, a line each.
-pub fn tell_debts<A: Allocator + Copy>(
+pub fn tell_debts<A: Handle>(
     alloc: A,
     machine: &Machine<A>,
     text: &mut Vec<u8, A>,
@@ -214,7 +214,7 @@ fn tell_entries<A: Allocator + Copy>(
 }
 
 /// Tells the entries of a book, and then what is owed.
-pub fn tell_book<A: Allocator + Copy>(
+pub fn tell_book<A: Handle>(
     alloc: A,
     book: &Book<A>,
     text: &mut Vec<u8, A>,
@@ -239,7 +239,7 @@ pub fn tell_no_model<A: Allocator>(text: &mut Vec<u8, A>, fault: NoModel) -> Res
 }
 
 /// Tells the answers to the events of a run; or, where `is_kept`, the events that were kept, with what they returned.
-pub fn tell_events<A: Allocator + Copy>(
+pub fn tell_events<A: Handle>(
     alloc: A,
     is_kept: bool,
     run: &Run<A>,
@@ -255,7 +255,7 @@ pub fn tell_events<A: Allocator + Copy>(
 }
 
 /// Tells the line that stopped a run, or else what is owed; nothing of this where the kept events are told.
-pub fn tell_end<A: Allocator + Copy>(
+pub fn tell_end<A: Handle>(
     alloc: A,
     is_kept: bool,
     machine: &Machine<A>,

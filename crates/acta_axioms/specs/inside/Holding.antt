@@ -18,15 +18,6 @@ in_hand u x = record x { holder = u }
 abbrev pub ended_so : Fate → HeldOp → HeldOp
 ended_so fate x = record x { fate = fate }
 
--- whether the event can move operations, or end them
-abbrev pub moves : {A : Type 0} → Event A → Bool
-moves (Split s u class ops) = true
-moves (Join s u) = true
-moves (Delegate s u ops) = true
-moves (Commit s) = true
-moves (Abort s) = true
-moves _ = false
-
 -- how operation n, in progress, stands behind an event, given the heir of the one that commits by it
 abbrev pub held_behind : {A : Type 0} → Option TxnId → Event A → ℕ → HeldOp → HeldOp
 held_behind heir (Split s u class ops) n x = if (s.0 == x.holder.0) && is_named ops n then in_hand u x else x

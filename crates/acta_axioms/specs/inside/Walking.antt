@@ -15,9 +15,9 @@ use Rattle.acta_objects.specs.Conflicts.{conflict_on}
 use Rattle.acta_sets.specs.declared.held_op.HeldOp.{HeldOp}
 use Rattle.acta_axioms.specs.declared.lineage.Lineage.{Lineage}
 use Rattle.acta_axioms.specs.declared.seeking.Sought.{Sought}
-use Rattle.acta_axioms.specs.declared.seeking.Sought.TheVariants.{Held, Others, Against}
+use Rattle.acta_axioms.specs.declared.seeking.Sought.TheVariants.{Others, Against}
 use Rattle.acta_axioms.specs.History.{has_class, ancestors}
-use Rattle.acta_axioms.specs.Operations.{Standing, is_held_by, is_of_others}
+use Rattle.acta_axioms.specs.Operations.{Standing, is_of_others}
 use Rattle.acta_axioms.specs.Edges.{edges}
 use Rattle.acta_axioms.specs.Walks.{held_ops}
 use Rattle.acta_axioms.specs.inside.Lineages.{unbegun, lineage}
@@ -52,7 +52,6 @@ is_against m h t object op x =
 
 -- whether the operation is one of those that are looked for
 abbrev pub is_sought : {A : Type 0} → Parts A → List (Kept A) → ℕ → Sought → HeldOp → Bool
-is_sought m h t Held x = is_held_by t (standing_in x)
 is_sought m h t Others x = is_of_others m h t (standing_in x)
 is_sought m h t (Against object op) x = is_against m h t object.0 op x
 

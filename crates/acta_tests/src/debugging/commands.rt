@@ -11,8 +11,9 @@
 use crate::expecting::{made, number, parted, same};
 use crate::showing::number_in;
 use acta_debug::{Break, Debugger, MoveError};
+use acta_machine::Handle;
 use acta_table::{EventKind, ObjId, TxnId};
-use std::alloc::{AllocError, Allocator, Global};
+use std::alloc::{AllocError, Global};
 use std::process::Abort;
 
 fn txn(rt: &impl Abort, word: &str) -> TxnId {
@@ -69,7 +70,7 @@ fn moved(alloc: Global, done: Result<(), MoveError>, at: u32) -> Result<String, 
 }
 
 // Runs on, and tells where it stopped, and where the debugger then stands.
-fn ran<A: Allocator + Copy>(
+fn ran<A: Handle>(
     alloc: Global,
     debugger: &mut Debugger<A>,
 ) -> Result<String, AllocError> {
@@ -82,7 +83,7 @@ fn ran<A: Allocator + Copy>(
 }
 
 // A step, a step back, or a move to a place, as the words say.
-fn gone<A: Allocator + Copy>(
+fn gone<A: Handle>(
     rt: &impl Abort,
     debugger: &mut Debugger<A>,
     word: &str,
@@ -96,7 +97,7 @@ fn gone<A: Allocator + Copy>(
 }
 
 // Adds a break, and tells its number.
-fn broken<A: Allocator + Copy>(
+fn broken<A: Handle>(
     alloc: Global,
     debugger: &mut Debugger<A>,
     one: Break,
@@ -108,12 +109,12 @@ fn broken<A: Allocator + Copy>(
 }
 
 // How many events are owed.
-fn owed<A: Allocator + Copy>(rt: &impl Abort, debugger: &Debugger<A>) -> usize {
+fn owed<A: Handle>(rt: &impl Abort, debugger: &Debugger<A>) -> usize {
     made(rt, debugger.machine().owed(), "what is owed").len()
 }
 
 // What the machine shows.
-fn shown<A: Allocator + Copy>(
+fn shown<A: Handle>(
     rt: &impl Abort,
     alloc: Global,
     debugger: &Debugger<A>,
@@ -142,7 +143,7 @@ fn shown<A: Allocator + Copy>(
 }
 
 /// What the debugger does at the command, or what its machine shows. What lacks memory is told too.
-pub fn told<A: Allocator + Copy>(
+pub fn told<A: Handle>(
     rt: &impl Abort,
     alloc: Global,
     debugger: &mut Debugger<A>,
@@ -166,7 +167,7 @@ pub fn told<A: Allocator + Copy>(
 }
 
 // Plays the line, which has a command, and what is told of it.
-fn play_line<A: Allocator + Copy>(
+fn play_line<A: Handle>(
     rt: &impl Abort,
     alloc: Global,
     debugger: &mut Debugger<A>,
@@ -180,7 +181,7 @@ fn play_line<A: Allocator + Copy>(
 }
 
 /// Plays the lines on the debugger, one after another.
-pub fn play<A: Allocator + Copy>(
+pub fn play<A: Handle>(
     rt: &impl Abort,
     alloc: Global,
     debugger: &mut Debugger<A>,

@@ -3,6 +3,7 @@
 use crate::expecting::made;
 use crate::models::model_of;
 use acta_debug::{Debugger, NewError};
+use acta_machine::Handle;
 use acta_models::Standard;
 use acta_script::read_kept;
 use acta_table::{Kept, Model};
@@ -25,7 +26,7 @@ pub fn items<A: Allocator + Copy>(
 }
 
 /// A debugger on the list, in a function of its own, so that callers need not read all that is known of a new one.
-pub fn opened<A: Allocator + Copy>(
+pub fn opened<A: Handle>(
     heap: A,
     model: Model<A>,
     list: Vec<Kept<A>, A>,
@@ -34,7 +35,7 @@ pub fn opened<A: Allocator + Copy>(
 }
 
 /// A debugger on the history that the lines say.
-pub fn debugger<A: Allocator + Copy>(
+pub fn debugger<A: Handle>(
     rt: &impl Abort,
     heap: A,
     name: Standard,
@@ -65,7 +66,7 @@ pub fn sums(rt: &impl Abort, alloc: Global, times: u32) -> String {
 }
 
 /// A debugger on these.
-pub fn on_sums<A: Allocator + Copy>(
+pub fn on_sums<A: Handle>(
     rt: &impl Abort,
     alloc: Global,
     heap: A,

@@ -5,6 +5,7 @@ use crate::debugging::histories::{items, opened};
 use crate::expecting::{made, number, parted, same};
 use crate::models::model_of;
 use acta_debug::{Debugger, NewError};
+use acta_machine::Handle;
 use acta_models::Standard;
 use acta_table::{Dep, Event, Kept, TxnId};
 use refusing::Refusing;
@@ -50,7 +51,7 @@ do 1 n get = 2
 commit 1";
 
 // The list of that text, which is its place and its lines, is refused at its place.
-fn refuse<A: Allocator + Copy>(rt: &impl Abort, heap: A, text: &str) {
+fn refuse<A: Handle>(rt: &impl Abort, heap: A, text: &str) {
     let (place, lines) = parted(rt, text, "\n");
     let model = model_of(rt, heap, Standard::Atomic.text());
     let list = items(rt, heap, &model, lines);
@@ -74,7 +75,7 @@ fn forms<A: Allocator + Copy>(rt: &impl Abort, heap: A, times: u32) -> Vec<Kept<
 }
 
 // A debugger on so many such events, or why there is none.
-fn on_forms<A: Allocator + Copy>(
+fn on_forms<A: Handle>(
     rt: &impl Abort,
     heap: A,
     times: u32,
@@ -90,7 +91,7 @@ step : AtEnd at 65536
 edges : 1";
 
 // The longest history has 65,536 events.
-fn longest<A: Allocator + Copy>(rt: &impl Abort, alloc: Global, heap: A) {
+fn longest<A: Handle>(rt: &impl Abort, alloc: Global, heap: A) {
     let mut debugger = made(rt, on_forms(rt, heap, 65_536), "the longest");
     same(rt, &debugger.last(), &65_536, "the longest");
     play(rt, alloc, &mut debugger, LONGEST);
@@ -98,7 +99,7 @@ fn longest<A: Allocator + Copy>(rt: &impl Abort, alloc: Global, heap: A) {
 }
 
 // Each list is refused at its place, and a list that is longer than the longest history at the next place.
-fn refuse_all<A: Allocator + Copy>(rt: &impl Abort, heap: A) {
+fn refuse_all<A: Handle>(rt: &impl Abort, heap: A) {
     for text in OTHERS.split("# ") {
         refuse(rt, heap, text);
     }

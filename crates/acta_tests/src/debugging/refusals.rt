@@ -6,10 +6,11 @@ use crate::expecting::{holds, made, parted, same};
 use crate::models::model_of;
 use crate::showing::number_in;
 use acta_debug::{Debugger, NewError};
+use acta_machine::Handle;
 use acta_models::Standard;
 use acta_table::ObjId;
 use refusing::Refusing;
-use std::alloc::{Allocator, Global};
+use std::alloc::Global;
 use std::process::Abort;
 
 // More allocations than any of these calls makes.
@@ -28,13 +29,13 @@ run : Broke { number: 1, place: 6 } at 6 : 0
 run : Finished at 70 : 64";
 
 // The counter n, where the debugger stands.
-fn sum<A: Allocator + Copy>(rt: &impl Abort, debugger: &Debugger<A>) -> Option<i64> {
+fn sum<A: Handle>(rt: &impl Abort, debugger: &Debugger<A>) -> Option<i64> {
     number_in(rt, debugger.machine(), ObjId(1))
 }
 
 // Does what the command says, the nth allocation refused; where it came, want of memory is told, and the debugger
 // stands where it stood. Gives what is told where it did not come.
-fn refused<A: Allocator + Copy>(
+fn refused<A: Handle>(
     rt: &impl Abort,
     alloc: Global,
     refusing: &Refusing<Global>,
@@ -56,7 +57,7 @@ fn refused<A: Allocator + Copy>(
 }
 
 // What is told, and the value of n behind it, as the line has them.
-fn tells<A: Allocator + Copy>(
+fn tells<A: Handle>(
     rt: &impl Abort,
     alloc: Global,
     debugger: &Debugger<A>,
@@ -70,7 +71,7 @@ fn tells<A: Allocator + Copy>(
 }
 
 // Does what the line says, the first allocation refused, then the second, and so on, until none is.
-fn refuse_each<A: Allocator + Copy>(
+fn refuse_each<A: Handle>(
     rt: &impl Abort,
     alloc: Global,
     refusing: &Refusing<Global>,
@@ -89,7 +90,7 @@ fn refuse_each<A: Allocator + Copy>(
 }
 
 // The last place of a debugger, or why there is none.
-fn last_of<A: Allocator + Copy>(debugger: &Result<Debugger<A>, NewError>) -> Result<u32, NewError> {
+fn last_of<A: Handle>(debugger: &Result<Debugger<A>, NewError>) -> Result<u32, NewError> {
     match debugger {
         Ok(debugger) => Ok(debugger.last()),
         Err(error) => Err(*error),
@@ -98,7 +99,7 @@ fn last_of<A: Allocator + Copy>(debugger: &Result<Debugger<A>, NewError>) -> Res
 
 // Makes a debugger on the history, the nth allocation refused; where it came, there is none, for want of memory. Says
 // whether it came.
-fn new_refused<A: Allocator + Copy>(
+fn new_refused<A: Handle>(
     rt: &impl Abort,
     refusing: &Refusing<Global>,
     heap: A,
@@ -123,7 +124,7 @@ fn new_refused<A: Allocator + Copy>(
 
 // Makes a debugger on the history, its first allocation refused, then the second, and so on, until none is, which are
 // more than 9.
-fn new_each<A: Allocator + Copy>(
+fn new_each<A: Handle>(
     rt: &impl Abort,
     refusing: &Refusing<Global>,
     heap: A,
@@ -139,7 +140,7 @@ fn new_each<A: Allocator + Copy>(
 }
 
 // For no command of a debugger that allocates from `heap`, which is `refusing`, is there memory.
-fn refuse_calls<A: Allocator + Copy>(
+fn refuse_calls<A: Handle>(
     rt: &impl Abort,
     alloc: Global,
     refusing: &Refusing<Global>,

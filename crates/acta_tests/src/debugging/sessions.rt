@@ -3,9 +3,10 @@
 use crate::debugging::commands::play;
 use crate::debugging::histories::{debugger, on_sums};
 use crate::expecting::{parted, same};
+use acta_machine::Handle;
 use acta_models::Standard;
 use refusing::Refusing;
-use std::alloc::{Allocator, Global};
+use std::alloc::Global;
 use std::process::Abort;
 
 // A long history, which is gone over in both directions. A debt is owed behind one place.
@@ -189,7 +190,7 @@ fn named(rt: &impl Abort, name: &str) -> Standard {
 }
 
 // Plays what is done on a debugger on the history above it.
-fn session<A: Allocator + Copy>(rt: &impl Abort, alloc: Global, heap: A, text: &str) {
+fn session<A: Handle>(rt: &impl Abort, alloc: Global, heap: A, text: &str) {
     let (name, rest) = parted(rt, text, "\n");
     let (history, lines) = parted(rt, rest, "--\n");
     let mut debugger = debugger(rt, heap, named(rt, name), history);
@@ -198,7 +199,7 @@ fn session<A: Allocator + Copy>(rt: &impl Abort, alloc: Global, heap: A, text: &
 }
 
 // A long session.
-fn over_sums<A: Allocator + Copy>(rt: &impl Abort, alloc: Global, heap: A) {
+fn over_sums<A: Handle>(rt: &impl Abort, alloc: Global, heap: A) {
     let mut debugger = on_sums(rt, alloc, heap, 124);
     let ends = (debugger.at(), debugger.last());
     same(rt, &ends, &(0, 130), "the start");

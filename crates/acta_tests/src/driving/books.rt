@@ -3,7 +3,7 @@
 
 use crate::expecting::{made, same};
 use acta_locked::{Book, Entry, Report, Script, TakeError};
-use acta_machine::Machine;
+use acta_machine::{Handle, Machine};
 use acta_script::answer_line;
 use acta_table::{Answer, Event, Model};
 use std::alloc::Allocator;
@@ -88,7 +88,7 @@ pub fn are_answered<A: Allocator + Copy>(
 }
 
 // Whether the machine takes the event with this answer.
-fn takes<A: Allocator + Copy>(
+fn takes<A: Handle>(
     rt: &impl Abort,
     machine: &mut Machine<A>,
     event: &Event<A>,
@@ -99,7 +99,7 @@ fn takes<A: Allocator + Copy>(
 
 // How many of the entries were refused, where the entries are numbered from 1, and the machine answers each event as
 // its entry says.
-fn replayed_on<A: Allocator + Copy>(
+fn replayed_on<A: Handle>(
     rt: &impl Abort,
     machine: &mut Machine<A>,
     entries: &[Entry<A>],
@@ -118,7 +118,7 @@ fn replayed_on<A: Allocator + Copy>(
 }
 
 /// The same of a new machine on the model.
-pub fn replayed<A: Allocator + Copy>(
+pub fn replayed<A: Handle>(
     rt: &impl Abort,
     alloc: A,
     model: Model<A>,
@@ -132,7 +132,7 @@ pub fn replayed<A: Allocator + Copy>(
 
 /// Takes the event of the first seat, in a function of its own, so that callers need not read all that is known of the
 /// entry.
-pub fn taken<A: Allocator + Copy>(
+pub fn taken<A: Handle>(
     book: &mut Book<A>,
     event: Event<A>,
 ) -> Result<Entry<A>, TakeError> {

@@ -6,6 +6,7 @@ use crate::driving::scripts::driven;
 use crate::expecting::{holds, made};
 use crate::models::model_of;
 use acta_locked::{Driven, OpenGate, Script};
+use acta_machine::Handle;
 use acta_models::Standard;
 use acta_table::{ClassId, Event, ObjId, Op, TxnId};
 use std::alloc::Allocator;
@@ -79,7 +80,7 @@ fn all_scripts<A: Allocator + Copy>(rt: &impl Abort, alloc: A, calm: u16) -> Vec
 }
 
 // Whether the book is full, and each report is its seat's part.
-fn is_full<A: Allocator>(driven: &Driven<A>, scripts: &[Script<A>]) -> bool {
+fn is_full<A: Handle>(driven: &Driven<A>, scripts: &[Script<A>]) -> bool {
     let entries = driven.book.entries();
     entries.len() == 65_536 && are_parts(entries, scripts, driven.reports.as_slice())
 }
@@ -94,7 +95,7 @@ fn are_some(rt: &impl Abort, refused: u32) {
 
 // A drive of all workers: the book is full, some of its entries were refused and some were not, and another machine
 // gives their answers.
-fn crowd<A: Allocator + Copy + Send + Sync, R: Threads + Wait + Sync + Abort>(
+fn crowd<A: Handle + Send + Sync, R: Threads + Wait + Sync + Abort>(
     rt: &R,
     alloc: A,
     name: Standard,

@@ -5,8 +5,8 @@ use crate::driving::scripts::{driven, scripts};
 use crate::expecting::{holds, made};
 use crate::models::model_of;
 use acta_locked::{Driven, Entry, OpenGate, PlainDesk, Report, Script, WorkError, work};
+use acta_machine::Handle;
 use acta_models::Standard;
-use std::alloc::Allocator;
 use std::process::Abort;
 use std::sync::Wait;
 use std::thread::Threads;
@@ -42,7 +42,7 @@ no 7 by 2
 ";
 
 // What the worker at the desk reports.
-fn reported<A: Allocator + Copy>(
+fn reported<A: Handle>(
     alloc: A,
     desk: &mut PlainDesk<A>,
     one: &Script<A>,
@@ -52,7 +52,7 @@ fn reported<A: Allocator + Copy>(
 
 // A worker at a desk with a book of its own: the report is that of the first seat and has the book's entries, which are
 // answered as the lines say.
-fn worked_alone<A: Allocator + Copy>(rt: &impl Abort, alloc: A, one: &Script<A>) -> PlainDesk<A> {
+fn worked_alone<A: Handle>(rt: &impl Abort, alloc: A, one: &Script<A>) -> PlainDesk<A> {
     let model = model_of(rt, alloc, Standard::Atomic.text());
     let mut desk = made(rt, PlainDesk::new(alloc, 1, model), "a desk");
     let report = made(rt, reported(alloc, &mut desk, one), "a report");
@@ -64,13 +64,13 @@ fn worked_alone<A: Allocator + Copy>(rt: &impl Abort, alloc: A, one: &Script<A>)
 }
 
 // Whether the drive has one report, and its entries and the book's are these.
-fn has_driven<A: Allocator>(driven: &Driven<A>, entries: &[Entry<A>]) -> bool {
+fn has_driven<A: Handle>(driven: &Driven<A>, entries: &[Entry<A>]) -> bool {
     let (found, reports) = (driven.book.entries(), driven.reports.as_slice());
     are_same(entries, found) && reports.len() == 1 && are_same(reports[0].entries.as_slice(), found)
 }
 
 // The script at either desk: the one worker of a drive gets the same as who works alone.
-fn both<A: Allocator + Copy + Send + Sync, R: Threads + Wait + Sync + Abort>(rt: &R, alloc: A) {
+fn both<A: Handle + Send + Sync, R: Threads + Wait + Sync + Abort>(rt: &R, alloc: A) {
     let scripts = scripts(rt, alloc, &[CALLS]);
     let one = scripts.as_slice().first().expect(rt, "a script");
     let desk = worked_alone(rt, alloc, one);

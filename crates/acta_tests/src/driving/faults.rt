@@ -4,6 +4,7 @@ use crate::driving::gates::Stopping;
 use crate::driving::scripts::{ADDITIONS, fault_of, scripts};
 use crate::expecting::{made, same};
 use acta_locked::{DriveError, OpenGate, Script};
+use acta_machine::Handle;
 use acta_models::Standard;
 use acta_table::{Event, TxnId};
 use std::alloc::Allocator;
@@ -34,7 +35,7 @@ fn all_commits<A: Allocator + Copy>(
 }
 
 // Scripts of so many commits each are not run, for this reason.
-fn are_barred<A: Allocator + Copy + Send + Sync, R: Threads + Wait + Sync + Abort>(
+fn are_barred<A: Handle + Send + Sync, R: Threads + Wait + Sync + Abort>(
     rt: &R,
     alloc: A,
     calls: &[usize],
@@ -46,7 +47,7 @@ fn are_barred<A: Allocator + Copy + Send + Sync, R: Threads + Wait + Sync + Abor
 }
 
 // The second worker gives up before its first call.
-fn gives_up<A: Allocator + Copy + Send + Sync, R: Threads + Wait + Sync + Abort>(rt: &R, alloc: A) {
+fn gives_up<A: Handle + Send + Sync, R: Threads + Wait + Sync + Abort>(rt: &R, alloc: A) {
     let scripts = scripts(rt, alloc, &ADDITIONS);
     let gate = Stopping { seat: 2, call: 1 };
     let found = fault_of(rt, alloc, Standard::Atomic, scripts.as_slice(), &gate);

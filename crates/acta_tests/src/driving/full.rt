@@ -4,9 +4,9 @@ use crate::driving::books::taken;
 use crate::expecting::{holds, made, same};
 use crate::models::model_of;
 use acta_locked::{Book, TakeError};
+use acta_machine::Handle;
 use acta_models::Standard;
 use acta_table::{Answer, Event, Rule, TxnId};
-use std::alloc::Allocator;
 use std::process::Abort;
 
 // Whether it says that the transaction has not begun.
@@ -19,7 +19,7 @@ fn is_due(answer: &Answer) -> bool {
 }
 
 // Commits a transaction that has not begun, and says whether it is refused for that, under this number.
-fn is_refused<A: Allocator + Copy>(rt: &impl Abort, book: &mut Book<A>, number: u32) -> bool {
+fn is_refused<A: Handle>(rt: &impl Abort, book: &mut Book<A>, number: u32) -> bool {
     let entry = made(rt, taken(book, Event::Commit(TxnId(1))), "a call");
     let is_so = entry.number == number && entry.seat == 1 && is_due(&entry.answer);
     drop(entry);
@@ -27,7 +27,7 @@ fn is_refused<A: Allocator + Copy>(rt: &impl Abort, book: &mut Book<A>, number: 
 }
 
 // Fills the book with such calls.
-fn fill<A: Allocator + Copy>(rt: &impl Abort, book: &mut Book<A>) {
+fn fill<A: Handle>(rt: &impl Abort, book: &mut Book<A>) {
     for number in 1..65_537u32 {
         let is_so = is_refused(rt, book, number);
         assert!(rt; is_so, "call {number}");
@@ -35,12 +35,12 @@ fn fill<A: Allocator + Copy>(rt: &impl Abort, book: &mut Book<A>) {
 }
 
 // Whether the book is full of refusals.
-fn is_full<A: Allocator>(book: &Book<A>) -> bool {
+fn is_full<A: Handle>(book: &Book<A>) -> bool {
     book.entries().len() == 65_536 && book.machine().history().is_empty()
 }
 
 // A full book takes no more.
-fn is_filled<A: Allocator + Copy>(rt: &impl Abort, alloc: A) {
+fn is_filled<A: Handle>(rt: &impl Abort, alloc: A) {
     let model = model_of(rt, alloc, Standard::Atomic.text());
     let mut book = made(rt, Book::new(alloc, model), "a book");
     fill(rt, &mut book);

@@ -6,6 +6,7 @@ use crate::driving::scripts::{ADDITIONS, driven, scripts};
 use crate::expecting::{holds, same};
 use crate::showing::number_in;
 use acta_locked::{Driven, Entry};
+use acta_machine::Handle;
 use acta_models::Standard;
 use acta_table::ObjId;
 use std::alloc::Allocator;
@@ -22,7 +23,7 @@ const M: ObjId = ObjId(2);
 
 // Drives the two scripts that the texts say, whose workers meet. The gate was shown what the book has, each report is
 // its seat's part, and the answers are these lines.
-fn meet<A: Allocator + Copy + Send + Sync, R: Threads + Wait + Sync + Abort>(
+fn meet<A: Handle + Send + Sync, R: Threads + Wait + Sync + Abort>(
     rt: &R,
     alloc: A,
     place: Place,
@@ -40,7 +41,7 @@ fn meet<A: Allocator + Copy + Send + Sync, R: Threads + Wait + Sync + Abort>(
 }
 
 // Seat 1 adds to n and seat 2 to m. The book has their begins before their operations, and all are admitted.
-fn add_both<A: Allocator + Copy + Send + Sync, R: Threads + Wait + Sync + Abort>(rt: &R, alloc: A) {
+fn add_both<A: Handle + Send + Sync, R: Threads + Wait + Sync + Abort>(rt: &R, alloc: A) {
     let lines = "ok 1\nok 2\nok 3 done\nok 4 done\n";
     let driven = meet(rt, alloc, Place::BeforeSecond, &ADDITIONS, lines);
     let machine = driven.book.machine();
@@ -68,7 +69,7 @@ const WRITES: [&str; 2] = [
 ];
 
 // Both write to x: the first of the writes is admitted, the second is refused by it, and x has the value of the first.
-fn write_both<A: Allocator + Copy + Send + Sync, R: Threads + Wait + Sync + Abort>(
+fn write_both<A: Handle + Send + Sync, R: Threads + Wait + Sync + Abort>(
     rt: &R,
     alloc: A,
 ) {

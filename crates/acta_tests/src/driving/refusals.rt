@@ -5,6 +5,7 @@ use crate::driving::scripts::{ADDITIONS, script, scripts};
 use crate::expecting::{holds, made, same};
 use crate::models::model_of;
 use acta_locked::{Book, DriveError, Driven, OpenGate, Script, TakeError, drive};
+use acta_machine::Handle;
 use acta_models::Standard;
 use acta_table::Event;
 use refusing::Refusing;
@@ -17,12 +18,12 @@ use std::thread::Threads;
 const MOST: u64 = 400;
 
 // Whether the book has so many entries, of which so many were admitted.
-fn stands<A: Allocator>(book: &Book<A>, entries: usize, admitted: usize) -> bool {
+fn stands<A: Handle>(book: &Book<A>, entries: usize, admitted: usize) -> bool {
     book.entries().len() == entries && book.machine().history().len() == admitted
 }
 
 // Takes the event, its nth allocation refused. Gives why it was not taken, and whether the allocation never came.
-fn fault_at<A: Allocator + Copy, B: Allocator>(
+fn fault_at<A: Handle, B: Allocator>(
     rt: &impl Abort,
     heap: &Refusing<B>,
     book: &mut Book<A>,
@@ -39,7 +40,7 @@ fn fault_at<A: Allocator + Copy, B: Allocator>(
 
 // Takes the event, its nth allocation refused; where it came, the answer is want of memory, and the book is as it was.
 // Says whether it never came.
-fn take_refused<A: Allocator + Copy, B: Allocator>(
+fn take_refused<A: Handle, B: Allocator>(
     rt: &impl Abort,
     heap: &Refusing<B>,
     book: &mut Book<A>,
@@ -64,7 +65,7 @@ fn take_refused<A: Allocator + Copy, B: Allocator>(
 
 // Takes the event, its first allocation refused, then the second, and so on, until it succeeds. Says how many were
 // refused.
-fn take_each<A: Allocator + Copy, B: Allocator>(
+fn take_each<A: Handle, B: Allocator>(
     rt: &impl Abort,
     heap: &Refusing<B>,
     book: &mut Book<A>,
@@ -93,7 +94,7 @@ join 1 2
 commit 2";
 
 // Takes the calls, one after another. Says how many growths were refused.
-fn take_calls<A: Allocator + Copy, B: Allocator>(
+fn take_calls<A: Handle, B: Allocator>(
     rt: &impl Abort,
     heap: &Refusing<B>,
     book: &mut Book<A>,
@@ -107,7 +108,7 @@ fn take_calls<A: Allocator + Copy, B: Allocator>(
 }
 
 // Takes all calls. The book in the end has them all, and its machine all but the third.
-fn take_all<A: Allocator + Copy, B: Allocator>(
+fn take_all<A: Handle, B: Allocator>(
     rt: &impl Abort,
     heap: &Refusing<B>,
     alloc: A,
@@ -122,7 +123,7 @@ fn take_all<A: Allocator + Copy, B: Allocator>(
 }
 
 // How many entries the book of a drive has.
-fn entries_of<A: Allocator>(driven: &Result<Driven<A>, DriveError>) -> Result<usize, DriveError> {
+fn entries_of<A: Handle>(driven: &Result<Driven<A>, DriveError>) -> Result<usize, DriveError> {
     match driven {
         Ok(driven) => Ok(driven.book.entries().len()),
         Err(error) => Err(*error),
@@ -131,7 +132,7 @@ fn entries_of<A: Allocator>(driven: &Result<Driven<A>, DriveError>) -> Result<us
 
 // Drives the scripts, the nth allocation refused. Gives how many entries the book has, or why there is none, and
 // whether the allocation never came.
-fn drive_refused<A: Allocator + Copy + Send + Sync, R: Threads + Wait + Sync + Abort, B: Allocator>(
+fn drive_refused<A: Handle + Send + Sync, R: Threads + Wait + Sync + Abort, B: Allocator>(
     rt: &R,
     heap: &Refusing<B>,
     alloc: A,
@@ -159,7 +160,7 @@ fn is_due(found: Result<usize, DriveError>, is_whole: bool) -> bool {
 }
 
 // Drives two scripts, the first allocation refused, then the second, and so on, until none is.
-fn drive_each<A: Allocator + Copy + Send + Sync, R: Threads + Wait + Sync + Abort, B: Allocator>(
+fn drive_each<A: Handle + Send + Sync, R: Threads + Wait + Sync + Abort, B: Allocator>(
     rt: &R,
     heap: &Refusing<B>,
     alloc: A,

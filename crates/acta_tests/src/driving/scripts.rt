@@ -3,6 +3,7 @@
 use crate::expecting::made;
 use crate::models::model_of;
 use acta_locked::{DriveError, Driven, Entry, Gate, Script, drive};
+use acta_machine::Handle;
 use acta_models::Standard;
 use acta_script::read_event;
 use acta_table::Model;
@@ -45,7 +46,7 @@ pub fn scripts<A: Allocator + Copy>(
 }
 
 // A drive, in a function of its own, so that callers need not read all that is known of its result.
-fn run<A: Allocator + Copy + Send + Sync, R: Threads + Wait + Sync, G: Gate<Entry<A>> + Sync>(
+fn run<A: Handle + Send + Sync, R: Threads + Wait + Sync, G: Gate<Entry<A>> + Sync>(
     rt: &R,
     alloc: A,
     model: Model<A>,
@@ -57,7 +58,7 @@ fn run<A: Allocator + Copy + Send + Sync, R: Threads + Wait + Sync, G: Gate<Entr
 
 /// A drive of the scripts over a book of the standard model.
 pub fn driven<
-    A: Allocator + Copy + Send + Sync,
+    A: Handle + Send + Sync,
     R: Threads + Wait + Sync + Abort,
     G: Gate<Entry<A>> + Sync,
 >(rt: &R, alloc: A, name: Standard, scripts: &[Script<A>], gate: &G) -> Driven<A> {
@@ -67,7 +68,7 @@ pub fn driven<
 
 /// Why such a drive has no result.
 pub fn fault_of<
-    A: Allocator + Copy + Send + Sync,
+    A: Handle + Send + Sync,
     R: Threads + Wait + Sync + Abort,
     G: Gate<Entry<A>> + Sync,
 >(rt: &R, alloc: A, name: Standard, scripts: &[Script<A>], gate: &G) -> Option<DriveError> {

@@ -5,6 +5,7 @@ use crate::calls::places_of;
 use crate::expecting::made;
 use crate::formulas::course_of;
 use acta_axioms::{Course, Places, Walk};
+use acta_machine::Handle;
 use acta_table::{
     Class, ClassId, Dep, Event, EventKind, Fate, Kept, Model, ObjId, Op, OpNo, Ret, TxnId,
 };
@@ -82,7 +83,7 @@ impl<'a> Said<'a> {
 /// What stands before a place: what the items in front say, how many operations they ask for, and the return that is
 /// due at the place.
 #[derive(Drop)]
-pub struct Before<'a, A: Allocator> {
+pub struct Before<'a, A: Handle> {
     pub model: &'a Model<A>,
     pub front: &'a [Said<'a>],
     pub ops: u32,
@@ -102,7 +103,7 @@ fn asked_in(front: &[Said<'_>]) -> u32 {
 }
 
 // The return that is due where the walk stands, if an operation is asked for.
-fn due_of<A: Allocator + Copy>(
+fn due_of<A: Handle>(
     rt: &impl Abort,
     walk: &Walk<'_, A>,
     asked: Option<(ObjId, Op)>,
@@ -111,7 +112,7 @@ fn due_of<A: Allocator + Copy>(
     made(rt, walk.return_due(object, &op), "a return")
 }
 
-impl<'a, A: Allocator + Copy> Before<'a, A> {
+impl<'a, A: Handle> Before<'a, A> {
     /// What stands before the place that the walk has reached, where the items in front say this, and the one there
     /// asks for an operation, or for none.
     pub fn of(

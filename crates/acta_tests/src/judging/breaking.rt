@@ -4,8 +4,8 @@ use crate::expecting::{made, tells};
 use crate::judging::reading::Judged;
 use crate::judging::verdicts::lines_of_all;
 use crate::models::{DELEGATING, Models, PARTING, UNTIED};
+use acta_machine::Handle;
 use acta_models::Standard;
-use std::alloc::Allocator;
 use std::process::Abort;
 
 // Flat transactions.
@@ -525,7 +525,7 @@ fn alone_in(due: &str) -> Option<u8> {
 }
 
 // The verdict on the list is the one that is due. Gives the axiom that is broken, where only one is, and once.
-fn expect<A: Allocator + Copy>(
+fn expect<A: Handle>(
     rt: &impl Abort,
     alloc: A,
     models: &Models<A>,
@@ -543,7 +543,7 @@ fn expect<A: Allocator + Copy>(
 }
 
 // The same of each list, with each axiom that is broken alone.
-fn expect_all<A: Allocator + Copy>(
+fn expect_all<A: Handle>(
     rt: &impl Abort,
     alloc: A,
     models: &Models<A>,
@@ -558,7 +558,7 @@ fn expect_all<A: Allocator + Copy>(
 }
 
 // The same of each list of the model that the text means.
-fn play<A: Allocator + Copy>(
+fn play<A: Handle>(
     rt: &impl Abort,
     alloc: A,
     model: &str,

@@ -4,6 +4,7 @@ use crate::expecting::{holds, made, same};
 use crate::models::model_of;
 use acta_axioms::{Axiom, Fault};
 use acta_judge::{JudgeError, Verdict, judge};
+use acta_machine::Handle;
 use acta_models::Standard;
 use acta_table::{Dep, Event, Kept, TxnId};
 use std::alloc::Allocator;
@@ -29,7 +30,7 @@ fn repeated<A: Allocator + Copy>(
 }
 
 // What the judge says of so many commits, or of so many times one edge.
-fn judged<A: Allocator + Copy>(
+fn judged<A: Handle>(
     rt: &impl Abort,
     alloc: A,
     times: u32,

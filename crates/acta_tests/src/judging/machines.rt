@@ -6,13 +6,12 @@ use crate::histories::by_model;
 use crate::judging::verdicts::{lines_of_all, told};
 use crate::models::{Models, event_of};
 use acta_judge::Verdict;
-use acta_machine::Machine;
+use acta_machine::{Handle, Machine};
 use acta_table::Items;
-use std::alloc::Allocator;
 use std::process::Abort;
 
 // The lines of a verdict with no fault, by which is owed what the machine does.
-fn due<A: Allocator + Copy>(rt: &impl Abort, alloc: A, machine: &Machine<A>) -> Vec<u8, A> {
+fn due<A: Handle>(rt: &impl Abort, alloc: A, machine: &Machine<A>) -> Vec<u8, A> {
     let verdict = Verdict {
         faults: Items::new(alloc),
         owed: Items::of(made(rt, owed_by(machine), "debts")),
@@ -21,7 +20,7 @@ fn due<A: Allocator + Copy>(rt: &impl Abort, alloc: A, machine: &Machine<A>) -> 
 }
 
 // The machine takes the event of the line; its history has no fault, and owes what the machine does.
-fn step<A: Allocator + Copy>(
+fn step<A: Handle>(
     rt: &impl Abort,
     alloc: A,
     models: &Models<A>,
@@ -42,7 +41,7 @@ fn step<A: Allocator + Copy>(
 }
 
 // Does what a line says: it begins a history, asks what the machine shows, or has an event and its answer.
-fn follow<A: Allocator + Copy>(
+fn follow<A: Handle>(
     rt: &impl Abort,
     alloc: A,
     models: &Models<A>,
@@ -57,7 +56,7 @@ fn follow<A: Allocator + Copy>(
 }
 
 // Does what the lines say, on a new machine.
-fn follow_all<A: Allocator + Copy>(rt: &impl Abort, alloc: A, models: &Models<A>, histories: &str) {
+fn follow_all<A: Handle>(rt: &impl Abort, alloc: A, models: &Models<A>, histories: &str) {
     let mut machine = made(rt, new_machine(alloc, &models.model), "a machine");
     for line in histories.lines() {
         follow(rt, alloc, models, &mut machine, line);
@@ -66,7 +65,7 @@ fn follow_all<A: Allocator + Copy>(rt: &impl Abort, alloc: A, models: &Models<A>
 }
 
 // Plays the histories of the model that the text means.
-fn play<A: Allocator + Copy>(rt: &impl Abort, alloc: A, model: &str, histories: &str) {
+fn play<A: Handle>(rt: &impl Abort, alloc: A, model: &str, histories: &str) {
     let models = Models::of(rt, alloc, model);
     follow_all(rt, alloc, &models, histories);
     drop(models);

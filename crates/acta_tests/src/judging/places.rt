@@ -4,6 +4,7 @@ use crate::expecting::made;
 use crate::judging::verdicts::lines_on;
 use crate::lists::by_model;
 use crate::models::{Models, event_of};
+use acta_machine::Handle;
 use acta_table::{EventKind, Kept, Model, Ret};
 use std::alloc::Allocator;
 use std::process::Abort;
@@ -20,7 +21,7 @@ fn kept<A: Allocator + Copy>(rt: &impl Abort, alloc: A, model: &Model<A>, line: 
 }
 
 // Does what a line says: it begins a list, asks something of it, or puts an event behind it, with which it is judged.
-fn follow<A: Allocator + Copy>(
+fn follow<A: Handle>(
     rt: &impl Abort,
     alloc: A,
     models: &Models<A>,
@@ -36,7 +37,7 @@ fn follow<A: Allocator + Copy>(
 }
 
 // Does what the lines say, from an empty list on.
-fn follow_all<A: Allocator + Copy>(rt: &impl Abort, alloc: A, models: &Models<A>, lists: &str) {
+fn follow_all<A: Handle>(rt: &impl Abort, alloc: A, models: &Models<A>, lists: &str) {
     let mut items = Vec::new(alloc);
     for line in lists.lines() {
         follow(rt, alloc, models, &mut items, line);
@@ -44,7 +45,7 @@ fn follow_all<A: Allocator + Copy>(rt: &impl Abort, alloc: A, models: &Models<A>
 }
 
 // Goes through the lists of the model that the text means.
-fn play<A: Allocator + Copy>(rt: &impl Abort, alloc: A, model: &str, lists: &str) {
+fn play<A: Handle>(rt: &impl Abort, alloc: A, model: &str, lists: &str) {
     let models = Models::of(rt, alloc, model);
     follow_all(rt, alloc, &models, lists);
     drop(models);

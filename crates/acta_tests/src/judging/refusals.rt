@@ -5,10 +5,11 @@ use crate::judging::reading::Judged;
 use crate::judging::verdicts::told;
 use crate::models::model_of;
 use acta_judge::{JudgeError, Verdict, judge};
+use acta_machine::Handle;
 use acta_models::Standard;
 use acta_table::Model;
 use refusing::Refusing;
-use std::alloc::{Allocator, Global};
+use std::alloc::Global;
 use std::process::Abort;
 
 // More allocations than any of these calls makes.
@@ -62,7 +63,7 @@ owed 3 2 abort",
 ];
 
 // What the judge answers where the nth allocation is refused, and whether it came to that one.
-fn refused<A: Allocator + Copy>(
+fn refused<A: Handle>(
     heap: &Refusing<Global>,
     alloc: A,
     model: &Model<A>,
@@ -77,7 +78,7 @@ fn refused<A: Allocator + Copy>(
 }
 
 // Judges the list, the nth allocation refused; where it came, the answer is want of memory. Says whether it came.
-fn is_refused<A: Allocator + Copy>(
+fn is_refused<A: Handle>(
     rt: &impl Abort,
     heap: &Refusing<Global>,
     alloc: A,
@@ -99,7 +100,7 @@ fn is_refused<A: Allocator + Copy>(
 
 // Judges what the lines say, its first allocation refused, then the second, and so on, until none is. Says how many
 // were.
-fn refuse_each<A: Allocator + Copy>(
+fn refuse_each<A: Handle>(
     rt: &impl Abort,
     heap: &Refusing<Global>,
     alloc: A,

@@ -8,6 +8,7 @@ use crate::judging::asking::{Before, Said};
 use crate::judging::telling::Faults;
 use acta_axioms::{Axiom, Course, Places, Walk};
 use acta_judge::Verdict;
+use acta_machine::Handle;
 use acta_table::{Dep, Edge, EdgeNo, Items, Kept, Missing, Model, Owed};
 use std::alloc::Allocator;
 use std::process::Abort;
@@ -25,7 +26,7 @@ fn place_of(kind: Dep, j: Course, i: Course) -> Option<u32> {
 }
 
 // Where the formula of the edge is false and not owed, and what is owed by it.
-fn settled<A: Allocator + Copy>(
+fn settled<A: Handle>(
     places: &Places<'_, A>,
     edge: &Edge,
 ) -> (Option<u32>, Option<Missing>) {
@@ -40,7 +41,7 @@ fn settled<A: Allocator + Copy>(
 }
 
 // Tells the faults by the list's edges, and gives what is owed, by edge number.
-fn tell_owed<A: Allocator + Copy>(
+fn tell_owed<A: Handle>(
     rt: &impl Abort,
     alloc: A,
     model: &Model<A>,
@@ -78,7 +79,7 @@ fn tell_clashes<A: Allocator + Copy>(rt: &impl Abort, owed: &[Owed], faults: &mu
 }
 
 // Tells the faults at the place that the walk has reached, behind the items in front, whose item says this.
-fn tell_said<A: Allocator + Copy>(
+fn tell_said<A: Handle>(
     rt: &impl Abort,
     alloc: A,
     walk: &Walk<'_, A>,
@@ -92,7 +93,7 @@ fn tell_said<A: Allocator + Copy>(
 }
 
 // Tells the faults at the next place, and goes one item further.
-fn tell_place<'a, A: Allocator + Copy>(
+fn tell_place<'a, A: Handle>(
     rt: &impl Abort,
     alloc: A,
     walk: &mut Walk<'a, A>,
@@ -107,7 +108,7 @@ fn tell_place<'a, A: Allocator + Copy>(
 }
 
 // Tells the faults at all places of the list, place by place.
-fn tell_places<A: Allocator + Copy>(
+fn tell_places<A: Handle>(
     rt: &impl Abort,
     alloc: A,
     model: &Model<A>,
@@ -123,7 +124,7 @@ fn tell_places<A: Allocator + Copy>(
 }
 
 /// The verdict on the list, slowly.
-pub fn judged_slowly<A: Allocator + Copy>(
+pub fn judged_slowly<A: Handle>(
     rt: &impl Abort,
     alloc: A,
     model: &Model<A>,

@@ -3,6 +3,7 @@
 use crate::expecting::made;
 use crate::judging::asking::{Before, Part, Said};
 use acta_axioms::{Axiom, Fault};
+use acta_machine::Handle;
 use acta_objects::ObjectState;
 use acta_table::{
     AtCommit, Dep, EventKind, Extent, Kind, LAST_TXN, ObjId, Op, OpNo, Policy, Scope, TxnId,
@@ -45,7 +46,7 @@ fn names_badly(said: &Said<'_>) -> bool {
     }
 }
 
-impl<'a, A: Allocator + Copy> Before<'a, A> {
+impl<'a, A: Handle> Before<'a, A> {
     // The kind of the object, where the operation is of it.
     fn kind_for(&self, object: ObjId, op: Op) -> Option<Kind> {
         let kind = self.model.object(object)?.kind;

@@ -3,6 +3,7 @@
 use crate::expecting::{made, same};
 use crate::judging::slowly::judged_slowly;
 use acta_judge::{Verdict, judge};
+use acta_machine::Handle;
 use acta_script::{fault_line, owed_line};
 use acta_table::{Kept, Model};
 use acta_words::push_line;
@@ -25,7 +26,7 @@ pub fn told<A: Allocator + Copy>(rt: &impl Abort, alloc: A, verdict: &Verdict<A>
 }
 
 /// The lines of the verdict on the items. They are those of a slow judge.
-pub fn lines_on<A: Allocator + Copy>(
+pub fn lines_on<A: Handle>(
     rt: &impl Abort,
     alloc: A,
     model: &Model<A>,
@@ -46,7 +47,7 @@ pub fn lines_on<A: Allocator + Copy>(
 
 /// Judges the items, and then without the first, without the first two, and so on, which leaves few histories legal.
 /// Gives the lines of the verdict on all.
-pub fn lines_of_all<A: Allocator + Copy>(
+pub fn lines_of_all<A: Handle>(
     rt: &impl Abort,
     alloc: A,
     model: &Model<A>,

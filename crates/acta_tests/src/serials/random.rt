@@ -4,7 +4,7 @@ use crate::calls::{new_machine, serial_of, take};
 use crate::expecting::{holds, made, parted, same};
 use crate::models::{event_of, model_of};
 use acta_axioms::SerialItem;
-use acta_machine::Machine;
+use acta_machine::{Handle, Machine};
 use acta_objects::{Replayed, replay};
 use acta_table::{Kind, Model, ObjId, Op, Ret};
 use rand_core::utils::NextWord;
@@ -72,7 +72,7 @@ fn move_drawn(rt: &impl Abort, words: &mut Pcg32) -> &'static str {
 }
 
 // The machine takes a move of one of the transactions, or refuses it.
-fn take_drawn<A: Allocator + Copy>(
+fn take_drawn<A: Handle>(
     rt: &impl Abort,
     alloc: A,
     machine: &mut Machine<A>,
@@ -124,7 +124,7 @@ fn replays<A: Allocator + Copy>(
 }
 
 // Plays a history that begins with these words, and replays its serial order. Gives how many operations that has.
-fn plays<A: Allocator + Copy>(
+fn plays<A: Handle>(
     rt: &impl Abort,
     alloc: A,
     model: &Model<A>,
@@ -143,7 +143,7 @@ fn plays<A: Allocator + Copy>(
 }
 
 // Plays the histories. Gives how many operations their serial orders have, together.
-fn plays_all<A: Allocator + Copy>(rt: &impl Abort, alloc: A) -> usize {
+fn plays_all<A: Handle>(rt: &impl Abort, alloc: A) -> usize {
     let model = model_of(rt, alloc, STRICT);
     let mut words = Pcg32::new(42, 54);
     let mut listed = 0usize;

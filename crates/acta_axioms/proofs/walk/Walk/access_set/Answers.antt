@@ -1,7 +1,12 @@
-use Rattle.std.proofs.Common.{◌∙◌}
+use Rattle.std.proofs.Common.{ap, ◌∙◌}
 use Rattle.std.proofs.lemmas.Result.{IfOk-weaker}
+use Rattle.acta_sets.specs.Operations.{access_set}
+use Rattle.acta_axioms.specs.Walks.{held_ops}
 use Rattle.acta_axioms.proofs.Searches.{held-found}
 use Rattle.acta_axioms.proofs.walk.Walk.access_set.Goals as goal
 
 pub returns : goal.returns
-returns g c = IfOk-weaker c.seek.result _ _ (λ _ seen. seen ∙ held-found c.args.self.now.model c.args.self.now.front c.args.t.0) c.seek.ensures
+returns g c =
+    IfOk-weaker c.access_set.result _ _
+    (λ _ seen. seen ∙ ap (access_set c.args.t.0) (c.self.invariant.items_are ∙ ap (λ w. held_ops w.model w.front) c.self.view_is) ∙ held-found c.args.self.now.model c.args.self.now.front c.args.t.0)
+    c.access_set.ensures

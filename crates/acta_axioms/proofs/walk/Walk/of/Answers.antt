@@ -17,6 +17,6 @@ invariant_of-result g c =
       few = c.requires;
       wide = named-below h c.largest_named.result (length lines) (omega (arith, long)) c.largest_named.ensures;
       lines_are = λ t. lines-blank h lines (c.largest_named.result + 1) t blank;
-      items_are = c.new.ensures.items;
+      items_are = c.new.ensures;
       edges_are = c.new-2.ensures.empty;
     }

@@ -1,4 +1,4 @@
-use Rattle.std.proofs.Common.{subst, ◌≡◌, ◌<◌, ◌+◌, ◌++◌, length, get_or, sym, ap, arith, ◌∙◌}
+use Rattle.std.proofs.Common.{subst, take, ◌≡◌, ◌<◌, ◌+◌, ◌++◌, length, get_or, sym, ap, arith, ◌∙◌}
 use Rattle.std.specs.Prelude.{slice_get, option_to_list}
 use Rattle.std.specs.List.{All}
 use Rattle.std.specs.Option.{option_copied}
@@ -7,6 +7,8 @@ use Rattle.acta_table.specs.Events.{named}
 use Rattle.acta_axioms.specs.Edges.{formed_by}
 use Rattle.acta_axioms.specs.inside.Holding.{brought_from, op_done}
 use Rattle.acta_axioms.specs.inside.Lineages.{unbegun, begun_in, further, heir_in}
+use Rattle.std.proofs.lemmas.List.{length-take}
+use Rattle.acta_axioms.proofs.Bringing.{few-operations}
 use Rattle.acta_axioms.proofs.Tables.{written_back}
 use Rattle.acta_axioms.proofs.Walking.{IsNext, next-item, shown-more, kept-more}
 use Rattle.acta_axioms.proofs.walk.Walk.step.Goals as goal
@@ -28,17 +30,17 @@ invariant_of-self-2 g c =
     let n = c.self.inside.taken in
     let k = c.in-Some.item.now in
     let lines = c.self.inside.lines.items in
-    let items = c.self.inside.operations.items in
+    let items = c.self.inside.operations in
     let es = c.self.inside.edges.keys in
     let next : IsNext h n k = next-item h n k (ap (λ w. slice_get w.ahead 0) c.self.view_is ∙ sym c.next.ensures ∙ ap option_copied c.in-Some.is) in
     let lent = c.as_mut_slice.ensures.value in
     let long : length c.note.new.lines ≡ length lines = c.note.ensures.long ∙ ap length lent in
     let back = written_back c.self.inside.lines.len c.note.new.lines lines long (omega (arith, c.self.inside.lines.ok.0)) in
     let due = c.in_ok-due.ensures ∙ sym (ap (λ w. formed_by w.model w.front k.event) c.self.view_is) in
-    kept-more m h n k lines _ items c.follow.new.items.items es c.form_all.new.edges.keys c.heir_of-heir.result next c.self.invariant
-    (c.in_ok-form_all.ensures.formed ∙ ap (formed es) (c.as_slice.ensures.value ∙ due))
-    (c.heir_of-heir.ensures ∙ ap (λ rows. heir_in m rows k.event) c.as_slice-2.ensures.value)
-    (c.follow.ensures ∙ ap (λ xs. brought_from c.heir_of-heir.result k.event 1 xs ++ option_to_list (op_done k.event)) c.in_ok-reserve.ensures.items)
+    kept-more m h n k lines _ items c.go_on.new.operations es c.go_on.new.edges.keys c.heir_of-heir.result next c.self.invariant
+    (c.in_ok-go_on.ensures.formed ∙ ap (formed es) (c.as_slice-2.ensures.value ∙ due))
+    (c.heir_of-heir.ensures ∙ ap (λ rows. heir_in m rows k.event) c.as_slice.ensures.value)
+    c.in_ok-go_on.ensures.brought
     (ap length back ∙ long)
     (λ t. ap (λ rows. get_or rows t unbegun) back ∙ c.note.ensures.further t ∙ ap (λ rows. further (n + 1) (begun_in rows) k.event t (get_or rows t unbegun)) lent)
 
@@ -49,3 +51,13 @@ returns-clause-ok g c =
     let k = c.in-Some.item.now in
     let next : IsNext h n k = next-item h n k (ap (λ w. slice_get w.ahead 0) c.self.view_is ∙ sym c.next.ensures ∙ ap option_copied c.in-Some.is) in
     shown-more c.self.inside.model.now h n k c.args.self.now next c.self.view_is
+
+pub go_on-requires : goal.go_on-requires
+go_on-requires g c =
+    let m = c.self.inside.model.now in
+    let h = c.self.inside.kept.now in
+    let n = c.self.inside.taken in
+    let k = c.in-Some.item.now in
+    let next : IsNext h n k = next-item h n k (ap (λ w. slice_get w.ahead 0) c.self.view_is ∙ sym c.next.ensures ∙ ap option_copied c.in-Some.is) in
+    let long = ap length c.self.invariant.items_are in
+    omega (arith, long, few-operations m (take n h), length-take n h, next.within, c.self.invariant.few)

@@ -1,4 +1,5 @@
-use Rattle.std.proofs.Common.{◌≡◌, List, sym, ◌∙◌, ap, subst, ◌++◌, ◌∷◌, [], length, length-append, arith, None}
+use Rattle.std.proofs.Common.{◌≡◌, List, sym, ◌∙◌, ap, subst, ◌++◌, ◌∷◌, [], length, length-append, arith, None, true}
+use Rattle.std.specs.Option.{option_map_or}
 use Rattle.acta_table.specs.declared.dep.Edge.{Edge}
 use Rattle.acta_table.specs.declared.event.Event.{Event}
 use Rattle.acta_table.specs.declared.event.Kept.{Kept}
@@ -12,9 +13,9 @@ use Rattle.acta_machine.specs.inside.Shown.{shown}
 use Rattle.acta_machine.specs.Table.{State, kept_as}
 use Rattle.acta_machine.specs.Places.{FollowsPlaces}
 use Rattle.acta_table.specs.Edges.{formed}
-use Rattle.acta_table.specs.Events.{operations_named}
-use Rattle.acta_sets.specs.Operations.{are_open}
-use Rattle.acta_machine.proofs.Handing.{event-open}
+use Rattle.acta_table.specs.Events.{acting, operations_named}
+use Rattle.acta_sets.specs.Operations.{are_held}
+use Rattle.acta_machine.proofs.Handing.{event-held}
 use Rattle.acta_machine.proofs.Histories.{summary_more, operations_few}
 use Rattle.acta_machine.proofs.Unbroken.{Admissible, Unbroken, unbroken, none-earlier, still-admissible, linked-room}
 use Rattle.acta_machine.proofs.Steps.{follows-push}
@@ -61,8 +62,8 @@ admit-requires-clause-few g c =
 pub admit-requires-clause-named : goal.admit-requires-clause-named
 admit-requires-clause-named g c =
     let u = unbroken-shown _ _ _ _ _ _ c.self.invariant.agrees c.self.view_is c.requires.none c.requires.due c.requires.faultless in
-    ap (λ items. are_open (operations_named c.args.event.now) items) (ap (λ b. b.operations) c.make_room.ensures.others)
-    ∙ event-open _ _ _ u
+    ap (λ items. option_map_or (λ t. are_held t (operations_named c.args.event.now) items) (acting c.args.event.now) true) (ap (λ b. b.operations) c.make_room.ensures.others)
+    ∙ event-held _ _ _ u
 
 -- there is room for the edges
 pub admit-requires-clause-fits : goal.admit-requires-clause-fits

@@ -1,0 +1,16 @@
+use Rattle.std.proofs.lemmas.Result.{on_ok_weaker, on_err_weaker}
+use Rattle.acta_sets.specs.inside.Held.{list_at, joined}
+use Rattle.acta_sets.proofs.Among.{AreAmong-more, AreAmong-same, AreAmong-wider}
+use Rattle.acta_sets.proofs.held.share_held.Goals as goal
+
+pub returns-in-Ok-clause-among : goal.returns-in-Ok-clause-among
+returns-in-Ok-clause-among g c =
+    on_ok_weaker c.share_at.result
+    (λ change. AreAmong-more c.args.held.now.items c.share_at.new.held.items c.args.holders.now.keys c.note.new.holders.keys c.args.at (joined (list_at c.args.held.now.items c.args.at) c.args.more.now) c.in-Ok.ensures.ok change)
+    c.share_at.ensures.ok
+
+pub returns-in-Ok-clause-still : goal.returns-in-Ok-clause-still
+returns-in-Ok-clause-still g c =
+    on_err_weaker c.share_at.result
+    (λ same among. AreAmong-same c.args.held.now.items c.share_at.new.held.items c.note.new.holders.keys same (AreAmong-wider c.args.held.now.items c.args.holders.now.keys c.note.new.holders.keys c.args.at c.in-Ok.ensures.ok among))
+    c.share_at.ensures.err

@@ -1,0 +1,63 @@
+use Rattle.std.specs.Prelude.{◌≡◌, length}
+use Rattle.std.proofs.Common.{arith, ap, sym, subst, ◌∙◌}
+use Rattle.std.proofs.lemmas.List.{length-map}
+use Rattle.acta_sets.specs.Operations.{handed, handed_op, is_held}
+use Rattle.acta_sets.specs.inside.Held.{AreHeld, numbers_by}
+use Rattle.acta_sets.proofs.Access.{numbers_by-all, each-given, changed-handed, handed_same, AreHeld-same, AreHeld-handed}
+use Rattle.acta_sets.specs.inside.Filing.{broad, narrow}
+use Rattle.acta_sets.specs.inside.Listing.{AreListed, FrontsHold}
+use Rattle.acta_sets.proofs.Listed.{AreListed-handed, FrontsHold-after, NoneReopens-handed}
+use Rattle.acta_sets.proofs.Filed.{AreFiled-same}
+use Rattle.acta_sets.proofs.table.OpTable.hand_all.Given.{Over}
+use Rattle.acta_sets.proofs.table.OpTable.hand_all.Goals.{After-drop-given-2}
+use Rattle.acta_sets.proofs.table.OpTable.hand_all.Goals as goal
+
+pub returns-then-t-u-clause-handed : goal.returns-then-t-u-clause-handed
+returns-then-t-u-clause-handed g c = handed_same c.args.t c.args.u c.args.self.now c.if-t-u.true
+
+pub invariant_of-self-in_err-share_held : goal.invariant_of-self-in_err-share_held
+invariant_of-self-in_err-share_held g c = record {
+  few = c.self.invariant.few;
+  among = c.in_err-share_held.ensures.still c.self.invariant.among;
+  held = AreHeld-same c.self.inside.items.items c.self.inside.held.items c.share_held.new.held.items c.self.invariant.held c.in_err-share_held.ensures.err;
+  filed = AreFiled-same c.self.inside.items.items c.self.inside.counts c.make_room.new.counts c.self.invariant.filed c.make_room.ensures.same;
+  broad = c.self.invariant.broad;
+  broad_fronts = c.self.invariant.broad_fronts;
+  narrow = c.self.invariant.narrow;
+  narrow_fronts = c.self.invariant.narrow_fronts;
+}
+
+pub hand_each-requires-clause-filed : goal.hand_each-requires-clause-filed
+hand_each-requires-clause-filed g c = AreFiled-same c.self.inside.items.items c.self.inside.counts c.make_room.new.counts c.self.invariant.filed c.make_room.ensures.same
+
+-- the list of t names what it holds in progress
+given_is : (g : Over) (c : After-drop-given-2 g) → c.as_slice.result.now ≡ numbers_by (λ _ i. is_held c.args.t.0 i) 1 c.self.inside.items.items
+given_is g c =
+    c.as_slice.ensures.value ∙ c.in_ok-given.ensures.items ∙ c.list_of.ensures ∙ c.self.invariant.held c.args.t.0
+    ∙ sym (numbers_by-all (is_held c.args.t.0) 1 c.self.inside.items.items)
+
+items_are : (g : Over) (c : After-drop-given-2 g) → c.hand_each.new.items.items ≡ handed c.args.t.0 c.args.u c.self.inside.items.items
+items_are g c =
+    c.hand_each.ensures.items
+    ∙ each-given (λ _ i. is_held c.args.t.0 i) c.args.t.0 c.args.u c.self.inside.items.items c.as_slice-2.result.now (λ k i held. held) (c.as_slice-2.ensures.value ∙ sym c.as_slice.ensures.value ∙ given_is g c)
+    ∙ changed-handed c.args.t.0 c.args.u 1 c.self.inside.items.items
+
+pub invariant_of-self-2 : goal.invariant_of-self-2
+invariant_of-self-2 g c =
+    let items = c.self.inside.items.items in
+    let same = items_are g c in
+    let long = ap length same ∙ length-map items (handed_op c.args.t.0 c.args.u) in
+    record {
+      few = omega (arith, long, c.self.invariant.few);
+      held = subst (λ xs. AreHeld xs c.clear_held.new.held.items) (sym same)
+          (AreHeld-handed items c.self.inside.held.items c.share_held.new.held.items c.clear_held.new.held.items c.args.t c.args.u c.as_slice.result.now c.self.invariant.held c.if-t-u.false (given_is g c) c.in_ok-share_held.ensures.ok c.clear_held.ensures.lists);
+      among = c.clear_held.ensures.among (c.in_ok-share_held.ensures.among c.self.invariant.among);
+      filed = c.hand_each.ensures.filed;
+      broad = subst (λ xs. AreListed broad xs c.self.inside.broad) (sym same) (AreListed-handed broad items c.self.inside.broad c.args.t.0 c.args.u c.self.invariant.broad);
+      broad_fronts = subst (λ xs. FrontsHold xs c.self.inside.broad) (sym same) (FrontsHold-after items (handed c.args.t.0 c.args.u items) c.self.inside.broad (NoneReopens-handed c.args.t.0 c.args.u items) c.self.invariant.broad_fronts);
+      narrow = subst (λ xs. AreListed narrow xs c.self.inside.narrow) (sym same) (AreListed-handed narrow items c.self.inside.narrow c.args.t.0 c.args.u c.self.invariant.narrow);
+      narrow_fronts = subst (λ xs. FrontsHold xs c.self.inside.narrow) (sym same) (FrontsHold-after items (handed c.args.t.0 c.args.u items) c.self.inside.narrow (NoneReopens-handed c.args.t.0 c.args.u items) c.self.invariant.narrow_fronts);
+    }
+
+pub returns-clause-handed : goal.returns-clause-handed
+returns-clause-handed g c = items_are g c ∙ ap (handed c.args.t.0 c.args.u) c.self.view_is

@@ -1,0 +1,25 @@
+-- What is kept beside the operations.
+use Rattle.std.specs.Prelude.{◌≤◌, ℕ, List, length}
+use Rattle.std.specs.HashMap.{HashMap}
+use Rattle.smallvec.specs.SmallVec.{SmallVec}
+use Rattle.acta_table.specs.declared.limits.TheConstants.{MOST_EVENTS}
+use Rattle.acta_sets.specs.declared.held_op.HeldOp.{HeldOp}
+use Rattle.acta_sets.specs.declared.filing.Key.{Key}
+use Rattle.acta_sets.specs.inside.Held.{AreHeld, AreAmong}
+use Rattle.acta_sets.specs.inside.Filing.{AreFiled, broad, narrow}
+use Rattle.acta_sets.specs.declared.listing.ClassList.{ClassList}
+use Rattle.acta_sets.specs.inside.Listing.{AreListed, FrontsHold}
+
+-- there are few enough, each transaction's list is its access set, those with one that is not empty are
+-- among the holders, and each operation in progress is filed
+abbrev pub IsIndexed : {A S : Type 0} → List HeldOp → List (SmallVec ℕ) → List ℕ → HashMap Key ℕ S → HashMap Key (ClassList A) S → HashMap Key (ClassList A) S → Type 0
+IsIndexed items lists holders counts first second = record {
+  few : length items ≤ MOST_EVENTS;
+  held : AreHeld items lists;
+  among : AreAmong lists holders;
+  filed : AreFiled items counts;
+  broad : AreListed broad items first;
+  broad_fronts : FrontsHold items first;
+  narrow : AreListed narrow items second;
+  narrow_fronts : FrontsHold items second;
+}

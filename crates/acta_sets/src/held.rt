@@ -1,0 +1,249 @@
+ghost use Rattle.std.specs.Prelude.{◌≡◌, ◌<◌, ◌≤◌, ◌≢◌, ℕ, ◌++◌, ◌∷◌, ◌==◌, if◌then◌else◌, [], length, set, OnOk, OnErr, IfOk};
+ghost use Rattle.acta_table.specs.Sets.{numbered};
+ghost use Rattle.smallvec.specs.SmallVec.{SmallVec as short_list};
+ghost use Rattle.std.specs.BTreeSet.{insert_key};
+ghost use Rattle.std.specs.Ordering.{nat_cmp};
+ghost use Rattle.acta_sets.specs.inside.Held.{lists, list_at, merge, joined, is_below, without, named_of, AreAmong};
+
+use crate::handle::Handle;
+use acta_table::{OpNo, OpSet};
+use smallvec::SmallVec;
+use std::alloc::AllocError;
+use std::collections::BTreeSet;
+
+/// A list of operations, ascending; a short one needs no memory of its own.
+pub(crate) type OpList<A> = SmallVec<u32, 8, A>;
+
+/// The operations that each transaction holds in progress, by its number.
+pub(crate) type Held<A> = Vec<SmallVec<u32, 8, A>, A>;
+
+/// Makes the list at this place, if there is none, with no other change. `Err` where there is no
+/// memory.
+fn grow_to<A: Handle>(held: &mut Held<A>, at: u16) -> Result<(), AllocError>
+    ensures same { (t : ℕ) → list_at held.new.items t ≡ list_at held.old.items t }
+    ensures room { OnOk result (at < length held.new.items) }
+{
+    let alloc = *held.allocator();
+    for _ in held.len()..at as usize + 1 {
+        held.push(SmallVec::new(alloc))?;
+    }
+    Ok(())
+}
+
+/// Puts an operation behind those at a place. `Err` where there is no memory, and then it is not
+/// there.
+fn push_at<A: Handle>(held: &mut Held<A>, at: u16, op: u32) -> Result<(), AllocError>
+    requires { at < length held.old.items }
+    ensures ok { OnOk result (lists held.new.items ≡ set (lists held.old.items) at (list_at held.old.items at ++ op ∷ [])) }
+    ensures err { OnErr result (lists held.new.items ≡ lists held.old.items) }
+{
+    if let Some(list) = held.get_mut(at as usize) {
+        list.push(op)?;
+    }
+    Ok(())
+}
+
+/// Puts an operation behind those of a transaction. `Err` where there is no memory, and then it is
+/// not there.
+fn add_at<A: Handle>(held: &mut Held<A>, at: u16, op: u32) -> Result<(), AllocError>
+    ensures ok { OnOk result ((v : ℕ) → list_at held.new.items v ≡ (if v == at then list_at held.old.items at ++ op ∷ [] else list_at held.old.items v)) }
+    ensures err { OnErr result ((v : ℕ) → list_at held.new.items v ≡ list_at held.old.items v) }
+{
+    match grow_to(held, at) {
+        Ok(()) => push_at(held, at, op),
+        Err(error) => Err(error),
+    }
+}
+
+/// The list at a place.
+pub(crate) fn list_of<A: Handle>(held: &Held<A>, at: u16) -> &[u32]
+    ensures { result.now ≡ list_at held.now.items at }
+{
+    match held.get(at as usize) {
+        Some(list) => list.as_slice(),
+        None => &[],
+    }
+}
+
+/// Empties the list at a place.
+fn clear_at<A: Handle>(held: &mut Held<A>, at: u16)
+    ensures { (v : ℕ) → list_at held.new.items v ≡ (if v == at then [] else list_at held.old.items v) }
+{
+    if let Some(list) = held.get_mut(at as usize) {
+        list.clear();
+    }
+}
+
+// Takes those that are named out of a list.
+fn leave_out<A: Handle>(list: &mut OpList<A>, ops: &OpSet<A>)
+    ensures { list.new.items ≡ without ops.now list.old.items }
+{
+    list.retain(|op| !ops.has_number(*op as usize));
+}
+
+/// Takes those that are named out of the list at a place.
+pub(crate) fn leave_out_at<A: Handle>(held: &mut Held<A>, at: u16, ops: &OpSet<A>)
+    ensures { (v : ℕ) → list_at held.new.items v ≡ (if v == at then without ops.now (list_at held.old.items at) else list_at held.old.items v) }
+{
+    if let Some(list) = held.get_mut(at as usize) {
+        leave_out(list, ops);
+    }
+}
+
+/// Those of the list that are named. `Err` where there is no memory.
+pub(crate) fn named_in<A: Handle>(
+    alloc: A,
+    list: &[u32],
+    ops: &OpSet<A>,
+) -> Result<Vec<u32, A>, AllocError>
+    ensures { IfOk result (λ named. named.items ≡ named_of ops.now list.now) }
+{
+    let mut named = Vec::new(alloc);
+    for op in list {
+        if ops.has_number(*op as usize) {
+            named.push(*op)?;
+        }
+    }
+    Ok(named)
+}
+
+/// The operations of these numbers. `Err` where there is no memory.
+pub(crate) fn numbered<A: Handle>(alloc: A, list: &[u32]) -> Result<Vec<OpNo, A>, AllocError>
+    ensures { IfOk result (λ ops. ops.items ≡ numbered list.now) }
+{
+    let mut ops = Vec::with_capacity(alloc, list.len())?;
+    for number in list {
+        ops.push(OpNo(*number))?;
+    }
+    Ok(ops)
+}
+
+// Whether the last of the first is below the first of the second, or one is empty.
+fn is_before(ops: &[u32], more: &[u32]) -> bool
+    ensures { result ≡ is_below ops.now more.now }
+{
+    match (ops.last(), more.first()) {
+        (Some(last), Some(first)) => last < first,
+        _ => true,
+    }
+}
+
+// The two ascending lists as one. `Err` where there is no memory.
+fn merged<A: Handle>(alloc: A, ops: &[u32], more: &[u32]) -> Result<OpList<A>, AllocError>
+    ensures { IfOk result (λ (list : short_list _). list.items ≡ merge ops.now more.now) }
+{
+    let mut all = SmallVec::new(alloc);
+    let mut i = 0;
+    let mut j = 0;
+    while i < ops.len() && j < more.len() {
+        if ops[i] < more[j] {
+            all.push(ops[i])?;
+            i += 1;
+        } else {
+            all.push(more[j])?;
+            j += 1;
+        }
+    }
+    all.extend_from_slice(&ops[i..])?;
+    all.extend_from_slice(&more[j..])?;
+    Ok(all)
+}
+
+// Puts an ascending list into another. `Err` where there is no memory, and then it is as it was.
+fn join<A: Handle>(list: &mut OpList<A>, more: &[u32]) -> Result<(), AllocError>
+    ensures ok { OnOk result (list.new.items ≡ joined list.old.items more.now) }
+    ensures err { OnErr result (list.new.items ≡ list.old.items) }
+{
+    if is_before(list.as_slice(), more) {
+        return list.extend_from_slice(more);
+    }
+    let alloc = *list.allocator();
+    *list = merged(alloc, list.as_slice(), more)?;
+    Ok(())
+}
+
+/// Puts an ascending list into that at a place. `Err` where there is no memory, and then it is as
+/// it was.
+fn join_at<A: Handle>(held: &mut Held<A>, at: u16, more: &[u32]) -> Result<(), AllocError>
+    requires { at < length held.old.items }
+    ensures ok { OnOk result (lists held.new.items ≡ set (lists held.old.items) at (joined (list_at held.old.items at) more.now)) }
+    ensures err { OnErr result (lists held.new.items ≡ lists held.old.items) }
+{
+    match held.get_mut(at as usize) {
+        Some(list) => join(list, more),
+        None => Ok(()),
+    }
+}
+
+/// Puts an ascending list into that of a transaction. `Err` where there is no memory, and then it is
+/// as it was.
+fn share_at<A: Handle>(held: &mut Held<A>, at: u16, more: &[u32]) -> Result<(), AllocError>
+    ensures ok { OnOk result ((v : ℕ) → list_at held.new.items v ≡ (if v == at then joined (list_at held.old.items at) more.now else list_at held.old.items v)) }
+    ensures err { OnErr result ((v : ℕ) → list_at held.new.items v ≡ list_at held.old.items v) }
+{
+    match grow_to(held, at) {
+        Ok(()) => join_at(held, at, more),
+        Err(error) => Err(error),
+    }
+}
+
+/// Those who hold something, by number.
+pub(crate) type Holders<A> = BTreeSet<u16, A>;
+
+// The transaction is among the holders. `Err` where there is no memory, and then they stay as they were.
+fn note<A: Handle>(holders: &mut Holders<A>, at: u16) -> Result<(), AllocError>
+    ensures ok { OnOk result (holders.new.keys ≡ insert_key nat_cmp holders.old.keys at) }
+    ensures err { OnErr result (holders.new.keys ≡ holders.old.keys) }
+{
+    match holders.insert(at) {
+        Ok(_) => Ok(()),
+        Err(_) => Err(AllocError),
+    }
+}
+
+/// Puts an operation behind those of a transaction, which is among the holders then. `Err` where there is no memory,
+/// and then it is not there.
+pub(crate) fn add_held<A: Handle>(
+    held: &mut Held<A>,
+    holders: &mut Holders<A>,
+    at: u16,
+    op: u32,
+) -> Result<(), AllocError>
+    ensures ok { OnOk result ((v : ℕ) → list_at held.new.items v ≡ (if v == at then list_at held.old.items at ++ op ∷ [] else list_at held.old.items v)) }
+    ensures err { OnErr result ((v : ℕ) → list_at held.new.items v ≡ list_at held.old.items v) }
+    ensures among { OnOk result (AreAmong held.old.items holders.old.keys → AreAmong held.new.items holders.new.keys) }
+    ensures still { OnErr result (AreAmong held.old.items holders.old.keys → AreAmong held.new.items holders.new.keys) }
+{
+    match note(holders, at) {
+        Ok(()) => add_at(held, at, op),
+        Err(error) => Err(error),
+    }
+}
+
+/// Puts an ascending list into that of a transaction, which is among the holders then. `Err` where there is no memory,
+/// and then it is as it was.
+pub(crate) fn share_held<A: Handle>(
+    held: &mut Held<A>,
+    holders: &mut Holders<A>,
+    at: u16,
+    more: &[u32],
+) -> Result<(), AllocError>
+    ensures ok { OnOk result ((v : ℕ) → list_at held.new.items v ≡ (if v == at then joined (list_at held.old.items at) more.now else list_at held.old.items v)) }
+    ensures err { OnErr result ((v : ℕ) → list_at held.new.items v ≡ list_at held.old.items v) }
+    ensures among { OnOk result (AreAmong held.old.items holders.old.keys → AreAmong held.new.items holders.new.keys) }
+    ensures still { OnErr result (AreAmong held.old.items holders.old.keys → AreAmong held.new.items holders.new.keys) }
+{
+    match note(holders, at) {
+        Ok(()) => share_at(held, at, more),
+        Err(error) => Err(error),
+    }
+}
+
+/// Empties the list at a place, whose transaction is among the holders no more.
+pub(crate) fn clear_held<A: Handle>(held: &mut Held<A>, holders: &mut Holders<A>, at: u16)
+    ensures lists { (v : ℕ) → list_at held.new.items v ≡ (if v == at then [] else list_at held.old.items v) }
+    ensures among { AreAmong held.old.items holders.old.keys → AreAmong held.new.items holders.new.keys }
+{
+    clear_at(held, at);
+    holders.remove(&at);
+}
