@@ -6,7 +6,6 @@ use Rattle.std.specs.List.{filter_map, cons_option}
 use Rattle.std.specs.Option.{option_map_or}
 use Rattle.std.proofs.lemmas.Bool.{true≢false, eqb-true, eq-eqb, not-true}
 use Rattle.acta_table.specs.declared.event.Op.{Op}
-use Rattle.acta_table.specs.declared.event.Op.TheVariants.{Write, Add, Insert, Remove}
 use Rattle.acta_table.specs.declared.event.Ret.{Ret}
 use Rattle.acta_table.specs.declared.model.Kind.{Kind}
 use Rattle.acta_table.specs.declared.model.Kind.TheVariants.{Register as register_kind, Counter as counter_kind, Elements as elements_kind}
@@ -14,24 +13,17 @@ use Rattle.acta_table.specs.declared.model.Parts.{Parts}
 use Rattle.acta_table.specs.Classes.{kind_at}
 use Rattle.acta_objects.specs.declared.state.ObjectState.{ObjectState}
 use Rattle.acta_objects.specs.declared.state.ObjectState.TheVariants.{Register, Counter, Elements}
-use Rattle.acta_objects.specs.Objects.{is_register_op, is_counter_op, is_set_op, suits, first_state, step, returned, state_after, register_step, counter_step, set_step}
-use Rattle.acta_objects.specs.Conflicts.{Commutes, IsSet, conflicts, conflict_on}
+use Rattle.acta_objects.specs.Objects.{suits, first_state, step, returned, state_after}
+use Rattle.acta_objects.specs.Conflicts.{Commutes, conflicts, conflict_on}
 use Rattle.acta_objects.specs.inside.RegisterLaws.{register_commutes}
 use Rattle.acta_objects.specs.inside.CounterLaws.{counter_commutes}
 use Rattle.acta_objects.specs.inside.SetLaws.{set_commutes}
-use Rattle.acta_objects.specs.inside.Sets.{empty_set, insert_is_set, remove_is_set}
+use Rattle.acta_objects.proofs.OfKind.{IsOf, is_of-step, is_of-first, idle}
 use Rattle.acta_table.specs.declared.event.Kept.{Kept}
 use Rattle.acta_axioms.specs.Operations.{Operation, view_set}
 use Rattle.acta_axioms.specs.Values.{asked_of, value, return_due}
 use Rattle.acta_axioms.proofs.ValueGrowth.{eqb-turned}
 use Rattle.acta_axioms.specs.Serial.{Values, first_values, values_after, returned_from}
-
--- the value is one that an object of the kind can have
-abbrev pub IsOf : {A : Type 0} → Kind → ObjectState A → Type 0
-IsOf (register_kind v) (Register x) = Unit {0}
-IsOf (counter_kind v) (Counter x) = Unit {0}
-IsOf elements_kind (Elements xs) = IsSet xs
-IsOf _ _ = ⊥
 
 -- there is one exactly where there is an object
 abbrev pub Fits : {A : Type 0} → Option Kind → Option (ObjectState A) → Type 0
@@ -42,27 +34,6 @@ Fits _ _ = ⊥
 -- so of all objects
 abbrev pub AreValues : {A : Type 0} → Parts A → Values A → Type 0
 AreValues m values = (object : ℕ) → Fits (kind_at m object) (values object)
-
-set_stays : (xs : List ℤ) (op : Op) → IsSet xs → IsSet (set_step xs op)
-set_stays xs (Insert x) s = insert_is_set xs x s
-set_stays xs (Remove x) s = remove_is_set xs x s
-set_stays xs _ s = s
-
-is_of-step : {A : Type 0} (kind : Kind) (s : ObjectState A) (op : Op) → IsOf kind s → IsOf kind (step s op)
-is_of-step (register_kind v) (Register x) op ok = tt
-is_of-step (register_kind v) (Counter x) op ok = ok
-is_of-step (register_kind v) (Elements x) op ok = ok
-is_of-step (counter_kind v) (Register x) op ok = ok
-is_of-step (counter_kind v) (Counter x) op ok = tt
-is_of-step (counter_kind v) (Elements x) op ok = ok
-is_of-step elements_kind (Register x) op ok = ok
-is_of-step elements_kind (Counter x) op ok = ok
-is_of-step elements_kind (Elements xs) op ok = set_stays xs op ok
-
-is_of-first : (A : Type 0) (kind : Kind) → IsOf {A = A} kind (first_state kind)
-is_of-first A (register_kind v) = tt
-is_of-first A (counter_kind v) = tt
-is_of-first A elements_kind = empty_set
 
 fits-step : {A : Type 0} (kind : Option Kind) (s : Option (ObjectState A)) (op : Op) → Fits kind s → Fits kind (option_map (λ x. step x op) s)
 fits-step None None op ok = tt
@@ -168,31 +139,6 @@ none-there {A} object (o ∷ os) = of (o.object == object) ∙ none-there object
     of : (b : Bool) → fold (after_at {A = A} object) (if b then None else None) os ≡ fold (after_at object) None os
     of true = refl
     of false = refl
-
--- an operation that is not of the kind changes nothing
-idle_register : (v : ℤ) (op : Op) → is_register_op op ≡ false → register_step v op ≡ v
-idle_register v (Write w) e = absurd (true≢false e)
-idle_register v _ e = refl
-
-idle_counter : (v : ℤ) (op : Op) → is_counter_op op ≡ false → counter_step v op ≡ v
-idle_counter v (Add n) e = absurd (true≢false e)
-idle_counter v _ e = refl
-
-idle_set : (xs : List ℤ) (op : Op) → is_set_op op ≡ false → set_step xs op ≡ xs
-idle_set xs (Insert x) e = absurd (true≢false e)
-idle_set xs (Remove x) e = absurd (true≢false e)
-idle_set xs _ e = refl
-
-idle : {A : Type 0} (kind : Kind) (s : ObjectState A) (op : Op) → IsOf kind s → suits kind op ≡ false → step s op ≡ s
-idle (register_kind v) (Register x) op ok e = ap Register (idle_register x op e)
-idle (register_kind v) (Counter x) op ok e = absurd ok
-idle (register_kind v) (Elements x) op ok e = absurd ok
-idle (counter_kind v) (Register x) op ok e = absurd ok
-idle (counter_kind v) (Counter x) op ok e = ap Counter (idle_counter x op e)
-idle (counter_kind v) (Elements x) op ok e = absurd ok
-idle elements_kind (Register x) op ok e = absurd ok
-idle elements_kind (Counter x) op ok e = absurd ok
-idle elements_kind (Elements xs) op ok e = ap Elements (idle_set xs op e)
 
 asked-there : {A : Type 0} (object : ℕ) (kind : Kind) (s : ObjectState A) (os : List Operation) → IsOf kind s → fold (after_at object) (Some s) os ≡ Some (state_after s (filter_map (asked_of object kind) os))
 asked-there object kind s [] ok = refl

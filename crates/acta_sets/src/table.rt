@@ -1,6 +1,7 @@
 ghost use Rattle.std.specs.Prelude.{◌≡◌, ◌<◌, ◌≤◌, ◌+◌, ◌*◌, ◌++◌, ◌∷◌, [], true, false, IfOk, OnOk, OnErr, length};
 ghost use Rattle.acta_table.specs.Fates.{is_open};
-ghost use Rattle.acta_sets.specs.Operations.{are_held, access_set, conflict_set, view_set, added, moved, ended, ended_op, handed, handed_op, handed_of, is_held_against, is_against, is_opponent, holders_against};
+ghost use Rattle.acta_sets.specs.Operations.{are_held, access_set, conflict_set, view_set, added, moved, ended, ended_op, handed, handed_op, handed_of, is_held_against, is_against, is_opponent, holders_against, is_held};
+ghost use Rattle.acta_table.specs.Numbered.{numbers_where};
 ghost use Rattle.std.specs.List.{list_any};
 ghost use Rattle.acta_sets.specs.inside.Held.{changed_at, changed_each};
 ghost use Rattle.acta_sets.specs.declared.filing.Key.{Key as filing_key};
@@ -264,6 +265,13 @@ impl<A: Handle> OpTable<A> {
             };
         }
         self.add_past(item)
+    }
+
+    /// The numbers of the operations that the transaction holds in progress, ascending (ACTA's access set).
+    pub fn held(&self, t: TxnId) -> &[u32]
+        ensures { result.now ≡ numbers_where (is_held t.0) self.now }
+    {
+        list_of(&self.held, t.0)
     }
 
     /// From now on `u` holds those of the named operations that `from` holds in progress (ACTA's delegation of

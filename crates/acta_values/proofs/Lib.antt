@@ -1,0 +1,11 @@
+pub mod Added
+pub mod Alike
+pub mod CounterStates
+pub mod Forgotten
+pub mod LiveSets
+pub mod LiveValues
+pub mod Numbering
+pub mod Read
+pub mod SetStates
+pub mod TakenBack
+pub mod Trails

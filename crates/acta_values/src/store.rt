@@ -1,0 +1,144 @@
+ghost use Rattle.std.specs.Prelude.{◌≡◌, ◌+◌, ◌<◌, ◌≤◌, [], false, length, slice_get, option_map, IfOk, OnOk, OnErr};
+ghost use Rattle.acta_table.specs.declared.limits.TheConstants.{MOST_EVENTS};
+ghost use Rattle.acta_table.specs.Fates.{is_open};
+ghost use Rattle.acta_objects.specs.Objects.{first_state, state_after, returned};
+ghost use Rattle.acta_sets.specs.Operations.{added, ended, handed, handed_of};
+ghost use Rattle.acta_values.specs.Live.{live_ops};
+ghost use Rattle.acta_values.specs.KeptValues.{kinds_of};
+
+use crate::values::Values;
+use acta_objects::ObjectState;
+use acta_sets::{Handle, OpTable};
+use acta_table::{Fate, Kind, MOST_EVENTS, ObjId, Object, Op, OpNo, OpSet, Ret, TxnId};
+use std::alloc::{AllocError, Allocator};
+
+/// The objects of a model and the operations on them, legal or not: who holds each, what became of it, and the value
+/// that each object has by those that aren't aborted (ours). Contracts see the kinds of the objects, and the operations
+/// with holders and fates. An operation on no object, or not of its object's kind, counts for no value.
+#[derive(Drop)]
+pub struct Store<A: Handle> {
+    kinds: Vec<Kind, A>,
+    operations: OpTable<A>,
+    values: Values<A>,
+}
+
+impl<A: Handle> std::marker::Model for Store<A> {
+    ghost use Rattle.acta_values.specs.Stores.{Stored};
+    ghost use Rattle.acta_values.specs.KeptValues.{AreAfter};
+
+    ghost Value = { Stored };
+
+    ghost view = { λ s. record { kinds = s.kinds.items; items = s.operations } };
+
+    ghost invariant = { λ s. AreAfter s.kinds.items s.operations s.values };
+}
+
+// The kinds of the objects. `Err` where there is no memory.
+fn kinds_of<A: Allocator + Copy>(
+    alloc: A,
+    objects: &[Object<A>],
+) -> Result<Vec<Kind, A>, AllocError>
+    ensures { IfOk result (λ kinds. kinds.items ≡ kinds_of objects.now) }
+{
+    objects.iter().map(|object| object.kind).collect(alloc)
+}
+
+impl<A: Handle> Store<A> {
+    /// The objects with their first values, and no operation. `Err` where there is no memory.
+    pub fn new(alloc: A, objects: &[Object<A>]) -> Result<Store<A>, AllocError>
+        ensures { IfOk result (λ store. store ≡ record { kinds = kinds_of objects.now; items = [] }) }
+    {
+        let kinds = kinds_of(alloc, objects)?;
+        let values = Values::new(alloc, kinds.as_slice())?;
+        Ok(Store {
+            kinds,
+            operations: OpTable::new(alloc),
+            values,
+        })
+    }
+
+    /// The operations, with who holds them and what became of each.
+    pub fn operations(&self) -> &OpTable<A>
+        ensures operations { result.now ≡ self.now.items }
+        ensures few { length self.now.items ≤ MOST_EVENTS }
+    {
+        &self.operations
+    }
+
+    /// What an operation on the object would return, on its value; nothing where there is no such object. Takes no
+    /// memory.
+    pub fn due(&self, ob: ObjId, op: &Op) -> Option<Ret>
+        ensures { result ≡ option_map (λ kind. returned (state_after (first_state {A = A} kind) (live_ops kind self.now.items ob.0)) op.now) (slice_get self.now.kinds ob.0) }
+    {
+        self.values.due(ob, op)
+    }
+
+    /// The value of the object: its first value, with the operations on it that aren't aborted, in order. Nothing where
+    /// there is no such object. `Err` where there is no memory, which only a set takes.
+    pub fn value(&self, ob: ObjId) -> Result<Option<ObjectState<A>>, AllocError>
+        ensures { IfOk result (λ value. value ≡ option_map (λ kind. state_after (first_state {A = A} kind) (live_ops kind self.now.items ob.0)) (slice_get self.now.kinds ob.0)) }
+    {
+        self.values.value(ob)
+    }
+
+    /// Adds an operation in progress, which `t` holds: whoever invokes an operation is responsible for it at first
+    /// (ACTA's). There are fewer than `MOST_EVENTS`. `Err` where there is no memory, and then none is added.
+    pub fn add(&mut self, t: TxnId, ob: ObjId, op: Op) -> Result<(), AllocError>
+        requires { length self.old.items < MOST_EVENTS }
+        ensures ok { OnOk result (self.new ≡ record self.old { items = added self.old.items t ob op }) }
+        ensures err { OnErr result (self.new ≡ self.old) }
+    {
+        let number = self.operations.operations().len() as u32 + 1;
+        self.values.add(number, ob, &op)?;
+        match self.operations.add(t, ob, op) {
+            Ok(_) => Ok(()),
+            Err(error) => {
+                self.values.forget(number, ob, &op);
+                Err(error)
+            }
+        }
+    }
+
+    /// From now on `u` holds those of the named operations that `from` holds in progress (ACTA's delegation). `Err`
+    /// where there is no memory, and then none is handed on.
+    pub fn hand(&mut self, from: TxnId, ops: &OpSet<A>, u: TxnId) -> Result<(), AllocError>
+        ensures ok { OnOk result (self.new ≡ record self.old { items = handed_of from.0 ops.now u self.old.items }) }
+        ensures err { OnErr result (self.new ≡ self.old) }
+    {
+        self.operations.hand(from, ops, u)
+    }
+
+    /// From now on `u` holds all that `t` holds in progress (ACTA's join of split transactions, and a subtransaction's
+    /// commit to its parent). `Err` where there is no memory, and then nothing is handed on.
+    pub fn hand_all(&mut self, t: TxnId, u: TxnId) -> Result<(), AllocError>
+        ensures ok { OnOk result (self.new ≡ record self.old { items = handed t.0 u self.old.items }) }
+        ensures err { OnErr result (self.new ≡ self.old) }
+    {
+        self.operations.hand_all(t, u)
+    }
+
+    /// All that `t` holds in progress gets this fate, which is committed or aborted (ACTA's commit and abort of the
+    /// operations for which a transaction is responsible). What is aborted is taken back from the values. Takes no
+    /// memory.
+    pub fn end_all(&mut self, t: TxnId, fate: Fate)
+        requires { is_open fate ≡ false }
+        ensures { self.new ≡ record self.old { items = ended t.0 fate self.old.items } }
+    {
+        if let Fate::Aborted = fate {
+            let items = self.operations.operations();
+            self.values.abort(t, items, self.operations.held(t));
+        }
+        self.operations.end_all(t, fate);
+    }
+
+    /// The same, in memory of its own. `Err` where there is no memory.
+    pub fn copy(&self) -> Result<Store<A>, AllocError>
+        ensures { IfOk result (λ store. store ≡ self.now) }
+    {
+        Ok(Store {
+            kinds: Vec::from_slice(*self.kinds.allocator(), self.kinds.as_slice())?,
+            operations: self.operations.copy()?,
+            values: self.values.copy()?,
+        })
+    }
+}

@@ -1,0 +1,82 @@
+ghost use Rattle.std.specs.Prelude.{◌≡◌, [], ◌∷◌, ◌++◌, OnOk, OnErr};
+ghost use Rattle.acta_values.specs.Trails.{without, AreBelow, last_or};
+
+use std::alloc::{AllocError, Allocator};
+
+/// What the operation of this number did.
+#[derive(Clone, Copy, PartialEq, Eq, Debug)]
+pub struct Numbered<T> {
+    pub number: u32,
+    pub item: T,
+}
+
+/// What operations did, one after another, each of which may be taken back. Contracts see the list of
+/// it, by number, ascending.
+#[derive(Drop)]
+pub struct Trail<T, A: Allocator> {
+    items: Vec<Numbered<T>, A>,
+}
+
+impl<T, A: Allocator> std::marker::Model for Trail<T, A> {
+    ghost use Rattle.std.specs.Prelude.{List};
+    ghost use Rattle.acta_values.specs.declared.trail.Numbered.{Numbered};
+    ghost use Rattle.acta_values.specs.Trails.{IsAscending};
+
+    ghost Value = { List (Numbered T) };
+
+    ghost view = { λ trail. trail.items.items };
+
+    ghost invariant = { λ trail. IsAscending trail.items.items };
+}
+
+impl<T: Copy, A: Allocator> Trail<T, A> {
+    /// Nothing. Takes no memory.
+    pub fn new(alloc: A) -> Trail<T, A>
+        ensures { result ≡ [] }
+    {
+        Trail {
+            items: Vec::new(alloc),
+        }
+    }
+
+    /// The last item, or else this one.
+    pub fn last_or(&self, default: T) -> T
+        ensures { result ≡ last_or default self.now }
+    {
+        match self.items.last() {
+            Some(last) => last.item,
+            None => default,
+        }
+    }
+
+    /// Puts an item behind the others, whose numbers are lower. `Err` where there is no memory: it is
+    /// then as it was.
+    pub fn push(&mut self, number: u32, item: T) -> Result<(), AllocError>
+        requires { AreBelow number self.old }
+        ensures ok { OnOk result (self.new ≡ self.old ++ (record { number = number; item = item }) ∷ []) }
+        ensures err { OnErr result (self.new ≡ self.old) }
+    {
+        self.items.push(Numbered { number, item })?;
+        Ok(())
+    }
+
+    /// Takes the item of this number out, if there is one. Takes no memory.
+    pub fn remove(&mut self, number: u32)
+        ensures { self.new ≡ without number self.old }
+    {
+        if let Ok(place) = self.items.binary_search_by_key(&number, |step| step.number) {
+            self.items.remove(place);
+        }
+    }
+}
+
+impl<T: Copy, A: Allocator + Copy> Clone for Trail<T, A> {
+    ghost is_clone = { λ trail clone. clone ≡ trail };
+
+    /// The same, in memory of its own. `Err` where there is no memory.
+    fn clone(&self) -> Result<Trail<T, A>, AllocError> {
+        Ok(Trail {
+            items: Vec::from_slice(*self.items.allocator(), self.items.as_slice())?,
+        })
+    }
+}

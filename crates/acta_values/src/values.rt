@@ -1,0 +1,173 @@
+//! The kept values of objects, tied to the operations by their numbers.
+
+ghost use Rattle.std.specs.Prelude.{◌≡◌, ◌+◌, ◌<◌, ◌≤◌, ◌-◌, [], true, false, List, ℕ, length, slice_get, option_map, map, IfOk, OnOk, OnErr};
+ghost use Rattle.std.specs.List.{HoldsAt};
+ghost use Rattle.acta_table.specs.declared.answer.Fate.TheVariants.{Aborted};
+ghost use Rattle.acta_table.specs.declared.event.TxnId.{TxnId};
+ghost use Rattle.acta_table.specs.declared.limits.TheConstants.{MOST_EVENTS};
+ghost use Rattle.acta_table.specs.declared.model.Kind.{Kind};
+ghost use Rattle.acta_table.specs.Numbered.{numbers_where};
+ghost use Rattle.acta_objects.specs.Objects.{first_state, state_after, returned};
+ghost use Rattle.acta_sets.specs.declared.held_op.HeldOp.{HeldOp};
+ghost use Rattle.acta_sets.specs.Operations.{added, ended, is_held};
+ghost use Rattle.acta_values.specs.Live.{live_ops};
+ghost use Rattle.acta_values.specs.LiveValues.{Counts};
+ghost use Rattle.acta_values.specs.KeptValues.{AreAfter, AreValues, Takes, CameLast, IsUndoneAt};
+
+use crate::live_value::LiveValue;
+use acta_objects::ObjectState;
+use acta_sets::HeldOp;
+use acta_table::{Kind, ObjId, Op, Ret, TxnId};
+use std::alloc::{AllocError, Allocator};
+
+/// The values of objects after the operations of a history. Contracts see the list of them, one for each object.
+#[derive(Drop)]
+pub(crate) struct Values<A: Allocator> {
+    values: Vec<LiveValue<A>, A>,
+}
+
+impl<A: Allocator> std::marker::Model for Values<A> {
+    ghost use Rattle.std.specs.Prelude.{List};
+    ghost use Rattle.acta_values.specs.declared.live_value.LiveValue.{LiveValue};
+
+    ghost Value = { List (LiveValue A) };
+
+    ghost view = { λ values. values.values.items };
+}
+
+// The operation comes behind the others on its object, which is there.
+fn add_at<A: Allocator + Copy>(
+    values: &mut [LiveValue<A>],
+    number: u32,
+    ob: ObjId,
+    op: &Op,
+) -> Result<(), AllocError>
+    requires there { ob.0 < length values.old }
+    requires takes { Takes number values.old }
+    ensures ok { OnOk result ((kinds : List Kind) (items : List HeldOp) → AreAfter kinds items values.old
+        → number ≡ length items + 1 → length items < MOST_EVENTS
+        → (t : TxnId) → AreAfter kinds (added items t ob op.now) values.new) }
+    ensures err { OnErr result (values.new ≡ values.old) }
+{
+    values[ob.0 as usize].add(number, op)
+}
+
+// The operation is taken back from the value of its object, which is there.
+fn undo_at<A: Allocator + Copy>(values: &mut [LiveValue<A>], number: u32, ob: ObjId, op: &Op)
+    requires there { ob.0 < length values.old }
+    requires counts { HoldsAt (Counts number op.now) values.old ob.0 }
+    ensures { IsUndoneAt number ob.0 op.now values.old values.new }
+{
+    values[ob.0 as usize].undo(number, op);
+}
+
+// The operation is taken back from the value of its object, if there is such an object.
+fn undo<A: Allocator + Copy>(values: &mut [LiveValue<A>], number: u32, ob: ObjId, op: &Op)
+    requires { ob.0 < length values.old → HoldsAt (Counts number op.now) values.old ob.0 }
+    ensures { IsUndoneAt number ob.0 op.now values.old values.new }
+{
+    if (ob.0 as usize) < values.len() {
+        undo_at(values, number, ob, op);
+    }
+}
+
+// The operations that the transaction holds in progress are taken back, the last first.
+fn take_back<A: Allocator + Copy>(
+    values: &mut [LiveValue<A>],
+    t: TxnId,
+    items: &[HeldOp],
+    held: &[u32],
+)
+    requires values { AreValues items.now values.old }
+    requires held { held.now ≡ numbers_where (is_held t.0) items.now }
+    ensures { (kinds : List Kind) → AreAfter kinds items.now values.old → AreAfter kinds (ended t.0 Aborted items.now) values.new }
+{
+    let mut left = held.len();
+    while left > 0 {
+        left -= 1;
+        let number = held[left];
+        let item = items[number as usize - 1];
+        undo(values, number, item.ob, &item.op);
+    }
+}
+
+impl<A: Allocator + Copy> Values<A> {
+    /// The first values of objects of these kinds. `Err` where there is no memory.
+    pub(crate) fn new(alloc: A, kinds: &[Kind]) -> Result<Values<A>, AllocError>
+        ensures { IfOk result (λ values. AreAfter kinds.now [] values) }
+    {
+        let mut values = Vec::with_capacity(alloc, kinds.len())?;
+        for kind in kinds {
+            values.push(LiveValue::new(alloc, kind))?;
+        }
+        Ok(Values { values })
+    }
+
+    /// What an operation on the object would return; nothing where there is no such object. Takes no memory.
+    pub(crate) fn due(&self, ob: ObjId, op: &Op) -> Option<Ret>
+        ensures { (kinds : List Kind) (items : List HeldOp) → AreAfter kinds items self.now
+            → result ≡ option_map (λ kind. returned (state_after (first_state {A = A} kind) (live_ops kind items ob.0)) op.now) (slice_get kinds ob.0) }
+    {
+        match self.values.get(ob.0 as usize) {
+            Some(value) => Some(value.due(op)),
+            None => None,
+        }
+    }
+
+    /// The value of the object; nothing where there is no such object. `Err` where there is no memory, which only a set
+    /// takes.
+    pub(crate) fn value(&self, ob: ObjId) -> Result<Option<ObjectState<A>>, AllocError>
+        ensures { IfOk result (λ value. (kinds : List Kind) (items : List HeldOp) → AreAfter kinds items self.now
+            → value ≡ option_map (λ kind. state_after (first_state {A = A} kind) (live_ops kind items ob.0)) (slice_get kinds ob.0)) }
+    {
+        match self.values.get(ob.0 as usize) {
+            Some(value) => Ok(Some(value.value()?)),
+            None => Ok(None),
+        }
+    }
+
+    /// One more operation, of the next number, is in progress. `Err` where there is no memory: the values are then as
+    /// they were.
+    pub(crate) fn add(&mut self, number: u32, ob: ObjId, op: &Op) -> Result<(), AllocError>
+        requires { Takes number self.old }
+        ensures ok { OnOk result ((kinds : List Kind) (items : List HeldOp) → AreAfter kinds items self.old
+            → number ≡ length items + 1 → length items < MOST_EVENTS
+            → (t : TxnId) → AreAfter kinds (added items t ob op.now) self.new) }
+        ensures err { OnErr result (self.new ≡ self.old) }
+    {
+        if (ob.0 as usize) < self.values.len() {
+            add_at(&mut self.values, number, ob, op)
+        } else {
+            Ok(())
+        }
+    }
+
+    /// All that the transaction holds in progress is aborted: these operations, by number, ascending. Takes no memory.
+    pub(crate) fn abort(&mut self, t: TxnId, items: &[HeldOp], held: &[u32])
+        requires values { AreValues items.now self.old }
+        requires held { held.now ≡ numbers_where (is_held t.0) items.now }
+        ensures { (kinds : List Kind) → AreAfter kinds items.now self.old → AreAfter kinds (ended t.0 Aborted items.now) self.new }
+    {
+        take_back(&mut self.values, t, items, held);
+    }
+
+    /// The operation that came last is forgotten again. Takes no memory.
+    pub(crate) fn forget(&mut self, number: u32, ob: ObjId, op: &Op)
+        requires { CameLast number ob op.now self.old }
+        ensures { (kinds : List Kind) (items : List HeldOp) (t : TxnId) → AreAfter kinds (added items t ob op.now) self.old
+            → number ≡ length items + 1 → AreAfter kinds items self.new }
+    {
+        undo(&mut self.values, number, ob, op);
+    }
+
+    /// The same values, in memory of their own. `Err` where there is no memory.
+    pub(crate) fn copy(&self) -> Result<Values<A>, AllocError>
+        ensures { IfOk result (λ values. values ≡ self.now) }
+    {
+        let mut values = Vec::with_capacity(*self.values.allocator(), self.values.len())?;
+        for value in &self.values {
+            values.push(value.copy()?)?;
+        }
+        Ok(Values { values })
+    }
+}
