@@ -17,3 +17,9 @@ mod Following
 mod FormedEdges
 pub mod Searches
 mod Walking
+mod Reordering
+mod Replays
+mod StrictItems
+mod SerialGrowth
+mod Grouping
+mod GroupTies

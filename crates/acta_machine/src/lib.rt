@@ -8,6 +8,8 @@ mod changes;
 mod conflicts;
 mod machine;
 mod rules;
+mod serial;
 
 pub use acta_sets::Handle;
 pub use machine::{Machine, Run};
+pub use serial::SerialError;

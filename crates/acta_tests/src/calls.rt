@@ -1,16 +1,13 @@
 //! The calls that promise most, each in a function of its own that says nothing of its result: what tests show is
 //! compared when they run.
 
-use acta_axioms::{Places, Walk};
-use acta_machine::{Handle, Machine, Run};
-use acta_table::{Answer, Event, Kept, MOST_EVENTS, Model, Owed};
+use acta_axioms::{Places, SerialItem, Walk};
+use acta_machine::{Handle, Machine, Run, SerialError};
+use acta_table::{Answer, Event, Items, Kept, MOST_EVENTS, Model, Owed};
 use std::alloc::AllocError;
 
 /// A machine on a copy of the model.
-pub fn new_machine<A: Handle>(
-    alloc: A,
-    model: &Model<A>,
-) -> Result<Machine<A>, AllocError> {
+pub fn new_machine<A: Handle>(alloc: A, model: &Model<A>) -> Result<Machine<A>, AllocError> {
     Machine::new(alloc, model.copy()?)
 }
 
@@ -24,10 +21,7 @@ pub fn run_on<A: Handle>(
 }
 
 /// What the machine answers the event.
-pub fn take<A: Handle>(
-    machine: &mut Machine<A>,
-    event: &Event<A>,
-) -> Result<Answer, AllocError> {
+pub fn take<A: Handle>(machine: &mut Machine<A>, event: &Event<A>) -> Result<Answer, AllocError> {
     machine.take(event)
 }
 
@@ -39,6 +33,11 @@ pub fn copy_of<A: Handle>(machine: &Machine<A>) -> Result<Machine<A>, AllocError
 /// What the machine says is owed.
 pub fn owed_by<A: Handle>(machine: &Machine<A>) -> Result<Vec<Owed, A>, AllocError> {
     machine.owed()
+}
+
+/// The machine's committed operations in serial order.
+pub fn serial_of<A: Handle>(machine: &Machine<A>) -> Result<Items<SerialItem, A>, SerialError> {
+    machine.serial()
 }
 
 /// A walk that stands before a list, which is no longer than a history may be.

@@ -213,11 +213,7 @@ fn valued<A: Handle>(machine: &Machine<A>) -> Result<usize, AllocError> {
 }
 
 // How many events a run has kept.
-fn ran<A: Handle>(
-    alloc: A,
-    model: &Model<A>,
-    events: &[Event<A>],
-) -> Result<usize, AllocError> {
+fn ran<A: Handle>(alloc: A, model: &Model<A>, events: &[Event<A>]) -> Result<usize, AllocError> {
     Ok(run_on(alloc, model, events)?.machine.history().len())
 }
 
@@ -302,10 +298,7 @@ fn one_item<A: Allocator + Copy>(alloc: A) -> Result<usize, AllocError> {
 }
 
 // The numbers of a set of operations that the machine shows, or none where another call is meant.
-fn of_sets<A: Handle>(
-    machine: &Machine<A>,
-    call: &str,
-) -> Result<Option<usize>, AllocError> {
+fn of_sets<A: Handle>(machine: &Machine<A>, call: &str) -> Result<Option<usize>, AllocError> {
     let ops = match call {
         "access set" => machine.access_set(ONE)?,
         "conflicts of root" => machine.conflict_set(TxnId(4))?,
