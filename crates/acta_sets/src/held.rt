@@ -199,7 +199,7 @@ fn share_at<A: Handle>(held: &mut Held<A>, at: u16, more: &[u32]) -> Result<(), 
     }
 }
 
-/// Those who hold something, by number.
+/// Those who hold something, by number. One who holds nothing any more may be among them still: the lists say who does.
 pub(crate) type Holders<A> = BTreeSet<u16, A>;
 
 // The transaction is among the holders. `Err` where there is no memory, and then they stay as they were.

@@ -121,7 +121,7 @@ fn orders_by_commits(rt: HostRuntime) {
 }
 
 // A new machine on the model has no serial order, or an empty one.
-fn is_strict<A: Allocator + Copy>(rt: &impl Abort, alloc: A, text: &str) -> bool {
+fn is_strict<A: Handle>(rt: &impl Abort, alloc: A, text: &str) -> bool {
     let model = model_of(rt, alloc, text);
     let machine = made(rt, new_machine(alloc, &model), "a machine");
     let is_strict = match serial_of(&machine) {
