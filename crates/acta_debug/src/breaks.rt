@@ -78,11 +78,7 @@ fn is_end_of<A: Allocator>(event: &Event<A>, t: TxnId) -> bool
 
 impl Break {
     // Whether it holds of an event and of the machine behind it. `Err` where there is no memory.
-    fn holds<A: Handle>(
-        self,
-        event: &Event<A>,
-        machine: &Machine<A>,
-    ) -> Result<bool, AllocError>
+    fn holds<A: Handle>(self, event: &Event<A>, machine: &Machine<A>) -> Result<bool, AllocError>
         ensures { IfOk result (λ holds. holds ≡ holds_of machine.now event.now self) }
     {
         Ok(match self {

@@ -43,11 +43,7 @@ impl<A: Handle> std::marker::Model for Debugger<A> {
 
 // `Ok` for a history of the model. Of any other list `NotAHistory` tells the first place, from 1, at which it is none.
 // `Memory` where there is no memory.
-fn check_history<A: Handle>(
-    alloc: A,
-    model: &Model<A>,
-    items: &[Kept<A>],
-) -> Result<(), NewError>
+fn check_history<A: Handle>(alloc: A, model: &Model<A>, items: &[Kept<A>]) -> Result<(), NewError>
     ensures only { OnOk result (IsHistory model.now items.now) }
     ensures few { OnOk result (length items.now ≤ MOST_EVENTS) }
     ensures accepted { IsHistory model.now items.now → IsOkUnless result new.Memory }

@@ -13,10 +13,7 @@ use std::alloc::AllocError;
 
 // Has the machine take the events of the items, in order. `Err` where there is no memory, and then it may have taken
 // some.
-fn take_events<A: Handle>(
-    machine: &mut Machine<A>,
-    items: &[Kept<A>],
-) -> Result<(), AllocError>
+fn take_events<A: Handle>(machine: &mut Machine<A>, items: &[Kept<A>]) -> Result<(), AllocError>
     requires { FollowsPlaces machine.old }
     ensures machine { OnOk result (machine.new ≡ after_all machine.old (events_in items.now)) }
     ensures follows { OnOk result (FollowsPlaces machine.new) }

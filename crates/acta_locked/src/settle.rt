@@ -44,12 +44,7 @@ fn is_part<A: Allocator>(entries: &[Entry<A>], seat: u8, report: &[Entry<A>]) ->
 }
 
 // Whether the report is that seat's, its part of the book, and answers the script.
-fn is_settled<A: Handle>(
-    book: &Book<A>,
-    seat: u8,
-    script: &Script<A>,
-    report: &Report<A>,
-) -> bool
+fn is_settled<A: Handle>(book: &Book<A>, seat: u8, script: &Script<A>, report: &Report<A>) -> bool
     ensures { Decides result (IsPart book.now seat script.now report.now) }
 {
     report.seat == seat
@@ -58,11 +53,7 @@ fn is_settled<A: Handle>(
 }
 
 /// Whether each report is its seat's part of the book, and answers its script.
-pub fn are_settled<A: Handle>(
-    book: &Book<A>,
-    scripts: &[Script<A>],
-    reports: &[Report<A>],
-) -> bool
+pub fn are_settled<A: Handle>(book: &Book<A>, scripts: &[Script<A>], reports: &[Report<A>]) -> bool
     requires few { length scripts.now ≤ MOST_WORKERS }
     ensures { Decides result (AreParts book.now 1 scripts.now reports.now) }
 {

@@ -95,8 +95,7 @@ pub struct LockedDesk<'a, A: Handle, J: Job<A>, R: Wait> {
     pub ghost some: { 0 < share.parts },
 }
 
-impl<'a, A: Handle, J: Job<A>, R: Wait> Desk<Event<A>, Entry<A>>
-    for LockedDesk<'a, A, J, R> {
+impl<'a, A: Handle, J: Job<A>, R: Wait> Desk<Event<A>, Entry<A>> for LockedDesk<'a, A, J, R> {
     ghost use Rattle.std.specs.Prelude.{◌≡◌, ◌∷◌, [], IfOk, OnErr};
     ghost use Rattle.acta_locked.specs.Desks.{Counts, IsOfSomeRun};
     ghost use Rattle.acta_locked.specs.inside.Growth.{count-nothing, count-further};

@@ -7,7 +7,6 @@ ghost use Rattle.acta_table.specs.Numbered.{smallest};
 ghost use Rattle.acta_table.specs.Refusals.{broken_by};
 ghost use Rattle.acta_table.specs.Sets.{is_named};
 ghost use Rattle.acta_deps.specs.Statuses.{has_ended, is_in_progress};
-ghost use Rattle.acta_sets.specs.Operations.{operation_at};
 ghost use Rattle.acta_machine.specs.Changes.{edges_due};
 ghost use Rattle.acta_machine.specs.Rules.{full, not_in_progress, already_begun, class_may, txn_may, forms_none, not_in_model, partner_not_in_progress, is_of_another, not_held, not_responsible, wants_whole, left_out, partial_delegation, unknown_in, bad_set, refuses_conflicts, conflict, too_late, form_too_late, edges_full, broken_before_edges, dependency, fails, no_heir, lowest_broken};
 ghost use Rattle.acta_machine.specs.Families.{heir_of};
@@ -15,7 +14,7 @@ ghost use Rattle.acta_machine.specs.inside.Shown.{shown};
 
 use crate::board::Board;
 use acta_objects::form_refusal;
-use acta_sets::{Handle, HeldOp};
+use acta_sets::Handle;
 use acta_table::{
     ClassId, Dep, Edge, Event, EventKind, Extent, MOST_EDGES, MOST_EVENTS, OpNo, OpSet, Refusal,
     Rule, Status, TxnId, lesser, smallest_of,
@@ -171,21 +170,11 @@ impl<A: Handle> Board<A> {
         }
     }
 
-    // The operation of this number.
-    fn operation(&self, op: OpNo) -> Option<HeldOp>
-        ensures { result ≡ operation_at (shown self.now).operations op.0 }
-    {
-        if op.0 == 0 {
-            return None;
-        }
-        self.operations.operations().get(op.0 as usize - 1).copied()
-    }
-
     // Whether the operation is there, and the transaction does not hold it in progress.
     fn is_of_another(&self, t: TxnId, op: OpNo) -> bool
         ensures { result ≡ is_of_another (shown self.now) t.0 op.0 }
     {
-        match self.operation(op) {
+        match self.operations.operation(op) {
             Some(item) => !item.is_held(t),
             None => false,
         }
@@ -231,14 +220,7 @@ impl<A: Handle> Board<A> {
     fn left_out(&self, ops: &OpSet<A>, t: TxnId) -> Option<u32>
         ensures { result ≡ left_out (shown self.now) ops.now t.0 }
     {
-        let mut number = 1u32;
-        for item in self.operations.operations() {
-            if item.is_held(t) && !ops.has_number(number as usize) {
-                return Some(number);
-            }
-            number += 1;
-        }
-        None
+        self.operations.first_left_out(t, ops)
     }
 
     #[tactic(auto, unfolding(crate::specs::Rules::partial_delegation))]
@@ -260,7 +242,7 @@ impl<A: Handle> Board<A> {
     {
         let mut least = None;
         for op in ops {
-            if self.operation(*op).is_none() {
+            if self.operations.operation(*op).is_none() {
                 least = lesser(least, op.0);
             }
         }

@@ -1,6 +1,6 @@
 -- What each transaction holds, after an operation is added, and after some end or go to another.
---     numbers_by-append            one more operation
---     numbers_by-past, each_changed    what is done to each of some numbers, one after another, is done to all that pass
+--     length-numbers_by            how many numbers there are
+--     each_changed    what is done to each of some numbers, one after another, is done to all that pass
 --     joined_is                    two lists put together
 --     AreHeld-...                  the lists of all transactions
 use Rattle.std.specs.Prelude.{◌≡◌, ◌<◌, ◌≤◌, ℕ, zero, suc, ◌+◌, Bool, true, false, not, ◌&&◌, ◌||◌, nat_lt, ◌==◌, ◌⊎◌, List, [], ◌∷◌, ◌++◌, map, length, get_or, set, fold, filter, slice_get, if◌then◌else◌}
@@ -32,11 +32,14 @@ numbers_by-same p q n (i ∷ items) same =
     ap (λ b. if b then n ∷ numbers_by p (n + 1) items else numbers_by p (n + 1) items) (same n i)
     ∙ ap (λ l. if q n i then n ∷ l else l) (numbers_by-same p q (n + 1) items same)
 
--- one more operation
-pub numbers_by-append : (test : ℕ → HeldOp → Bool) (n : ℕ) (items : List HeldOp) (i : HeldOp)
-    → numbers_by test n (items ++ i ∷ []) ≡ numbers_by test n items ++ (if test (n + length items) i then (n + length items) ∷ [] else [])
-numbers_by-append test n [] i = grind (arith, common_steps)
-numbers_by-append test n (j ∷ items) i = let later = numbers_by-append test (n + 1) items i in grind (arith, common_steps, later)
+-- there are no more than operations
+fewer_step : (b : Bool) (n k : ℕ) (ns : List ℕ) → length ns ≤ k → length (if b then n ∷ ns else ns) ≤ suc k
+fewer_step true n k ns le = omega (arith, le)
+fewer_step false n k ns le = omega (arith, le)
+
+pub length-numbers_by : (test : ℕ → HeldOp → Bool) (n : ℕ) (items : List HeldOp) → length (numbers_by test n items) ≤ length items
+length-numbers_by test n [] = omega arith
+length-numbers_by test n (i ∷ items) = fewer_step (test n i) n (length items) (numbers_by test (n + 1) items) (length-numbers_by test (n + 1) items)
 
 -- what is done to one of a number below all changes none
 changed_below : (f : HeldOp → HeldOp) (o n : ℕ) (items : List HeldOp) → o < n → changed_from (λ k _. k == o) f n items ≡ items

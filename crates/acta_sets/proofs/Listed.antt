@@ -1,4 +1,4 @@
--- Lists in a map.
+-- ModeLists in a map.
 use Rattle.std.proofs.Common.{◌≡◌, ℕ, ◌+◌, Bool, true, false, cond, if◌then◌else◌, List, [], ◌∷◌, ◌++◌, Option, Some, None, is_some, zero, suc, not, length, take, drop, refl, ap, sym, subst, ◌∙◌, arith}
 use Rattle.std.specs.Prelude.{find}
 use Rattle.std.specs.List.{list_all}
@@ -16,40 +16,40 @@ use Rattle.acta_table.specs.declared.event.TxnId.{TxnId}
 use Rattle.acta_table.specs.declared.answer.Fate.{Fate}
 use Rattle.acta_table.specs.Numbered.{numbers_from}
 use Rattle.acta_table.specs.Sets.{is_named}
-use Rattle.acta_sets.specs.declared.filing.Class.{Class}
+use Rattle.acta_sets.specs.declared.mode.Mode.{Mode}
 use Rattle.acta_sets.specs.Operations.{operation_at, is_against, ops_conflict, is_held, ended, ended_op, handed, handed_op, handed_of, handed_from}
 use Rattle.std.specs.HashMap as hash
 use Rattle.std.specs.HashMap.{HashMap}
 use Rattle.std.specs.Option.{option_map_or}
-use Rattle.acta_sets.specs.contracts.filing.KeyPartialEq.TheImpl.{eq-value}
-use Rattle.acta_sets.specs.declared.filing.Key.{Key}
-use Rattle.acta_sets.specs.declared.listing.ClassList.{ClassList}
-use Rattle.acta_sets.specs.inside.Filing.{same_key}
+use Rattle.acta_sets.specs.contracts.mode.TagPartialEq.TheImpl.{eq-value}
+use Rattle.acta_sets.specs.declared.mode.Tag.{Tag}
+use Rattle.acta_sets.specs.declared.listing.ModeList.{ModeList}
+use Rattle.acta_sets.specs.inside.Modes.{same_tag}
 use Rattle.acta_sets.specs.inside.Listing.{numbers_in, front_in, is_ended_at, HaveEnded, FrontsHold, AreListed, belongs, passes_at}
-use Rattle.acta_sets.proofs.Keys.{get-updated, got, key_is}
+use Rattle.acta_sets.proofs.Keys.{get-updated, got, tag_is}
 
--- what is read of the value at a key, after another is put at one
+-- what is read of the value at a tag, after another is put at one
 put_step : {X Y : Type 0} (f : X → Y) (d : Y) (b : Bool) (w : X) (o : Option X) → option_map_or f (if b then Some w else o) d ≡ (if b then f w else option_map_or f o d)
 put_step f d true w o = refl
 put_step f d false w o = refl
 
-pub read-put : {X Y S : Type 0} (f : X → Y) (d : Y) (m n : HashMap Key X S) (k : Key) (w : X) → hash.Updates (eq-value).it m n k (Some w) → (q : Key)
-    → option_map_or f (hash.get same_key n q) d ≡ (if same_key k q then f w else option_map_or f (hash.get same_key m q) d)
-read-put f d m n k w is q = ap (λ o. option_map_or f o d) (get-updated m n k (Some w) is q) ∙ put_step f d (same_key k q) w (hash.get same_key m q)
+pub read-put : {X Y S : Type 0} (f : X → Y) (d : Y) (m n : HashMap Tag X S) (k : Tag) (w : X) → hash.Updates (eq-value).it m n k (Some w) → (q : Tag)
+    → option_map_or f (hash.get same_tag n q) d ≡ (if same_tag k q then f w else option_map_or f (hash.get same_tag m q) d)
+read-put f d m n k w is q = ap (λ o. option_map_or f o d) (get-updated m n k (Some w) is q) ∙ put_step f d (same_tag k q) w (hash.get same_tag m q)
 
 same_step : {Y : Type 0} (b : Bool) (x y : Y) → (b ≡ true → x ≡ y) → (if b then x else y) ≡ y
 same_step true x y e = e refl
 same_step false x y e = refl
 
 -- where the same is read of it, nothing shows
-pub read-same : {X Y S : Type 0} (f : X → Y) (d : Y) (m n : HashMap Key X S) (k : Key) (w : X) → hash.Updates (eq-value).it m n k (Some w) → f w ≡ option_map_or f (hash.get same_key m k) d → (q : Key)
-    → option_map_or f (hash.get same_key n q) d ≡ option_map_or f (hash.get same_key m q) d
+pub read-same : {X Y S : Type 0} (f : X → Y) (d : Y) (m n : HashMap Tag X S) (k : Tag) (w : X) → hash.Updates (eq-value).it m n k (Some w) → f w ≡ option_map_or f (hash.get same_tag m k) d → (q : Tag)
+    → option_map_or f (hash.get same_tag n q) d ≡ option_map_or f (hash.get same_tag m q) d
 read-same f d m n k w is same q =
     read-put f d m n k w is q
-    ∙ same_step (same_key k q) (f w) (option_map_or f (hash.get same_key m q) d) (λ e. same ∙ ap (λ p. option_map_or f (hash.get same_key m p) d) (key_is k q e))
+    ∙ same_step (same_tag k q) (f w) (option_map_or f (hash.get same_tag m q) d) (λ e. same ∙ ap (λ p. option_map_or f (hash.get same_tag m p) d) (tag_is k q e))
 
--- what a map has at a key, after it is put there
-pub at_put : {X S : Type 0} (m n : HashMap Key X S) (k : Key) (w : X) → hash.Updates (eq-value).it m n k (Some w) → hash.get same_key n k ≡ Some w
+-- what a map has at a tag, after it is put there
+pub at_put : {X S : Type 0} (m n : HashMap Tag X S) (k : Tag) (w : X) → hash.Updates (eq-value).it m n k (Some w) → hash.get same_tag n k ≡ Some w
 at_put m n k w is = sym (got n k) ∙ is.1
 
 pub none_of : {X : Type 0} (o : Option X) → is_some o ≡ false → o ≡ None
@@ -60,13 +60,13 @@ pub if_same : {Y : Type 0} (b : Bool) (x y z : Y) → (b ≡ true → x ≡ y) �
 if_same true x y z e = e refl
 if_same false x y z e = refl
 
--- one more number at a key
-pub numbers-more : {A S : Type 0} (m n : HashMap Key (ClassList A) S) (k : Key) (l w : ClassList A) (number : ℕ) → hash.Updates (eq-value).it m n k (Some w) → hash.get same_key m k ≡ Some l
-    → w.numbers.items ≡ l.numbers.items ++ number ∷ [] → (q : Key) → numbers_in n q ≡ (if same_key k q then numbers_in m q ++ number ∷ [] else numbers_in m q)
+-- one more number at a tag
+pub numbers-more : {A S : Type 0} (m n : HashMap Tag (ModeList A) S) (k : Tag) (l w : ModeList A) (number : ℕ) → hash.Updates (eq-value).it m n k (Some w) → hash.get same_tag m k ≡ Some l
+    → w.numbers.items ≡ l.numbers.items ++ number ∷ [] → (q : Tag) → numbers_in n q ≡ (if same_tag k q then numbers_in m q ++ number ∷ [] else numbers_in m q)
 numbers-more m n k l w number is at more q =
     read-put (λ x. x.numbers.items) [] m n k w is q
-    ∙ if_same (same_key k q) w.numbers.items (numbers_in m q ++ number ∷ []) (numbers_in m q)
-    (λ e. more ∙ ap (λ o. option_map_or (λ x. x.numbers.items) o [] ++ number ∷ []) (sym at) ∙ ap (λ p. numbers_in m p ++ number ∷ []) (key_is k q e))
+    ∙ if_same (same_tag k q) w.numbers.items (numbers_in m q ++ number ∷ []) (numbers_in m q)
+    (λ e. more ∙ ap (λ o. option_map_or (λ x. x.numbers.items) o [] ++ number ∷ []) (sym at) ∙ ap (λ p. numbers_in m p ++ number ∷ []) (tag_is k q e))
 
 ended_step : (items : List HeldOp) (b : Bool) (ns ms : List ℕ) (f g : ℕ) → HaveEnded items ns f → HaveEnded items ms g → HaveEnded items (if b then ns else ms) (if b then f else g)
 ended_step items true ns ms f g x y = x
@@ -75,12 +75,12 @@ ended_step items false ns ms f g x y = y
 pub HaveEnded-same : (items : List HeldOp) (ns ms : List ℕ) (f g : ℕ) → ns ≡ ms → f ≡ g → HaveEnded items ns f → HaveEnded items ms g
 HaveEnded-same items ns ms f g e d is = subst (λ ls. HaveEnded items ls g) e (subst (λ k. HaveEnded items ns k) d is)
 
-pub FrontsHold-put : {A S : Type 0} (items : List HeldOp) (m n : HashMap Key (ClassList A) S) (k : Key) (w : ClassList A) → hash.Updates (eq-value).it m n k (Some w)
+pub FrontsHold-put : {A S : Type 0} (items : List HeldOp) (m n : HashMap Tag (ModeList A) S) (k : Tag) (w : ModeList A) → hash.Updates (eq-value).it m n k (Some w)
     → FrontsHold items m → HaveEnded items w.numbers.items w.front → FrontsHold items n
 FrontsHold-put items m n k w is hold ended q =
-    HaveEnded-same items (if same_key k q then w.numbers.items else numbers_in m q) (numbers_in n q) (if same_key k q then w.front else front_in m q) (front_in n q)
+    HaveEnded-same items (if same_tag k q then w.numbers.items else numbers_in m q) (numbers_in n q) (if same_tag k q then w.front else front_in m q) (front_in n q)
     (sym (read-put (λ x. x.numbers.items) [] m n k w is q)) (sym (read-put (λ x. x.front) 0 m n k w is q))
-    (ended_step items (same_key k q) w.numbers.items (numbers_in m q) w.front (front_in m q) ended (hold q))
+    (ended_step items (same_tag k q) w.numbers.items (numbers_in m q) w.front (front_in m q) ended (hold q))
 
 closed_test : (b c : Bool) → (b ≡ true → c ≡ true) → c ≡ false → b ≡ false
 closed_test true c opens e = let no : true ≡ false = sym (opens refl) ∙ e in cc
@@ -130,10 +130,10 @@ numbers_from-append : (test : HeldOp → Bool) (n : ℕ) (items : List HeldOp) (
 numbers_from-append test n [] i = grind (arith, common_steps)
 numbers_from-append test n (j ∷ items) i = let later = numbers_from-append test (n + 1) items i in grind (arith, common_steps, later)
 
-pub AreListed-more : {A S : Type 0} (class : Op → Option Class) (items : List HeldOp) (m n : HashMap Key (ClassList A) S) (i : HeldOp) (number : ℕ) → number ≡ 1 + length items → AreListed class items m
-    → ((q : Key) → numbers_in n q ≡ (if belongs class q i then numbers_in m q ++ number ∷ [] else numbers_in m q)) → AreListed class (items ++ i ∷ []) n
-AreListed-more class items m n i number at is after q =
-    let more = numbers_from-append (belongs class q) 1 items i in
+pub AreListed-more : {A S : Type 0} (mode : Op → Option Mode) (items : List HeldOp) (m n : HashMap Tag (ModeList A) S) (i : HeldOp) (number : ℕ) → number ≡ 1 + length items → AreListed mode items m
+    → ((q : Tag) → numbers_in n q ≡ (if belongs mode q i then numbers_in m q ++ number ∷ [] else numbers_in m q)) → AreListed mode (items ++ i ∷ []) n
+AreListed-more mode items m n i number at is after q =
+    let more = numbers_from-append (belongs mode q) 1 items i in
     let here = is q in let now = after q in
     grind (arith, common_steps, more, here, now, at)
 
@@ -144,24 +144,24 @@ numbers-mapped test f n (i ∷ items) e =
     ap (λ b. if b then n ∷ numbers_from test (n + 1) (map f items) else numbers_from test (n + 1) (map f items)) (e i)
     ∙ ap (λ l. if test i then n ∷ l else l) (numbers-mapped test f (n + 1) items e)
 
-belongs_if : (class : Op → Option Class) (q : Key) (b : Bool) (x i : HeldOp) → belongs class q x ≡ belongs class q i → belongs class q (if b then x else i) ≡ belongs class q i
-belongs_if class q true x i e = e
-belongs_if class q false x i e = refl
+belongs_if : (mode : Op → Option Mode) (q : Tag) (b : Bool) (x i : HeldOp) → belongs mode q x ≡ belongs mode q i → belongs mode q (if b then x else i) ≡ belongs mode q i
+belongs_if mode q true x i e = e
+belongs_if mode q false x i e = refl
 
-pub AreListed-ended : {A S : Type 0} (class : Op → Option Class) (items : List HeldOp) (m : HashMap Key (ClassList A) S) (t : ℕ) (fate : Fate) → AreListed class items m → AreListed class (ended t fate items) m
-AreListed-ended class items m t fate is q = is q ∙ sym (numbers-mapped (belongs class q) (ended_op t fate) 1 items (λ i. belongs_if class q (is_held t i) (record i { fate = fate }) i refl))
+pub AreListed-ended : {A S : Type 0} (mode : Op → Option Mode) (items : List HeldOp) (m : HashMap Tag (ModeList A) S) (t : ℕ) (fate : Fate) → AreListed mode items m → AreListed mode (ended t fate items) m
+AreListed-ended mode items m t fate is q = is q ∙ sym (numbers-mapped (belongs mode q) (ended_op t fate) 1 items (λ i. belongs_if mode q (is_held t i) (record i { fate = fate }) i refl))
 
-pub AreListed-handed : {A S : Type 0} (class : Op → Option Class) (items : List HeldOp) (m : HashMap Key (ClassList A) S) (t : ℕ) (u : TxnId) → AreListed class items m → AreListed class (handed t u items) m
-AreListed-handed class items m t u is q = is q ∙ sym (numbers-mapped (belongs class q) (handed_op t u) 1 items (λ i. belongs_if class q (is_held t i) (record i { holder = u }) i refl))
+pub AreListed-handed : {A S : Type 0} (mode : Op → Option Mode) (items : List HeldOp) (m : HashMap Tag (ModeList A) S) (t : ℕ) (u : TxnId) → AreListed mode items m → AreListed mode (handed t u items) m
+AreListed-handed mode items m t u is q = is q ∙ sym (numbers-mapped (belongs mode q) (handed_op t u) 1 items (λ i. belongs_if mode q (is_held t i) (record i { holder = u }) i refl))
 
-numbers-handed_of : (class : Op → Option Class) (q : Key) (t : ℕ) (ops : List OpNo) (u : TxnId) (n : ℕ) (items : List HeldOp) → numbers_from (belongs class q) n (handed_from n t ops u items) ≡ numbers_from (belongs class q) n items
-numbers-handed_of class q t ops u n [] = refl
-numbers-handed_of class q t ops u n (i ∷ items) =
-    ap (λ b. if b then n ∷ numbers_from (belongs class q) (n + 1) (handed_from (n + 1) t ops u items) else numbers_from (belongs class q) (n + 1) (handed_from (n + 1) t ops u items)) (belongs_if class q (is_held t i && is_named ops n) (record i { holder = u }) i refl)
-    ∙ ap (λ l. if belongs class q i then n ∷ l else l) (numbers-handed_of class q t ops u (n + 1) items)
+numbers-handed_of : (mode : Op → Option Mode) (q : Tag) (t : ℕ) (ops : List OpNo) (u : TxnId) (n : ℕ) (items : List HeldOp) → numbers_from (belongs mode q) n (handed_from n t ops u items) ≡ numbers_from (belongs mode q) n items
+numbers-handed_of mode q t ops u n [] = refl
+numbers-handed_of mode q t ops u n (i ∷ items) =
+    ap (λ b. if b then n ∷ numbers_from (belongs mode q) (n + 1) (handed_from (n + 1) t ops u items) else numbers_from (belongs mode q) (n + 1) (handed_from (n + 1) t ops u items)) (belongs_if mode q (is_held t i && is_named ops n) (record i { holder = u }) i refl)
+    ∙ ap (λ l. if belongs mode q i then n ∷ l else l) (numbers-handed_of mode q t ops u (n + 1) items)
 
-pub AreListed-handed_of : {A S : Type 0} (class : Op → Option Class) (items : List HeldOp) (m : HashMap Key (ClassList A) S) (t : ℕ) (ops : List OpNo) (u : TxnId) → AreListed class items m → AreListed class (handed_of t ops u items) m
-AreListed-handed_of class items m t ops u is q = is q ∙ sym (numbers-handed_of class q t ops u 1 items)
+pub AreListed-handed_of : {A S : Type 0} (mode : Op → Option Mode) (items : List HeldOp) (m : HashMap Tag (ModeList A) S) (t : ℕ) (ops : List OpNo) (u : TxnId) → AreListed mode items m → AreListed mode (handed_of t ops u items) m
+AreListed-handed_of mode items m t ops u is q = is q ∙ sym (numbers-handed_of mode q t ops u 1 items)
 
 -- nothing that has ended begins again
 abbrev pub NoneReopens : List HeldOp → List HeldOp → Type 0
@@ -173,7 +173,7 @@ still_ended items after (n ∷ ns) stay all =
     let parts = and_parts (is_ended_at items n) (list_all (is_ended_at items) ns) all in
     ap (λ b. b && list_all (is_ended_at after) ns) (stay n parts.0) ∙ still_ended items after ns stay parts.1
 
-pub FrontsHold-after : {A S : Type 0} (items after : List HeldOp) (m : HashMap Key (ClassList A) S) → NoneReopens items after → FrontsHold items m → FrontsHold after m
+pub FrontsHold-after : {A S : Type 0} (items after : List HeldOp) (m : HashMap Tag (ModeList A) S) → NoneReopens items after → FrontsHold items m → FrontsHold after m
 FrontsHold-after items after m stay hold q = ((hold q).0, still_ended items after (take (front_in m q) (numbers_in m q)) stay (hold q).1)
 
 abbrev has_ended : HeldOp → Bool
@@ -226,15 +226,15 @@ longer_if : (items : List HeldOp) (b : Bool) (ns : List ℕ) (n front : ℕ) →
 longer_if items true ns n front is = longer items ns n front is
 longer_if items false ns n front is = is
 
-pub FrontsHold-added : {A S : Type 0} (class : Op → Option Class) (items : List HeldOp) (m n : HashMap Key (ClassList A) S) (x : HeldOp) (number : ℕ) → FrontsHold items m
-    → ((q : Key) → numbers_in n q ≡ (if belongs class q x then numbers_in m q ++ number ∷ [] else numbers_in m q)) → ((q : Key) → front_in n q ≡ front_in m q) → FrontsHold (items ++ x ∷ []) n
-FrontsHold-added class items m n x number hold after same q =
+pub FrontsHold-added : {A S : Type 0} (mode : Op → Option Mode) (items : List HeldOp) (m n : HashMap Tag (ModeList A) S) (x : HeldOp) (number : ℕ) → FrontsHold items m
+    → ((q : Tag) → numbers_in n q ≡ (if belongs mode q x then numbers_in m q ++ number ∷ [] else numbers_in m q)) → ((q : Tag) → front_in n q ≡ front_in m q) → FrontsHold (items ++ x ∷ []) n
+FrontsHold-added mode items m n x number hold after same q =
     let was = FrontsHold-after items (items ++ x ∷ []) m (NoneReopens-added items x) hold q in
-    HaveEnded-same (items ++ x ∷ []) (if belongs class q x then numbers_in m q ++ number ∷ [] else numbers_in m q) (numbers_in n q) (front_in m q) (front_in n q) (sym (after q)) (sym (same q))
-    (longer_if (items ++ x ∷ []) (belongs class q x) (numbers_in m q) number (front_in m q) was)
+    HaveEnded-same (items ++ x ∷ []) (if belongs mode q x then numbers_in m q ++ number ∷ [] else numbers_in m q) (numbers_in n q) (front_in m q) (front_in n q) (sym (after q)) (sym (same q))
+    (longer_if (items ++ x ∷ []) (belongs mode q x) (numbers_in m q) number (front_in m q) was)
 
-pub AreListed-same : {A S : Type 0} (class : Op → Option Class) (items : List HeldOp) (m n : HashMap Key (ClassList A) S) → AreListed class items m → ((q : Key) → numbers_in n q ≡ numbers_in m q) → AreListed class items n
-AreListed-same class items m n is same q = same q ∙ is q
+pub AreListed-same : {A S : Type 0} (mode : Op → Option Mode) (items : List HeldOp) (m n : HashMap Tag (ModeList A) S) → AreListed mode items m → ((q : Tag) → numbers_in n q ≡ numbers_in m q) → AreListed mode items n
+AreListed-same mode items m n is same q = same q ∙ is q
 
-pub FrontsHold-same : {A S : Type 0} (items : List HeldOp) (m n : HashMap Key (ClassList A) S) → FrontsHold items m → ((q : Key) → numbers_in n q ≡ numbers_in m q) → ((q : Key) → front_in n q ≡ front_in m q) → FrontsHold items n
+pub FrontsHold-same : {A S : Type 0} (items : List HeldOp) (m n : HashMap Tag (ModeList A) S) → FrontsHold items m → ((q : Tag) → numbers_in n q ≡ numbers_in m q) → ((q : Tag) → front_in n q ≡ front_in m q) → FrontsHold items n
 FrontsHold-same items m n hold same fronts q = HaveEnded-same items (numbers_in m q) (numbers_in n q) (front_in m q) (front_in n q) (sym (same q)) (sym (fronts q)) (hold q)

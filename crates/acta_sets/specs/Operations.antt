@@ -57,14 +57,6 @@ abbrev pub operation_at : List HeldOp → ℕ → Option HeldOp
 operation_at items zero = None
 operation_at items (suc k) = slice_get items k
 
--- whether there is an operation of this number, in progress
-abbrev pub is_open_in : List HeldOp → OpNo → Bool
-is_open_in items o = option_map_or (λ i. is_open i.fate) (operation_at items o.0) false
-
--- whether all that are named are there and in progress
-abbrev pub are_open : List OpNo → List HeldOp → Bool
-are_open ops items = list_all (is_open_in items) ops
-
 -- whether t holds the operation of this number in progress
 abbrev pub is_held_in : ℕ → List HeldOp → OpNo → Bool
 is_held_in t items o = option_map_or (is_held t) (operation_at items o.0) false

@@ -1,5 +1,5 @@
-ghost use Rattle.std.specs.Prelude.{◌≡◌, ◌<◌, ◌≤◌, ◌≢◌, ℕ, ◌++◌, ◌∷◌, ◌==◌, if◌then◌else◌, [], length, set, OnOk, OnErr, IfOk};
-ghost use Rattle.acta_table.specs.Sets.{numbered};
+ghost use Rattle.std.specs.Prelude.{◌≡◌, ◌<◌, ◌≤◌, ◌≢◌, ℕ, ◌++◌, ◌∷◌, ◌==◌, if◌then◌else◌, [], length, set, find, not, OnOk, OnErr, IfOk};
+ghost use Rattle.acta_table.specs.Sets.{numbered, is_named};
 ghost use Rattle.smallvec.specs.SmallVec.{SmallVec as short_list};
 ghost use Rattle.std.specs.BTreeSet.{insert_key};
 ghost use Rattle.std.specs.Ordering.{nat_cmp};
@@ -107,6 +107,18 @@ pub(crate) fn named_in<A: Handle>(
     Ok(named)
 }
 
+/// The first of the list that is not named.
+pub(crate) fn first_unnamed<A: Handle>(list: &[u32], ops: &OpSet<A>) -> Option<u32>
+    ensures { result ≡ find (λ n. not (is_named ops.now n)) list.now }
+{
+    for op in list {
+        if !ops.has_number(*op as usize) {
+            return Some(*op);
+        }
+    }
+    None
+}
+
 /// The operations of these numbers. `Err` where there is no memory.
 pub(crate) fn numbered<A: Handle>(alloc: A, list: &[u32]) -> Result<Vec<OpNo, A>, AllocError>
     ensures { IfOk result (λ ops. ops.items ≡ numbered list.now) }
@@ -187,7 +199,7 @@ fn share_at<A: Handle>(held: &mut Held<A>, at: u16, more: &[u32]) -> Result<(), 
     }
 }
 
-/// Those who hold something, by number.
+/// Those who hold something, by number. One who holds nothing any more may be among them still: the lists say who does.
 pub(crate) type Holders<A> = BTreeSet<u16, A>;
 
 // The transaction is among the holders. `Err` where there is no memory, and then they stay as they were.

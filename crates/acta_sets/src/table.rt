@@ -1,23 +1,25 @@
-ghost use Rattle.std.specs.Prelude.{◌≡◌, ◌<◌, ◌≤◌, ◌+◌, ◌*◌, ◌++◌, ◌∷◌, [], true, false, IfOk, OnOk, OnErr, length};
+ghost use Rattle.std.specs.Prelude.{◌≡◌, ◌<◌, ◌≤◌, ◌+◌, ◌++◌, ◌∷◌, [], true, false, not, find, IfOk, OnOk, OnErr, length};
 ghost use Rattle.acta_table.specs.Fates.{is_open};
-ghost use Rattle.acta_sets.specs.Operations.{are_held, access_set, conflict_set, view_set, added, moved, ended, ended_op, handed, handed_op, handed_of, is_held_against, is_against, is_opponent, holders_against, is_held};
-ghost use Rattle.acta_table.specs.Numbered.{numbers_where};
+ghost use Rattle.acta_sets.specs.Operations.{is_held, operation_at, are_held, access_set, conflict_set, view_set, added, moved, ended, ended_op, handed, handed_op, handed_of, is_held_against, is_against, is_opponent, holders_against};
 ghost use Rattle.std.specs.List.{list_any};
 ghost use Rattle.acta_sets.specs.inside.Held.{changed_at, changed_each};
-ghost use Rattle.acta_sets.specs.declared.filing.Key.{Key as filing_key};
-ghost use Rattle.acta_table.specs.Numbered.{first_number};
+ghost use Rattle.acta_sets.specs.declared.mode.Tag.{Tag as the_tag};
+ghost use Rattle.acta_table.specs.Numbered.{first_number, numbers_where};
+ghost use Rattle.acta_table.specs.Sets.{is_named};
 ghost use Rattle.acta_sets.specs.inside.Listing.{numbers_in, FrontsHold};
 ghost use Rattle.acta_sets.specs.inside.Filing.{AreFiled};
 ghost use Rattle.std.specs.HashMap.{spare};
 
+use crate::changing::{advance_each, end_each, hand_each};
 use crate::counts::Counts;
-use crate::filing::Whose;
 use crate::handle::Handle;
 use crate::held::{
-    Held, Holders, add_held, clear_held, leave_out_at, list_of, named_in, numbered, share_held,
+    Held, Holders, add_held, clear_held, first_unnamed, leave_out_at, list_of, named_in, numbered,
+    share_held,
 };
 use crate::held_op::HeldOp;
-use crate::listing::Lists;
+use crate::listing::ModeLists;
+use crate::mode::{Holder, coarse, listed_fine};
 use crate::selection::{Selection, selected};
 use crate::{counts, listing};
 use acta_table::{Fate, MOST_EVENTS, ObjId, Op, OpNo, OpSet, TxnId};
@@ -33,8 +35,8 @@ pub struct OpTable<A: Handle> {
     held: Held<A>,
     holders: Holders<A>,
     counts: Counts<A>,
-    broad: Lists<A>,
-    narrow: Lists<A>,
+    coarse: ModeLists<A>,
+    fine: ModeLists<A>,
 }
 
 impl<A: Handle> std::marker::Model for OpTable<A> {
@@ -46,135 +48,7 @@ impl<A: Handle> std::marker::Model for OpTable<A> {
 
     ghost view = { λ table. table.items.items };
 
-    ghost invariant = { λ table. IsIndexed table.items.items table.held.items table.holders.keys table.counts table.broad table.narrow };
-}
-
-// The operation of this number gets this fate, where the transaction holds it in progress.
-fn end_one<A: Allocator + Copy>(
-    items: &mut Vec<HeldOp, A>,
-    counts: &mut Counts<A>,
-    number: u32,
-    t: TxnId,
-    fate: Fate,
-)
-    requires { is_open fate ≡ false }
-    ensures items { items.new.items ≡ changed_at (ended_op t.0 fate) number items.old.items }
-    ensures filed { AreFiled items.old.items counts.old → AreFiled items.new.items counts.new }
-{
-    let Some(place) = number.checked_sub(1) else {
-        return;
-    };
-    let place = place as usize;
-    if place < items.len() {
-        let item = items[place];
-        items[place] = counts::end(counts, item, t, fate);
-    }
-}
-
-// The operations of these numbers get this fate, where the transaction holds them in progress.
-fn end_each<A: Allocator + Copy>(
-    items: &mut Vec<HeldOp, A>,
-    counts: &mut Counts<A>,
-    numbers: &[u32],
-    t: TxnId,
-    fate: Fate,
-)
-    requires { is_open fate ≡ false }
-    ensures items { items.new.items ≡ changed_each (ended_op t.0 fate) items.old.items numbers.now }
-    ensures filed { AreFiled items.old.items counts.old → AreFiled items.new.items counts.new }
-{
-    for number in numbers {
-        end_one(items, counts, *number, t, fate);
-    }
-}
-
-// Finds out again how many of the classes of an operation have ended.
-fn advance_one<A: Allocator + Copy>(
-    broad: &mut Lists<A>,
-    narrow: &mut Lists<A>,
-    items: &[HeldOp],
-    number: u32,
-)
-    requires broad { FrontsHold items.now broad.old }
-    requires narrow { FrontsHold items.now narrow.old }
-    ensures broad { (q : filing_key) → numbers_in broad.new q ≡ numbers_in broad.old q }
-    ensures narrow { (q : filing_key) → numbers_in narrow.new q ≡ numbers_in narrow.old q }
-    ensures broad_fronts { FrontsHold items.now broad.new }
-    ensures narrow_fronts { FrontsHold items.now narrow.new }
-{
-    let Some(place) = number.checked_sub(1) else {
-        return;
-    };
-    let place = place as usize;
-    if place < items.len() {
-        let item = items[place];
-        listing::advance_under(broad, items, item.ob.0, counts::broad(&item.op));
-        listing::advance_under(narrow, items, item.ob.0, counts::narrow(&item.op));
-    }
-}
-
-// Finds out again how many of the classes of these operations have ended.
-fn advance_each<A: Allocator + Copy>(
-    broad: &mut Lists<A>,
-    narrow: &mut Lists<A>,
-    items: &[HeldOp],
-    numbers: &[u32],
-)
-    requires broad { FrontsHold items.now broad.old }
-    requires narrow { FrontsHold items.now narrow.old }
-    ensures broad { (q : filing_key) → numbers_in broad.new q ≡ numbers_in broad.old q }
-    ensures narrow { (q : filing_key) → numbers_in narrow.new q ≡ numbers_in narrow.old q }
-    ensures broad_fronts { FrontsHold items.now broad.new }
-    ensures narrow_fronts { FrontsHold items.now narrow.new }
-{
-    for number in numbers {
-        advance_one(broad, narrow, items, *number);
-    }
-}
-
-// The operation of this number is held by `u`, where the transaction holds it in progress.
-fn hand_one<A: Allocator + Copy>(
-    items: &mut Vec<HeldOp, A>,
-    counts: &mut Counts<A>,
-    number: u32,
-    t: TxnId,
-    u: TxnId,
-)
-    requires few { length items.old.items ≤ MOST_EVENTS }
-    requires filed { AreFiled items.old.items counts.old }
-    requires room { 1 < spare counts.old }
-    ensures items { items.new.items ≡ changed_at (handed_op t.0 u) number items.old.items }
-    ensures filed { AreFiled items.new.items counts.new }
-    ensures room { spare counts.old ≤ spare counts.new + 2 }
-    ensures long { length items.new.items ≡ length items.old.items }
-{
-    let Some(place) = number.checked_sub(1) else {
-        return;
-    };
-    let place = place as usize;
-    if place < items.len() {
-        let item = items[place];
-        items[place] = counts::hand(counts, item, t, u);
-    }
-}
-
-// The operations of these numbers are held by `u`, where the transaction holds them in progress.
-fn hand_each<A: Allocator + Copy>(
-    items: &mut Vec<HeldOp, A>,
-    counts: &mut Counts<A>,
-    numbers: &[u32],
-    t: TxnId,
-    u: TxnId,
-)
-    requires few { length items.old.items ≤ MOST_EVENTS }
-    requires filed { AreFiled items.old.items counts.old }
-    requires room { 2 * length numbers.now ≤ spare counts.old }
-    ensures items { items.new.items ≡ changed_each (handed_op t.0 u) items.old.items numbers.now }
-    ensures filed { AreFiled items.new.items counts.new }
-{
-    for number in numbers {
-        hand_one(items, counts, *number, t, u);
-    }
+    ghost invariant = { λ table. IsIndexed table.items.items table.held.items table.holders.keys table.counts table.coarse table.fine };
 }
 
 impl<A: Handle> OpTable<A> {
@@ -187,8 +61,8 @@ impl<A: Handle> OpTable<A> {
             held: Vec::new(alloc),
             holders: Holders::new(alloc),
             counts: Counts::new(alloc),
-            broad: Lists::new(alloc),
-            narrow: Lists::new(alloc),
+            coarse: ModeLists::new(alloc),
+            fine: ModeLists::new(alloc),
         }
     }
 
@@ -199,6 +73,16 @@ impl<A: Handle> OpTable<A> {
         ensures few { length self.now ≤ MOST_EVENTS }
     {
         self.items.as_slice()
+    }
+
+    /// The operation of this number; nothing where there is none. There is no number 0.
+    pub fn operation(&self, op: OpNo) -> Option<HeldOp>
+        ensures { result ≡ operation_at self.now op.0 }
+    {
+        if op.0 == 0 {
+            return None;
+        }
+        self.items.get(op.0 as usize - 1).copied()
     }
 
     /// Adds an operation in progress, which `t` holds: whoever invokes an operation is responsible for
@@ -219,15 +103,15 @@ impl<A: Handle> OpTable<A> {
         };
         self.items.reserve(1)?;
         let alloc = *self.items.allocator();
-        let broad = counts::broad(&op);
-        let narrow = counts::narrow(&op);
-        listing::make_place(alloc, &mut self.broad, ob.0, broad)?;
-        listing::make_place(alloc, &mut self.narrow, ob.0, narrow)?;
+        let coarse = coarse(&op);
+        let fine = listed_fine(&op);
+        listing::make_place(alloc, &mut self.coarse, ob.0, coarse)?;
+        listing::make_place(alloc, &mut self.fine, ob.0, fine)?;
         counts::make_room(&mut self.counts, 4)?;
         add_held(&mut self.held, &mut self.holders, t.0, number)?;
         counts::file(&mut self.counts, &item);
-        listing::list_under(&mut self.broad, ob.0, broad, number);
-        listing::list_under(&mut self.narrow, ob.0, narrow, number);
+        listing::list_under(&mut self.coarse, ob.0, coarse, number);
+        listing::list_under(&mut self.fine, ob.0, fine, number);
         self.items.push_reserved(item);
         Ok(OpNo(number))
     }
@@ -241,13 +125,13 @@ impl<A: Handle> OpTable<A> {
     {
         let number = self.items.len() as u32 + 1;
         let alloc = *self.items.allocator();
-        let broad = counts::broad(&item.op);
-        let narrow = counts::narrow(&item.op);
+        let coarse = coarse(&item.op);
+        let fine = listed_fine(&item.op);
         self.items.reserve(1)?;
-        listing::make_place(alloc, &mut self.broad, item.ob.0, broad)?;
-        listing::make_place(alloc, &mut self.narrow, item.ob.0, narrow)?;
-        listing::list_under(&mut self.broad, item.ob.0, broad, number);
-        listing::list_under(&mut self.narrow, item.ob.0, narrow, number);
+        listing::make_place(alloc, &mut self.coarse, item.ob.0, coarse)?;
+        listing::make_place(alloc, &mut self.fine, item.ob.0, fine)?;
+        listing::list_under(&mut self.coarse, item.ob.0, coarse, number);
+        listing::list_under(&mut self.fine, item.ob.0, fine, number);
         self.items.push_reserved(item);
         Ok(())
     }
@@ -332,8 +216,8 @@ impl<A: Handle> OpTable<A> {
             fate,
         );
         advance_each(
-            &mut self.broad,
-            &mut self.narrow,
+            &mut self.coarse,
+            &mut self.fine,
             self.items.as_slice(),
             list_of(&self.held, t.0),
         );
@@ -347,7 +231,7 @@ impl<A: Handle> OpTable<A> {
     pub fn is_held_against(&self, t: TxnId, ob: ObjId, op: &Op) -> bool
         ensures { result ≡ list_any (is_held_against t.0 ob.0 op.now) self.now }
     {
-        counts::number_against(&self.counts, Whose::One(t.0), ob.0, op) > 0
+        counts::number_against(&self.counts, Holder::Txn(t.0), ob.0, op) > 0
     }
 
     /// Whether an operation in progress, on the object, held neither by the transaction nor by one of those that it
@@ -371,8 +255,8 @@ impl<A: Handle> OpTable<A> {
     {
         if self.has_against(t, spares, ob, op) {
             listing::first_against(
-                &self.broad,
-                &self.narrow,
+                &self.coarse,
+                &self.fine,
                 self.items.as_slice(),
                 t,
                 spares,
@@ -452,6 +336,13 @@ impl<A: Handle> OpTable<A> {
         ensures { IfOk result (λ ops. ops.items ≡ access_set t.0 self.now) }
     {
         numbered(self.allocator(), list_of(&self.held, t.0))
+    }
+
+    /// The number of the first operation that `t` holds in progress and that is not named.
+    pub fn first_left_out(&self, t: TxnId, ops: &OpSet<A>) -> Option<u32>
+        ensures { result ≡ find (λ n. not (is_named ops.now n)) (numbers_where (is_held t.0) self.now) }
+    {
+        first_unnamed(list_of(&self.held, t.0), ops)
     }
 
     /// The operations in progress that are held neither by `t` nor by one of these ancestors of it,

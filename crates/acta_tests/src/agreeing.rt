@@ -129,11 +129,7 @@ fn shows_txn<A: Handle>(
 }
 
 // The machine shows the view, which with the access sets says what became of each operation.
-fn shows_view<A: Handle>(
-    rt: &impl Abort,
-    machine: &Machine<A>,
-    places: &Places<'_, A>,
-) -> bool {
+fn shows_view<A: Handle>(rt: &impl Abort, machine: &Machine<A>, places: &Places<'_, A>) -> bool {
     let view = made(rt, machine.view_set(), "a view");
     let mut shows = true;
     for number in 1..OPS {
@@ -157,11 +153,7 @@ fn missing_by<A: Handle>(places: &Places<'_, A>, edge: &Edge) -> Option<Missing>
 }
 
 // What is owed by the edges of these places.
-fn debts_of<A: Handle>(
-    rt: &impl Abort,
-    alloc: A,
-    places: &Places<'_, A>,
-) -> Vec<Owed, A> {
+fn debts_of<A: Handle>(rt: &impl Abort, alloc: A, places: &Places<'_, A>) -> Vec<Owed, A> {
     let mut due = Vec::new(alloc);
     let mut number = 0u64;
     for edge in places.edges() {

@@ -7,10 +7,7 @@ use acta_table::{Answer, Event, Items, Kept, MOST_EVENTS, Model, Owed};
 use std::alloc::AllocError;
 
 /// A machine on a copy of the model.
-pub fn new_machine<A: Handle>(
-    alloc: A,
-    model: &Model<A>,
-) -> Result<Machine<A>, AllocError> {
+pub fn new_machine<A: Handle>(alloc: A, model: &Model<A>) -> Result<Machine<A>, AllocError> {
     Machine::new(alloc, model.copy()?)
 }
 
@@ -24,10 +21,7 @@ pub fn run_on<A: Handle>(
 }
 
 /// What the machine answers the event.
-pub fn take<A: Handle>(
-    machine: &mut Machine<A>,
-    event: &Event<A>,
-) -> Result<Answer, AllocError> {
+pub fn take<A: Handle>(machine: &mut Machine<A>, event: &Event<A>) -> Result<Answer, AllocError> {
     machine.take(event)
 }
 
@@ -42,9 +36,7 @@ pub fn owed_by<A: Handle>(machine: &Machine<A>) -> Result<Vec<Owed, A>, AllocErr
 }
 
 /// The machine's committed operations in serial order.
-pub fn serial_of<A: Handle>(
-    machine: &Machine<A>,
-) -> Result<Items<SerialItem, A>, SerialError> {
+pub fn serial_of<A: Handle>(machine: &Machine<A>) -> Result<Items<SerialItem, A>, SerialError> {
     machine.serial()
 }
 

@@ -92,13 +92,7 @@ fn put_said<A: Handle>(
 }
 
 // The places of the items say what the line does.
-fn ask<A: Handle>(
-    rt: &impl Abort,
-    alloc: A,
-    model: &Model<A>,
-    items: &[Kept<A>],
-    line: &str,
-) {
+fn ask<A: Handle>(rt: &impl Abort, alloc: A, model: &Model<A>, items: &[Kept<A>], line: &str) {
     let (asked, due) = parted(rt, line, " :");
     let places = made(rt, places_of(alloc, model, items), line);
     let mut said = Vec::new(alloc);

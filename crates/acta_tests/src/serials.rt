@@ -63,12 +63,7 @@ const CLEARED_ORDER: &str = "\
 6 : do 4095 s size = 2";
 
 // Takes the events of the lines on a new machine, which answers as they say.
-fn machine_after<A: Handle>(
-    rt: &impl Abort,
-    alloc: A,
-    model: &Model<A>,
-    text: &str,
-) -> Machine<A> {
+fn machine_after<A: Handle>(rt: &impl Abort, alloc: A, model: &Model<A>, text: &str) -> Machine<A> {
     let mut machine = made(rt, new_machine(alloc, model), "a machine");
     for line in text.lines() {
         let (said, due) = parted(rt, line, " : ");
@@ -101,13 +96,7 @@ fn is_listed<A: Allocator + Copy>(
 }
 
 // The machine's serial order is that of the lines.
-fn lists<A: Handle>(
-    rt: &impl Abort,
-    alloc: A,
-    model: &Model<A>,
-    machine: &Machine<A>,
-    text: &str,
-) {
+fn lists<A: Handle>(rt: &impl Abort, alloc: A, model: &Model<A>, machine: &Machine<A>, text: &str) {
     let items = made(rt, serial_of(machine), "a serial order");
     same(rt, &items.as_slice().len(), &text.lines().count(), text);
     for (item, line) in items.as_slice().iter().zip(text.lines()) {
@@ -185,12 +174,7 @@ fn growths<A: Handle, B: Allocator>(
 }
 
 // After the events, the call has so many growths.
-fn grows<A: Handle, B: Allocator>(
-    rt: &impl Abort,
-    heap: &Refusing<B>,
-    alloc: A,
-    due: u64,
-) {
+fn grows<A: Handle, B: Allocator>(rt: &impl Abort, heap: &Refusing<B>, alloc: A, due: u64) {
     let model = model_of(rt, alloc, Standard::Atomic.text());
     let machine = machine_after(rt, alloc, &model, CROSSED);
     same(rt, &growths(rt, heap, &machine), &due, "growths");

@@ -1,9 +1,10 @@
-//! Operations of which some have ended, while the one that holds them goes on.
+//! Operations of which some have ended, while the one that holds them goes on; and as many as there is room for.
 
-use crate::expecting::{holds, made};
+use crate::expecting::{holds, made, same};
 use acta_machine::Handle;
 use acta_sets::{HeldOp, OpTable};
-use acta_table::{Fate, ObjId, Op, OpNo, TxnId};
+use acta_table::{Fate, MOST_EVENTS, ObjId, Op, OpNo, TxnId};
+use std::collections::BTreeSet;
 use std::process::Abort;
 
 const ONE: TxnId = TxnId(1);
@@ -39,4 +40,37 @@ fn hands_over_what_is_in_progress(rt: HostRuntime) {
     let held = made(&rt, table.access_set(THREE), "an access set");
     let is_third = held.as_slice() == [OpNo(3)].as_slice();
     holds(&rt, is_third, "what is handed over");
+}
+
+// One more addition by 1, unless something stands against it, or there is no room.
+fn add_one<A: Handle>(rt: &impl Abort, table: &mut OpTable<A>, spares: &BTreeSet<u16, A>) {
+    let op = Op::Add(1);
+    let against = table.first_against(ONE, spares, ObjId(0), &op);
+    holds(rt, against.is_none(), "what stands against it");
+    if table.operations().len() < MOST_EVENTS {
+        made(rt, table.add(ONE, ObjId(0), op), "an addition");
+    }
+}
+
+// Whether 3 finds the first of these against it, and 1 finds none.
+fn stands_first<A: Handle>(table: &OpTable<A>, spares: &BTreeSet<u16, A>) -> bool {
+    table.first_against(THREE, spares, ObjId(0), &Op::Get) == Some(1)
+        && !table.has_against(ONE, spares, ObjId(0), &Op::Get)
+}
+
+// One transaction adds as often as a history has room for but once: nothing stands against any of its additions, and the
+// first stands against a `get` of another.
+#[test]
+fn adds_without_end(rt: HostRuntime) {
+    let mut table = OpTable::new(rt.alloc());
+    let spares = BTreeSet::new(rt.alloc());
+    for _ in 1..MOST_EVENTS {
+        add_one(&rt, &mut table, &spares);
+    }
+    same(&rt, &table.operations().len(), &65_535, "additions");
+    holds(
+        &rt,
+        stands_first(&table, &spares),
+        "what stands against another",
+    );
 }

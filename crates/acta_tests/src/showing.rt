@@ -42,12 +42,7 @@ pub fn put_edges<A: Allocator>(rt: &impl Abort, line: &mut Vec<u8, A>, edges: &[
 }
 
 // Writes what is owed.
-fn put_debts<A: Handle>(
-    rt: &impl Abort,
-    alloc: A,
-    line: &mut Vec<u8, A>,
-    machine: &Machine<A>,
-) {
+fn put_debts<A: Handle>(rt: &impl Abort, alloc: A, line: &mut Vec<u8, A>, machine: &Machine<A>) {
     for debt in &made(rt, owed_by(machine), "debts") {
         let owed = made(rt, owed_line(alloc, debt), "a debt");
         made(rt, push_word(line, &owed), "a debt");
@@ -156,11 +151,7 @@ pub fn shown<A: Handle>(
 }
 
 /// The number that a register or a counter has.
-pub fn number_in<A: Handle>(
-    rt: &impl Abort,
-    machine: &Machine<A>,
-    ob: ObjId,
-) -> Option<i64> {
+pub fn number_in<A: Handle>(rt: &impl Abort, machine: &Machine<A>, ob: ObjId) -> Option<i64> {
     let state = made(rt, machine.value(ob), "a value");
     let number = match &state {
         Some(ObjectState::Register(value)) => Some(i64::from(*value)),

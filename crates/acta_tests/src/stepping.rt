@@ -101,24 +101,25 @@ fn steps<A: Handle, B: Allocator>(
     drop(model);
 }
 
-// Of the operations; for an operation with edges, of the set of those whom it depends on, of the edges that are due,
-// and of the set of the edges, which has three parts; for one that spares its ancestor, of the set of these; of the
-// edge that is formed.
+// For the first operation, of the operations, of those in its mode and their list, of the counts, and of what each
+// transaction holds; for one with edges, of the set of those whom it depends on, of the edges that are due, of the set of
+// the edges, and of the counts; for one that spares its ancestor, of the set of these; for a delegation, of what is handed
+// on; of the edge that is formed.
 const OF_DEPENDING: &str = "\
-begin 1 loose : 1
+begin 1 loose : 0
 begin 2 loose : 0
 spawn 2 3 loose : 0
-do 1 x write 5 : 0
+do 1 x write 5 : 5
 do 2 x read : 5
-do 3 x read : 3
-delegate 1 2 1 : 0
+do 3 x read : 6
+delegate 1 2 1 : 1
 form CD 7 8 : 1
 commit 2 : 0";
 
-// Of the operations; of the edges that are due for a split, and of the set of the edges.
+// Of a first operation; for a split, of the edges that are due, of the set of the edges, and of what is handed on.
 const OF_PARTS: &str = "\
-begin 1 part : 1
-do 1 x write 5 : 0
+begin 1 part : 0
+do 1 x write 5 : 5
 split 1 2 part 1 : 4
 join 1 2 : 0
 abort 2 : 0";

@@ -208,11 +208,7 @@ fn same_as_machine<A: Handle>(
 }
 
 /// Whether a walk through the machine's history shows what the machine does.
-pub fn follows_machine<A: Handle>(
-    rt: &impl Abort,
-    alloc: A,
-    machine: &Machine<A>,
-) -> bool {
+pub fn follows_machine<A: Handle>(rt: &impl Abort, alloc: A, machine: &Machine<A>) -> bool {
     let walk = walked(rt, alloc, machine.model(), machine.history());
     let same = same_as_machine(rt, alloc, &walk, machine);
     drop(walk);
@@ -253,11 +249,7 @@ fn same_course<A: Handle>(
 }
 
 // The places and the walk say the same.
-fn same_places<A: Handle>(
-    rt: &impl Abort,
-    walk: &Walk<'_, A>,
-    places: &Places<'_, A>,
-) -> bool {
+fn same_places<A: Handle>(rt: &impl Abort, walk: &Walk<'_, A>, places: &Places<'_, A>) -> bool {
     let mut same = walk.edges() == places.edges() && same_operations(walk, places);
     for number in 0..TXNS {
         same &= same_course(rt, walk, places, asked_txn(number));

@@ -68,10 +68,7 @@ fn tell_barred<A: Allocator>(text: &mut Vec<u8, A>, error: MoveError) -> Result<
 }
 
 // Moves one event further.
-fn tell_step<A: Handle>(
-    debugger: &mut Debugger<A>,
-    text: &mut Vec<u8, A>,
-) -> Result<(), AllocError>
+fn tell_step<A: Handle>(debugger: &mut Debugger<A>, text: &mut Vec<u8, A>) -> Result<(), AllocError>
     ensures told { OnOk result (text.new.items ≡ text.old.items ++ text_of (move_line (stepped debugger.old) ∷ [])) }
     ensures moved { OnOk result (debugger.new ≡ moved debugger.old (stepped debugger.old)) }
 {
@@ -82,10 +79,7 @@ fn tell_step<A: Handle>(
 }
 
 // Moves one event back.
-fn tell_back<A: Handle>(
-    debugger: &mut Debugger<A>,
-    text: &mut Vec<u8, A>,
-) -> Result<(), AllocError>
+fn tell_back<A: Handle>(debugger: &mut Debugger<A>, text: &mut Vec<u8, A>) -> Result<(), AllocError>
     ensures told { OnOk result (text.new.items ≡ text.old.items ++ text_of (move_line (stepped_back debugger.old) ∷ [])) }
     ensures moved { OnOk result (debugger.new ≡ moved debugger.old (stepped_back debugger.old)) }
 {
@@ -131,10 +125,7 @@ fn tell_stop<A: Allocator>(text: &mut Vec<u8, A>, last: u32, stop: Stop) -> Resu
 }
 
 // Runs on.
-fn tell_run<A: Handle>(
-    debugger: &mut Debugger<A>,
-    text: &mut Vec<u8, A>,
-) -> Result<(), AllocError>
+fn tell_run<A: Handle>(debugger: &mut Debugger<A>, text: &mut Vec<u8, A>) -> Result<(), AllocError>
     ensures told { OnOk result (text.new.items ≡ text.old.items ++ text_of (run_line (length debugger.old.history) (stop_of debugger.old) ∷ [])) }
     ensures moved { OnOk result (debugger.new ≡ run_to_stop debugger.old) }
 {

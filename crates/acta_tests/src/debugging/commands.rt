@@ -70,10 +70,7 @@ fn moved(alloc: Global, done: Result<(), MoveError>, at: u32) -> Result<String, 
 }
 
 // Runs on, and tells where it stopped, and where the debugger then stands.
-fn ran<A: Handle>(
-    alloc: Global,
-    debugger: &mut Debugger<A>,
-) -> Result<String, AllocError> {
+fn ran<A: Handle>(alloc: Global, debugger: &mut Debugger<A>) -> Result<String, AllocError> {
     let stop = debugger.run();
     let at = debugger.at();
     match stop {
@@ -167,12 +164,7 @@ pub fn told<A: Handle>(
 }
 
 // Plays the line, which has a command, and what is told of it.
-fn play_line<A: Handle>(
-    rt: &impl Abort,
-    alloc: Global,
-    debugger: &mut Debugger<A>,
-    line: &str,
-) {
+fn play_line<A: Handle>(rt: &impl Abort, alloc: Global, debugger: &mut Debugger<A>, line: &str) {
     let (command, due) = parted(rt, line, " : ");
     let text = told(rt, alloc, debugger, command);
     same(rt, &text.as_str(), &due, line);
@@ -181,12 +173,7 @@ fn play_line<A: Handle>(
 }
 
 /// Plays the lines on the debugger, one after another.
-pub fn play<A: Handle>(
-    rt: &impl Abort,
-    alloc: Global,
-    debugger: &mut Debugger<A>,
-    lines: &str,
-) {
+pub fn play<A: Handle>(rt: &impl Abort, alloc: Global, debugger: &mut Debugger<A>, lines: &str) {
     for line in lines.lines() {
         play_line(rt, alloc, debugger, line);
     }

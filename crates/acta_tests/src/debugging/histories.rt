@@ -35,12 +35,7 @@ pub fn opened<A: Handle>(
 }
 
 /// A debugger on the history that the lines say.
-pub fn debugger<A: Handle>(
-    rt: &impl Abort,
-    heap: A,
-    name: Standard,
-    text: &str,
-) -> Debugger<A> {
+pub fn debugger<A: Handle>(rt: &impl Abort, heap: A, name: Standard, text: &str) -> Debugger<A> {
     let model = model_of(rt, heap, name.text());
     let history = items(rt, heap, &model, text);
     made(rt, opened(heap, model, history), "a debugger")
@@ -66,12 +61,7 @@ pub fn sums(rt: &impl Abort, alloc: Global, times: u32) -> String {
 }
 
 /// A debugger on these.
-pub fn on_sums<A: Handle>(
-    rt: &impl Abort,
-    alloc: Global,
-    heap: A,
-    times: u32,
-) -> Debugger<A> {
+pub fn on_sums<A: Handle>(rt: &impl Abort, alloc: Global, heap: A, times: u32) -> Debugger<A> {
     let text = sums(rt, alloc, times);
     debugger(rt, heap, Standard::Contingent, text.as_str())
 }

@@ -75,11 +75,7 @@ fn forms<A: Allocator + Copy>(rt: &impl Abort, heap: A, times: u32) -> Vec<Kept<
 }
 
 // A debugger on so many such events, or why there is none.
-fn on_forms<A: Handle>(
-    rt: &impl Abort,
-    heap: A,
-    times: u32,
-) -> Result<Debugger<A>, NewError> {
+fn on_forms<A: Handle>(rt: &impl Abort, heap: A, times: u32) -> Result<Debugger<A>, NewError> {
     let model = model_of(rt, heap, Standard::Contingent.text());
     opened(heap, model, forms(rt, heap, times))
 }

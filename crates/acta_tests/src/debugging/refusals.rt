@@ -124,12 +124,7 @@ fn new_refused<A: Handle>(
 
 // Makes a debugger on the history, its first allocation refused, then the second, and so on, until none is, which are
 // more than 9.
-fn new_each<A: Handle>(
-    rt: &impl Abort,
-    refusing: &Refusing<Global>,
-    heap: A,
-    text: &str,
-) {
+fn new_each<A: Handle>(rt: &impl Abort, refusing: &Refusing<Global>, heap: A, text: &str) {
     for nth in 1..MOST {
         if !new_refused(rt, refusing, heap, text, nth) {
             holds(rt, nth.wrapping_sub(1) > 9, "a new debugger");
@@ -140,12 +135,7 @@ fn new_each<A: Handle>(
 }
 
 // For no command of a debugger that allocates from `heap`, which is `refusing`, is there memory.
-fn refuse_calls<A: Handle>(
-    rt: &impl Abort,
-    alloc: Global,
-    refusing: &Refusing<Global>,
-    heap: A,
-) {
+fn refuse_calls<A: Handle>(rt: &impl Abort, alloc: Global, refusing: &Refusing<Global>, heap: A) {
     let mut debugger = on_sums(rt, alloc, heap, 64);
     for line in CALLS.lines() {
         refuse_each(rt, alloc, refusing, &mut debugger, line);

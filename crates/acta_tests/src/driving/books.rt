@@ -132,9 +132,6 @@ pub fn replayed<A: Handle>(
 
 /// Takes the event of the first seat, in a function of its own, so that callers need not read all that is known of the
 /// entry.
-pub fn taken<A: Handle>(
-    book: &mut Book<A>,
-    event: Event<A>,
-) -> Result<Entry<A>, TakeError> {
+pub fn taken<A: Handle>(book: &mut Book<A>, event: Event<A>) -> Result<Entry<A>, TakeError> {
     book.take(1, event)
 }

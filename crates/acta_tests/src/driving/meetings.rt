@@ -69,10 +69,7 @@ const WRITES: [&str; 2] = [
 ];
 
 // Both write to x: the first of the writes is admitted, the second is refused by it, and x has the value of the first.
-fn write_both<A: Handle + Send + Sync, R: Threads + Wait + Sync + Abort>(
-    rt: &R,
-    alloc: A,
-) {
+fn write_both<A: Handle + Send + Sync, R: Threads + Wait + Sync + Abort>(rt: &R, alloc: A) {
     let lines = "ok 1\nok 2\nok 3 done\nno 14 by 1\n";
     let driven = meet(rt, alloc, Place::AfterFirst, &WRITES, lines);
     let first = first_writer(driven.book.entries()).expect(rt, "writes of both seats");

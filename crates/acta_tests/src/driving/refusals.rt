@@ -108,11 +108,7 @@ fn take_calls<A: Handle, B: Allocator>(
 }
 
 // Takes all calls. The book in the end has them all, and its machine all but the third.
-fn take_all<A: Handle, B: Allocator>(
-    rt: &impl Abort,
-    heap: &Refusing<B>,
-    alloc: A,
-) -> u64 {
+fn take_all<A: Handle, B: Allocator>(rt: &impl Abort, heap: &Refusing<B>, alloc: A) -> u64 {
     let model = model_of(rt, alloc, Standard::SplitJoin.text());
     let calls = script(rt, alloc, &model, CALLS);
     let mut book = made(rt, Book::new(alloc, model), "a book");

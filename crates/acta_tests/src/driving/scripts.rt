@@ -57,11 +57,13 @@ fn run<A: Handle + Send + Sync, R: Threads + Wait + Sync, G: Gate<Entry<A>> + Sy
 }
 
 /// A drive of the scripts over a book of the standard model.
-pub fn driven<
-    A: Handle + Send + Sync,
-    R: Threads + Wait + Sync + Abort,
-    G: Gate<Entry<A>> + Sync,
->(rt: &R, alloc: A, name: Standard, scripts: &[Script<A>], gate: &G) -> Driven<A> {
+pub fn driven<A: Handle + Send + Sync, R: Threads + Wait + Sync + Abort, G: Gate<Entry<A>> + Sync>(
+    rt: &R,
+    alloc: A,
+    name: Standard,
+    scripts: &[Script<A>],
+    gate: &G,
+) -> Driven<A> {
     let model = model_of(rt, alloc, name.text());
     made(rt, run(rt, alloc, model, scripts, gate), "a drive")
 }

@@ -525,12 +525,7 @@ fn alone_in(due: &str) -> Option<u8> {
 }
 
 // The verdict on the list is the one that is due. Gives the axiom that is broken, where only one is, and once.
-fn expect<A: Handle>(
-    rt: &impl Abort,
-    alloc: A,
-    models: &Models<A>,
-    list: &str,
-) -> Option<u8> {
+fn expect<A: Handle>(rt: &impl Abort, alloc: A, models: &Models<A>, list: &str) -> Option<u8> {
     let (title, lines) = list.split_once('\n').unwrap_or((list, ""));
     let judged = Judged::read(rt, alloc, &models.wider, lines);
     let (items, due) = (judged.items.as_slice(), judged.due.as_str());
@@ -558,13 +553,7 @@ fn expect_all<A: Handle>(
 }
 
 // The same of each list of the model that the text means.
-fn play<A: Handle>(
-    rt: &impl Abort,
-    alloc: A,
-    model: &str,
-    lists: &str,
-    alone: &mut Vec<u8, A>,
-) {
+fn play<A: Handle>(rt: &impl Abort, alloc: A, model: &str, lists: &str, alone: &mut Vec<u8, A>) {
     let models = Models::of(rt, alloc, model);
     expect_all(rt, alloc, &models, lists, alone);
     drop(models);

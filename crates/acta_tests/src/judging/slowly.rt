@@ -26,10 +26,7 @@ fn place_of(kind: Dep, j: Course, i: Course) -> Option<u32> {
 }
 
 // Where the formula of the edge is false and not owed, and what is owed by it.
-fn settled<A: Handle>(
-    places: &Places<'_, A>,
-    edge: &Edge,
-) -> (Option<u32>, Option<Missing>) {
+fn settled<A: Handle>(places: &Places<'_, A>, edge: &Edge) -> (Option<u32>, Option<Missing>) {
     let (j, i) = (course_of(places, edge.j), course_of(places, edge.i));
     if !is_false(edge.kind, j, i) {
         return (None, None);

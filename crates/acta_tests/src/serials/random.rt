@@ -72,12 +72,7 @@ fn move_drawn(rt: &impl Abort, words: &mut Pcg32) -> &'static str {
 }
 
 // The machine takes a move of one of the transactions, or refuses it.
-fn take_drawn<A: Handle>(
-    rt: &impl Abort,
-    alloc: A,
-    machine: &mut Machine<A>,
-    words: &mut Pcg32,
-) {
+fn take_drawn<A: Handle>(rt: &impl Abort, alloc: A, machine: &mut Machine<A>, words: &mut Pcg32) {
     let (front, behind) = parted(rt, move_drawn(rt, words), "T");
     let txn = words.next_word() % TRANSACTIONS + 1;
     let line = made(rt, format!(in alloc; "{front}{txn}{behind}"), front);
@@ -124,12 +119,7 @@ fn replays<A: Allocator + Copy>(
 }
 
 // Plays a history that begins with these words, and replays its serial order. Gives how many operations that has.
-fn plays<A: Handle>(
-    rt: &impl Abort,
-    alloc: A,
-    model: &Model<A>,
-    words: &mut Pcg32,
-) -> usize {
+fn plays<A: Handle>(rt: &impl Abort, alloc: A, model: &Model<A>, words: &mut Pcg32) -> usize {
     let mut machine = made(rt, new_machine(alloc, model), "a machine");
     for _ in 0..EVENTS {
         take_drawn(rt, alloc, &mut machine, words);

@@ -2,8 +2,9 @@ use Rattle.std.specs.Prelude.{◌≡◌, ◌+◌, ◌≤◌, [], ◌∷◌, ◌+
 use Rattle.std.proofs.Common.{arith, rules, sym, ap, ◌∙◌, subst}
 use Rattle.acta_table.specs.declared.limits.TheConstants.{MOST_EVENTS}
 use Rattle.acta_sets.specs.inside.Held.{AreHeld}
-use Rattle.acta_sets.specs.inside.Filing.{AreFiled, broad, narrow}
-use Rattle.acta_sets.specs.inside.Listing.{AreListed, FrontsHold, is_key, numbers_in}
+use Rattle.acta_sets.specs.inside.Filing.{AreFiled}
+use Rattle.acta_sets.specs.inside.Modes.{coarse, listed_fine}
+use Rattle.acta_sets.specs.inside.Listing.{AreListed, FrontsHold, is_tag, numbers_in}
 use Rattle.acta_sets.proofs.Access.{AreHeld-past}
 use Rattle.acta_sets.proofs.Filed.{AreFiled-past}
 use Rattle.acta_sets.proofs.Listed.{AreListed-same, AreListed-more, FrontsHold-same, FrontsHold-added}
@@ -21,19 +22,19 @@ invariant_of-self-2 g c =
       held = subst (λ xs. AreHeld xs c.self.inside.held.items) (sym after) (AreHeld-past items c.self.inside.held.items x c.requires.past c.self.invariant.held);
       among = c.self.invariant.among;
       filed = subst (λ xs. AreFiled xs c.self.inside.counts) (sym after) (AreFiled-past items c.self.inside.counts x c.requires.past c.self.invariant.filed);
-      broad = subst (λ xs. AreListed broad xs c.list_under.new.lists) (sym after)
-          (AreListed-more broad items c.make_place.new.lists c.list_under.new.lists x (c.len.result + 1) number (AreListed-same broad items c.self.inside.broad c.make_place.new.lists c.self.invariant.broad c.make_place.ensures.numbers)
-          (λ q. c.list_under.ensures.numbers q ∙ ap (λ o. if is_key q x.ob.0 o then numbers_in c.make_place.new.lists q ++ (c.len.result + 1) ∷ [] else numbers_in c.make_place.new.lists q) c.broad-broad.ensures));
-      broad_fronts = subst (λ xs. FrontsHold xs c.list_under.new.lists) (sym after)
-          (FrontsHold-added broad items c.make_place.new.lists c.list_under.new.lists x (c.len.result + 1) (FrontsHold-same items c.self.inside.broad c.make_place.new.lists c.self.invariant.broad_fronts c.make_place.ensures.numbers c.make_place.ensures.fronts)
-          (λ q. c.list_under.ensures.numbers q ∙ ap (λ o. if is_key q x.ob.0 o then numbers_in c.make_place.new.lists q ++ (c.len.result + 1) ∷ [] else numbers_in c.make_place.new.lists q) c.broad-broad.ensures)
+      coarse = subst (λ xs. AreListed coarse xs c.list_under.new.lists) (sym after)
+          (AreListed-more coarse items c.make_place.new.lists c.list_under.new.lists x (c.len.result + 1) number (AreListed-same coarse items c.self.inside.coarse c.make_place.new.lists c.self.invariant.coarse c.make_place.ensures.numbers)
+          (λ q. c.list_under.ensures.numbers q ∙ ap (λ o. if is_tag q x.ob.0 o then numbers_in c.make_place.new.lists q ++ (c.len.result + 1) ∷ [] else numbers_in c.make_place.new.lists q) c.coarse-coarse.ensures));
+      coarse_fronts = subst (λ xs. FrontsHold xs c.list_under.new.lists) (sym after)
+          (FrontsHold-added coarse items c.make_place.new.lists c.list_under.new.lists x (c.len.result + 1) (FrontsHold-same items c.self.inside.coarse c.make_place.new.lists c.self.invariant.coarse_fronts c.make_place.ensures.numbers c.make_place.ensures.fronts)
+          (λ q. c.list_under.ensures.numbers q ∙ ap (λ o. if is_tag q x.ob.0 o then numbers_in c.make_place.new.lists q ++ (c.len.result + 1) ∷ [] else numbers_in c.make_place.new.lists q) c.coarse-coarse.ensures)
           c.list_under.ensures.fronts);
-      narrow = subst (λ xs. AreListed narrow xs c.list_under-2.new.lists) (sym after)
-          (AreListed-more narrow items c.make_place-2.new.lists c.list_under-2.new.lists x (c.len.result + 1) number (AreListed-same narrow items c.self.inside.narrow c.make_place-2.new.lists c.self.invariant.narrow c.make_place-2.ensures.numbers)
-          (λ q. c.list_under-2.ensures.numbers q ∙ ap (λ o. if is_key q x.ob.0 o then numbers_in c.make_place-2.new.lists q ++ (c.len.result + 1) ∷ [] else numbers_in c.make_place-2.new.lists q) c.narrow-narrow.ensures));
-      narrow_fronts = subst (λ xs. FrontsHold xs c.list_under-2.new.lists) (sym after)
-          (FrontsHold-added narrow items c.make_place-2.new.lists c.list_under-2.new.lists x (c.len.result + 1) (FrontsHold-same items c.self.inside.narrow c.make_place-2.new.lists c.self.invariant.narrow_fronts c.make_place-2.ensures.numbers c.make_place-2.ensures.fronts)
-          (λ q. c.list_under-2.ensures.numbers q ∙ ap (λ o. if is_key q x.ob.0 o then numbers_in c.make_place-2.new.lists q ++ (c.len.result + 1) ∷ [] else numbers_in c.make_place-2.new.lists q) c.narrow-narrow.ensures)
+      fine = subst (λ xs. AreListed listed_fine xs c.list_under-2.new.lists) (sym after)
+          (AreListed-more listed_fine items c.make_place-2.new.lists c.list_under-2.new.lists x (c.len.result + 1) number (AreListed-same listed_fine items c.self.inside.fine c.make_place-2.new.lists c.self.invariant.fine c.make_place-2.ensures.numbers)
+          (λ q. c.list_under-2.ensures.numbers q ∙ ap (λ o. if is_tag q x.ob.0 o then numbers_in c.make_place-2.new.lists q ++ (c.len.result + 1) ∷ [] else numbers_in c.make_place-2.new.lists q) c.listed_fine-fine.ensures));
+      fine_fronts = subst (λ xs. FrontsHold xs c.list_under-2.new.lists) (sym after)
+          (FrontsHold-added listed_fine items c.make_place-2.new.lists c.list_under-2.new.lists x (c.len.result + 1) (FrontsHold-same items c.self.inside.fine c.make_place-2.new.lists c.self.invariant.fine_fronts c.make_place-2.ensures.numbers c.make_place-2.ensures.fronts)
+          (λ q. c.list_under-2.ensures.numbers q ∙ ap (λ o. if is_tag q x.ob.0 o then numbers_in c.make_place-2.new.lists q ++ (c.len.result + 1) ∷ [] else numbers_in c.make_place-2.new.lists q) c.listed_fine-fine.ensures)
           c.list_under-2.ensures.fronts);
     }
 
@@ -46,8 +47,8 @@ invariant_of-self-in_err-make_place-2 g c =
       held = subst (λ xs. AreHeld xs c.self.inside.held.items) back c.self.invariant.held;
       among = c.self.invariant.among;
       filed = subst (λ xs. AreFiled xs c.self.inside.counts) back c.self.invariant.filed;
-      broad = subst (λ xs. AreListed broad xs c.make_place.new.lists) back (AreListed-same broad items c.self.inside.broad c.make_place.new.lists c.self.invariant.broad c.make_place.ensures.numbers);
-      broad_fronts = subst (λ xs. FrontsHold xs c.make_place.new.lists) back (FrontsHold-same items c.self.inside.broad c.make_place.new.lists c.self.invariant.broad_fronts c.make_place.ensures.numbers c.make_place.ensures.fronts);
-      narrow = subst (λ xs. AreListed narrow xs c.make_place-2.new.lists) back (AreListed-same narrow items c.self.inside.narrow c.make_place-2.new.lists c.self.invariant.narrow c.make_place-2.ensures.numbers);
-      narrow_fronts = subst (λ xs. FrontsHold xs c.make_place-2.new.lists) back (FrontsHold-same items c.self.inside.narrow c.make_place-2.new.lists c.self.invariant.narrow_fronts c.make_place-2.ensures.numbers c.make_place-2.ensures.fronts);
+      coarse = subst (λ xs. AreListed coarse xs c.make_place.new.lists) back (AreListed-same coarse items c.self.inside.coarse c.make_place.new.lists c.self.invariant.coarse c.make_place.ensures.numbers);
+      coarse_fronts = subst (λ xs. FrontsHold xs c.make_place.new.lists) back (FrontsHold-same items c.self.inside.coarse c.make_place.new.lists c.self.invariant.coarse_fronts c.make_place.ensures.numbers c.make_place.ensures.fronts);
+      fine = subst (λ xs. AreListed listed_fine xs c.make_place-2.new.lists) back (AreListed-same listed_fine items c.self.inside.fine c.make_place-2.new.lists c.self.invariant.fine c.make_place-2.ensures.numbers);
+      fine_fronts = subst (λ xs. FrontsHold xs c.make_place-2.new.lists) back (FrontsHold-same items c.self.inside.fine c.make_place-2.new.lists c.self.invariant.fine_fronts c.make_place-2.ensures.numbers c.make_place-2.ensures.fronts);
     }

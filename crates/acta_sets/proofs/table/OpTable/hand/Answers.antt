@@ -3,8 +3,8 @@ use Rattle.std.proofs.Common.{arith, ap, sym, subst, ◌∙◌}
 use Rattle.acta_table.specs.Sets.{is_named}
 use Rattle.acta_sets.specs.Operations.{handed_of, is_held}
 use Rattle.acta_sets.specs.inside.Held.{AreHeld, numbers_by, named_of}
-use Rattle.acta_sets.proofs.Access.{each-given, changed-handed_of, handed_of-same, filter-numbers, length-handed_of, named_held, AreHeld-same, AreHeld-handed_of}
-use Rattle.acta_sets.specs.inside.Filing.{broad, narrow}
+use Rattle.acta_sets.proofs.Access.{length-numbers_by, each-given, changed-handed_of, handed_of-same, filter-numbers, length-handed_of, named_held, AreHeld-same, AreHeld-handed_of}
+use Rattle.acta_sets.specs.inside.Modes.{coarse, listed_fine}
 use Rattle.acta_sets.specs.inside.Listing.{AreListed, FrontsHold}
 use Rattle.acta_sets.proofs.Listed.{AreListed-handed_of, FrontsHold-after, NoneReopens-handed_of}
 use Rattle.acta_sets.proofs.Among.{AreAmong-fewer}
@@ -22,10 +22,10 @@ invariant_of-self g c = record {
   held = c.self.invariant.held;
   among = c.self.invariant.among;
   filed = AreFiled-same c.self.inside.items.items c.self.inside.counts c.make_room.new.counts c.self.invariant.filed c.make_room.ensures.same;
-  broad = c.self.invariant.broad;
-  broad_fronts = c.self.invariant.broad_fronts;
-  narrow = c.self.invariant.narrow;
-  narrow_fronts = c.self.invariant.narrow_fronts;
+  coarse = c.self.invariant.coarse;
+  coarse_fronts = c.self.invariant.coarse_fronts;
+  fine = c.self.invariant.fine;
+  fine_fronts = c.self.invariant.fine_fronts;
 }
 
 pub invariant_of-self-in_err-share_held : goal.invariant_of-self-in_err-share_held
@@ -34,14 +34,22 @@ invariant_of-self-in_err-share_held g c = record {
   among = c.in_err-share_held.ensures.still c.self.invariant.among;
   held = AreHeld-same c.self.inside.items.items c.self.inside.held.items c.share_held.new.held.items c.self.invariant.held c.in_err-share_held.ensures.err;
   filed = AreFiled-same c.self.inside.items.items c.self.inside.counts c.make_room.new.counts c.self.invariant.filed c.make_room.ensures.same;
-  broad = c.self.invariant.broad;
-  broad_fronts = c.self.invariant.broad_fronts;
-  narrow = c.self.invariant.narrow;
-  narrow_fronts = c.self.invariant.narrow_fronts;
+  coarse = c.self.invariant.coarse;
+  coarse_fronts = c.self.invariant.coarse_fronts;
+  fine = c.self.invariant.fine;
+  fine_fronts = c.self.invariant.fine_fronts;
 }
 
 pub hand_each-requires-clause-filed : goal.hand_each-requires-clause-filed
 hand_each-requires-clause-filed g c = AreFiled-same c.self.inside.items.items c.self.inside.counts c.make_room.new.counts c.self.invariant.filed c.make_room.ensures.same
+
+pub hand_each-requires-clause-short : goal.hand_each-requires-clause-short
+hand_each-requires-clause-short g c =
+    let items = c.self.inside.items.items in
+    let same =
+    c.as_slice-2.ensures.value ∙ c.in_ok-named.ensures ∙ ap (named_of c.args.ops.now) (c.list_of.ensures ∙ c.self.invariant.held c.args.from.0)
+    ∙ filter-numbers (is_named c.args.ops.now) (is_held c.args.from.0) 1 items in
+    omega (arith, ap length same, length-numbers_by (λ k i. is_held c.args.from.0 i && is_named c.args.ops.now k) 1 items, c.self.invariant.few)
 
 -- those that are named among what `from` holds in progress
 given_is : (g : Over) (c : After-drop-named-2 g) → c.as_slice.result.now ≡ numbers_by (λ k i. is_held c.args.from.0 i && is_named c.args.ops.now k) 1 c.self.inside.items.items
@@ -66,10 +74,10 @@ invariant_of-self-2 g c =
           (AreHeld-handed_of items c.self.inside.held.items c.share_held.new.held.items c.leave_out_at.new.held.items c.args.from c.args.u c.args.ops.now c.as_slice.result.now c.self.invariant.held c.if-from-u.false (given_is g c) c.in_ok-share_held.ensures.ok c.leave_out_at.ensures);
       among = AreAmong-fewer c.share_held.new.held.items c.leave_out_at.new.held.items c.share_held.new.holders.keys c.args.from.0 c.args.ops.now c.leave_out_at.ensures (c.in_ok-share_held.ensures.among c.self.invariant.among);
       filed = c.hand_each.ensures.filed;
-      broad = subst (λ xs. AreListed broad xs c.self.inside.broad) (sym same) (AreListed-handed_of broad items c.self.inside.broad c.args.from.0 c.args.ops.now c.args.u c.self.invariant.broad);
-      broad_fronts = subst (λ xs. FrontsHold xs c.self.inside.broad) (sym same) (FrontsHold-after items (handed_of c.args.from.0 c.args.ops.now c.args.u items) c.self.inside.broad (NoneReopens-handed_of c.args.from.0 c.args.ops.now c.args.u items) c.self.invariant.broad_fronts);
-      narrow = subst (λ xs. AreListed narrow xs c.self.inside.narrow) (sym same) (AreListed-handed_of narrow items c.self.inside.narrow c.args.from.0 c.args.ops.now c.args.u c.self.invariant.narrow);
-      narrow_fronts = subst (λ xs. FrontsHold xs c.self.inside.narrow) (sym same) (FrontsHold-after items (handed_of c.args.from.0 c.args.ops.now c.args.u items) c.self.inside.narrow (NoneReopens-handed_of c.args.from.0 c.args.ops.now c.args.u items) c.self.invariant.narrow_fronts);
+      coarse = subst (λ xs. AreListed coarse xs c.self.inside.coarse) (sym same) (AreListed-handed_of coarse items c.self.inside.coarse c.args.from.0 c.args.ops.now c.args.u c.self.invariant.coarse);
+      coarse_fronts = subst (λ xs. FrontsHold xs c.self.inside.coarse) (sym same) (FrontsHold-after items (handed_of c.args.from.0 c.args.ops.now c.args.u items) c.self.inside.coarse (NoneReopens-handed_of c.args.from.0 c.args.ops.now c.args.u items) c.self.invariant.coarse_fronts);
+      fine = subst (λ xs. AreListed listed_fine xs c.self.inside.fine) (sym same) (AreListed-handed_of listed_fine items c.self.inside.fine c.args.from.0 c.args.ops.now c.args.u c.self.invariant.fine);
+      fine_fronts = subst (λ xs. FrontsHold xs c.self.inside.fine) (sym same) (FrontsHold-after items (handed_of c.args.from.0 c.args.ops.now c.args.u items) c.self.inside.fine (NoneReopens-handed_of c.args.from.0 c.args.ops.now c.args.u items) c.self.invariant.fine_fronts);
     }
 
 pub returns-clause-handed : goal.returns-clause-handed

@@ -3,8 +3,8 @@ use Rattle.std.proofs.Common.{arith, ap, sym, subst, ◌∙◌}
 use Rattle.std.proofs.lemmas.List.{length-map}
 use Rattle.acta_sets.specs.Operations.{handed, handed_op, is_held}
 use Rattle.acta_sets.specs.inside.Held.{AreHeld, numbers_by}
-use Rattle.acta_sets.proofs.Access.{numbers_by-all, each-given, changed-handed, handed_same, AreHeld-same, AreHeld-handed}
-use Rattle.acta_sets.specs.inside.Filing.{broad, narrow}
+use Rattle.acta_sets.proofs.Access.{numbers_by-all, length-numbers_by, each-given, changed-handed, handed_same, AreHeld-same, AreHeld-handed}
+use Rattle.acta_sets.specs.inside.Modes.{coarse, listed_fine}
 use Rattle.acta_sets.specs.inside.Listing.{AreListed, FrontsHold}
 use Rattle.acta_sets.proofs.Listed.{AreListed-handed, FrontsHold-after, NoneReopens-handed}
 use Rattle.acta_sets.proofs.Filed.{AreFiled-same}
@@ -21,14 +21,20 @@ invariant_of-self-in_err-share_held g c = record {
   among = c.in_err-share_held.ensures.still c.self.invariant.among;
   held = AreHeld-same c.self.inside.items.items c.self.inside.held.items c.share_held.new.held.items c.self.invariant.held c.in_err-share_held.ensures.err;
   filed = AreFiled-same c.self.inside.items.items c.self.inside.counts c.make_room.new.counts c.self.invariant.filed c.make_room.ensures.same;
-  broad = c.self.invariant.broad;
-  broad_fronts = c.self.invariant.broad_fronts;
-  narrow = c.self.invariant.narrow;
-  narrow_fronts = c.self.invariant.narrow_fronts;
+  coarse = c.self.invariant.coarse;
+  coarse_fronts = c.self.invariant.coarse_fronts;
+  fine = c.self.invariant.fine;
+  fine_fronts = c.self.invariant.fine_fronts;
 }
 
 pub hand_each-requires-clause-filed : goal.hand_each-requires-clause-filed
 hand_each-requires-clause-filed g c = AreFiled-same c.self.inside.items.items c.self.inside.counts c.make_room.new.counts c.self.invariant.filed c.make_room.ensures.same
+
+pub hand_each-requires-clause-short : goal.hand_each-requires-clause-short
+hand_each-requires-clause-short g c =
+    let items = c.self.inside.items.items in
+    let same = c.as_slice-2.ensures.value ∙ c.in_ok-given.ensures.items ∙ c.list_of.ensures ∙ c.self.invariant.held c.args.t.0 ∙ sym (numbers_by-all (is_held c.args.t.0) 1 items) in
+    omega (arith, ap length same, length-numbers_by (λ _ i. is_held c.args.t.0 i) 1 items, c.self.invariant.few)
 
 -- the list of t names what it holds in progress
 given_is : (g : Over) (c : After-drop-given-2 g) → c.as_slice.result.now ≡ numbers_by (λ _ i. is_held c.args.t.0 i) 1 c.self.inside.items.items
@@ -53,10 +59,10 @@ invariant_of-self-2 g c =
           (AreHeld-handed items c.self.inside.held.items c.share_held.new.held.items c.clear_held.new.held.items c.args.t c.args.u c.as_slice.result.now c.self.invariant.held c.if-t-u.false (given_is g c) c.in_ok-share_held.ensures.ok c.clear_held.ensures.lists);
       among = c.clear_held.ensures.among (c.in_ok-share_held.ensures.among c.self.invariant.among);
       filed = c.hand_each.ensures.filed;
-      broad = subst (λ xs. AreListed broad xs c.self.inside.broad) (sym same) (AreListed-handed broad items c.self.inside.broad c.args.t.0 c.args.u c.self.invariant.broad);
-      broad_fronts = subst (λ xs. FrontsHold xs c.self.inside.broad) (sym same) (FrontsHold-after items (handed c.args.t.0 c.args.u items) c.self.inside.broad (NoneReopens-handed c.args.t.0 c.args.u items) c.self.invariant.broad_fronts);
-      narrow = subst (λ xs. AreListed narrow xs c.self.inside.narrow) (sym same) (AreListed-handed narrow items c.self.inside.narrow c.args.t.0 c.args.u c.self.invariant.narrow);
-      narrow_fronts = subst (λ xs. FrontsHold xs c.self.inside.narrow) (sym same) (FrontsHold-after items (handed c.args.t.0 c.args.u items) c.self.inside.narrow (NoneReopens-handed c.args.t.0 c.args.u items) c.self.invariant.narrow_fronts);
+      coarse = subst (λ xs. AreListed coarse xs c.self.inside.coarse) (sym same) (AreListed-handed coarse items c.self.inside.coarse c.args.t.0 c.args.u c.self.invariant.coarse);
+      coarse_fronts = subst (λ xs. FrontsHold xs c.self.inside.coarse) (sym same) (FrontsHold-after items (handed c.args.t.0 c.args.u items) c.self.inside.coarse (NoneReopens-handed c.args.t.0 c.args.u items) c.self.invariant.coarse_fronts);
+      fine = subst (λ xs. AreListed listed_fine xs c.self.inside.fine) (sym same) (AreListed-handed listed_fine items c.self.inside.fine c.args.t.0 c.args.u c.self.invariant.fine);
+      fine_fronts = subst (λ xs. FrontsHold xs c.self.inside.fine) (sym same) (FrontsHold-after items (handed c.args.t.0 c.args.u items) c.self.inside.fine (NoneReopens-handed c.args.t.0 c.args.u items) c.self.invariant.fine_fronts);
     }
 
 pub returns-clause-handed : goal.returns-clause-handed

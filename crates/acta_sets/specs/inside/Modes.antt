@@ -1,0 +1,66 @@
+-- The modes of operations, and what operations are filed under.
+use Rattle.std.specs.Prelude.{Bool, true, false, ◌&&◌, ◌==◌, pos, Option, Some, None, if◌then◌else◌}
+use Rattle.std.specs.Ordering.{int_eq}
+use Rattle.acta_table.specs.declared.event.Op.{Op}
+use Rattle.acta_table.specs.declared.event.Op.TheVariants.{Read, Write, Get, Add, Insert, Remove, Has, Size}
+use Rattle.acta_sets.specs.declared.mode.Mode.{Mode}
+use Rattle.acta_sets.specs.declared.mode.Mode.TheVariants.{Reads, Writes, WritesOf, Gets, Adds, Sizes, Changes, ChangesOf, Tests}
+use Rattle.acta_sets.specs.declared.mode.Holder.{Holder}
+use Rattle.acta_sets.specs.declared.mode.Holder.TheVariants.{Anyone, Txn}
+use Rattle.acta_sets.specs.declared.mode.Tag.{Tag}
+
+-- whether two modes are the same
+abbrev pub same_mode : Mode → Mode → Bool
+same_mode Reads Reads = true
+same_mode Writes Writes = true
+same_mode (WritesOf v) (WritesOf w) = int_eq v w
+same_mode Gets Gets = true
+same_mode Adds Adds = true
+same_mode Sizes Sizes = true
+same_mode Changes Changes = true
+same_mode (ChangesOf x) (ChangesOf y) = int_eq x y
+same_mode (Tests x) (Tests y) = int_eq x y
+same_mode _ _ = false
+
+-- whether both are anyone, or the same transaction
+abbrev pub same_holder : Holder → Holder → Bool
+same_holder Anyone Anyone = true
+same_holder (Txn t) (Txn u) = t == u
+same_holder _ _ = false
+
+-- whether two tags are the same
+abbrev pub same_tag : Tag → Tag → Bool
+same_tag k l = same_holder k.holder l.holder && (k.ob == l.ob) && same_mode k.mode l.mode
+
+-- the coarse mode of an operation, if any: that of all of its sort
+abbrev pub coarse : Op → Option Mode
+coarse Read = Some Reads
+coarse (Write v) = Some Writes
+coarse Get = Some Gets
+coarse (Add n) = if int_eq n (pos 0) then None else Some Adds
+coarse (Insert x) = Some Changes
+coarse (Remove x) = Some Changes
+coarse (Has x) = None
+coarse Size = Some Sizes
+
+-- its fine mode, if any: that of those with its value
+abbrev pub fine : Op → Option Mode
+fine Read = None
+fine (Write v) = Some (WritesOf v)
+fine Get = None
+fine (Add n) = None
+fine (Insert x) = Some (ChangesOf x)
+fine (Remove x) = Some (ChangesOf x)
+fine (Has x) = Some (Tests x)
+fine Size = None
+
+-- the fine mode that it is listed under, if any
+abbrev pub listed_fine : Op → Option Mode
+listed_fine Read = None
+listed_fine (Write v) = None
+listed_fine Get = None
+listed_fine (Add n) = None
+listed_fine (Insert x) = Some (ChangesOf x)
+listed_fine (Remove x) = Some (ChangesOf x)
+listed_fine (Has x) = Some (Tests x)
+listed_fine Size = None

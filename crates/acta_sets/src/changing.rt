@@ -1,0 +1,182 @@
+//! What a transaction's end, and a hand-over, change in the list of operations and in what is counted and listed beside
+//! it.
+
+ghost use Rattle.std.specs.Prelude.{◌≡◌, ◌≢◌, ◌<◌, ◌≤◌, ◌+◌, ◌*◌, false, length, min};
+ghost use Rattle.std.specs.HashMap.{spare};
+ghost use Rattle.acta_table.specs.Fates.{is_open};
+ghost use Rattle.acta_sets.specs.declared.mode.Tag.{Tag as the_tag};
+ghost use Rattle.acta_sets.specs.Operations.{ended_op, handed_op};
+ghost use Rattle.acta_sets.specs.inside.Held.{changed_at, changed_each};
+ghost use Rattle.acta_sets.specs.inside.Listing.{numbers_in, FrontsHold};
+ghost use Rattle.acta_sets.specs.inside.Filing.{AreFiled, AreFiledBut};
+
+use crate::counts::Counts;
+use crate::held_op::HeldOp;
+use crate::listing::ModeLists;
+use crate::run::Run;
+use crate::{counts, listing, mode, run};
+use acta_table::{Fate, MOST_EVENTS, TxnId};
+use std::alloc::Allocator;
+
+// The operation of this number gets this fate, where the transaction holds it in progress.
+fn end_one<A: Allocator + Copy>(
+    items: &mut Vec<HeldOp, A>,
+    counts: &mut Counts<A>,
+    number: u32,
+    t: TxnId,
+    fate: Fate,
+)
+    requires { is_open fate ≡ false }
+    ensures items { items.new.items ≡ changed_at (ended_op t.0 fate) number items.old.items }
+    ensures filed { AreFiled items.old.items counts.old → AreFiled items.new.items counts.new }
+{
+    let Some(place) = number.checked_sub(1) else {
+        return;
+    };
+    let place = place as usize;
+    if place < items.len() {
+        let item = items[place];
+        items[place] = counts::end(counts, item, t, fate);
+    }
+}
+
+/// The operations of these numbers get this fate, where the transaction holds them in progress.
+pub(crate) fn end_each<A: Allocator + Copy>(
+    items: &mut Vec<HeldOp, A>,
+    counts: &mut Counts<A>,
+    numbers: &[u32],
+    t: TxnId,
+    fate: Fate,
+)
+    requires { is_open fate ≡ false }
+    ensures items { items.new.items ≡ changed_each (ended_op t.0 fate) items.old.items numbers.now }
+    ensures filed { AreFiled items.old.items counts.old → AreFiled items.new.items counts.new }
+{
+    for number in numbers {
+        end_one(items, counts, *number, t, fate);
+    }
+}
+
+// Finds out again how many of the modes of an operation have ended.
+fn advance_one<A: Allocator + Copy>(
+    coarse: &mut ModeLists<A>,
+    fine: &mut ModeLists<A>,
+    items: &[HeldOp],
+    number: u32,
+)
+    requires coarse { FrontsHold items.now coarse.old }
+    requires fine { FrontsHold items.now fine.old }
+    ensures coarse { (q : the_tag) → numbers_in coarse.new q ≡ numbers_in coarse.old q }
+    ensures fine { (q : the_tag) → numbers_in fine.new q ≡ numbers_in fine.old q }
+    ensures coarse_fronts { FrontsHold items.now coarse.new }
+    ensures fine_fronts { FrontsHold items.now fine.new }
+{
+    let Some(place) = number.checked_sub(1) else {
+        return;
+    };
+    let place = place as usize;
+    if place < items.len() {
+        let item = items[place];
+        listing::advance_under(coarse, items, item.ob.0, mode::coarse(&item.op));
+        listing::advance_under(fine, items, item.ob.0, mode::listed_fine(&item.op));
+    }
+}
+
+/// Finds out again how many of the modes of these operations have ended.
+pub(crate) fn advance_each<A: Allocator + Copy>(
+    coarse: &mut ModeLists<A>,
+    fine: &mut ModeLists<A>,
+    items: &[HeldOp],
+    numbers: &[u32],
+)
+    requires coarse { FrontsHold items.now coarse.old }
+    requires fine { FrontsHold items.now fine.old }
+    ensures coarse { (q : the_tag) → numbers_in coarse.new q ≡ numbers_in coarse.old q }
+    ensures fine { (q : the_tag) → numbers_in fine.new q ≡ numbers_in fine.old q }
+    ensures coarse_fronts { FrontsHold items.now coarse.new }
+    ensures fine_fronts { FrontsHold items.now fine.new }
+{
+    for number in numbers {
+        advance_one(coarse, fine, items, *number);
+    }
+}
+
+// The operation of this number is held by `u`, where the transaction holds it in progress; what it changes of the counts
+// joins the run.
+fn hand_one<A: Allocator + Copy>(
+    items: &mut Vec<HeldOp, A>,
+    counts: &mut Counts<A>,
+    run: Run,
+    number: u32,
+    t: TxnId,
+    u: TxnId,
+) -> Run
+    requires few { length items.old.items ≤ MOST_EVENTS }
+    requires other { t.0 ≢ u.0 }
+    requires short { run.length < MOST_EVENTS }
+    requires filed { AreFiledBut run t.0 u.0 items.old.items counts.old }
+    requires room { 2 * min run.length 1 ≤ spare counts.old }
+    ensures items { items.new.items ≡ changed_at (handed_op t.0 u) number items.old.items }
+    ensures filed { AreFiledBut result t.0 u.0 items.new.items counts.new }
+    ensures room { spare counts.old + 2 * min result.length 1 ≤ (spare counts.new + 2) + 2 * min run.length 1 }
+    ensures short { result.length ≤ run.length + 1 }
+    ensures long { length items.new.items ≡ length items.old.items }
+{
+    let Some(place) = number.checked_sub(1) else {
+        return run;
+    };
+    let place = place as usize;
+    if place < items.len() {
+        let item = items[place];
+        items[place] = item.handed(t, u);
+        return run::hand(counts, run, item, t, u);
+    }
+    run
+}
+
+// The operations of these numbers are held by `u`, where the transaction holds them in progress, and the last run of
+// them is not settled.
+fn hand_runs<A: Allocator + Copy>(
+    items: &mut Vec<HeldOp, A>,
+    counts: &mut Counts<A>,
+    numbers: &[u32],
+    t: TxnId,
+    u: TxnId,
+) -> Run
+    requires few { length items.old.items ≤ MOST_EVENTS }
+    requires short { length numbers.now ≤ MOST_EVENTS }
+    requires other { t.0 ≢ u.0 }
+    requires filed { AreFiled items.old.items counts.old }
+    requires room { 2 * length numbers.now ≤ spare counts.old }
+    ensures items { items.new.items ≡ changed_each (handed_op t.0 u) items.old.items numbers.now }
+    ensures filed { AreFiledBut result t.0 u.0 items.new.items counts.new }
+    ensures room { 2 * min result.length 1 ≤ spare counts.new }
+    ensures short { result.length ≤ MOST_EVENTS }
+    ensures long { length items.new.items ≡ length items.old.items }
+{
+    let mut run = Run::empty(t);
+    for number in numbers {
+        run = hand_one(items, counts, run, *number, t, u);
+    }
+    run
+}
+
+/// The operations of these numbers are held by `u`, where the transaction holds them in progress.
+pub(crate) fn hand_each<A: Allocator + Copy>(
+    items: &mut Vec<HeldOp, A>,
+    counts: &mut Counts<A>,
+    numbers: &[u32],
+    t: TxnId,
+    u: TxnId,
+)
+    requires few { length items.old.items ≤ MOST_EVENTS }
+    requires short { length numbers.now ≤ MOST_EVENTS }
+    requires other { t.0 ≢ u.0 }
+    requires filed { AreFiled items.old.items counts.old }
+    requires room { 2 * length numbers.now ≤ spare counts.old }
+    ensures items { items.new.items ≡ changed_each (handed_op t.0 u) items.old.items numbers.now }
+    ensures filed { AreFiled items.new.items counts.new }
+{
+    let run = hand_runs(items, counts, numbers, t, u);
+    run::settle(counts, run, t, u);
+}
