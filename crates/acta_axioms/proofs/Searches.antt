@@ -38,7 +38,8 @@ use Rattle.acta_axioms.specs.History.{has_class, class_of, ancestors}
 use Rattle.acta_axioms.specs.Operations.{Operation, Standing, standing, operations, is_spared, is_of_others, access_set, conflict_set}
 use Rattle.acta_axioms.specs.Values.{do_conflict, conflicting, value, is_well_formed}
 use Rattle.acta_axioms.specs.Edges.{holders_against, formed_by}
-use Rattle.acta_axioms.specs.Walks.{held_op, held_ops, op_numbers, live_on, live_ops}
+use Rattle.acta_axioms.specs.Walks.{held_op, held_ops, op_numbers}
+use Rattle.acta_values.specs.Live.{live_on, live_ops}
 use Rattle.acta_axioms.specs.inside.Walking.{standing_in, spared, spared_numbers, is_against, is_sought, numbers_of}
 use Rattle.acta_axioms.proofs.ByOperations.{holders-shown, value-shown}
 use Rattle.acta_axioms.proofs.Conflicts.{do_conflict-on, suits-conflicts, ill-conflicts}

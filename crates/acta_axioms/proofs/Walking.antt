@@ -10,7 +10,7 @@ use Rattle.acta_table.specs.declared.event.TxnId.{TxnId}
 use Rattle.acta_table.specs.declared.model.Parts.{Parts}
 use Rattle.acta_table.specs.Edges.{formed}
 use Rattle.acta_table.specs.Events.{named}
-use Rattle.acta_sets.specs.declared.held_op.HeldOp.{HeldOp}
+use Rattle.acta_values.specs.Stores.{Stored}
 use Rattle.acta_axioms.specs.declared.lineage.Lineage.{Lineage}
 use Rattle.acta_axioms.specs.Edges.{formed_by, edges}
 use Rattle.acta_axioms.specs.Walks.{Walked, stepped, with_next, held_ops}
@@ -52,10 +52,10 @@ shown-more {A} m h n k w next is =
     ∙ ap stepped is
 
 -- what is kept
-pub kept-more : {A : Type 0} (m : Parts A) (h : List (Kept A)) (n : ℕ) (k : Kept A) (lines new_lines : List Lineage) (items new_items : List HeldOp) (es new_es : List Edge) (left : Option TxnId) → IsNext h n k →
-    IsKept m h n lines items es → new_es ≡ formed es (formed_by m (take n h) k.event) → left ≡ heir_in m lines k.event → new_items ≡ brought_from left k.event 1 items ++ option_to_list (op_done k.event) →
-    length new_lines ≡ length lines → ((t : ℕ) → get_or new_lines t unbegun ≡ further (n + 1) (begun_in lines) k.event t (get_or lines t unbegun)) → IsKept m h (n + 1) new_lines new_items new_es
-kept-more m h n k lines new_lines items new_items es new_es left next kept formed_are left_is brought_are long noted =
+pub kept-more : {A : Type 0} (m : Parts A) (h : List (Kept A)) (n : ℕ) (k : Kept A) (lines new_lines : List Lineage) (store new_store : Stored) (es new_es : List Edge) (left : Option TxnId) → IsNext h n k →
+    IsKept m h n lines store es → new_es ≡ formed es (formed_by m (take n h) k.event) → left ≡ heir_in m lines k.event → new_store ≡ record store { items = brought_from left k.event 1 store.items ++ option_to_list (op_done k.event) } →
+    length new_lines ≡ length lines → ((t : ℕ) → get_or new_lines t unbegun ≡ further (n + 1) (begun_in lines) k.event t (get_or lines t unbegun)) → IsKept m h (n + 1) new_lines new_store new_es
+kept-more m h n k lines new_lines store new_store es new_es left next kept formed_are left_is brought_are long noted =
     let within : n < length h = next.within in
     let front = front-more h n k next in
     record {
@@ -63,8 +63,9 @@ kept-more m h n k lines new_lines items new_items es new_es left next kept forme
       few = kept.few;
       wide = subst (λ c. All (λ q. All (λ t. t < c) (named q.event)) h) (sym long) kept.wide;
       lines_are = lines-more h n k lines new_lines within kept.lines_are (λ t. noted t ∙ ap (λ (q : Kept _). further (n + 1) (begun_in lines) q.event t (get_or lines t unbegun)) next.here);
+      kinds_are = ap (λ (s : Stored). s.kinds) brought_are ∙ kept.kinds_are;
       items_are =
-          brought_are
+          ap (λ (s : Stored). s.items) brought_are
           ∙ (λ i. brought_from ((left_is ∙ heir-tabled m (take n h) lines k.event kept.lines_are) i) k.event 1 (kept.items_are i) ++ option_to_list (op_done k.event))
           ∙ held_ops-push m (take n h) k
           ∙ ap (held_ops m) front;

@@ -1,13 +1,9 @@
 -- What a walk through a history is seen as: the items that it has taken, and those ahead.
-use Rattle.std.specs.Prelude.{ℕ, ◌&&◌, ◌==◌, List, [], ◌∷◌, ◌++◌, map, filter_map, if◌then◌else◌, Option, Some, None}
+use Rattle.std.specs.Prelude.{List, [], ◌∷◌, ◌++◌, map}
 use Rattle.acta_table.specs.declared.event.Kept.{Kept}
-use Rattle.acta_table.specs.declared.event.Op.{Op}
 use Rattle.acta_table.specs.declared.event.OpNo.{OpNo}
-use Rattle.acta_table.specs.declared.model.Kind.{Kind}
 use Rattle.acta_table.specs.declared.model.Parts.{Parts}
-use Rattle.acta_objects.specs.Objects.{suits}
 use Rattle.acta_sets.specs.declared.held_op.HeldOp.{HeldOp}
-use Rattle.acta_sets.specs.Operations.{is_live}
 use Rattle.acta_axioms.specs.Operations.{Operation, Standing, standing, operations}
 
 -- a model, the items in front of the place that is reached, and those from it on
@@ -37,14 +33,6 @@ held_op o s = record {
 -- the operations of a history, with holders and fates
 abbrev pub held_ops : {A : Type 0} → Parts A → List (Kept A) → List HeldOp
 held_ops m h = map (λ o. held_op o (standing m h o)) (operations h)
-
--- the operation, if it is on this object, of its kind, and not aborted
-abbrev pub live_on : Kind → ℕ → HeldOp → Option Op
-live_on kind object i = if (i.ob.0 == object) && is_live i && suits kind i.op then Some i.op else None
-
--- the operations on an object of this kind that count for its value
-abbrev pub live_ops : Kind → List HeldOp → ℕ → List Op
-live_ops kind items object = filter_map (live_on kind object) items
 
 -- the numbers of operations
 abbrev pub op_numbers : List Operation → List OpNo

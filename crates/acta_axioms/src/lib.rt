@@ -17,7 +17,6 @@ mod serial;
 mod strict;
 mod taking;
 mod trail;
-mod values;
 mod walk;
 
 pub use acta_sets::Handle;
@@ -26,5 +25,4 @@ pub use fault::{Axiom, Fault};
 pub use places::Places;
 pub use serial::{SerialItem, serial_items};
 pub use strict::is_strict;
-pub use values::value_after;
 pub use walk::Walk;

@@ -138,7 +138,7 @@ impl<'a, A: Handle> Walk<'a, A> {
         requires { spared.now.keys ≡ spared_numbers self.now.model self.now.front t.0 }
         ensures { result ≡ list_any (is_against self.now.model self.now.front t.0 object.0 op.now) (held_ops self.now.model self.now.front) }
     {
-        self.is_well_formed(object, op) && self.operations.has_against(t, spared, object, op)
+        self.is_well_formed(object, op) && self.table().has_against(t, spared, object, op)
     }
 
     // Whether the operation is one of those that are looked for, for a transaction that spares these.
@@ -180,7 +180,7 @@ impl<'a, A: Handle> Walk<'a, A> {
     {
         let spared = self.spared_numbers(t)?;
         if self.is_well_formed(object, op) {
-            self.operations.holders_against(t, &spared, object, op)
+            self.table().holders_against(t, &spared, object, op)
         } else {
             Ok(BTreeSet::new(self.allocator()))
         }

@@ -1,57 +1,40 @@
 ghost use Rattle.std.specs.Prelude.{◌≡◌, ◌<◌, ◌++◌, length, option_to_list, OnOk, OnErr};
 ghost use Rattle.acta_table.specs.Edges.{formed};
-ghost use Rattle.acta_sets.specs.Operations.{added};
 ghost use Rattle.acta_axioms.specs.inside.Holding.{brought_from, op_done};
 
 use crate::forming::{Formed, form_all};
-use acta_sets::{Handle, OpTable};
-use acta_table::{Edge, Event, Fate, MOST_EVENTS, ObjId, Op, TxnId};
+use acta_sets::Handle;
+use acta_table::{Edge, Event, Fate, MOST_EVENTS, TxnId};
+use acta_values::Store;
 use std::alloc::AllocError;
-
-// Puts an operation behind the others, in the hand of its invoker. `Err` where there is no memory, and then none is put.
-fn put<A: Handle>(
-    operations: &mut OpTable<A>,
-    t: TxnId,
-    object: ObjId,
-    op: Op,
-) -> Result<(), AllocError>
-    requires { length operations.old < MOST_EVENTS }
-    ensures ok { OnOk result (operations.new ≡ added operations.old t object op) }
-    ensures err { OnErr result (operations.new ≡ operations.old) }
-{
-    match operations.add(t, object, op) {
-        Ok(_) => Ok(()),
-        Err(error) => Err(error),
-    }
-}
 
 // Brings the operations one event further, and puts the one that the event is behind them, given the heir of the one
 // that commits by it. `Err` where there is no memory, and then they stay as they were.
 fn follow<A: Handle>(
     heir: Option<TxnId>,
     event: &Event<A>,
-    operations: &mut OpTable<A>,
+    store: &mut Store<A>,
 ) -> Result<(), AllocError>
-    requires { length operations.old < MOST_EVENTS }
-    ensures ok { OnOk result (operations.new ≡ brought_from heir event.now 1 operations.old ++ option_to_list (op_done event.now)) }
-    ensures err { OnErr result (operations.new ≡ operations.old) }
+    requires { length store.old.items < MOST_EVENTS }
+    ensures ok { OnOk result (store.new ≡ record store.old { items = brought_from heir event.now 1 store.old.items ++ option_to_list (op_done event.now) }) }
+    ensures err { OnErr result (store.new ≡ store.old) }
 {
     match event {
-        Event::Split(s, u, _, ops) => operations.hand(*s, ops, *u),
-        Event::Join(s, u) => operations.hand_all(*s, *u),
-        Event::Delegate(s, u, ops) => operations.hand(*s, ops, *u),
+        Event::Split(s, u, _, ops) => store.hand(*s, ops, *u),
+        Event::Join(s, u) => store.hand_all(*s, *u),
+        Event::Delegate(s, u, ops) => store.hand(*s, ops, *u),
         Event::Commit(s) => match heir {
-            Some(u) => operations.hand_all(*s, u),
+            Some(u) => store.hand_all(*s, u),
             None => {
-                operations.end_all(*s, Fate::Committed);
+                store.end_all(*s, Fate::Committed);
                 Ok(())
             }
         },
         Event::Abort(s) => {
-            operations.end_all(*s, Fate::Aborted);
+            store.end_all(*s, Fate::Aborted);
             Ok(())
         }
-        Event::Operate(t, object, op) => put(operations, *t, *object, *op),
+        Event::Operate(t, object, op) => store.add(*t, *object, *op),
         _ => Ok(()),
     }
 }
@@ -63,17 +46,17 @@ pub(crate) fn go_on<A: Handle>(
     event: &Event<A>,
     due: &[Edge],
     edges: &mut Formed<A>,
-    operations: &mut OpTable<A>,
+    store: &mut Store<A>,
 ) -> Result<(), AllocError>
-    requires { length operations.old < MOST_EVENTS }
+    requires { length store.old.items < MOST_EVENTS }
     ensures formed { OnOk result (edges.new.keys ≡ formed edges.old.keys due.now) }
-    ensures brought { OnOk result (operations.new ≡ brought_from heir event.now 1 operations.old ++ option_to_list (op_done event.now)) }
+    ensures brought { OnOk result (store.new ≡ record store.old { items = brought_from heir event.now 1 store.old.items ++ option_to_list (op_done event.now) }) }
     ensures edges_err { OnErr result (edges.new.keys ≡ edges.old.keys) }
-    ensures operations_err { OnErr result (operations.new ≡ operations.old) }
+    ensures store_err { OnErr result (store.new ≡ store.old) }
 {
     let count = edges.len();
     form_all(edges, due)?;
-    match follow(heir, event, operations) {
+    match follow(heir, event, store) {
         Ok(()) => Ok(()),
         Err(error) => {
             edges.truncate(count);

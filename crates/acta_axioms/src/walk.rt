@@ -2,7 +2,6 @@ ghost use Rattle.std.specs.Prelude.{◌≡◌, ◌≤◌, ◌+◌, [], length, m
 ghost use Rattle.std.specs.Option.{option_copied};
 ghost use Rattle.std.specs.Prelude.{slice_get};
 ghost use Rattle.acta_table.specs.Classes.{kind_at};
-ghost use Rattle.acta_objects.specs.Limits.{IsSmall};
 ghost use Rattle.acta_axioms.specs.History.{course, class_of, parent_of};
 ghost use Rattle.acta_axioms.specs.Operations.{access_set, conflict_set};
 ghost use Rattle.acta_axioms.specs.Values.{value, return_due, conflicting};
@@ -17,10 +16,10 @@ use crate::forming::Formed;
 use crate::lineage::{Lineage, UNBEGUN, heir_of, largest_named, lineage_of, note};
 use crate::seeking::Sought;
 use crate::taking::go_on;
-use crate::values::value_after;
 use acta_objects::ObjectState;
 use acta_sets::{Handle, HeldOp, OpTable};
 use acta_table::{Class, Edge, Kept, MOST_EVENTS, Model, ObjId, Op, OpNo, Ret, TxnId};
+use acta_values::Store;
 use indexmap::IndexSet;
 use std::alloc::AllocError;
 
@@ -33,7 +32,7 @@ pub struct Walk<'a, A: Handle> {
     kept: &'a [Kept<A>],
     pub(crate) taken: usize,
     pub(crate) lines: Vec<Lineage, A>,
-    pub(crate) operations: OpTable<A>,
+    pub(crate) store: Store<A>,
     edges: Formed<A>,
 }
 
@@ -46,7 +45,7 @@ impl<'a, A: Handle> std::marker::Model for Walk<'a, A> {
 
     ghost view = { λ w. record { model = w.model.now; front = take w.taken w.kept.now; ahead = drop w.taken w.kept.now } };
 
-    ghost invariant = { λ w. IsKept w.model.now w.kept.now w.taken w.lines.items w.operations w.edges.keys };
+    ghost invariant = { λ w. IsKept w.model.now w.kept.now w.taken w.lines.items w.store w.edges.keys };
 }
 
 impl<'a, A: Handle> Walk<'a, A> {
@@ -63,7 +62,7 @@ impl<'a, A: Handle> Walk<'a, A> {
             kept,
             taken: 0,
             lines,
-            operations: OpTable::new(alloc),
+            store: Store::new(alloc, model.objects())?,
             edges: IndexSet::new(alloc),
         })
     }
@@ -83,7 +82,7 @@ impl<'a, A: Handle> Walk<'a, A> {
             &item.event,
             due.as_slice(),
             &mut self.edges,
-            &mut self.operations,
+            &mut self.store,
         )?;
         self.taken += 1;
         note(self.lines.as_mut_slice(), self.taken as u32, &item.event);
@@ -95,7 +94,7 @@ impl<'a, A: Handle> Walk<'a, A> {
     pub fn access_set(&self, t: TxnId) -> Result<Vec<OpNo, A>, AllocError>
         ensures { IfOk result (λ ops. ops.items ≡ op_numbers (access_set self.now.model self.now.front t.0)) }
     {
-        self.operations.access_set(t)
+        self.table().access_set(t)
     }
 
     /// The operations in progress that others hold, but for ancestors that the transaction's class leaves out
@@ -119,25 +118,12 @@ impl<'a, A: Handle> Walk<'a, A> {
         }
     }
 
-    // The value of the object, and that a counter is far from the ends of 64 bits.
-    fn value_of(&self, object: ObjId) -> Result<Option<ObjectState<A>>, AllocError>
-        ensures value { IfOk result (λ state. state ≡ option_map (value self.now.model self.now.front object.0) (kind_at self.now.model object.0)) }
-        ensures small { IfOk result (λ state. IfSome state (IsSmall (length (held_ops self.now.model self.now.front) + 1))) }
-        ensures few { length (held_ops self.now.model self.now.front) ≤ MOST_EVENTS }
-    {
-        let operations = self.operations();
-        match self.model.object(object) {
-            Some(of) => Ok(Some(value_after(self.allocator(), &of.kind, operations, object)?)),
-            None => Ok(None),
-        }
-    }
-
     /// The value of the object: its first value, with the operations on it that are not aborted, in order. `None`
     /// where it is not in the model. `Err` where there is no memory.
     pub fn value(&self, object: ObjId) -> Result<Option<ObjectState<A>>, AllocError>
         ensures { IfOk result (λ state. state ≡ option_map (value self.now.model self.now.front object.0) (kind_at self.now.model object.0)) }
     {
-        self.value_of(object)
+        self.store.value(object)
     }
 
     /// What the operation on the object has to return: what it returns on the object's value. `None` where the object
@@ -145,10 +131,7 @@ impl<'a, A: Handle> Walk<'a, A> {
     pub fn return_due(&self, object: ObjId, op: &Op) -> Result<Option<Ret>, AllocError>
         ensures { IfOk result (λ due. due ≡ return_due self.now.model self.now.front object.0 op.now) }
     {
-        match self.value_of(object)? {
-            Some(mut value) => Ok(Some(value.apply(op)?)),
-            None => Ok(None),
-        }
+        Ok(self.store.due(object, op))
     }
 }
 
@@ -173,6 +156,13 @@ impl<'a, A: Handle> Walk<'a, A> {
         ensures few { length result.now ≤ MOST_EVENTS }
     {
         &self.kept[..self.taken]
+    }
+
+    // The operations, with who holds them and what became of each.
+    pub(crate) fn table(&self) -> &OpTable<A>
+        ensures { result.now ≡ held_ops self.now.model self.now.front }
+    {
+        self.store.operations()
     }
 
     // What is known of the transaction.
@@ -211,7 +201,7 @@ impl<'a, A: Handle> Walk<'a, A> {
         ensures operations { result.now ≡ held_ops self.now.model self.now.front }
         ensures few { length result.now ≤ MOST_EVENTS }
     {
-        self.operations.operations()
+        self.table().operations()
     }
 
     // The operation of this number, with its holder and its fate.

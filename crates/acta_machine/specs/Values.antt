@@ -7,7 +7,7 @@ use Rattle.acta_table.specs.declared.model.Parts.{Parts}
 use Rattle.acta_table.specs.Classes.{kind_at}
 use Rattle.acta_objects.specs.declared.state.ObjectState.{ObjectState}
 use Rattle.acta_objects.specs.Objects.{first_state, state_after, returned}
-pub use Rattle.acta_axioms.specs.Walks.{live_on, live_ops}
+pub use Rattle.acta_values.specs.Live.{live_on, live_ops}
 use Rattle.acta_machine.specs.Summary.{Summary}
 
 -- the value of an object: the first value, with what is not aborted on it replayed

@@ -13,6 +13,8 @@ use Rattle.acta_table.specs.Events.{named}
 use Rattle.acta_table.specs.Numbered.{numbers_where, ascending}
 use Rattle.acta_objects.specs.Conflicts.{conflict_on}
 use Rattle.acta_sets.specs.declared.held_op.HeldOp.{HeldOp}
+use Rattle.acta_values.specs.KeptValues.{kinds_of}
+use Rattle.acta_values.specs.Stores.{Stored}
 use Rattle.acta_axioms.specs.declared.lineage.Lineage.{Lineage}
 use Rattle.acta_axioms.specs.declared.seeking.Sought.{Sought}
 use Rattle.acta_axioms.specs.declared.seeking.Sought.TheVariants.{Others, Against}
@@ -23,14 +25,15 @@ use Rattle.acta_axioms.specs.Walks.{held_ops}
 use Rattle.acta_axioms.specs.inside.Lineages.{unbegun, lineage}
 
 -- what is kept is what the definitions give behind the first n items: the lineage of each transaction, the
--- operations, and the edges
+-- operations on the objects of the model, and the edges
 pub record IsKept {A : Type 0} (m : Parts A) (h : List (Kept A)) (n : ℕ)
-    (lines : List Lineage) (items : List HeldOp) (formed : List Edge) : Type 0 where
+    (lines : List Lineage) (store : Stored) (formed : List Edge) : Type 0 where
   pub within : n ≤ length h
   pub few : length h ≤ MOST_EVENTS
   pub wide : All (λ k. All (λ t. t < length lines) (named k.event)) h
   pub lines_are : (t : ℕ) → get_or lines t unbegun ≡ lineage (take n h) t
-  pub items_are : items ≡ held_ops m (take n h)
+  pub kinds_are : store.kinds ≡ kinds_of m.objects
+  pub items_are : store.items ≡ held_ops m (take n h)
   pub edges_are : formed ≡ edges m (take n h)
 
 -- how the operation stands

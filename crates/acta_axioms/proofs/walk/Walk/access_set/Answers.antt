@@ -8,5 +8,5 @@ use Rattle.acta_axioms.proofs.walk.Walk.access_set.Goals as goal
 pub returns : goal.returns
 returns g c =
     IfOk-weaker c.access_set.result _ _
-    (λ _ seen. seen ∙ ap (access_set c.args.t.0) (c.self.invariant.items_are ∙ ap (λ w. held_ops w.model w.front) c.self.view_is) ∙ held-found c.args.self.now.model c.args.self.now.front c.args.t.0)
+    (λ _ seen. seen ∙ ap (access_set c.args.t.0) c.table.ensures ∙ held-found c.args.self.now.model c.args.self.now.front c.args.t.0)
     c.access_set.ensures

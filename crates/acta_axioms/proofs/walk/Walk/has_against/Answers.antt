@@ -11,8 +11,8 @@ returns-then-is_well_formed g c =
     let h = c.args.self.now.front in
     let t = c.args.t.0 in
     c.has_against.ensures
-    ∙ any-by m h t c.args.object.0 c.args.op.now c.args.spared.now.keys c.self.inside.operations c.requires (sym c.is_well_formed.ensures ∙ c.if-is_well_formed.true)
-    ∙ ap (list_any (is_against m h t c.args.object.0 c.args.op.now)) (c.self.invariant.items_are ∙ ap (λ w. held_ops w.model w.front) c.self.view_is)
+    ∙ any-by m h t c.args.object.0 c.args.op.now c.args.spared.now.keys c.table.result.now c.requires (sym c.is_well_formed.ensures ∙ c.if-is_well_formed.true)
+    ∙ ap (list_any (is_against m h t c.args.object.0 c.args.op.now)) c.table.ensures
 
 pub returns-else-is_well_formed : goal.returns-else-is_well_formed
 returns-else-is_well_formed g c =

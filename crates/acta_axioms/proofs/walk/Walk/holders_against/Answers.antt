@@ -13,7 +13,7 @@ returns-then-is_well_formed g c =
     IfOk-weaker c.holders_against.result _ _
     (λ _ seen.
     seen
-    ∙ ap (holders_against c.args.t.0 keys c.args.object.0 c.args.op.now) (c.self.invariant.items_are ∙ ap (λ w. held_ops w.model w.front) c.self.view_is)
+    ∙ ap (holders_against c.args.t.0 keys c.args.object.0 c.args.op.now) c.table.ensures
     ∙ holders-by m h c.args.t.0 c.args.object.0 c.args.op.now keys c.in_ok-spared.ensures (sym c.is_well_formed.ensures ∙ c.if-is_well_formed.true))
     c.holders_against.ensures
 

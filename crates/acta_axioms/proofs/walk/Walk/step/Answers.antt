@@ -30,14 +30,14 @@ invariant_of-self-2 g c =
     let n = c.self.inside.taken in
     let k = c.in-Some.item.now in
     let lines = c.self.inside.lines.items in
-    let items = c.self.inside.operations in
+    let store = c.self.inside.store in
     let es = c.self.inside.edges.keys in
     let next : IsNext h n k = next-item h n k (ap (λ w. slice_get w.ahead 0) c.self.view_is ∙ sym c.next.ensures ∙ ap option_copied c.in-Some.is) in
     let lent = c.as_mut_slice.ensures.value in
     let long : length c.note.new.lines ≡ length lines = c.note.ensures.long ∙ ap length lent in
     let back = written_back c.self.inside.lines.len c.note.new.lines lines long (omega (arith, c.self.inside.lines.ok.0)) in
     let due = c.in_ok-due.ensures ∙ sym (ap (λ w. formed_by w.model w.front k.event) c.self.view_is) in
-    kept-more m h n k lines _ items c.go_on.new.operations es c.go_on.new.edges.keys c.heir_of-heir.result next c.self.invariant
+    kept-more m h n k lines _ store c.go_on.new.store es c.go_on.new.edges.keys c.heir_of-heir.result next c.self.invariant
     (c.in_ok-go_on.ensures.formed ∙ ap (formed es) (c.as_slice-2.ensures.value ∙ due))
     (c.heir_of-heir.ensures ∙ ap (λ rows. heir_in m rows k.event) c.as_slice.ensures.value)
     c.in_ok-go_on.ensures.brought
