@@ -16,6 +16,7 @@ mod Bringing
 mod Following
 mod FormedEdges
 pub mod Searches
+mod EdgesWanted
 mod Walking
 mod Reordering
 mod Replays

@@ -108,13 +108,22 @@ any_none : (test : HeldOp → Bool) (xs : List HeldOp) → ((x : HeldOp) → tes
 any_none test [] none = refl
 any_none test (x ∷ xs) none = ap (λ b. b || list_any test xs) (none x) ∙ any_none test xs none
 
-pub any-by : {A : Type 0} (m : Parts A) (h : List (Kept A)) (t object : ℕ) (op : Op) (keys : List ℕ) (xs : List HeldOp) → keys ≡ spared_numbers m h t → is_well_formed m object op ≡ true →
+any-by : {A : Type 0} (m : Parts A) (h : List (Kept A)) (t object : ℕ) (op : Op) (keys : List ℕ) (xs : List HeldOp) → keys ≡ spared_numbers m h t → is_well_formed m object op ≡ true →
     list_any (is_against_in t keys object op) xs ≡ list_any (is_against m h t object op) xs
 any-by m h t object op keys xs same is =
     ap (λ (ks : List ℕ). list_any (is_against_in t ks object op) xs) same ∙ ap (λ (test : HeldOp → Bool). list_any test xs) (λ i x. against_by m h t object op x is i)
 
-pub any-ill : {A : Type 0} (m : Parts A) (h : List (Kept A)) (t object : ℕ) (op : Op) (xs : List HeldOp) → is_well_formed m object op ≡ false → false ≡ list_any (is_against m h t object op) xs
+any-ill : {A : Type 0} (m : Parts A) (h : List (Kept A)) (t object : ℕ) (op : Op) (xs : List HeldOp) → is_well_formed m object op ≡ false → false ≡ list_any (is_against m h t object op) xs
 any-ill m h t object op xs is = sym (any_none (is_against m h t object op) xs (λ x. none_against m h t object op x is))
+
+pub any-tells : {A : Type 0} (m : Parts A) (h : List (Kept A)) (t object : ℕ) (op : Op) (keys : List ℕ) (xs : List HeldOp) → keys ≡ spared_numbers m h t
+    → (is_well_formed m object op && list_any (is_against_in t keys object op) xs) ≡ list_any (is_against m h t object op) xs
+any-tells m h t object op keys xs same = told (is_well_formed m object op) (any-by m h t object op keys xs same) (any-ill m h t object op xs)
+  where
+    told : (b : Bool) → (b ≡ true → list_any (is_against_in t keys object op) xs ≡ list_any (is_against m h t object op) xs) → (b ≡ false → false ≡ list_any (is_against m h t object op) xs)
+        → (b && list_any (is_against_in t keys object op) xs) ≡ list_any (is_against m h t object op) xs
+    told true is ill = is refl
+    told false is ill = ill refl
 
 -- where none is against, none is found
 none_numbered : (test : HeldOp → Bool) (n : ℕ) (xs : List HeldOp) → list_any test xs ≡ false → [] ≡ numbers_from test n xs
@@ -130,7 +139,7 @@ pub holders-found : {A : Type 0} (m : Parts A) (h : List (Kept A)) (t object : �
 holders-found m h t object op =
     ap ascending (sym (holders-shown m h t object op (λ o. held_op o (standing m h o)) (is_against m h t object op) (λ x. x.holder.0) (λ o. against-tells m h t object op o (standing m h o)) (λ o. refl)))
 
-pub holders-by : {A : Type 0} (m : Parts A) (h : List (Kept A)) (t object : ℕ) (op : Op) (keys : List ℕ) → keys ≡ spared_numbers m h t → is_well_formed m object op ≡ true →
+holders-by : {A : Type 0} (m : Parts A) (h : List (Kept A)) (t object : ℕ) (op : Op) (keys : List ℕ) → keys ≡ spared_numbers m h t → is_well_formed m object op ≡ true →
     holders_against_in t keys object op (held_ops m h) ≡ holders_against m h t object op
 holders-by m h t object op keys same is =
     ap (λ (ks : List ℕ). holders_against_in t ks object op (held_ops m h)) same
@@ -141,9 +150,18 @@ none_held : (test : HeldOp → Bool) (xs : List HeldOp) → ((x : HeldOp) → te
 none_held test [] none = refl
 none_held test (x ∷ xs) none = none_held test xs none ∙ ap (λ b. if b then x ∷ filter test xs else filter test xs) (sym (none x))
 
-pub holders-ill : {A : Type 0} (m : Parts A) (h : List (Kept A)) (t object : ℕ) (op : Op) → is_well_formed m object op ≡ false → [] ≡ holders_against m h t object op
+holders-ill : {A : Type 0} (m : Parts A) (h : List (Kept A)) (t object : ℕ) (op : Op) → is_well_formed m object op ≡ false → [] ≡ holders_against m h t object op
 holders-ill m h t object op is =
     ap (λ xs. ascending (map (λ (x : HeldOp). x.holder.0) xs)) (none_held (is_against m h t object op) (held_ops m h) (λ x. none_against m h t object op x is)) ∙ holders-found m h t object op
+
+pub holders-tell : {A : Type 0} (m : Parts A) (h : List (Kept A)) (t object : ℕ) (op : Op) (keys : List ℕ) → keys ≡ spared_numbers m h t
+    → (if is_well_formed m object op then holders_against_in t keys object op (held_ops m h) else []) ≡ holders_against m h t object op
+holders-tell m h t object op keys same = told (is_well_formed m object op) (holders-by m h t object op keys same) (holders-ill m h t object op)
+  where
+    told : (b : Bool) → (b ≡ true → holders_against_in t keys object op (held_ops m h) ≡ holders_against m h t object op) → (b ≡ false → [] ≡ holders_against m h t object op)
+        → (if b then holders_against_in t keys object op (held_ops m h) else []) ≡ holders_against m h t object op
+    told true is ill = is refl
+    told false is ill = ill refl
 
 -- the numbers of those that pass a test
 found : {A : Type 0} (m : Parts A) (h : List (Kept A)) (test : HeldOp → Bool) → numbers_of test (held_ops m h) ≡ op_numbers (filter (λ o. test (held_op o (standing m h o))) (operations h))

@@ -1,4 +1,5 @@
 -- Words of the code's own contracts, and what is proved of words: nothing here is needed to read a promise.
+pub mod Against
 pub mod Holding
 pub mod Lineages
 pub mod Walking

@@ -3,6 +3,7 @@ ghost use Rattle.acta_table.specs.Edges.{with_edge, formed};
 ghost use Rattle.acta_table.specs.declared.event.Event.TheVariants.{Operate};
 ghost use Rattle.acta_axioms.specs.Edges.{formed_by};
 
+use crate::against::edges_wanted;
 use crate::walk::Walk;
 use acta_sets::Handle;
 use acta_table::{Edge, Event, ObjId, Op, TxnId};
@@ -70,26 +71,9 @@ impl<'a, A: Handle> Walk<'a, A> {
     pub(crate) fn edges_due(&self, event: &Event<A>) -> Result<Vec<Edge, A>, AllocError>
         ensures { IfOk result (λ edges. edges.items ≡ formed_by self.now.model self.now.front event.now) }
     {
-        let alloc = self.allocator();
         match event {
-            Event::Spawn(t, c, class) => match self.model.class(*class) {
-                Some(class) => class.spawn_edges.between(alloc, *t, *c),
-                None => Ok(Vec::new(alloc)),
-            },
-            Event::Split(t, u, class, _) => match self.model.class(*class) {
-                Some(class) => class.split_edges.between(alloc, *t, *u),
-                None => Ok(Vec::new(alloc)),
-            },
-            Event::Form(kind, j, i) => {
-                let edge = Edge {
-                    kind: *kind,
-                    j: *j,
-                    i: *i,
-                };
-                Vec::from_slice(alloc, &[edge])
-            }
             Event::Operate(t, object, op) => self.edges_upon(*t, *object, op),
-            _ => Ok(Vec::new(alloc)),
+            _ => edges_wanted(self.allocator(), self.model.classes(), event),
         }
     }
 }

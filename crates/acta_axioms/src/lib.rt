@@ -5,6 +5,7 @@
 //! before the place that it has reached; `Places` answers questions about a whole history.
 #![tactic(auto)]
 
+mod against;
 mod course;
 mod fault;
 mod forming;
@@ -20,6 +21,7 @@ mod trail;
 mod walk;
 
 pub use acta_sets::Handle;
+pub use against::{edges_wanted, first_against, holders_against, is_well_formed};
 pub use course::Course;
 pub use fault::{Axiom, Fault};
 pub use places::Places;

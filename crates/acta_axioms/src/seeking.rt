@@ -5,13 +5,13 @@ ghost use Rattle.acta_table.specs.Classes.{spares};
 ghost use Rattle.acta_objects.specs.Conflicts.{conflict_on};
 ghost use Rattle.acta_axioms.specs.History.{has_class, ancestors};
 ghost use Rattle.acta_axioms.specs.Edges.{holders_against};
-ghost use Rattle.acta_axioms.specs.Values.{is_well_formed};
 ghost use Rattle.acta_axioms.specs.Walks.{held_ops};
 ghost use Rattle.acta_axioms.specs.Operations.{is_spared, is_of_others};
 ghost use Rattle.acta_axioms.specs.inside.Walking.{standing_in, spared_numbers, is_against, is_sought, numbers_of};
 
+use crate::against;
 use crate::walk::Walk;
-use acta_objects::{ObjectState, is_of_kind};
+use acta_objects::ObjectState;
 use acta_sets::{Handle, HeldOp};
 use acta_table::{Fate, ObjId, Op, OpNo, Scope, TxnId};
 use std::alloc::AllocError;
@@ -116,16 +116,6 @@ impl<'a, A: Handle> Walk<'a, A> {
             && self.do_conflict(object, &item.op, op)
     }
 
-    // Whether the operation is of the kind of the object, which is in the model.
-    fn is_well_formed(&self, object: ObjId, op: &Op) -> bool
-        ensures { result ≡ is_well_formed self.now.model object.0 op.now }
-    {
-        match self.model.object(object) {
-            Some(object) => is_of_kind(&object.kind, op),
-            None => false,
-        }
-    }
-
     /// Whether an operation on this object and in the transaction's conflict set, which spares these, conflicts with
     /// this one.
     pub(crate) fn has_against(
@@ -138,7 +128,7 @@ impl<'a, A: Handle> Walk<'a, A> {
         requires { spared.now.keys ≡ spared_numbers self.now.model self.now.front t.0 }
         ensures { result ≡ list_any (is_against self.now.model self.now.front t.0 object.0 op.now) (held_ops self.now.model self.now.front) }
     {
-        self.is_well_formed(object, op) && self.table().has_against(t, spared, object, op)
+        against::has_against(self.model, self.table(), t, spared, object, op)
     }
 
     // Whether the operation is one of those that are looked for, for a transaction that spares these.
@@ -179,10 +169,14 @@ impl<'a, A: Handle> Walk<'a, A> {
         ensures { IfOk result (λ holders. holders.keys ≡ holders_against self.now.model self.now.front t.0 object.0 op.now) }
     {
         let spared = self.spared_numbers(t)?;
-        if self.is_well_formed(object, op) {
-            self.table().holders_against(t, &spared, object, op)
-        } else {
-            Ok(BTreeSet::new(self.allocator()))
-        }
+        against::holders_against(
+            self.allocator(),
+            self.model,
+            self.table(),
+            t,
+            &spared,
+            object,
+            op,
+        )
     }
 }

@@ -8,10 +8,9 @@ ghost use Rattle.acta_table.specs.Policies.{refuses};
 ghost use Rattle.acta_table.specs.Sets.{numbers_of, is_named};
 ghost use Rattle.acta_axioms.specs.History.{is_in_progress, has_class};
 ghost use Rattle.acta_axioms.specs.Operations.{number_after, access_set};
-ghost use Rattle.acta_axioms.specs.Values.{is_well_formed};
 ghost use Rattle.acta_axioms.specs.Faults.{when, first_named, ended, begun_again, ended_unbegun, ended_again, operated_idle, ill_formed, lacks_start, lacks_kind, cannot_form, not_allowed, party, has_number, is_same_ret, is_due, wrong_return, without_heir, not_in_time};
 
-use acta_axioms::{Handle, Walk};
+use acta_axioms::{Handle, Walk, is_well_formed};
 use acta_objects::{form_refusal, is_of_kind};
 use acta_table::{
     AtCommit, Event, EventKind, Extent, Kept, Model, ObjId, Op, Ret, TxnId, smallest_of,
@@ -202,16 +201,6 @@ pub(crate) fn refuses<'a, A: Handle>(walk: &Walk<'a, A>, t: TxnId) -> bool
 {
     match walk.class(t) {
         Some(class) => class.policy.refuses(),
-        None => false,
-    }
-}
-
-// Whether the operation is on an object of the model, and of its kind.
-fn is_well_formed<A: Allocator>(model: &Model<A>, object: ObjId, op: &Op) -> bool
-    ensures { result ≡ is_well_formed model.now object.0 op.now }
-{
-    match model.object(object) {
-        Some(object) => is_of_kind(&object.kind, op),
         None => false,
     }
 }

@@ -5,27 +5,16 @@ ghost use Rattle.acta_table.specs.Faults.{lowest_fault};
 ghost use Rattle.acta_table.specs.Numbered.{first_number};
 ghost use Rattle.acta_machine.specs.Changes.{edges_due};
 ghost use Rattle.acta_machine.specs.Conflicts.{stands_against, opponents, conflict_edges};
-ghost use Rattle.acta_axioms.specs.Values.{is_well_formed};
 ghost use Rattle.acta_machine.specs.inside.Shown.{shown};
 
 use crate::board::Board;
-use acta_objects::is_of_kind;
+use acta_axioms::{edges_wanted, first_against, holders_against};
 use acta_sets::Handle;
 use acta_table::{Edge, Event, ObjId, Op, TxnId};
 use std::alloc::AllocError;
 use std::collections::BTreeSet;
 
 impl<A: Handle> Board<A> {
-    // Whether the operation is of the kind of the object, which is in the model.
-    fn is_well_formed(&self, ob: ObjId, op: &Op) -> bool
-        ensures { result ≡ is_well_formed self.now.model ob.0 op.now }
-    {
-        match self.model.object(ob) {
-            Some(object) => is_of_kind(&object.kind, op),
-            None => false,
-        }
-    }
-
     /// The number of the first operation that stands against this one. `Err` where there is no memory.
     pub(crate) fn first_against(
         &self,
@@ -36,11 +25,8 @@ impl<A: Handle> Board<A> {
         ensures { IfOk result (λ number. number ≡ first_number (stands_against self.now.model (shown self.now) t.0 ob op.now) self.now.operations) }
     {
         let spares = self.spared_numbers(t)?;
-        if self.is_well_formed(ob, op) {
-            Ok(self.operations.first_against(t, &spares, ob, op))
-        } else {
-            Ok(None)
-        }
+        let number = first_against(&self.model, &self.operations, t, &spares, ob, op);
+        Ok(number)
     }
 
     // Who holds those of the operations that stand against this one. `Err` where there is no memory.
@@ -48,11 +34,8 @@ impl<A: Handle> Board<A> {
         ensures { IfOk result (λ holders. holders.keys ≡ opponents self.now.model (shown self.now) t.0 ob op.now) }
     {
         let spares = self.spared_numbers(t)?;
-        if self.is_well_formed(ob, op) {
-            self.operations.holders_against(t, &spares, ob, op)
-        } else {
-            Ok(BTreeSet::new(self.allocator()))
-        }
+        let alloc = self.allocator();
+        holders_against(alloc, &self.model, &self.operations, t, &spares, ob, op)
     }
 
     /// The edges that the operation forms, by the policy of the transaction's class. `Err` where there is no
@@ -81,27 +64,10 @@ impl<A: Handle> Board<A> {
         ensures due { IfOk result (λ edges. edges.items ≡ edges_due self.now.model (shown self.now) event.now) }
         ensures faultless { lowest_fault self.now.model ≡ None }
     {
-        let alloc = self.allocator();
         let classes = self.model.classes();
         match event {
-            Event::Spawn(t, c, class) => match classes.get(class.0 as usize) {
-                Some(class) => class.spawn_edges.between(alloc, *t, *c),
-                None => Ok(Vec::new(alloc)),
-            },
-            Event::Split(t, u, class, _) => match classes.get(class.0 as usize) {
-                Some(class) => class.split_edges.between(alloc, *t, *u),
-                None => Ok(Vec::new(alloc)),
-            },
-            Event::Form(kind, j, i) => {
-                let edge = Edge {
-                    kind: *kind,
-                    j: *j,
-                    i: *i,
-                };
-                Vec::from_slice(alloc, &[edge])
-            }
             Event::Operate(t, ob, op) => self.conflict_edges(*t, *ob, op),
-            _ => Ok(Vec::new(alloc)),
+            _ => edges_wanted(self.allocator(), classes, event),
         }
     }
 }

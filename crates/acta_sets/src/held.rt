@@ -1,4 +1,4 @@
-ghost use Rattle.std.specs.Prelude.{◌≡◌, ◌<◌, ◌≤◌, ◌≢◌, ℕ, ◌++◌, ◌∷◌, ◌==◌, if◌then◌else◌, [], length, set, find, not, OnOk, OnErr, IfOk};
+ghost use Rattle.std.specs.Prelude.{◌≡◌, ◌<◌, ℕ, ◌++◌, ◌∷◌, ◌==◌, if◌then◌else◌, [], length, set, find, not, OnOk, OnErr, IfOk};
 ghost use Rattle.acta_table.specs.Sets.{numbered, is_named};
 ghost use Rattle.smallvec.specs.SmallVec.{SmallVec as short_list};
 ghost use Rattle.std.specs.BTreeSet.{insert_key};

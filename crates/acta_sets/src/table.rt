@@ -1,14 +1,9 @@
 ghost use Rattle.std.specs.Prelude.{◌≡◌, ◌<◌, ◌≤◌, ◌+◌, ◌++◌, ◌∷◌, [], true, false, not, find, IfOk, OnOk, OnErr, length};
 ghost use Rattle.acta_table.specs.Fates.{is_open};
-ghost use Rattle.acta_sets.specs.Operations.{is_held, operation_at, are_held, access_set, conflict_set, view_set, added, moved, ended, ended_op, handed, handed_op, handed_of, is_held_against, is_against, is_opponent, holders_against};
+ghost use Rattle.acta_sets.specs.Operations.{is_held, operation_at, are_held, access_set, conflict_set, view_set, added, moved, ended, handed, handed_of, is_held_against, is_against, is_opponent, holders_against};
 ghost use Rattle.std.specs.List.{list_any};
-ghost use Rattle.acta_sets.specs.inside.Held.{changed_at, changed_each};
-ghost use Rattle.acta_sets.specs.declared.mode.Tag.{Tag as the_tag};
 ghost use Rattle.acta_table.specs.Numbered.{first_number, numbers_where};
 ghost use Rattle.acta_table.specs.Sets.{is_named};
-ghost use Rattle.acta_sets.specs.inside.Listing.{numbers_in, FrontsHold};
-ghost use Rattle.acta_sets.specs.inside.Filing.{AreFiled};
-ghost use Rattle.std.specs.HashMap.{spare};
 
 use crate::changing::{advance_each, end_each, hand_each};
 use crate::counts::Counts;
@@ -31,10 +26,12 @@ use std::collections::BTreeSet;
 /// number 1.
 #[derive(Drop)]
 pub struct OpTable<A: Handle> {
+    // The list, of which all else is an index.
     items: Vec<HeldOp, A>,
     held: Held<A>,
     holders: Holders<A>,
     counts: Counts<A>,
+    // The operations in each coarse mode, and in each fine one that is looked up.
     coarse: ModeLists<A>,
     fine: ModeLists<A>,
 }

@@ -1,0 +1,107 @@
+//! What stands against an operation on an object of a model, and which edges an event forms: one search for whoever walks
+//! through a history and for whoever admits events.
+
+ghost use Rattle.std.specs.Prelude.{◌≡◌, ◌&&◌, [], None, IfOk, if◌then◌else◌};
+ghost use Rattle.std.specs.List.{list_any};
+ghost use Rattle.acta_table.specs.Numbered.{first_number};
+ghost use Rattle.acta_sets.specs.Operations.{is_against, holders_against};
+ghost use Rattle.acta_axioms.specs.Values.{is_well_formed};
+ghost use Rattle.acta_axioms.specs.inside.Against.{edges_wanted};
+
+use acta_objects::is_of_kind;
+use acta_sets::{Handle, OpTable};
+use acta_table::{Class, Edge, Event, Model, ObjId, Op, TxnId};
+use std::alloc::{AllocError, Allocator};
+use std::collections::BTreeSet;
+
+/// Whether the operation is of the kind of the object, which is in the model.
+pub fn is_well_formed<A: Allocator>(model: &Model<A>, object: ObjId, op: &Op) -> bool
+    ensures { result ≡ is_well_formed model.now object.0 op.now }
+{
+    match model.object(object) {
+        Some(object) => is_of_kind(&object.kind, op),
+        None => false,
+    }
+}
+
+/// Whether an operation of another, in progress, whom `t` doesn't spare, conflicts with this one on the object. One that
+/// is ill formed conflicts with none.
+pub fn has_against<A: Handle>(
+    model: &Model<A>,
+    operations: &OpTable<A>,
+    t: TxnId,
+    spares: &BTreeSet<u16, A>,
+    object: ObjId,
+    op: &Op,
+) -> bool
+    ensures { result ≡ (is_well_formed model.now object.0 op.now && list_any (is_against t.0 spares.now.keys object.0 op.now) operations.now) }
+{
+    is_well_formed(model, object, op) && operations.has_against(t, spares, object, op)
+}
+
+/// The number of the first operation that does.
+pub fn first_against<A: Handle>(
+    model: &Model<A>,
+    operations: &OpTable<A>,
+    t: TxnId,
+    spares: &BTreeSet<u16, A>,
+    object: ObjId,
+    op: &Op,
+) -> Option<u32>
+    ensures { result ≡ (if is_well_formed model.now object.0 op.now then first_number (is_against t.0 spares.now.keys object.0 op.now) operations.now else None) }
+{
+    if is_well_formed(model, object, op) {
+        operations.first_against(t, spares, object, op)
+    } else {
+        None
+    }
+}
+
+/// Who holds those that do. `Err` where there is no memory.
+pub fn holders_against<A: Handle>(
+    alloc: A,
+    model: &Model<A>,
+    operations: &OpTable<A>,
+    t: TxnId,
+    spares: &BTreeSet<u16, A>,
+    object: ObjId,
+    op: &Op,
+) -> Result<BTreeSet<u16, A>, AllocError>
+    ensures { IfOk result (λ holders. holders.keys ≡ (if is_well_formed model.now object.0 op.now then holders_against t.0 spares.now.keys object.0 op.now operations.now else [])) }
+{
+    if is_well_formed(model, object, op) {
+        operations.holders_against(t, spares, object, op)
+    } else {
+        Ok(BTreeSet::new(alloc))
+    }
+}
+
+/// The edges that an event wants that is no operation, in order: those that the class named wants of a spawn or a split,
+/// and none where it is not among these; and the one that is formed. `Err` where there is no memory.
+pub fn edges_wanted<A: Allocator + Copy>(
+    alloc: A,
+    classes: &[Class<A>],
+    event: &Event<A>,
+) -> Result<Vec<Edge, A>, AllocError>
+    ensures { IfOk result (λ edges. edges.items ≡ edges_wanted classes.now event.now) }
+{
+    match event {
+        Event::Spawn(t, c, class) => match classes.get(class.0 as usize) {
+            Some(class) => class.spawn_edges.between(alloc, *t, *c),
+            None => Ok(Vec::new(alloc)),
+        },
+        Event::Split(t, u, class, _) => match classes.get(class.0 as usize) {
+            Some(class) => class.split_edges.between(alloc, *t, *u),
+            None => Ok(Vec::new(alloc)),
+        },
+        Event::Form(kind, j, i) => {
+            let edge = Edge {
+                kind: *kind,
+                j: *j,
+                i: *i,
+            };
+            Vec::from_slice(alloc, &[edge])
+        }
+        _ => Ok(Vec::new(alloc)),
+    }
+}
