@@ -1,5 +1,9 @@
 -- What is found among the operations that a walk keeps is what the definitions name.
 use Rattle.std.proofs.Common.{if◌then◌else◌, ◌≡◌, ℕ, suc, ◌+◌, ◌-◌, ◌<◌, ◌==◌, Bool, true, false, ◌&&◌, ◌||◌, not, List, [], ◌∷◌, map, filter, Option, Some, None, refl, sym, ap, ◌∙◌, arith}
+use Rattle.std.specs.Prelude.{slice_get}
+use Rattle.std.proofs.lemmas.Option.{slice_get-map}
+use Rattle.std.specs.Prelude.{option_map}
+use Rattle.acta_objects.specs.declared.state.ObjectState.{ObjectState}
 use Rattle.std.specs.List.{list_any}
 use Rattle.std.specs.Ordering.{nat_cmp}
 use Rattle.std.specs.BTreeMap.{is_at}
@@ -39,7 +43,9 @@ use Rattle.acta_axioms.specs.Operations.{Operation, Standing, standing, operatio
 use Rattle.acta_axioms.specs.Values.{do_conflict, conflicting, value, is_well_formed}
 use Rattle.acta_axioms.specs.Edges.{holders_against, formed_by}
 use Rattle.acta_axioms.specs.Walks.{held_op, held_ops, op_numbers}
+use Rattle.acta_values.specs.KeptValues.{kinds_of}
 use Rattle.acta_values.specs.Live.{live_on, live_ops}
+use Rattle.acta_values.specs.Stores.{Stored}
 use Rattle.acta_axioms.specs.inside.Walking.{standing_in, spared, spared_numbers, is_against, is_sought, numbers_of}
 use Rattle.acta_axioms.proofs.ByOperations.{holders-shown, value-shown}
 use Rattle.acta_axioms.proofs.Conflicts.{do_conflict-on, suits-conflicts, ill-conflicts}
@@ -202,6 +208,18 @@ pub value-found : {A : Type 0} (m : Parts A) (h : List (Kept A)) (items : List H
 value-found {A} m h items object kind same =
     ap (λ xs. state_after {A = A} (first_state kind) (live_ops kind xs object)) same
     ∙ sym (value-shown m h object kind (λ o. held_op o (standing m h o)) (live_on kind object) (λ o. pick_live (o.object == object) (standing m h o).fate (suits kind o.op) o.op))
+
+-- what is read of a kept value is read of the value of the object, if there is one
+pub value-read : {A R : Type 0} (m : Parts A) (h : List (Kept A)) (s : Stored) (object : ℕ) (f : ObjectState A → R) → s.kinds ≡ kinds_of m.objects → s.items ≡ held_ops m h →
+    option_map (λ kind. f (state_after (first_state kind) (live_ops kind s.items object))) (slice_get s.kinds object) ≡ option_map (λ kind. f (value m h object kind)) (kind_at m object)
+value-read {A} {R} m h s object f kinds items =
+    ap (λ (ks : List Kind). option_map (λ kind. f (state_after {A = A} (first_state kind) (live_ops kind s.items object))) (slice_get ks object)) kinds
+    ∙ ap (option_map (λ kind. f (state_after {A = A} (first_state kind) (live_ops kind s.items object)))) (slice_get-map (λ o. o.kind) m.objects object)
+    ∙ of (kind_at m object)
+  where
+    of : (k : Option Kind) → option_map (λ kind. f (state_after {A = A} (first_state kind) (live_ops kind s.items object))) k ≡ option_map (λ kind. f (value m h object kind)) k
+    of None = refl
+    of (Some kind) = ap (λ x. Some (f x)) (value-found m h s.items object kind items)
 
 -- edges of operations: where the class refuses none is formed
 pub upon-refuses : (policy : Policy) (t : TxnId) (us : List ℕ) → refuses policy ≡ true → edges_upon policy t us ≡ []

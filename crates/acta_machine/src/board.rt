@@ -1,12 +1,12 @@
 //! All that a machine keeps, and the calls that read it.
 
-ghost use Rattle.std.specs.Prelude.{◌≡◌, ◌+◌, ◌<◌, ◌≤◌, [], true, false, map, length, IfOk, IfSome, None, option_map};
+ghost use Rattle.std.specs.Prelude.{◌≡◌, ◌+◌, ◌<◌, ◌≤◌, [], true, false, map, length, IfOk, None, option_map};
 ghost use Rattle.acta_table.specs.declared.answer.Status.{Status};
 ghost use Rattle.acta_table.specs.WellFormed.{is_bad_number};
-ghost use Rattle.acta_objects.specs.Limits.{IsSmall};
 ghost use Rattle.acta_deps.specs.Debts.{owed_in};
 ghost use Rattle.acta_deps.specs.Statuses.{is_in_progress};
 ghost use Rattle.acta_sets.specs.Operations.{access_set};
+ghost use Rattle.acta_values.specs.KeptValues.{kinds_of};
 ghost use Rattle.acta_machine.specs.Places.{AreHeldWell};
 ghost use Rattle.acta_table.specs.Numbered.{ascending};
 ghost use Rattle.acta_table.specs.Classes.{spares};
@@ -15,7 +15,6 @@ ghost use Rattle.acta_machine.specs.Values.{value_of, return_due};
 ghost use Rattle.acta_machine.specs.inside.Shown.{shown, origin_in};
 ghost use Rattle.acta_machine.specs.Rules.{lowest_broken};
 
-use acta_axioms::value_after;
 use acta_deps::Deps;
 use acta_objects::ObjectState;
 use acta_sets::{Handle, OpTable};
@@ -23,6 +22,7 @@ use acta_table::{
     AtCommit, Class, ClassId, Event, Kept, MOST_EVENTS, Model, ObjId, OpNo, Owed, Ret, Scope,
     Status, TxnId,
 };
+use acta_values::Store;
 use std::alloc::{AllocError, Allocator};
 use std::collections::BTreeSet;
 
@@ -47,7 +47,7 @@ pub(crate) struct Board<A: Handle> {
     pub(crate) model: Model<A>,
     pub(crate) deps: Deps<A>,
     pub(crate) origins: Vec<Origin, A>,
-    pub(crate) operations: OpTable<A>,
+    pub(crate) store: Store<A>,
     pub(crate) kept: Vec<Kept<A>, A>,
 }
 
@@ -82,29 +82,28 @@ impl<A: Handle> Board<A> {
         *self.kept.allocator()
     }
 
-    /// The value of an object; nothing for one that is not in the model.
-    pub(crate) fn value(&self, ob: ObjId) -> Result<Option<ObjectState<A>>, AllocError>
-        ensures value { IfOk result (λ value. value ≡ value_of self.now.model (shown self.now) ob.0) }
-        ensures small { IfOk result (λ value. IfSome value (IsSmall (length self.now.operations + 1))) }
-        ensures few { length self.now.operations ≤ MOST_EVENTS }
+    /// The operations, with who holds them and what became of each.
+    pub(crate) fn operations(&self) -> &OpTable<A>
+        ensures { result.now ≡ self.now.store.items }
     {
-        let alloc = self.allocator();
-        let operations = self.operations.operations();
-        match self.model.object(ob) {
-            Some(object) => Ok(Some(value_after(alloc, &object.kind, operations, ob)?)),
-            None => Ok(None),
-        }
+        self.store.operations()
     }
 
-    /// What the event returns.
-    pub(crate) fn return_of(&self, event: &Event<A>) -> Result<Option<Ret>, AllocError>
-        ensures { IfOk result (λ ret. ret ≡ return_due self.now.model (shown self.now) event.now) }
+    /// The value of an object; nothing for one that is not in the model. `Err` where there is no memory.
+    pub(crate) fn value(&self, ob: ObjId) -> Result<Option<ObjectState<A>>, AllocError>
+        requires { self.now.store.kinds ≡ kinds_of self.now.model.objects }
+        ensures { IfOk result (λ value. value ≡ value_of self.now.model (shown self.now) ob.0) }
+    {
+        self.store.value(ob)
+    }
+
+    /// What the event returns. Takes no memory.
+    pub(crate) fn return_of(&self, event: &Event<A>) -> Option<Ret>
+        requires { self.now.store.kinds ≡ kinds_of self.now.model.objects }
+        ensures { result ≡ return_due self.now.model (shown self.now) event.now }
     {
         match event {
-            Event::Operate(_, ob, op) => match self.value(*ob)? {
-                Some(mut value) => Ok(Some(value.apply(op)?)),
-                None => Ok(None),
-            },
+            Event::Operate(_, ob, op) => self.store.due(*ob, op),
             Event::Begin(_, _)
             | Event::Spawn(_, _, _)
             | Event::Split(_, _, _, _)
@@ -112,7 +111,7 @@ impl<A: Handle> Board<A> {
             | Event::Delegate(_, _, _)
             | Event::Form(_, _, _)
             | Event::Commit(_)
-            | Event::Abort(_) => Ok(None),
+            | Event::Abort(_) => None,
         }
     }
 
@@ -132,18 +131,18 @@ impl<A: Handle> Board<A> {
         ensures kept { IfOk result (λ board. board.kept.items ≡ self.now.kept.items) }
         ensures deps { IfOk result (λ board. board.deps ≡ self.now.deps) }
         ensures origins { IfOk result (λ board. board.origins.items ≡ self.now.origins.items) }
-        ensures operations { IfOk result (λ board. board.operations ≡ self.now.operations) }
+        ensures store { IfOk result (λ board. board.store ≡ self.now.store) }
     {
         let alloc = self.allocator();
         let origins = Vec::from_slice(alloc, &self.origins)?;
-        let operations = self.operations.copy()?;
+        let store = self.store.copy()?;
         let deps = self.deps.copy()?;
         let kept = copy_all(alloc, &self.kept)?;
         Ok(Board {
             model: self.model.copy()?,
             deps,
             origins,
-            operations,
+            store,
             kept,
         })
     }
@@ -161,13 +160,13 @@ impl<A: Handle> Board<A> {
     /// is no memory.
     pub(crate) fn access_set(&self, t: TxnId) -> Result<Vec<OpNo, A>, AllocError>
         requires { AreHeldWell (shown self.now) }
-        ensures set { IfOk result (λ ops. ops.items ≡ access_set t.0 self.now.operations) }
+        ensures set { IfOk result (λ ops. ops.items ≡ access_set t.0 self.now.store.items) }
         ensures nobody { IfOk result (λ ops. is_bad_number t.0 ≡ true → ops.items ≡ []) }
     {
         if !self.is_in_progress(t) {
             return Ok(Vec::new(self.allocator()));
         }
-        let ops = self.operations.access_set(t)?;
+        let ops = self.operations().access_set(t)?;
         Ok(ops)
     }
 
@@ -176,7 +175,7 @@ impl<A: Handle> Board<A> {
         ensures { IfOk result (λ ops. ops.items ≡ conflict_set_of self.now.model (shown self.now) t.0) }
     {
         let spared = self.spared(t)?;
-        self.operations.conflict_set(t, &spared)
+        self.operations().conflict_set(t, &spared)
     }
 
     // The ancestors of the transaction, where its class leaves them out of its conflict set. `Err` where

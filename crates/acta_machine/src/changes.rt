@@ -46,30 +46,30 @@ impl<A: Handle> Board<A> {
 
     #[tactic(auto, unfolding(crate::specs::Summary::given))]
     fn give(&mut self, from: TxnId, ops: &OpSet<A>, u: TxnId) -> Result<(), AllocError>
-        requires { are_held from.0 ops.now self.old.operations ≡ true }
+        requires { are_held from.0 ops.now self.old.store.items ≡ true }
         ensures shows { OnOk result (shown self.new ≡ given (shown self.old) ops.now u) }
         ensures err { OnErr result (shown self.new ≡ shown self.old) }
-        ensures others { self.new ≡ record self.old { operations = self.new.operations } }
+        ensures others { self.new ≡ record self.old { store = record self.old.store { items = self.new.store.items } } }
     {
-        self.operations.move_to(from, ops, u)
+        self.store.move_to(from, ops, u)
     }
 
     #[tactic(auto, unfolding(crate::specs::Summary::inherited))]
     fn hand_all(&mut self, t: TxnId, u: TxnId) -> Result<(), AllocError>
         ensures shows { OnOk result (shown self.new ≡ inherited (shown self.old) t u) }
         ensures err { OnErr result (shown self.new ≡ shown self.old) }
-        ensures others { self.new ≡ record self.old { operations = self.new.operations } }
+        ensures others { self.new ≡ record self.old { store = record self.old.store { items = self.new.store.items } } }
     {
-        self.operations.hand_all(t, u)
+        self.store.hand_all(t, u)
     }
 
     #[tactic(auto, unfolding(crate::specs::Summary::fated))]
     fn end(&mut self, t: TxnId, fate: Fate)
         requires { is_open fate ≡ false }
         ensures shows { shown self.new ≡ fated (shown self.old) t fate }
-        ensures others { self.new ≡ record self.old { operations = self.new.operations } }
+        ensures others { self.new ≡ record self.old { store = record self.old.store { items = self.new.store.items } } }
     {
-        self.operations.end_all(t, fate);
+        self.store.end_all(t, fate);
     }
 
     #[tactic(auto, unfolding(crate::specs::Summary::counted))]
@@ -105,7 +105,7 @@ impl<A: Handle> Board<A> {
         requires allowed { join_refusal (shown self.old).status (shown self.old).edges t.0 ≡ None }
         ensures shows { OnOk result (shown self.new ≡ inherited (stood (shown self.old) t Status.Joined) t u) }
         ensures err { OnErr result (shown self.new ≡ shown self.old) }
-        ensures others { self.new ≡ record self.old { deps = self.new.deps; operations = self.new.operations } }
+        ensures others { self.new ≡ record self.old { deps = self.new.deps; store = record self.old.store { items = self.new.store.items } } }
     {
         self.hand_all(t, u)?;
         self.deps.joined(t);
@@ -117,7 +117,7 @@ impl<A: Handle> Board<A> {
     fn settle(&mut self, t: TxnId) -> Result<(), AllocError>
         ensures shows { OnOk result (shown self.new ≡ settled (shown self.old) t (heir_of self.old.model (shown self.old) t.0)) }
         ensures err { OnErr result (shown self.new ≡ shown self.old) }
-        ensures others { self.new ≡ record self.old { operations = self.new.operations } }
+        ensures others { self.new ≡ record self.old { store = record self.old.store { items = self.new.store.items } } }
     {
         match self.heir(t) {
             Some(heir) => self.hand_all(t, heir)?,
@@ -133,7 +133,7 @@ impl<A: Handle> Board<A> {
         requires allowed { dependency {A = A} (shown self.old) (Event.Commit t) ≡ None }
         ensures shows { OnOk result (shown self.new ≡ settled (stood (shown self.old) t Status.Committed) t (heir_of self.old.model (shown self.old) t.0)) }
         ensures err { OnErr result (shown self.new ≡ shown self.old) }
-        ensures others { self.new ≡ record self.old { deps = self.new.deps; operations = self.new.operations } }
+        ensures others { self.new ≡ record self.old { deps = self.new.deps; store = record self.old.store { items = self.new.store.items } } }
     {
         self.settle(t)?;
         self.deps.committed(t);
@@ -146,7 +146,7 @@ impl<A: Handle> Board<A> {
         requires stands { not_in_progress {A = A} (shown self.old) (Event.Abort t) ≡ None }
         requires allowed { dependency {A = A} (shown self.old) (Event.Abort t) ≡ None }
         ensures shows { shown self.new ≡ fated (stood (shown self.old) t Status.Aborted) t Fate.Aborted }
-        ensures others { self.new ≡ record self.old { deps = self.new.deps; operations = self.new.operations } }
+        ensures others { self.new ≡ record self.old { deps = self.new.deps; store = record self.old.store { items = self.new.store.items } } }
     {
         self.deps.aborted(t);
         self.end(t, Fate::Aborted);
@@ -154,29 +154,28 @@ impl<A: Handle> Board<A> {
 
     #[tactic(auto, unfolding(crate::specs::Summary::operated))]
     fn operate(&mut self, t: TxnId, ob: ObjId, op: Op) -> Result<(), AllocError>
-        requires { length self.old.operations < MOST_EVENTS }
+        requires { length self.old.store.items < MOST_EVENTS }
         ensures shows { OnOk result (shown self.new ≡ operated (shown self.old) t ob op) }
         ensures err { OnErr result (shown self.new ≡ shown self.old) }
-        ensures others { self.new ≡ record self.old { operations = self.new.operations } }
+        ensures others { self.new ≡ record self.old { store = record self.old.store { items = self.new.store.items } } }
     {
-        self.operations.add(t, ob, op)?;
-        Ok(())
+        self.store.add(t, ob, op)
     }
 
     // Changes how transactions and operations stand. `Err` where there is no memory, and then nothing is changed.
     #[tactic(auto, unfolding(acta_table::specs::WellFormed::bad_number))]
     fn change(&mut self, event: &Event<A>) -> Result<(), AllocError>
         requires origins { length self.old.origins.items ≡ TABLE_SIZE }
-        requires few { length self.old.operations < MOST_EVENTS }
+        requires few { length self.old.store.items < MOST_EVENTS }
         requires number { bad_number event.now ≡ None }
         requires progress { not_in_progress (shown self.old) event.now ≡ None }
         requires new { already_begun (shown self.old) event.now ≡ None }
         requires allowed { dependency (shown self.old) event.now ≡ None }
-        requires named { option_map_or (λ t. are_held t (operations_named event.now) self.old.operations) (acting event.now) true ≡ true }
+        requires named { option_map_or (λ t. are_held t (operations_named event.now) self.old.store.items) (acting event.now) true ≡ true }
         ensures shows { OnOk result (shown self.new ≡ changed self.old.model (shown self.old) event.now) }
         ensures err { OnErr result (shown self.new ≡ shown self.old) }
         ensures origins { length self.new.origins.items ≡ TABLE_SIZE }
-        ensures others { self.new ≡ record self.old { deps = self.new.deps; origins = self.new.origins; operations = self.new.operations } }
+        ensures others { self.new ≡ record self.old { deps = self.new.deps; origins = self.new.origins; store = record self.old.store { items = self.new.store.items } } }
     {
         match event {
             Event::Begin(t, class) => self.begin(*t, *class, None),
@@ -231,16 +230,17 @@ impl<A: Handle> Board<A> {
     ) -> Result<(), AllocError>
         requires room { length self.old.kept.items < vec_capacity self.old.kept }
         requires origins { length self.old.origins.items ≡ TABLE_SIZE }
-        requires few { length self.old.operations < MOST_EVENTS }
+        requires few { length self.old.store.items < MOST_EVENTS }
         requires fits { length (formed self.old.deps.edges due.now) ≤ MOST_EDGES }
         requires number { bad_number event.now ≡ None }
         requires progress { not_in_progress (linked (shown self.old) due.now) event.now ≡ None }
         requires new { already_begun (linked (shown self.old) due.now) event.now ≡ None }
         requires allowed { dependency (linked (shown self.old) due.now) event.now ≡ None }
-        requires named { option_map_or (λ t. are_held t (operations_named event.now) self.old.operations) (acting event.now) true ≡ true }
+        requires named { option_map_or (λ t. are_held t (operations_named event.now) self.old.store.items) (acting event.now) true ≡ true }
         ensures shows { OnOk result (shown self.new ≡ counted (changed self.old.model (linked (shown self.old) due.now) event.now)) }
         ensures kept { OnOk result (self.new.kept.items ≡ self.old.kept.items ++ kept ∷ []) }
         ensures model { self.new.model ≡ self.old.model }
+        ensures kinds { self.new.store.kinds ≡ self.old.store.kinds }
         ensures origins { length self.new.origins.items ≡ TABLE_SIZE }
         ensures err { OnErr result (shown self.new ≡ shown self.old) }
         ensures as_it_was { OnErr result (self.new.kept.items ≡ self.old.kept.items) }

@@ -22,10 +22,10 @@ impl<A: Handle> Board<A> {
         ob: ObjId,
         op: &Op,
     ) -> Result<Option<u32>, AllocError>
-        ensures { IfOk result (λ number. number ≡ first_number (stands_against self.now.model (shown self.now) t.0 ob op.now) self.now.operations) }
+        ensures { IfOk result (λ number. number ≡ first_number (stands_against self.now.model (shown self.now) t.0 ob op.now) self.now.store.items) }
     {
         let spares = self.spared_numbers(t)?;
-        let number = first_against(&self.model, &self.operations, t, &spares, ob, op);
+        let number = first_against(&self.model, self.operations(), t, &spares, ob, op);
         Ok(number)
     }
 
@@ -35,7 +35,7 @@ impl<A: Handle> Board<A> {
     {
         let spares = self.spared_numbers(t)?;
         let alloc = self.allocator();
-        holders_against(alloc, &self.model, &self.operations, t, &spares, ob, op)
+        holders_against(alloc, &self.model, self.operations(), t, &spares, ob, op)
     }
 
     /// The edges that the operation forms, by the policy of the transaction's class. `Err` where there is no

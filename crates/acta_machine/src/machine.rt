@@ -18,11 +18,12 @@ use crate::serial::SerialError;
 use acta_axioms::{SerialItem, is_strict, serial_items};
 use acta_deps::Deps;
 use acta_objects::ObjectState;
-use acta_sets::{Handle, OpTable};
+use acta_sets::Handle;
 use acta_table::{
     Answer, Edge, Event, Items, Kept, MOST_EVENTS, Model, ObjId, OpNo, Owed, Refusal, Status,
     TABLE_SIZE, TxnId,
 };
+use acta_values::Store;
 use std::alloc::{AllocError, Allocator};
 
 /// A machine: it admits events of transactions by its model, or refuses them. Contracts see the model and
@@ -41,6 +42,7 @@ impl<A: Handle> std::marker::Model for Machine<A> {
     ghost use Rattle.acta_machine.specs.Changes.{summary_of};
     ghost use Rattle.acta_machine.specs.inside.Shown.{shown};
     ghost use Rattle.acta_machine.specs.Places.{FollowsPlaces};
+    ghost use Rattle.acta_values.specs.KeptValues.{kinds_of};
     ghost use Rattle.acta_table.specs.declared.limits.TheConstants.{MOST_EVENTS, TABLE_SIZE};
 
     ghost view = { λ m. record { model = m.board.model; kept = m.board.kept.items } };
@@ -48,6 +50,7 @@ impl<A: Handle> std::marker::Model for Machine<A> {
     ghost invariant = { λ m. record {
       agrees : shown m.board ≡ summary_of m.board.model m.board.kept.items;
       origins : length m.board.origins.items ≡ TABLE_SIZE;
+      kinds : m.board.store.kinds ≡ kinds_of m.board.model.objects;
       within : length m.board.kept.items ≤ MOST_EVENTS;
       follows : FollowsPlaces (record { model = m.board.model; kept = m.board.kept.items });
     } };
@@ -67,12 +70,13 @@ impl<A: Handle> Machine<A> {
         ensures fresh { IfOk result (λ machine. machine ≡ fresh model) }
         ensures follows { IfOk result FollowsPlaces }
     {
+        let store = Store::new(alloc, model.objects())?;
         Ok(Machine {
             board: Board {
                 model,
                 deps: Deps::new(alloc)?,
                 origins: no_origins(alloc, TABLE_SIZE)?,
-                operations: OpTable::new(alloc),
+                store,
                 kept: Vec::new(alloc),
             },
         })
@@ -107,7 +111,7 @@ impl<A: Handle> Machine<A> {
         ensures follows { FollowsPlaces self.new }
     {
         let place = self.board.next_place(event);
-        let ret = self.board.return_of(event)?;
+        let ret = self.board.return_of(event);
         let kept = Kept {
             event: event.copy()?,
             ret,
@@ -176,7 +180,7 @@ impl<A: Handle> Machine<A> {
         ensures set { IfOk result (λ numbers. numbers.items ≡ view_set_in self.now) }
         ensures places { IfOk result (λ numbers. numbers.items ≡ op_numbers (by_places.view_set self.now.model self.now.kept)) }
     {
-        self.board.operations.view_set()
+        self.board.operations().view_set()
     }
 
     /// What transactions owe, by edge number: an event that one of them has yet to do, since another has

@@ -174,7 +174,7 @@ impl<A: Handle> Board<A> {
     fn is_of_another(&self, t: TxnId, op: OpNo) -> bool
         ensures { result ≡ is_of_another (shown self.now) t.0 op.0 }
     {
-        match self.operations.operation(op) {
+        match self.operations().operation(op) {
             Some(item) => !item.is_held(t),
             None => false,
         }
@@ -220,7 +220,7 @@ impl<A: Handle> Board<A> {
     fn left_out(&self, ops: &OpSet<A>, t: TxnId) -> Option<u32>
         ensures { result ≡ left_out (shown self.now) ops.now t.0 }
     {
-        self.operations.first_left_out(t, ops)
+        self.operations().first_left_out(t, ops)
     }
 
     #[tactic(auto, unfolding(crate::specs::Rules::partial_delegation))]
@@ -242,7 +242,7 @@ impl<A: Handle> Board<A> {
     {
         let mut least = None;
         for op in ops {
-            if self.operations.operation(*op).is_none() {
+            if self.operations().operation(*op).is_none() {
                 least = lesser(least, op.0);
             }
         }

@@ -12,7 +12,7 @@ use Rattle.acta_table.specs.declared.model.Kind.{Kind}
 use Rattle.acta_table.specs.Fates.{is_open, is_aborted}
 use Rattle.acta_table.specs.Sets.{is_named}
 use Rattle.acta_sets.specs.declared.held_op.HeldOp.{HeldOp}
-use Rattle.acta_sets.specs.Operations.{is_held, is_live, ended, handed, handed_of, handed_from}
+use Rattle.acta_sets.specs.Operations.{is_held, is_live, ended, handed, handed_of, handed_from, moved, moved_from}
 use Rattle.acta_values.specs.KeptValues.{stays_on}
 use Rattle.acta_values.specs.declared.live_value.LiveValue.{LiveValue}
 use Rattle.acta_values.specs.declared.trail.Numbered.{Numbered}
@@ -72,6 +72,14 @@ handed_of_alike n t ops u (i ∷ items) = at (is_held t i && is_named ops n) (ha
     at true later = alike_cons i (record i { holder = u }) items (handed_from (n + 1) t ops u items) (λ object. refl) later
     at false later = alike_cons i i items (handed_from (n + 1) t ops u items) (λ object. refl) later
 
+moved_alike : (n : ℕ) (ops : List OpNo) (u : TxnId) (items : List HeldOp) → AreAlike items (moved_from n ops u items)
+moved_alike n ops u [] = alike_none
+moved_alike n ops u (i ∷ items) = at (is_named ops n) (moved_alike (n + 1) ops u items)
+  where
+    at : (b : Bool) → AreAlike items (moved_from (n + 1) ops u items) → AreAlike (i ∷ items) (cond b (record i { holder = u }) i ∷ moved_from (n + 1) ops u items)
+    at true later = alike_cons i (record i { holder = u }) items (moved_from (n + 1) ops u items) (λ object. refl) later
+    at false later = alike_cons i i items (moved_from (n + 1) ops u items) (λ object. refl) later
+
 pub committed_after : {A : Type 0} (kinds : List Kind) (items : List HeldOp) (values : List (LiveValue A)) (t : ℕ) → AreAfter kinds items values → AreAfter kinds (ended t Committed items) values
 committed_after kinds items values t after = alike_after kinds items (ended t Committed items) values (committed_alike t items) after
 
@@ -80,6 +88,9 @@ handed_after kinds items values t u after = alike_after kinds items (handed t u 
 
 pub handed_of_after : {A : Type 0} (kinds : List Kind) (items : List HeldOp) (values : List (LiveValue A)) (t : ℕ) (ops : List OpNo) (u : TxnId) → AreAfter kinds items values → AreAfter kinds (handed_of t ops u items) values
 handed_of_after kinds items values t ops u after = alike_after kinds items (handed_of t ops u items) values (handed_of_alike 1 t ops u items) after
+
+pub moved_after : {A : Type 0} (kinds : List Kind) (items : List HeldOp) (values : List (LiveValue A)) (ops : List OpNo) (u : TxnId) → AreAfter kinds items values → AreAfter kinds (moved ops u items) values
+moved_after kinds items values ops u after = alike_after kinds items (moved ops u items) values (moved_alike 1 ops u items) after
 
 -- of two that can't be otherwise, it is committed
 pub is_committed-closed : (f : Fate) → is_open f ≡ false → (f ≡ Aborted → ⊥) → f ≡ Committed

@@ -1,8 +1,8 @@
-ghost use Rattle.std.specs.Prelude.{◌≡◌, ◌+◌, ◌<◌, ◌≤◌, [], false, length, slice_get, option_map, IfOk, OnOk, OnErr};
+ghost use Rattle.std.specs.Prelude.{◌≡◌, ◌+◌, ◌<◌, ◌≤◌, [], true, false, length, slice_get, option_map, IfOk, OnOk, OnErr};
 ghost use Rattle.acta_table.specs.declared.limits.TheConstants.{MOST_EVENTS};
 ghost use Rattle.acta_table.specs.Fates.{is_open};
 ghost use Rattle.acta_objects.specs.Objects.{first_state, state_after, returned};
-ghost use Rattle.acta_sets.specs.Operations.{added, ended, handed, handed_of};
+ghost use Rattle.acta_sets.specs.Operations.{added, are_held, ended, handed, handed_of, moved};
 ghost use Rattle.acta_values.specs.Live.{live_ops};
 ghost use Rattle.acta_values.specs.KeptValues.{kinds_of};
 
@@ -106,6 +106,16 @@ impl<A: Handle> Store<A> {
         ensures err { OnErr result (self.new ≡ self.old) }
     {
         self.operations.hand(from, ops, u)
+    }
+
+    /// From now on `u` holds the named operations (ACTA's delegation), which `from` holds in progress. `Err` where there
+    /// is no memory, and then none is moved.
+    pub fn move_to(&mut self, from: TxnId, ops: &OpSet<A>, u: TxnId) -> Result<(), AllocError>
+        requires { are_held from.0 ops.now self.old.items ≡ true }
+        ensures ok { OnOk result (self.new ≡ record self.old { items = moved ops.now u self.old.items }) }
+        ensures err { OnErr result (self.new ≡ self.old) }
+    {
+        self.operations.move_to(from, ops, u)
     }
 
     /// From now on `u` holds all that `t` holds in progress (ACTA's join of split transactions, and a subtransaction's

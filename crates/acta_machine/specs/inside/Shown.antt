@@ -27,4 +27,4 @@ summary_in deps origins operations kept = record {
 }
 
 abbrev pub shown : {A : Type 0} → Board A → Summary
-shown b = summary_in b.deps b.origins.items b.operations b.kept.items
+shown b = summary_in b.deps b.origins.items b.store.items b.kept.items

@@ -1,6 +1,7 @@
 use Rattle.std.proofs.Common.{◌≡◌, ◌+◌, length, ap, arith, ◌∙◌}
 use Rattle.std.proofs.Math.ListN.{replicate}
 use Rattle.std.proofs.lemmas.List.{length-replicate}
+use Rattle.acta_values.specs.KeptValues.{kinds_of}
 use Rattle.acta_values.specs.Stores.{Stored}
 use Rattle.acta_axioms.specs.inside.Lineages.{unbegun}
 use Rattle.acta_axioms.proofs.Lineages.{lines-blank}
@@ -18,7 +19,7 @@ invariant_of-result g c =
       few = c.requires;
       wide = named-below h c.largest_named.result (length lines) (omega (arith, long)) c.largest_named.ensures;
       lines_are = λ t. lines-blank h lines (c.largest_named.result + 1) t blank;
-      kinds_are = ap (λ (s : Stored). s.kinds) c.in_ok-new.ensures;
+      kinds_are = ap (λ (s : Stored). s.kinds) c.in_ok-new.ensures ∙ ap kinds_of c.objects.ensures.objects;
       items_are = ap (λ (s : Stored). s.items) c.in_ok-new.ensures;
       edges_are = c.new-2.ensures.empty;
     }

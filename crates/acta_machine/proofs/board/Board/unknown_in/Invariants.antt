@@ -9,4 +9,4 @@ use Rattle.acta_machine.proofs.board.Board.unknown_in.Given as goal
 -- the least so far, with what is left, gives the least of all
 abbrev pub invariant-loop-op : goal.invariant-loop-op
 invariant-loop-op g l =
-    least_from l.least (filter (λ n. is_none (operation_at l.self.operations n)) (numbers_of (drop l.op-index l.ops))) ≡ unknown_in (shown l.self) l.ops
+    least_from l.least (filter (λ n. is_none (operation_at l.self.store.items n)) (numbers_of (drop l.op-index l.ops))) ≡ unknown_in (shown l.self) l.ops

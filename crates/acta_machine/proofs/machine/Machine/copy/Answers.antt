@@ -3,6 +3,8 @@ use Rattle.acta_machine.specs.Changes.{summary_of}
 use Rattle.acta_machine.specs.Places.{FollowsPlaces}
 use Rattle.acta_machine.specs.Table.{State}
 use Rattle.acta_machine.specs.inside.Shown.{summary_in}
+use Rattle.acta_values.specs.KeptValues.{kinds_of}
+use Rattle.acta_values.specs.Stores.{Stored}
 use Rattle.acta_machine.proofs.machine.Machine.copy.Goals as goal
 
 -- all that is copied is as it was
@@ -10,13 +12,14 @@ pub invariant_of-result : goal.invariant_of-result
 invariant_of-result g c =
     let deps = c.in_ok-copy.ensures.deps in
     let origins = c.in_ok-copy.ensures.origins in
-    let operations = c.in_ok-copy.ensures.operations in
+    let store = c.in_ok-copy.ensures.store in
     let kept = c.in_ok-copy.ensures.kept in
     let model = c.in_ok-copy.ensures.model in
     let long = ap length kept in
     record {
-      agrees = (λ i. summary_in (deps i) (origins i) (operations i) (kept i)) ∙ c.self.invariant.agrees ∙ (λ i. summary_of (sym model i) (sym kept i));
+      agrees = (λ i. summary_in (deps i) (origins i) (store i).items (kept i)) ∙ c.self.invariant.agrees ∙ (λ i. summary_of (sym model i) (sym kept i));
       origins = ap length origins ∙ c.self.invariant.origins;
+      kinds = ap (λ (s : Stored). s.kinds) store ∙ c.self.invariant.kinds ∙ (λ i. kinds_of (sym model i).objects);
       within = omega (arith, long, c.self.invariant.within);
       follows = subst (λ (w : State g.row.A.Denot). FollowsPlaces w) (λ i. record { model = sym model i; kept = sym kept i }) c.self.invariant.follows;
     }

@@ -15,6 +15,7 @@ use Rattle.acta_machine.specs.Places.{FollowsPlaces}
 use Rattle.acta_table.specs.Edges.{formed}
 use Rattle.acta_table.specs.Events.{acting, operations_named}
 use Rattle.acta_sets.specs.Operations.{are_held}
+use Rattle.acta_values.specs.KeptValues.{kinds_of}
 use Rattle.acta_machine.proofs.Handing.{event-held}
 use Rattle.acta_machine.proofs.Histories.{summary_more, operations_few}
 use Rattle.acta_machine.proofs.Unbroken.{Admissible, Unbroken, unbroken, none-earlier, still-admissible, linked-room}
@@ -55,14 +56,14 @@ admit-requires-clause-few g c =
     let before = c.self.inside.board.kept.items in
     let few = operations_few c.self.inside.board.model before in
     let count = ap (λ (s : Summary). length s.operations) c.self.invariant.agrees in
-    let roomy = ap (λ b. length b.operations) c.make_room.ensures.others in
+    let roomy = ap (λ b. length b.store.items) c.make_room.ensures.others in
     let room = c.next_place-place.ensures.room in
     omega (arith, few, count, roomy, room)
 
 pub admit-requires-clause-named : goal.admit-requires-clause-named
 admit-requires-clause-named g c =
     let u = unbroken-shown _ _ _ _ _ _ c.self.invariant.agrees c.self.view_is c.requires.none c.requires.due c.requires.faultless in
-    ap (λ items. option_map_or (λ t. are_held t (operations_named c.args.event.now) items) (acting c.args.event.now) true) (ap (λ b. b.operations) c.make_room.ensures.others)
+    ap (λ items. option_map_or (λ t. are_held t (operations_named c.args.event.now) items) (acting c.args.event.now) true) (ap (λ b. b.store.items) c.make_room.ensures.others)
     ∙ event-held _ _ _ u
 
 -- there is room for the edges
@@ -97,10 +98,10 @@ invariant_of-self-2 g c =
     let before = c.self.inside.board.kept.items in
     let agrees = c.self.invariant.agrees in
     let state : State g.row.A.Denot = record { model = model; kept = before } in
-    let kept : Kept g.row.A.Denot = record { event = event; ret = c.in_ok-ret.ret } in
+    let kept : Kept g.row.A.Denot = record { event = event; ret = c.return_of-ret.result } in
     let due : kept ≡ kept_as state event =
-    λ i. record { event = event; ret = (c.in_ok-ret.ensures ∙ ap (λ (s : Summary). return_due model s event) agrees) i } in
-    let copied : record { event = c.in_ok-copy.field-0; ret = c.in_ok-ret.ret } ≡ kept = λ i. record { event = c.in_ok-copy.ensures i; ret = c.in_ok-ret.ret } in
+    λ i. record { event = event; ret = (c.return_of-ret.ensures ∙ ap (λ (s : Summary). return_due model s event) agrees) i } in
+    let copied : record { event = c.in_ok-copy.field-0; ret = c.return_of-ret.result } ≡ kept = λ i. record { event = c.in_ok-copy.ensures i; ret = c.return_of-ret.result } in
     let longer : c.admit.new.self.kept.items ≡ before ++ kept ∷ [] =
     c.in_ok-admit.ensures.kept ∙ (λ i. c.make_room.ensures.kept i ++ copied i ∷ []) in
     let count = ap (length {A = Kept g.row.A.Denot}) longer ∙ length-append before (kept ∷ []) in
@@ -116,6 +117,7 @@ invariant_of-self-2 g c =
           ∙ (λ i. counted (changed (roomy_model i) (linked ((c.make_room.ensures.shows ∙ agrees) i) (edges i)) event))
           ∙ sym ((λ i. summary_of (same_model i) (longer i)) ∙ summary_more model before kept);
       origins = c.admit.ensures.origins;
+      kinds = c.admit.ensures.kinds ∙ ap (λ b. b.store.kinds) c.make_room.ensures.others ∙ c.self.invariant.kinds ∙ sym (ap (λ (m : Parts g.row.A.Denot). kinds_of m.objects) same_model);
       within = omega (arith, count, room);
       follows = subst (λ (x : State g.row.A.Denot). FollowsPlaces x) (λ i. record { model = sym same_model i; kept = sym same_kept i }) (follows-push model before event faultless c.self.invariant.follows none);
     }

@@ -13,4 +13,4 @@ returns-clause-places g c =
     let state : State g.row.A.Denot = record { model = board.model; kept = board.kept.items } in
     let same = ap (λ (s : Summary). value_of board.model s c.args.ob.0) c.self.invariant.agrees ∙ values-places state c.args.ob.0 c.self.invariant.follows
     ∙ ap (λ (x : State g.row.A.Denot). value_at x c.args.ob.0) c.self.view_is in
-    subst (λ (value : Option (ObjectState g.row.A.Denot)). IfOk c.value.result (λ v. v ≡ value)) same c.value.ensures.value
+    subst (λ (value : Option (ObjectState g.row.A.Denot)). IfOk c.value.result (λ v. v ≡ value)) same c.value.ensures
