@@ -51,4 +51,6 @@ mod standards;
 #[cfg(test)]
 mod stepping;
 #[cfg(test)]
+mod values;
+#[cfg(test)]
 mod walking;
