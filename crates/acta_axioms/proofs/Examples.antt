@@ -5,7 +5,7 @@ use Rattle.acta_table.specs.declared.dep.Edge.{Edge}
 use Rattle.acta_table.specs.declared.dep.Dep.TheVariants.{Cd, Scd, Ad, Wd, Td, Ed, Cmd, Bd, Sd, Bcd, Bad, Wcd}
 use Rattle.acta_table.specs.declared.dep.Missing.TheVariants.{Commit, Abort}
 use Rattle.acta_table.specs.declared.event.Kept.{Kept}
-use Rattle.acta_table.specs.declared.event.Op.TheVariants.{Read, Write, Get, Add, Insert}
+use Rattle.acta_table.specs.declared.event.Op.TheVariants.{Read, Write, Get, Add, Insert, Has, Size}
 use Rattle.acta_table.specs.declared.event.Ret.TheVariants.{Done, Value, Flag}
 use Rattle.acta_table.specs.declared.model.Parts.{Parts}
 use Rattle.acta_table.specs.declared.answer.Fate.{Fate}
@@ -23,7 +23,13 @@ use Rattle.acta_axioms.specs.Formulas.{is_false}
 use Rattle.acta_axioms.specs.Legal.{is_broken_in, owed, has_clash, is_legal}
 use Rattle.acta_axioms.specs.Faults.{breaches, faults_in_places}
 use Rattle.acta_axioms.specs.Claims.{status_at}
-use Rattle.acta_axioms.proofs.Histories.{begin, spawn, split, join, delegate, form, operate, commit, abort, edge, owes, fault, plain, model, edgeless, parting, nesting, loose, Said, said, holds, is_due, breaks}
+use Rattle.acta_axioms.specs.declared.serial.SerialItem.{SerialItem}
+use Rattle.acta_axioms.specs.Serial.{is_strict, serial_order, replayed}
+use Rattle.acta_axioms.specs.SerialItems.{serial_items}
+use Rattle.acta_table.specs.declared.model.Kind.TheVariants.{Register, Counter, Elements}
+use Rattle.acta_table.specs.declared.event.Op.{Op}
+use Rattle.acta_table.specs.declared.event.Ret.{Ret}
+use Rattle.acta_axioms.proofs.Histories.{begin, spawn, split, join, delegate, form, operate, commit, abort, edge, owes, fault, plain, model, edgeless, parting, nesting, loose, class, Said, said, holds, is_due, breaks}
 
 -- the numbers of these operations
 abbrev numbers : List Operation → List ℕ
@@ -352,3 +358,40 @@ linked =
 
 linked_shown : map (λ r. edges r.0 r.1) linked ≡ map (λ r. r.2) linked
 linked_shown = refl
+
+-- the objects x, n, m and s, and a class that may operate, commit and abort
+abbrev strict : Parts (Unit {0})
+strict = record {
+  objects = record { name = []; kind = Register (pos 0) } ∷ record { name = []; kind = Counter (pos 0) } ∷ record { name = []; kind = Counter (pos 0) } ∷ record { name = []; kind = Elements } ∷ [];
+  classes = class true 224 ∷ [];
+}
+
+-- 2 commits before 1: its group is first, though 1 began and operated before it; what 3 does is left out
+abbrev crossed : List (Kept (Unit {0}))
+crossed =
+    begin 1 0 ∷ begin 2 0 ∷ begin 3 0 ∷ operate 1 1 (Add (pos 5)) Done ∷ operate 2 0 (Write (pos 1)) Done
+    ∷ operate 2 1 (Add (pos 7)) Done ∷ operate 3 2 (Add (pos 9)) Done ∷ commit 2 ∷ operate 1 0 Read (Value (pos 1))
+    ∷ commit 1 ∷ []
+
+abbrev listed : ℕ → ℕ → ℕ → Op → Ret → SerialItem
+listed number t object op ret =
+    record { number = record { 0 = number }; txn = record { 0 = t }; ob = record { 0 = object }; op = op; ret = ret }
+
+-- an aborted write is no part of it, and what others did beside it returns the same without it
+abbrev cleared : List (Kept (Unit {0}))
+cleared =
+    begin 1 0 ∷ begin 2 0 ∷ operate 1 3 (Insert (pos 3)) (Flag true) ∷ operate 2 3 (Has (pos 4)) (Flag false)
+    ∷ operate 2 3 (Insert (pos 5)) (Flag true) ∷ abort 1 ∷ operate 2 3 Size (Value (pos 1)) ∷ commit 2 ∷ []
+
+serial_shown :
+    (serial_items strict crossed
+    ≡ listed 2 2 0 (Write (pos 1)) Done ∷ listed 3 2 1 (Add (pos 7)) Done ∷ listed 1 1 1 (Add (pos 5)) Done
+    ∷ listed 5 1 0 Read (Value (pos 1)) ∷ [])
+    × (replayed strict (serial_order strict crossed) ≡ Some Done ∷ Some Done ∷ Some Done ∷ Some (Value (pos 1)) ∷ [])
+    × (serial_items strict cleared
+    ≡ listed 2 2 3 (Has (pos 4)) (Flag false) ∷ listed 3 2 3 (Insert (pos 5)) (Flag true)
+    ∷ listed 4 2 3 Size (Value (pos 1)) ∷ [])
+    × (serial_items strict [] ≡ [])
+    × (map is_strict (strict ∷ edgeless ∷ model ∷ parting ∷ nesting ∷ loose ∷ [])
+    ≡ true ∷ true ∷ false ∷ false ∷ false ∷ false ∷ [])
+serial_shown = (refl, refl, refl, refl, refl)

@@ -11,6 +11,7 @@ use Rattle.acta_table.specs.declared.event.TxnId.{TxnId}
 use Rattle.acta_table.specs.declared.model.Parts.{Parts}
 use Rattle.acta_table.specs.WellFormed.{bad_number, bad_class, bad_object, same_transaction}
 use Rattle.acta_objects.specs.WellFormed.{bad_operation}
+use Rattle.acta_axioms.specs.declared.fault.Axiom.{Axiom}
 use Rattle.acta_axioms.specs.declared.fault.Axiom.TheVariants.{BegunOnce, EndedAfterBegun, EndedOnce, OperatesInProgress, FormOfEvent, Allowed, PartiesInProgress, Responsible, HandsWhole, Conflict, Return, Heir, FormedInTime}
 use Rattle.acta_axioms.specs.History.{number, has_begun, has_ended, is_in_progress}
 use Rattle.acta_axioms.specs.Faults.{when, first_named, begun_again, ended_unbegun, ended_again, operated_idle, ill_formed, not_allowed, idle_party, handed_unheld, kept_back, in_conflict, wrong_return, without_heir, not_in_time, breaches, faults_of, faults_at}
@@ -52,6 +53,49 @@ faults_at-none m h k ok =
     ++ (faults_of Return n (ok.return i)
     ++ (faults_of Heir n (ok.heir i)
     ++ (faults_of FormedInTime n (ok.formed_in_time i) ++ []))))))))))))
+
+-- a list of two parts that is empty has no part
+pub none-both : {X : Type 0} (xs ys : List X) → xs ++ ys ≡ [] → (xs ≡ []) × (ys ≡ [])
+none-both [] ys e = (refl, e)
+none-both (x ∷ xs) ys e = cc
+
+no_by : (broken : Axiom) (n : ℕ) (bys : List ℕ) → faults_of broken n bys ≡ [] → bys ≡ []
+no_by broken n [] e = refl
+no_by broken n (b ∷ bys) e = cc
+
+-- where no fault is at the end, the item there breaks no axiom
+pub faultless-from : {A : Type 0} (m : Parts A) (h : List (Kept A)) (k : Kept A) → faults_at m (at_end h k) ≡ [] → IsFaultless m h k
+unfolding breaches
+faultless-from m h k none =
+    let n = number (at_end h k) in
+    let f1 = none-both (faults_of BegunOnce n (begun_again h k.event)) _ none in
+    let f2 = none-both (faults_of EndedAfterBegun n (ended_unbegun h k.event)) _ f1.1 in
+    let f3 = none-both (faults_of EndedOnce n (ended_again h k.event)) _ f2.1 in
+    let f4 = none-both (faults_of OperatesInProgress n (operated_idle h k.event)) _ f3.1 in
+    let f5 = none-both (faults_of FormOfEvent n (ill_formed m k.event)) _ f4.1 in
+    let f6 = none-both (faults_of Allowed n (not_allowed m h k.event)) _ f5.1 in
+    let f7 = none-both (faults_of PartiesInProgress n (idle_party h k.event)) _ f6.1 in
+    let f8 = none-both (faults_of Responsible n (handed_unheld m h k.event)) _ f7.1 in
+    let f9 = none-both (faults_of HandsWhole n (kept_back m h k.event)) _ f8.1 in
+    let f10 = none-both (faults_of Conflict n (in_conflict m h k.event)) _ f9.1 in
+    let f11 = none-both (faults_of Return n (wrong_return m h k.ret k.event)) _ f10.1 in
+    let f12 = none-both (faults_of Heir n (without_heir m h k.event)) _ f11.1 in
+    let f13 = none-both (faults_of FormedInTime n (not_in_time h k.event)) _ f12.1 in
+    record {
+      begun_once = no_by BegunOnce n _ f1.0;
+      ended_after_begun = no_by EndedAfterBegun n _ f2.0;
+      ended_once = no_by EndedOnce n _ f3.0;
+      operates_in_progress = no_by OperatesInProgress n _ f4.0;
+      form_of_event = no_by FormOfEvent n _ f5.0;
+      allowed = no_by Allowed n _ f6.0;
+      parties_in_progress = no_by PartiesInProgress n _ f7.0;
+      responsible = no_by Responsible n _ f8.0;
+      hands_whole = no_by HandsWhole n _ f9.0;
+      conflict = no_by Conflict n _ f10.0;
+      return = no_by Return n _ f11.0;
+      heir = no_by Heir n _ f12.0;
+      formed_in_time = no_by FormedInTime n _ f13.0;
+    }
 
 -- the empty history meets the axioms
 pub meets-none : {A : Type 0} (m : Parts A) → MeetsAxioms m []

@@ -16,3 +16,9 @@ mod Bringing
 mod FormedEdges
 pub mod Searches
 mod Walking
+mod Reordering
+mod Replays
+mod StrictItems
+mod SerialGrowth
+mod Grouping
+mod GroupTies

@@ -8,4 +8,6 @@ pub mod Axioms
 pub mod Faults
 pub mod Claims
 pub mod Walks
+pub mod Serial
+pub mod SerialItems
 pub mod inside

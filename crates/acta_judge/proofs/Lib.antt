@@ -5,3 +5,4 @@ pub mod Forms
 mod Histories
 pub mod Meeting
 pub mod Merging
+pub mod Spotless

@@ -13,5 +13,5 @@ mod telling;
 mod verdict;
 
 pub use judging::judge;
-pub use laws::met_axioms_leave_no_fault;
+pub use laws::{met_axioms_leave_no_fault, no_fault_in_places};
 pub use verdict::{JudgeError, Verdict};

@@ -8,5 +8,7 @@ mod changes;
 mod conflicts;
 mod machine;
 mod rules;
+mod serial;
 
 pub use machine::{Machine, Run};
+pub use serial::SerialError;

@@ -1,4 +1,4 @@
-ghost use Rattle.std.specs.Prelude.{◌≡◌, ◌≤◌, true, [], length, None, OnOk, OnErr, IfOk, replicate};
+ghost use Rattle.std.specs.Prelude.{◌≡◌, ◌<◌, ◌≤◌, All, true, false, [], length, map, None, Some, Err, OnOk, OnErr, IfOk, replicate};
 ghost use Rattle.acta_table.specs.Faults.{lowest_fault};
 ghost use Rattle.acta_table.specs.WellFormed.{is_bad_number};
 ghost use Rattle.acta_machine.specs.Changes.{edges_due, summary_of};
@@ -8,10 +8,14 @@ ghost use Rattle.acta_axioms.specs.Claims.{status_at};
 ghost use Rattle.acta_axioms.specs.Edges as edges_by_places;
 ghost use Rattle.acta_axioms.specs.Legal as debts_by_places;
 ghost use Rattle.acta_axioms.specs.Operations as by_places;
+ghost use Rattle.acta_axioms.specs.Serial.{is_strict, serial_order, replayed};
+ghost use Rattle.acta_axioms.specs.SerialItems.{serial_items};
 ghost use Rattle.acta_machine.specs.Places.{FollowsPlaces, op_numbers, value_at};
 ghost use Rattle.acta_machine.specs.Table.{fresh, answer_to, answers_to, after, after_all, run_answers, run_state, status_in, value_in, access_set_in, conflict_set_in, view_set_in, edges_in, debts_in};
 
 use crate::board::{Board, Origin};
+use crate::serial::SerialError;
+use acta_axioms::{SerialItem, is_strict, serial_items};
 use acta_deps::Deps;
 use acta_objects::ObjectState;
 use acta_sets::OpTable;
@@ -182,6 +186,24 @@ impl<A: Allocator + Copy> Machine<A> {
         ensures places { IfOk result (λ owed. owed.items ≡ debts_by_places.owed self.now.model self.now.kept) }
     {
         self.board.owed()
+    }
+
+    /// The serial order of the history (ours): its committed operations, in groups by who held them, the groups in the
+    /// order of the commits, each in the order of the history. Done in this order from the objects' first values, with
+    /// nothing of what has aborted or is in progress, each returns what it returned in the history. `NotStrict` where
+    /// the model isn't strict, and `Memory` where there is no memory.
+    pub fn serial(&self) -> Result<Items<SerialItem, A>, SerialError>
+        ensures items { IfOk result (λ items. items ≡ serial_items self.now.model self.now.kept) }
+        ensures in_model { IfOk result (λ items. All (λ item. item.ob.0 < length self.now.model.objects) items) }
+        ensures replayed { IfOk result (λ items. replayed self.now.model (serial_order self.now.model self.now.kept) ≡ map (λ item. Some item.ret) items) }
+        ensures refused { is_strict self.now.model ≡ false → result ≡ Err SerialError.NotStrict }
+        ensures strict { result ≡ Err SerialError.NotStrict → is_strict self.now.model ≡ false }
+    {
+        if !is_strict(&self.board.model) {
+            return Err(SerialError::NotStrict);
+        }
+        let kept = self.history();
+        Ok(serial_items(self.board.allocator(), &self.board.model, kept)?)
     }
 
     /// The same machine, in memory of its own. `Err` where there is no memory.

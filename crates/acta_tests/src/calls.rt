@@ -1,9 +1,9 @@
 //! The calls that promise most, each in a function of its own that says nothing of its result: what tests show is
 //! compared when they run.
 
-use acta_axioms::{Places, Walk};
-use acta_machine::{Machine, Run};
-use acta_table::{Answer, Event, Kept, MOST_EVENTS, Model, Owed};
+use acta_axioms::{Places, SerialItem, Walk};
+use acta_machine::{Machine, Run, SerialError};
+use acta_table::{Answer, Event, Items, Kept, MOST_EVENTS, Model, Owed};
 use std::alloc::{AllocError, Allocator};
 
 /// A machine on a copy of the model.
@@ -39,6 +39,13 @@ pub fn copy_of<A: Allocator + Copy>(machine: &Machine<A>) -> Result<Machine<A>, 
 /// What the machine says is owed.
 pub fn owed_by<A: Allocator + Copy>(machine: &Machine<A>) -> Result<Vec<Owed, A>, AllocError> {
     machine.owed()
+}
+
+/// The machine's committed operations in serial order.
+pub fn serial_of<A: Allocator + Copy>(
+    machine: &Machine<A>,
+) -> Result<Items<SerialItem, A>, SerialError> {
+    machine.serial()
 }
 
 /// A walk that stands before a list, which is no longer than a history may be.

@@ -41,6 +41,8 @@ mod placing;
 #[cfg(test)]
 mod playing;
 #[cfg(test)]
+mod serials;
+#[cfg(test)]
 mod sets;
 #[cfg(test)]
 mod showing;

@@ -24,6 +24,8 @@ mod refusals;
 #[cfg(test)]
 mod running;
 #[cfg(test)]
+mod serializing;
+#[cfg(test)]
 mod texts;
 #[cfg(test)]
 mod tour;

@@ -5,7 +5,7 @@
 //! many.
 
 use crate::expecting::{holds, made, number, tells};
-use crate::{debugging, driving, images, judging, refusals, tour};
+use crate::{debugging, driving, images, judging, refusals, serializing, tour};
 use acta_locked::DriveError;
 use acta_tool::{
     Args, Command, Metered, ModelName, Outcome, ReadFault, Watched, drive_tool, exit_status, parse,
@@ -542,6 +542,7 @@ fn cases(rt: HostRuntime) {
         debugging::BARE,
         debugging::REFUSED,
         driving::DRIVES,
+        serializing::ORDERS,
         refusals::RUNS,
     ] {
         play(&rt, rt.alloc(), &heap, cases);

@@ -10,6 +10,7 @@ pub mod Outputs
 pub mod Seats
 pub mod SeatsInTurn
 pub mod Sections
+pub mod Serials
 pub mod Tasks
 pub mod Turns
 pub mod TextsAndImages

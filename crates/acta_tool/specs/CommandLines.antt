@@ -12,7 +12,7 @@ use Rattle.acta_words.specs.Numerals.{read_natural}
 use Rattle.acta_locked.specs.declared.limits.TheConstants.{MOST_WORKERS}
 use Rattle.acta_tool.specs.declared.args.Args.{Args}
 use Rattle.acta_tool.specs.declared.args.Command.{Command}
-use Rattle.acta_tool.specs.declared.args.Command.TheVariants.{Assemble, CheckImage, Run, Judge, Debug, Drive}
+use Rattle.acta_tool.specs.declared.args.Command.TheVariants.{Assemble, CheckImage, Run, Judge, Debug, Serial, Drive}
 use Rattle.acta_tool.specs.declared.args.ModelName.{ModelName}
 use Rattle.acta_tool.specs.declared.args.ModelName.TheVariants.{Standard, Path}
 use Rattle.acta_tool.specs.declared.fault.UsageFault.{UsageFault}
@@ -51,6 +51,9 @@ judge_app = with_rule (new_app (codes "judge")) model_rule
 abbrev pub debug_app : App
 debug_app = with_rule (new_app (codes "debug")) model_rule
 
+abbrev pub serial_app : App
+serial_app = with_rule (new_app (codes "serial")) model_rule
+
 abbrev pub drive_app : App
 drive_app = with_rule (with_rule (new_app (codes "drive")) model_rule) workers_rule
 
@@ -60,11 +63,15 @@ bare_app =
     let app = new_app (codes "acta_tool") in
     record app { top = record app.top { subcommand_required = true } }
 
+-- the program with the commands that have the model alone
+abbrev pub plain_app : App
+plain_app =
+    with_subcommand (with_subcommand (with_subcommand (with_subcommand (with_subcommand bare_app
+    assemble_app.top) check_app.top) judge_app.top) debug_app.top) serial_app.top
+
 -- the program
 abbrev pub tool_app : App
-tool_app =
-    with_subcommand (with_subcommand (with_subcommand (with_subcommand (with_subcommand (with_subcommand bare_app
-    assemble_app.top) check_app.top) judge_app.top) debug_app.top) run_app.top) drive_app.top
+tool_app = with_subcommand (with_subcommand plain_app run_app.top) drive_app.top
 
 -- a command line as it is spelled: the command, whether the flag stands with it, the number of workers if one does,
 -- and the model
@@ -119,6 +126,7 @@ IsCommand line CheckImage = line.command ≡ codes "check-image"
 IsCommand line (Run kept) = (line.command ≡ codes "run") × (line.is_kept ≡ kept)
 IsCommand line Judge = line.command ≡ codes "judge"
 IsCommand line Debug = line.command ≡ codes "debug"
+IsCommand line Serial = line.command ≡ codes "serial"
 IsCommand line (Drive workers) = (line.command ≡ codes "drive") × (workers_in line ≡ Some workers) × AreSeated workers
 
 -- it is one of them
@@ -129,7 +137,8 @@ IsKnown line =
     ⊎ ((line.command ≡ codes "run")
     ⊎ ((line.command ≡ codes "judge")
     ⊎ ((line.command ≡ codes "debug")
-    ⊎ ((line.command ≡ codes "drive") × IsSomeAnd (workers_in line) AreSeated)))))
+    ⊎ ((line.command ≡ codes "serial")
+    ⊎ ((line.command ≡ codes "drive") × IsSomeAnd (workers_in line) AreSeated))))))
 
 -- the model is this one: a standard one, or a file
 abbrev pub IsModel : Text → ModelName → Type 0

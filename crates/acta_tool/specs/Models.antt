@@ -8,7 +8,7 @@ use Rattle.acta_image.specs.Reading.{loaded}
 use Rattle.acta_lang.specs.declared.fault.AsmFault.{AsmFault}
 use Rattle.acta_lang.specs.Meaning.{meaning}
 use Rattle.acta_tool.specs.declared.args.Command.{Command}
-use Rattle.acta_tool.specs.declared.args.Command.TheVariants.{Assemble, CheckImage, Run, Judge, Debug, Drive}
+use Rattle.acta_tool.specs.declared.args.Command.TheVariants.{Assemble, CheckImage, Run, Judge, Debug, Serial, Drive}
 use Rattle.acta_tool.specs.declared.models.NoModel.{NoModel}
 use Rattle.acta_tool.specs.declared.models.NoModel.TheVariants.{Text, Image}
 
@@ -35,4 +35,5 @@ model_by CheckImage bytes = of_image (loaded bytes)
 model_by (Run kept) bytes = of_either bytes
 model_by Judge bytes = of_either bytes
 model_by Debug bytes = of_either bytes
+model_by Serial bytes = of_either bytes
 model_by (Drive workers) bytes = of_either bytes

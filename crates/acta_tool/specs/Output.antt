@@ -4,6 +4,7 @@ use Rattle.std.specs.List.{after_first, before_first, position_or_len}
 use Rattle.std.specs.Option.{option_map_or}
 use Rattle.acta_table.specs.declared.answer.Answer.{Answer}
 use Rattle.acta_table.specs.declared.event.Event.{Event}
+use Rattle.acta_table.specs.declared.event.Event.TheVariants.{Operate}
 use Rattle.acta_table.specs.declared.event.Kept.{Kept}
 use Rattle.acta_table.specs.declared.limits.TheConstants.{MOST_EVENTS}
 use Rattle.acta_table.specs.declared.model.Parts.{Parts}
@@ -19,6 +20,9 @@ use Rattle.acta_lang.specs.Meaning.{code_number}
 use Rattle.acta_script.specs.declared.commands.DebugCommand.{DebugCommand}
 use Rattle.acta_script.specs.declared.fault.LineFault.{LineFault}
 use Rattle.acta_axioms.specs.Axioms.{axiom_number}
+use Rattle.acta_axioms.specs.declared.serial.SerialItem.{SerialItem}
+use Rattle.acta_axioms.specs.SerialItems.{serial_items}
+use Rattle.acta_axioms.specs.Serial.{is_strict}
 use Rattle.acta_judge.specs.declared.verdict.Verdict.{Verdict}
 use Rattle.acta_judge.specs.Verdicts.{verdict}
 use Rattle.acta_script.specs.Answers.{answer_line, fault_line, owed_line}
@@ -26,7 +30,7 @@ use Rattle.acta_script.specs.Commands.{command_of}
 use Rattle.acta_script.specs.Reading.{fault_number, event_of, kept_of}
 use Rattle.acta_script.specs.Writing.{kept_line}
 use Rattle.acta_tool.specs.declared.args.Command.{Command}
-use Rattle.acta_tool.specs.declared.args.Command.TheVariants.{Assemble, CheckImage, Run, Judge, Debug, Drive}
+use Rattle.acta_tool.specs.declared.args.Command.TheVariants.{Assemble, CheckImage, Run, Judge, Debug, Serial, Drive}
 use Rattle.acta_tool.specs.declared.models.NoModel.{NoModel}
 use Rattle.acta_tool.specs.declared.models.NoModel.TheVariants.{Text, Image}
 use Rattle.acta_tool.specs.declared.input.BadLine.{BadLine}
@@ -129,6 +133,27 @@ judged_on m kept None =
 abbrev pub judge_on : {A : Type 0} → Parts A → Said (Kept A) → Output
 judge_on m s = judged_on m s.said s.stop
 
+-- an operation of a serial order, as it was kept
+abbrev pub as_kept : {A : Type 0} → SerialItem → Kept A
+as_kept item = record { event = Operate item.txn item.ob item.op; ret = Some item.ret }
+
+-- what a serial order tells: each operation as it was kept
+abbrev pub serial_lines : {A : Type 0} → Parts A → List SerialItem → List (List ℕ)
+serial_lines m items = map (λ item. kept_line m (as_kept item)) items
+
+-- the output of `serial` on a model: the line that says nothing, or that the model isn't strict, or the serial order of
+-- what was kept
+abbrev pub serialized_on : {A : Type 0} → Parts A → List (Kept A) → Option BadLine → Output
+serialized_on m kept (Some b) = record { is_refused = true; text = text_of (stop_line b ∷ []) }
+serialized_on m kept None =
+    if is_strict m
+    then record { is_refused = false; text = text_of (serial_lines m (serial_items m kept)) }
+    else record { is_refused = true; text = text_of (codes "serial fault 1" ∷ []) }
+
+-- the same of a run of what the lines say
+unfoldable pub serial_on : {A : Type 0} → Parts A → Said (Event A) → Output
+serial_on m s = serialized_on m (run_state m s.said).kept s.stop
+
 -- the texts of commands to a debugger on what a run of the events keeps, then the line that stopped them, if one did
 unfoldable pub debugged_on : {A : Type 0} → Parts A → List (Event A) → Said DebugCommand → Output
 debugged_on m events s =
@@ -152,13 +177,15 @@ debug_on m input =
     debugged_unless events.stop m events.said (said_from (command_of m) first_command (after_first ends_events lines))
 
 -- the output of a command on a model: its image, its canonical text, a run of the input's events, the verdict on its
--- kept items, or a debugging run; what `drive` writes hangs on its threads, and is told apart
+-- kept items, a debugging run, or the serial order of what a run of the events keeps; what `drive` writes hangs on its
+-- threads, and is told apart
 abbrev pub output_on : {A : Type 0} → Command → Parts A → List ℕ → Output
 output_on Assemble m input = record { is_refused = false; text = image m }
 output_on CheckImage m input = record { is_refused = false; text = canonical m }
 output_on (Run kept) m input = run_on kept m (said_in (event_of m) input)
 output_on Judge m input = judge_on m (said_in (kept_of m) input)
 output_on Debug m input = debug_on m input
+output_on Serial m input = serial_on m (said_in (event_of m) input)
 output_on (Drive workers) m input = record { is_refused = false; text = [] }
 
 -- the output for bytes that mean no model

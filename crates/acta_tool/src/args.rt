@@ -5,7 +5,7 @@ ghost use Rattle.std.specs.Option.{option_map_or};
 ghost use Rattle.std.specs.Str.{bytes_eq};
 ghost use Rattle.clap.specs.Words.{app_of, first_value, found_of, new_app, rule_of, subcommand_rows_of, with_rule, with_subcommand};
 ghost use Rattle.acta_models.specs.declared.texts.Standard.{Standard as StandardModel};
-ghost use Rattle.acta_tool.specs.CommandLines.{AreSeated, AsksFor, IsCommand, IsFaultOf, IsKnown, IsModel, IsUnknown, bare_app, begins_at, faults_of, kept_rule, model_rule, named_by, named_in, standard_text, tool_app, workers_in, workers_rule};
+ghost use Rattle.acta_tool.specs.CommandLines.{AreSeated, AsksFor, IsCommand, IsFaultOf, IsKnown, IsModel, IsUnknown, bare_app, begins_at, faults_of, kept_rule, model_rule, named_by, named_in, plain_app, standard_text, tool_app, workers_in, workers_rule};
 ghost use Rattle.acta_tool.specs.inside.Spelling.{IsMissing, named_of};
 
 use crate::fault::UsageFault;
@@ -32,6 +32,9 @@ pub enum Command {
     /// Takes the events that are admitted of the lines before `--` as the history of a debugger, and tells what comes
     /// of the commands behind it.
     Debug,
+    /// Tells the committed operations of a run of the event lines of the standard input, in serial order, where the
+    /// model is strict.
+    Serial,
     /// Hands the event lines of the standard input in by this many threads, and tells the entries of the book.
     Drive { workers: u8 },
 }
@@ -87,6 +90,7 @@ fn command_named(spelled: &Spelled<'_>) -> Option<Command>
         }),
         "judge" => Some(Command::Judge),
         "debug" => Some(Command::Debug),
+        "serial" => Some(Command::Serial),
         "drive" => {
             let workers = workers_named(spelled)?;
             Some(Command::Drive { workers })
@@ -209,9 +213,9 @@ fn workers_option<'a>(alloc: Global) -> Arg<'a>
         .help("How many threads hand in the events, from 1 to 16")
 }
 
-// The command line that the program takes.
-fn surface<'a>(alloc: Global) -> Result<clap::Command<'a>, AllocError>
-    ensures { IfOk result (λ command. app_of command ≡ tool_app) }
+// The program with the commands that have the model alone.
+fn plain_commands<'a>(alloc: Global) -> Result<clap::Command<'a>, AllocError>
+    ensures { IfOk result (λ command. app_of command ≡ plain_app) }
 {
     let program = with_command(
         alloc,
@@ -237,6 +241,19 @@ fn surface<'a>(alloc: Global) -> Result<clap::Command<'a>, AllocError>
         "debug",
         "Does the commands behind the line -- on the history of the events before it",
     )?;
+    with_command(
+        alloc,
+        program,
+        "serial",
+        "Tells the committed operations of the events of the standard input, in the order of the commits",
+    )
+}
+
+// The command line that the program takes.
+fn surface<'a>(alloc: Global) -> Result<clap::Command<'a>, AllocError>
+    ensures { IfOk result (λ command. app_of command ≡ tool_app) }
+{
+    let program = plain_commands(alloc)?;
     let program = with_argument(
         alloc,
         program,

@@ -16,6 +16,7 @@ mod models;
 mod outcome;
 mod reports;
 mod run;
+mod serializing;
 mod session;
 mod sink;
 mod source;

@@ -85,8 +85,10 @@ pub fn read_model<A: Allocator + Copy>(
     match command {
         Command::Assemble => read_text(alloc, bytes),
         Command::CheckImage => read_image(alloc, bytes),
-        Command::Run { .. } | Command::Judge | Command::Debug | Command::Drive { .. } => {
-            read_either(alloc, bytes)
-        }
+        Command::Run { .. }
+        | Command::Judge
+        | Command::Debug
+        | Command::Serial
+        | Command::Drive { .. } => read_either(alloc, bytes),
     }
 }

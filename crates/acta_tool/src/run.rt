@@ -15,6 +15,7 @@ use crate::judging::judge_model;
 use crate::models::{ModelError, read_model};
 use crate::outcome::Outcome;
 use crate::reports::{Report, refuse_model, write_report};
+use crate::serializing::serial_model;
 use crate::sink::Sink;
 use crate::source::{MOST_BYTES, ReadFault, Source, read_all};
 use crate::telling::{tell_end, tell_events};
@@ -79,6 +80,7 @@ fn tell_model<A: Allocator + Copy>(
         Command::Run { kept } => return run_model(alloc, kept, model, input),
         Command::Judge => return judge_model(alloc, &model, input),
         Command::Debug => return debug_model(alloc, model, input),
+        Command::Serial => return serial_model(alloc, model, input),
         Command::Drive { .. } => unreachable!(),
     };
     Ok(Report {
@@ -119,9 +121,11 @@ fn read_input<A: Allocator, S: Source>(
 {
     match command {
         Command::Assemble | Command::CheckImage => Ok(Vec::new(alloc)),
-        Command::Run { .. } | Command::Judge | Command::Debug | Command::Drive { .. } => {
-            read_all(alloc, input)
-        }
+        Command::Run { .. }
+        | Command::Judge
+        | Command::Debug
+        | Command::Serial
+        | Command::Drive { .. } => read_all(alloc, input),
     }
 }
 
