@@ -71,15 +71,16 @@ impl<A: Handle> Machine<A> {
         ensures follows { IfOk result FollowsPlaces }
     {
         let store = Store::new(alloc, model.objects())?;
-        Ok(Machine {
-            board: Board {
-                model,
-                deps: Deps::new(alloc)?,
-                origins: no_origins(alloc, TABLE_SIZE)?,
-                store,
-                kept: Vec::new(alloc),
-            },
-        })
+        let deps = Deps::new(alloc)?;
+        let origins = no_origins(alloc, TABLE_SIZE)?;
+        let board = Board {
+            model,
+            deps,
+            origins,
+            store,
+            kept: Vec::new(alloc),
+        };
+        Ok(Machine { board })
     }
 
     /// Takes one event: it is admitted and kept, or refused with the lowest rule that it breaks. A refusal

@@ -158,23 +158,29 @@ fn plays<A: Handle>(
 }
 
 // The operations on an object of the kind, and the aborts in each order.
-fn plays_each(rt: HostRuntime, text: &str, object: ObjId, kind: &Kind) {
+fn plays_each<A: Handle>(
+    rt: &impl Abort,
+    alloc: A,
+    text: &str,
+    object: ObjId,
+    kind: &Kind,
+) {
     for aborts in ORDERS {
-        plays(&rt, rt.alloc(), (text, aborts), (object, kind));
+        plays(rt, alloc, (text, aborts), (object, kind));
     }
 }
 
 #[test]
 fn of_registers(rt: HostRuntime) {
-    plays_each(rt, REGISTER, ObjId(0), &Kind::Register(3));
+    plays_each(&rt, rt.alloc(), REGISTER, ObjId(0), &Kind::Register(3));
 }
 
 #[test]
 fn of_counters(rt: HostRuntime) {
-    plays_each(rt, COUNTER, ObjId(1), &Kind::Counter(1));
+    plays_each(&rt, rt.alloc(), COUNTER, ObjId(1), &Kind::Counter(1));
 }
 
 #[test]
 fn of_sets(rt: HostRuntime) {
-    plays_each(rt, SET, ObjId(2), &Kind::Elements);
+    plays_each(&rt, rt.alloc(), SET, ObjId(2), &Kind::Elements);
 }
