@@ -32,11 +32,11 @@ use Rattle.acta_table.specs.Numbered.{ascending}
 use Rattle.acta_table.specs.Policies.{refuses, edges_upon}
 use Rattle.acta_table.proofs.AscendingSets.{in-ascending, any-number}
 use Rattle.acta_objects.specs.Objects.{suits, first_state, state_after}
-use Rattle.acta_objects.specs.Conflicts.{conflicts, conflict_on}
+use Rattle.acta_objects.specs.Conflicts.{conflict_on}
 use Rattle.acta_table.specs.Classes.{kind_at}
-use Rattle.acta_table.specs.Numbered.{numbers_from, numbers_where}
+use Rattle.acta_table.specs.Numbered.{numbers_from}
 use Rattle.acta_sets.specs.declared.held_op.HeldOp.{HeldOp}
-use Rattle.acta_sets.specs.Operations.{is_held, ops_conflict, is_against as is_against_in, holders_against as holders_against_in}
+use Rattle.acta_sets.specs.Operations.{is_held, is_against as is_against_in, holders_against as holders_against_in}
 use Rattle.acta_axioms.specs.declared.seeking.Sought.TheVariants.{Others, Against}
 use Rattle.acta_axioms.specs.History.{has_class, class_of, ancestors}
 use Rattle.acta_axioms.specs.Operations.{Operation, Standing, standing, operations, is_spared, is_of_others, access_set, conflict_set}

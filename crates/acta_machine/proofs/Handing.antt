@@ -12,7 +12,6 @@ use Rattle.acta_table.specs.declared.model.Parts.{Parts}
 use Rattle.acta_table.specs.Events.{acting, operations_named}
 use Rattle.acta_table.specs.Numbered.{numbers_where, smallest}
 use Rattle.acta_table.specs.Sets.{numbers_of, is_named}
-use Rattle.acta_table.specs.Fates.{is_open}
 use Rattle.acta_axioms.specs.Faults.{has_number}
 use Rattle.acta_axioms.proofs.Numbers.{holds, has-held}
 use Rattle.acta_sets.specs.declared.held_op.HeldOp.{HeldOp}

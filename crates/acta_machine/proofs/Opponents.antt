@@ -1,8 +1,6 @@
 -- What stands against an operation by the table is what does by the rules.
-use Rattle.std.proofs.Common.{if◌then◌else◌, ◌≡◌, ℕ, ◌+◌, Bool, true, false, not, ◌&&◌, ◌||◌, ◌==◌, cond, List, [], ◌∷◌, map, filter, Option, Some, None, refl, sym, ap, ◌∙◌}
+use Rattle.std.proofs.Common.{if◌then◌else◌, ◌≡◌, ℕ, ◌+◌, Bool, true, false, not, ◌&&◌, ◌||◌, ◌==◌, cond, List, [], ◌∷◌, map, filter, Some, None, refl, sym, ap, ◌∙◌}
 use Rattle.std.specs.List.{list_any, position_from}
-use Rattle.std.specs.Ordering.{nat_cmp}
-use Rattle.std.specs.BTreeMap.{is_at}
 use Rattle.acta_table.specs.declared.model.Parts.{Parts}
 use Rattle.acta_table.specs.declared.event.ObjId.{ObjId}
 use Rattle.acta_table.specs.declared.event.Op.{Op}
@@ -12,7 +10,6 @@ use Rattle.acta_table.specs.declared.event.Event.TheVariants.{Begin, Spawn, Spli
 use Rattle.acta_table.specs.Fates.{is_open}
 use Rattle.acta_table.specs.Numbered.{first_number, ascending}
 use Rattle.acta_table.proofs.AscendingSets.{in-ascending, any-number}
-use Rattle.acta_objects.specs.Conflicts.{conflict_on}
 use Rattle.acta_sets.specs.declared.held_op.HeldOp.{HeldOp}
 use Rattle.acta_sets.specs.Operations.{is_among, is_of_others, is_against, holders_against}
 use Rattle.acta_axioms.specs.Values.{is_well_formed}

@@ -6,14 +6,12 @@ use Rattle.std.proofs.lemmas.Bool.{true≢false}
 use Rattle.acta_table.specs.declared.event.ObjId.{ObjId}
 use Rattle.acta_table.specs.declared.event.Op.{Op}
 use Rattle.acta_table.specs.declared.event.Kept.{Kept}
-use Rattle.acta_table.specs.declared.answer.Fate.{Fate}
-use Rattle.acta_table.specs.declared.answer.Fate.TheVariants.{InProgress, Committed, Aborted}
 use Rattle.acta_table.specs.declared.model.Kind.{Kind}
 use Rattle.acta_table.specs.declared.model.Parts.{Parts}
 use Rattle.acta_table.specs.Classes.{kind_at}
 use Rattle.acta_table.specs.Numbered.{first_number}
-use Rattle.acta_table.specs.Fates.{is_open, is_aborted}
-use Rattle.acta_objects.specs.Objects.{suits, first_state, state_after, returned}
+use Rattle.acta_table.specs.Fates.{is_open}
+use Rattle.acta_objects.specs.Objects.{first_state, state_after, returned}
 use Rattle.acta_objects.specs.Conflicts.{conflict_on}
 use Rattle.acta_axioms.specs.Operations.{Operation, Standing, standing, operations, is_in_view, view_set, conflict_set}
 use Rattle.acta_axioms.specs.Operations as by_places
@@ -22,7 +20,7 @@ use Rattle.acta_axioms.specs.Values as by_places_value
 use Rattle.acta_axioms.proofs.Searches.{value-found}
 use Rattle.acta_sets.specs.declared.held_op.HeldOp.{HeldOp}
 use Rattle.acta_sets.specs.Operations.{is_of_others}
-use Rattle.acta_machine.specs.Values.{live_on, live_ops}
+use Rattle.acta_machine.specs.Values.{live_ops}
 use Rattle.acta_machine.specs.Conflicts.{stands_against}
 use Rattle.acta_machine.specs.Changes.{summary_of}
 use Rattle.acta_machine.specs.Families.{spared}

@@ -132,7 +132,7 @@ do 1 x write 5 : ok 7 done : 2
 do 1 x write 6 : ok 8 done : 0
 do 1 x write 7 : ok 9 done : 1
 do 1 x write 8 : ok 10 done : 3
-do 1 x write 9 : ok 11 done : 2
+do 1 x write 9 : ok 11 done : 3
 do 1 s insert 1 : ok 12 yes : 4
 do 1 s insert 2 : ok 13 yes : 2
 do 1 s has 1 : ok 14 yes : 2
@@ -199,10 +199,10 @@ conflicts of child : 2 : 2
 view set : 1 : 12
 value : 1 : 1
 owed : 1 : 1
-machine copy : 33 : 961
+machine copy : 37 : 961
 run : 43 : 9
 model copy : 9 : 2
-new machine : 11 : 0
+new machine : 13 : 0
 first start : 27 : 1
 element : 2 : 1
 replay : 2 : 2

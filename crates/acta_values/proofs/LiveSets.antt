@@ -7,13 +7,13 @@ use Rattle.std.specs.List.Sorted.{IsStrictlySortedBy}
 use Rattle.std.specs.Map.{lookup, set_value, keys_of, values_of}
 use Rattle.std.specs.Option.{unwrap_or, option_map}
 use Rattle.std.specs.declared.cmp.Ordering.TheVariants.{Less}
-use Rattle.std.specs.Ordering.{int_cmp, int_eq, is_eq, match_ordering, ordering_reverse}
+use Rattle.std.specs.Ordering.{int_cmp, int_eq, match_ordering, ordering_reverse}
 use Rattle.std.specs.Cmp.{int_cmp_total}
 use Rattle.std.proofs.lemmas.Bool.Decides.{Decides-int_eq}
 use Rattle.std.proofs.lemmas.List.Sums.{sum_by-le, sum_by-cons}
 use Rattle.std.proofs.lemmas.Map.Entries.{sum_by-set_value, sum_by-insert_entry, length-values_of}
 use Rattle.acta_objects.specs.Conflicts.{IsSet}
-use Rattle.acta_objects.specs.inside.Sets.{has, IsBelow, empty_set}
+use Rattle.acta_objects.specs.inside.Sets.{has, IsBelow, empty_set, head_below, tail_set, set_cons, lacks_below}
 use Rattle.acta_values.specs.declared.trail.Numbered.{Numbered}
 use Rattle.acta_values.specs.LiveSets.{Marks, IsOrdered, trail_at, is_on, elements_of, one_if, count_on}
 
@@ -53,18 +53,6 @@ length_elements (e ∷ marks) =
 
 -- ---- which
 
-head_below : (x : ℤ) (xs : List ℤ) → IsSet (x ∷ xs) → IsBelow x xs
-unfolding IsStrictlySortedBy
-head_below x xs s = s.0
-
-tail_set : (x : ℤ) (xs : List ℤ) → IsSet (x ∷ xs) → IsSet xs
-unfolding IsStrictlySortedBy
-tail_set x xs s = s.1
-
-set_cons : (x : ℤ) (xs : List ℤ) → IsBelow x xs → IsSet xs → IsSet (x ∷ xs)
-unfolding IsStrictlySortedBy
-set_cons x xs b s = (b, s)
-
 below_elements : (x : ℤ) (marks : Marks) → IsBelow x (keys_of marks) → IsBelow x (elements_of marks)
 below_elements x [] below = tt
 below_elements x (e ∷ marks) below = at (is_on e.1) (below_elements x marks below.1)
@@ -80,10 +68,6 @@ elements_set (e ∷ marks) ordered = at (is_on e.1) (elements_set marks (tail_se
     at : (on : Bool) → IsSet (elements_of marks) → IsSet (cond on (e.0 ∷ elements_of marks) (elements_of marks))
     at true later = set_cons e.0 (elements_of marks) (below_elements e.0 marks (head_below e.0 (keys_of marks) ordered)) later
     at false later = later
-
-lacks_below : (x : ℤ) (ys : List ℤ) → IsBelow x ys → has ys x ≡ false
-lacks_below x [] b = refl
-lacks_below x (y ∷ ys) b = ap (λ o. is_eq o || has ys x) b.0 ∙ lacks_below x ys b.1
 
 -- those whose trail says so
 pub has_elements : (marks : Marks) → IsOrdered marks → (q : ℤ) → has (elements_of marks) q ≡ is_on (trail_at marks q)

@@ -13,7 +13,7 @@ use Rattle.acta_table.specs.declared.event.Op.{Op}
 use Rattle.acta_table.specs.declared.event.Op.TheVariants.{Write, Insert, Remove}
 use Rattle.acta_objects.specs.declared.state.ObjectState.TheVariants.{Register as register_state, Counter as counter_state, Elements as elements_state}
 use Rattle.acta_objects.specs.Objects.{first_state, state_after, register_step, counter_step, set_step}
-use Rattle.acta_objects.specs.Limits.{AmountFits, FirstFits, IsNear, IsSmall}
+use Rattle.acta_objects.specs.Limits.{AmountFits, FirstFits, IsNear}
 use Rattle.acta_values.specs.declared.live_value.LiveValue.{LiveValue}
 use Rattle.acta_values.specs.declared.live_value.LiveValue.TheVariants.{Register, Counter, Elements}
 use Rattle.acta_values.specs.declared.trail.Numbered.{Numbered}
@@ -283,11 +283,6 @@ shown_state _ ops _ ordered shows = absurd shows
 
 pub state_is : {A : Type 0} (kind : Kind) (ops : List (Numbered Op)) (value : LiveValue A) → IsInOrder value → IsAfter kind ops value → state_of value ≡ state_after (first_state kind) (ops_of ops)
 state_is kind ops value ordered after = shown_state kind ops value ordered after.shows
-
-pub state_is_small : {A : Type 0} (kind : Kind) (ops : List (Numbered Op)) (value : LiveValue A) → IsAfter kind ops value → IsSmall (length ops + 1) (state_of value)
-state_is_small kind ops (Register first writes) after = tt
-state_is_small kind ops (Counter sum) after = sum_is_near kind ops (Counter sum) sum refl after
-state_is_small kind ops (Elements marks) after = tt
 
 -- an amount may be taken off
 pub amount_off_fits : {A : Type 0} (kind : Kind) (ops : List (Numbered Op)) (op : Op) (value : LiveValue A) (sum : ℤ) → value ≡ Counter sum → IsAfter kind ops value → AmountFits op → FitsSigned w64 (sum -ℤ amount op)

@@ -2,7 +2,6 @@
 use Rattle.std.proofs.Common.{◌≡◌, ℕ, Bool, true, false, cond, ◌||◌, List, [], ◌∷◌, fold, filter_map, Some, None, refl, sym, ap, ◌∙◌}
 use Rattle.std.specs.Prelude.{ℤ}
 use Rattle.std.specs.BTreeSet.{insert_key}
-use Rattle.std.specs.List.Sorted.{IsStrictlySortedBy}
 use Rattle.std.specs.List.{cons_option}
 use Rattle.std.specs.Set.{remove_key}
 use Rattle.std.specs.declared.cmp.Ordering.{Ordering}
@@ -14,24 +13,12 @@ use Rattle.acta_table.specs.declared.event.Op.{Op}
 use Rattle.acta_table.specs.declared.event.Op.TheVariants.{Insert, Remove}
 use Rattle.acta_objects.specs.Conflicts.{IsSet}
 use Rattle.acta_objects.specs.Objects.{set_step}
-use Rattle.acta_objects.specs.inside.Sets.{has, IsBelow, empty_set, same_eq, same_sets, insert_is_set, remove_is_set, has_inserted_other, has_removed_other}
+use Rattle.acta_objects.specs.inside.Sets.{has, empty_set, head_below, tail_set, lacks_below, same_eq, same_sets, insert_is_set, remove_is_set, has_inserted_other, has_removed_other}
 use Rattle.acta_values.specs.declared.trail.Numbered.{Numbered}
 use Rattle.acta_values.specs.Trails.{last_or}
 use Rattle.acta_values.specs.LiveSets.{Marks, IsOrdered, trail_at, is_on, elements_of}
 use Rattle.acta_values.specs.LiveValues.{ops_of, mark_by, marked}
 use Rattle.acta_values.proofs.LiveSets.{elements_set, has_elements}
-
-head_below : (x : ℤ) (xs : List ℤ) → IsSet (x ∷ xs) → IsBelow x xs
-unfolding IsStrictlySortedBy
-head_below x xs s = s.0
-
-tail_set : (x : ℤ) (xs : List ℤ) → IsSet (x ∷ xs) → IsSet xs
-unfolding IsStrictlySortedBy
-tail_set x xs s = s.1
-
-lacks_below : (x : ℤ) (ys : List ℤ) → IsBelow x ys → has ys x ≡ false
-lacks_below x [] b = refl
-lacks_below x (y ∷ ys) b = ap (λ o. is_eq o || has ys x) b.0 ∙ lacks_below x ys b.1
 
 -- what is put in is there
 has_inserted : (xs : List ℤ) (x : ℤ) → has (insert_key int_cmp xs x) x ≡ true

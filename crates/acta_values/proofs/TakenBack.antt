@@ -1,5 +1,5 @@
 -- Kept values with the operations of a transaction taken back.
-use Rattle.std.proofs.Common.{◌≡◌, ◌≢◌, ℕ, zero, suc, ◌+◌, ◌-◌, ◌<◌, ◌≤◌, ◌==◌, Bool, true, false, not, ◌&&◌, ◌||◌, cond, inl, inr, List, [], ◌∷◌, ◌++◌, length, map, get_or, set, take, drop, filter, Option, Some, None, refl, sym, ap, ◌∙◌, subst, arith, eq-eqb, ne_eqb}
+use Rattle.std.proofs.Common.{◌≡◌, ◌≢◌, ℕ, zero, suc, ◌+◌, ◌-◌, ◌<◌, ◌≤◌, ◌==◌, Bool, true, false, not, ◌&&◌, ◌||◌, cond, inl, inr, List, [], ◌∷◌, ◌++◌, length, get_or, set, take, drop, filter, Option, Some, None, refl, sym, ap, ◌∙◌, subst, arith, eq-eqb, ne_eqb}
 use Rattle.std.specs.Prelude.{option_map, slice_get}
 use Rattle.std.specs.List.{AllByRecursion, Contains, cons_option}
 use Rattle.std.proofs.lemmas.Bool.{cases_eq, and_parts}
@@ -340,14 +340,6 @@ undone_set {A = A} number object op values d new within takes = record {
       let was : get_or values object d ≡ value = get_or_from_slice_get values object value d value_is in
       let is : new ≡ left = set_same values object new left left_is in
       subst (λ (v : LiveValue A). IsAfter kind (without number ops) v) is (takes kind ops (subst (λ (v : LiveValue A). IsAfter kind ops v) (sym was) after) there);
-}
-
--- nothing is taken back from no object
-pub undone_nowhere : {A : Type 0} (number object : ℕ) (op : Op) (values : List (LiveValue A)) → length values ≤ object → IsUndoneAt number object op values values
-undone_nowhere number object op values past = record {
-  long = refl;
-  others = λ k other. refl;
-  taken = λ kind ops value left value_is left_is after there. let within = slice_get_within values object value value_is in absurd (omega (arith, within, past));
 }
 
 -- a vector of which all is a slice

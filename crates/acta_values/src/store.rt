@@ -40,7 +40,11 @@ fn kinds_of<A: Allocator + Copy>(
 ) -> Result<Vec<Kind, A>, AllocError>
     ensures { IfOk result (λ kinds. kinds.items ≡ kinds_of objects.now) }
 {
-    objects.iter().map(|object| object.kind).collect(alloc)
+    let mut kinds = Vec::with_capacity(alloc, objects.len())?;
+    for object in objects {
+        kinds.push(object.kind)?;
+    }
+    Ok(kinds)
 }
 
 impl<A: Handle> Store<A> {

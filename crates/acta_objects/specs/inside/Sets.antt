@@ -22,15 +22,15 @@ has xs q = is_member int_eq xs q
 abbrev pub IsBelow : ℤ → List ℤ → Type 0
 IsBelow x ys = AllByRecursion (λ y. int_cmp x y ≡ Less) ys
 
-head_below : (x : ℤ) (xs : List ℤ) → IsSet (x ∷ xs) → IsBelow x xs
+pub head_below : (x : ℤ) (xs : List ℤ) → IsSet (x ∷ xs) → IsBelow x xs
 unfolding IsStrictlySortedBy
 head_below x xs s = s.0
 
-tail_set : (x : ℤ) (xs : List ℤ) → IsSet (x ∷ xs) → IsSet xs
+pub tail_set : (x : ℤ) (xs : List ℤ) → IsSet (x ∷ xs) → IsSet xs
 unfolding IsStrictlySortedBy
 tail_set x xs s = s.1
 
-set_cons : (x : ℤ) (xs : List ℤ) → IsBelow x xs → IsSet xs → IsSet (x ∷ xs)
+pub set_cons : (x : ℤ) (xs : List ℤ) → IsBelow x xs → IsSet xs → IsSet (x ∷ xs)
 unfolding IsStrictlySortedBy
 set_cons x xs b s = (b, s)
 
@@ -51,7 +51,7 @@ Less_from_Greater : (x y : ℤ) → int_cmp x y ≡ Greater → int_cmp y x ≡ 
 Less_from_Greater x y e = int_cmp_total.antisymm y x ∙ ap ordering_reverse e
 
 -- a number below them all is none of them
-lacks_below : (x : ℤ) (ys : List ℤ) → IsBelow x ys → has ys x ≡ false
+pub lacks_below : (x : ℤ) (ys : List ℤ) → IsBelow x ys → has ys x ≡ false
 lacks_below x [] b = refl
 lacks_below x (y ∷ ys) b = ap (λ o. is_eq o || has ys x) b.0 ∙ lacks_below x ys b.1
 
@@ -113,7 +113,7 @@ and_none true = refl
 and_none false = refl
 
 -- the elements after an insertion
-has_insert : (xs : List ℤ) (x q : ℤ) → has (insert_key int_cmp xs x) q ≡ (int_eq q x || has xs q)
+pub has_insert : (xs : List ℤ) (x q : ℤ) → has (insert_key int_cmp xs x) q ≡ (int_eq q x || has xs q)
 has_insert [] x q = refl
 has_insert (y ∷ ys) x q = at (int_cmp x y) refl (has_insert ys x q)
   where
@@ -134,7 +134,7 @@ has_rest y ys q b = at (int_eq q y) refl
     at false e = refl
 
 -- the elements after a removal
-has_remove : (xs : List ℤ) (x q : ℤ) → IsSet xs → has (remove_key (int_eq x) xs) q ≡ (not (int_eq q x) && has xs q)
+pub has_remove : (xs : List ℤ) (x q : ℤ) → IsSet xs → has (remove_key (int_eq x) xs) q ≡ (not (int_eq q x) && has xs q)
 has_remove [] x q s = and_none (not (int_eq q x))
 has_remove (y ∷ ys) x q s = at (int_eq x y) refl (has_remove ys x q (tail_set y ys s))
   where

@@ -1,7 +1,6 @@
 use Rattle.std.proofs.Common.{ap, ◌∙◌}
 use Rattle.std.proofs.lemmas.Result.{IfOk-weaker}
 use Rattle.acta_sets.specs.Operations.{access_set}
-use Rattle.acta_axioms.specs.Walks.{held_ops}
 use Rattle.acta_axioms.proofs.Searches.{held-found}
 use Rattle.acta_axioms.proofs.walk.Walk.access_set.Goals as goal
 

@@ -2,7 +2,6 @@ use Rattle.std.proofs.Common.{[], if◌then◌else◌, ap, ◌∙◌}
 use Rattle.std.proofs.lemmas.Result.{IfOk-weaker}
 use Rattle.acta_sets.specs.Operations.{holders_against}
 use Rattle.acta_axioms.specs.Values.{is_well_formed}
-use Rattle.acta_axioms.specs.Walks.{held_ops}
 use Rattle.acta_axioms.proofs.Searches.{holders-tell}
 use Rattle.acta_axioms.proofs.walk.Walk.holders_against.Goals as goal
 

@@ -1,11 +1,10 @@
-use Rattle.std.proofs.Common.{subst, take, ◌≡◌, ◌<◌, ◌+◌, ◌++◌, length, get_or, sym, ap, arith, ◌∙◌}
-use Rattle.std.specs.Prelude.{slice_get, option_to_list}
+use Rattle.std.proofs.Common.{subst, take, ◌≡◌, ◌<◌, ◌+◌, length, get_or, sym, ap, arith, ◌∙◌}
+use Rattle.std.specs.Prelude.{slice_get}
 use Rattle.std.specs.List.{All}
 use Rattle.std.specs.Option.{option_copied}
 use Rattle.acta_table.specs.Edges.{formed}
 use Rattle.acta_table.specs.Events.{named}
 use Rattle.acta_axioms.specs.Edges.{formed_by}
-use Rattle.acta_axioms.specs.inside.Holding.{brought_from, op_done}
 use Rattle.acta_axioms.specs.inside.Lineages.{unbegun, begun_in, further, heir_in}
 use Rattle.std.proofs.lemmas.List.{length-take}
 use Rattle.acta_axioms.proofs.Bringing.{few-operations}

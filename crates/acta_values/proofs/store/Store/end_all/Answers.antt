@@ -1,5 +1,5 @@
-use Rattle.std.proofs.Common.{◌≡◌, ◌∙◌, List, sym, ap, subst}
-use Rattle.acta_table.specs.declared.answer.Fate.TheVariants.{Committed, Aborted}
+use Rattle.std.proofs.Common.{◌∙◌, List, sym, ap, subst}
+use Rattle.acta_table.specs.declared.answer.Fate.TheVariants.{Aborted}
 use Rattle.acta_sets.specs.declared.held_op.HeldOp.{HeldOp}
 use Rattle.acta_sets.specs.Operations.{ended}
 use Rattle.acta_values.specs.declared.store.Store.TheInside.{Inside}
