@@ -135,8 +135,8 @@ do 1 x write 8 : ok 10 done : 3
 do 1 x write 9 : ok 11 done : 3
 do 1 s insert 1 : ok 12 yes : 4
 do 1 s insert 2 : ok 13 yes : 2
-do 1 s has 1 : ok 14 yes : 2
-do 1 s size : ok 15 2 : 2
+do 1 s has 1 : ok 14 yes : 1
+do 1 s size : ok 15 2 : 1
 delegate 1 2 1,2,3,4,5,6,7,8,9,10,11,12,13 : ok 16 : 7
 do 1 n add 1 : ok 17 done : 2
 do 2 n add 1 : ok 18 done : 0
@@ -200,10 +200,10 @@ view set : 1 : 12
 value : 1 : 1
 owed : 1 : 1
 machine copy : 37 : 961
-run : 43 : 9
+run : 46 : 9
 model copy : 9 : 2
 new machine : 13 : 0
-first start : 27 : 1
+first start : 31 : 1
 element : 2 : 1
 replay : 2 : 2
 op set : 3 : 3
