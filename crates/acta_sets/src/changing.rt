@@ -10,11 +10,11 @@ ghost use Rattle.acta_sets.specs.inside.Held.{changed_at, changed_each};
 ghost use Rattle.acta_sets.specs.inside.Listing.{numbers_in, FrontsHold};
 ghost use Rattle.acta_sets.specs.inside.Filing.{AreFiled, AreFiledBut};
 
+use crate::batch::Batch;
 use crate::counts::Counts;
 use crate::held_op::HeldOp;
 use crate::listing::ModeLists;
-use crate::run::Run;
-use crate::{counts, listing, mode, run};
+use crate::{batch, counts, listing, mode};
 use acta_table::{Fate, MOST_EVENTS, TxnId};
 use std::alloc::Allocator;
 
@@ -102,47 +102,47 @@ pub(crate) fn advance_each<A: Allocator + Copy>(
 }
 
 // The operation of this number is held by `u`, where the transaction holds it in progress; what it changes of the counts
-// joins the run.
+// joins the batch.
 fn hand_one<A: Allocator + Copy>(
     items: &mut Vec<HeldOp, A>,
     counts: &mut Counts<A>,
-    run: Run,
+    batch: Batch,
     number: u32,
     t: TxnId,
     u: TxnId,
-) -> Run
+) -> Batch
     requires few { length items.old.items ≤ MOST_EVENTS }
     requires other { t.0 ≢ u.0 }
-    requires short { run.length < MOST_EVENTS }
-    requires filed { AreFiledBut run t.0 u.0 items.old.items counts.old }
-    requires room { 2 * min run.length 1 ≤ spare counts.old }
+    requires short { batch.length < MOST_EVENTS }
+    requires filed { AreFiledBut batch t.0 u.0 items.old.items counts.old }
+    requires room { 2 * min batch.length 1 ≤ spare counts.old }
     ensures items { items.new.items ≡ changed_at (handed_op t.0 u) number items.old.items }
     ensures filed { AreFiledBut result t.0 u.0 items.new.items counts.new }
-    ensures room { spare counts.old + 2 * min result.length 1 ≤ (spare counts.new + 2) + 2 * min run.length 1 }
-    ensures short { result.length ≤ run.length + 1 }
+    ensures room { spare counts.old + 2 * min result.length 1 ≤ (spare counts.new + 2) + 2 * min batch.length 1 }
+    ensures short { result.length ≤ batch.length + 1 }
     ensures long { length items.new.items ≡ length items.old.items }
 {
     let Some(place) = number.checked_sub(1) else {
-        return run;
+        return batch;
     };
     let place = place as usize;
     if place < items.len() {
         let item = items[place];
         items[place] = item.handed(t, u);
-        return run::hand(counts, run, item, t, u);
+        return batch::hand(counts, batch, item, t, u);
     }
-    run
+    batch
 }
 
-// The operations of these numbers are held by `u`, where the transaction holds them in progress, and the last run of
+// The operations of these numbers are held by `u`, where the transaction holds them in progress, and the last batch of
 // them is not settled.
-fn hand_runs<A: Allocator + Copy>(
+fn hand_batches<A: Allocator + Copy>(
     items: &mut Vec<HeldOp, A>,
     counts: &mut Counts<A>,
     numbers: &[u32],
     t: TxnId,
     u: TxnId,
-) -> Run
+) -> Batch
     requires few { length items.old.items ≤ MOST_EVENTS }
     requires short { length numbers.now ≤ MOST_EVENTS }
     requires other { t.0 ≢ u.0 }
@@ -154,11 +154,11 @@ fn hand_runs<A: Allocator + Copy>(
     ensures short { result.length ≤ MOST_EVENTS }
     ensures long { length items.new.items ≡ length items.old.items }
 {
-    let mut run = Run::empty(t);
+    let mut batch = Batch::empty(t);
     for number in numbers {
-        run = hand_one(items, counts, run, *number, t, u);
+        batch = hand_one(items, counts, batch, *number, t, u);
     }
-    run
+    batch
 }
 
 /// The operations of these numbers are held by `u`, where the transaction holds them in progress.
@@ -177,6 +177,6 @@ pub(crate) fn hand_each<A: Allocator + Copy>(
     ensures items { items.new.items ≡ changed_each (handed_op t.0 u) items.old.items numbers.now }
     ensures filed { AreFiled items.new.items counts.new }
 {
-    let run = hand_runs(items, counts, numbers, t, u);
-    run::settle(counts, run, t, u);
+    let batch = hand_batches(items, counts, numbers, t, u);
+    batch::settle(counts, batch, t, u);
 }

@@ -11,13 +11,20 @@ const ONE: TxnId = TxnId(1);
 
 const THREE: TxnId = TxnId(3);
 
+// One more operation of t, where there is room.
+fn add<A: Handle>(rt: &impl Abort, table: &mut OpTable<A>, t: TxnId, op: Op) {
+    if table.operations().len() < MOST_EVENTS {
+        made(rt, table.add(t, ObjId(0), op), "an operation");
+    }
+}
+
 // An operation of 2, and two of 1, of which the first has ended.
 fn ended<A: Handle>(rt: &impl Abort, alloc: A) -> OpTable<A> {
     let mut table = OpTable::new(alloc);
-    made(rt, table.add(TxnId(2), ObjId(0), Op::Get), "the first");
-    made(rt, table.add(ONE, ObjId(0), Op::Get), "the second");
+    add(rt, &mut table, TxnId(2), Op::Get);
+    add(rt, &mut table, ONE, Op::Get);
     table.end_all(ONE, Fate::Committed);
-    made(rt, table.add(ONE, ObjId(0), Op::Get), "the third");
+    add(rt, &mut table, ONE, Op::Get);
     table
 }
 
@@ -47,9 +54,7 @@ fn add_one<A: Handle>(rt: &impl Abort, table: &mut OpTable<A>, spares: &BTreeSet
     let op = Op::Add(1);
     let against = table.first_against(ONE, spares, ObjId(0), &op);
     holds(rt, against.is_none(), "what stands against it");
-    if table.operations().len() < MOST_EVENTS {
-        made(rt, table.add(ONE, ObjId(0), op), "an addition");
-    }
+    add(rt, table, ONE, op);
 }
 
 // Whether 3 finds the first of these against it, and 1 finds none.

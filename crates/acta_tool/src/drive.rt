@@ -20,7 +20,7 @@ use crate::run::read_within;
 use crate::sink::Sink;
 use crate::source::Source;
 use crate::telling::tell_book;
-use acta_locked::{Book, DriveError, OpenGate, Script, drive};
+use acta_locked::{Book, DriveError, Driven, OpenGate, Script, drive};
 use acta_machine::Handle;
 use acta_script::Seated;
 use acta_table::Model;
@@ -86,7 +86,13 @@ fn drive_scripts<A: Handle + Send + Sync, R: Threads + Wait + Sync>(
     ensures { MayComeOf (unless_too_long (record { model = model; scripts = scripts.now })) result }
 {
     match drive(rt, alloc, model, scripts, &OpenGate) {
-        Ok(driven) => report_book(alloc, &driven.book),
+        Ok(driven) => {
+            let Driven { book, reports } = driven;
+            drop(reports);
+            let told = report_book(alloc, &book);
+            drop(book);
+            told
+        }
         Err(e) => match e {
             DriveError::TooManyEvents => Ok(refuse_by(alloc, b"drive fault 3")?),
             _ => Err(e),

@@ -3,8 +3,8 @@ use Rattle.acta_sets.proofs.Filed.{AreFiledBut-settled, filed_but_small}
 use Rattle.acta_sets.proofs.changing.hand_each.Goals as goal
 
 pub settle-requires-clause-small : goal.settle-requires-clause-small
-settle-requires-clause-small g c = λ q. omega (arith, c.requires.few, c.hand_runs-run.ensures.short, c.hand_runs-run.ensures.long, filed_but_small c.hand_runs-run.result c.args.t.0 c.args.u.0 c.hand_runs-run.new.items.items c.hand_runs-run.new.counts c.hand_runs-run.ensures.filed q)
+settle-requires-clause-small g c = λ q. omega (arith, c.requires.few, c.hand_batches-batch.ensures.short, c.hand_batches-batch.ensures.long, filed_but_small c.hand_batches-batch.result c.args.t.0 c.args.u.0 c.hand_batches-batch.new.items.items c.hand_batches-batch.new.counts c.hand_batches-batch.ensures.filed q)
 
 pub returns-clause-filed : goal.returns-clause-filed
 returns-clause-filed g c =
-    AreFiledBut-settled c.hand_runs-run.result c.args.t.0 c.args.u.0 c.hand_runs-run.new.items.items c.hand_runs-run.new.counts c.settle.new.counts c.requires.other c.hand_runs-run.ensures.filed c.settle.ensures.counted
+    AreFiledBut-settled c.hand_batches-batch.result c.args.t.0 c.args.u.0 c.hand_batches-batch.new.items.items c.hand_batches-batch.new.counts c.settle.new.counts c.requires.other c.hand_batches-batch.ensures.filed c.settle.ensures.counted

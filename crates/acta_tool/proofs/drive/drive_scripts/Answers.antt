@@ -6,8 +6,8 @@ use Rattle.acta_tool.proofs.Seats.{of_entries}
 use Rattle.acta_tool.proofs.Tasks.{driven, undriven}
 use Rattle.acta_tool.proofs.drive.drive_scripts.Goals as goal
 
-pub report_book-requires : goal.report_book-requires
-report_book-requires g c =
+pub report_book-told-requires : goal.report_book-told-requires
+report_book-told-requires g c =
     let d = c.in-Ok.driven in
     subst (λ m. All (λ e. IsInModel m e.event) d.book.entries) (sym c.in-Ok.ensures.driven.model)
     (of_entries (IsInModel c.args.model) c.args.model c.args.scripts.now d c.in-Ok.ensures.driven c.requires)
@@ -15,7 +15,7 @@ report_book-requires g c =
 pub returns-in-Ok : goal.returns-in-Ok
 returns-in-Ok g c =
     let task : Task g.row.A.Denot = record { model = c.args.model; scripts = c.args.scripts.now } in
-    driven task c.in-Ok.driven c.report_book.result c.in-Ok.ensures.barred c.in-Ok.ensures.driven c.report_book.ensures.told c.report_book.ensures.memory
+    driven task c.in-Ok.driven c.report_book-told.result c.in-Ok.ensures.barred c.in-Ok.ensures.driven c.report_book-told.ensures.told c.report_book-told.ensures.memory
 
 pub returns-in_default : goal.returns-in_default
 returns-in_default g c =

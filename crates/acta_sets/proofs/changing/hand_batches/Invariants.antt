@@ -3,15 +3,15 @@ use Rattle.std.specs.HashMap.{spare}
 use Rattle.acta_sets.specs.Operations.{handed_op}
 use Rattle.acta_sets.specs.inside.Held.{changed_each}
 use Rattle.acta_sets.specs.inside.Filing.{AreFiledBut}
-use Rattle.acta_sets.proofs.changing.hand_runs.Given as goal
+use Rattle.acta_sets.proofs.changing.hand_batches.Given as goal
 
--- what is left, from here, ends where all would, and what is in progress is filed, but for the run
+-- what is left, from here, ends where all would, and what is in progress is filed, but for the batch
 abbrev pub invariant-loop-number : goal.invariant-loop-number
 invariant-loop-number g l =
     record {
       told : changed_each (handed_op l.fn.t.0 l.fn.u) l.items.items (drop l.number-index l.numbers) ≡ changed_each (handed_op l.fn.t.0 l.fn.u) l.fn.items.items l.numbers;
       long : length l.items.items ≡ length l.fn.items.items;
-      short : l.run.length ≤ l.number-index;
-      filed : AreFiledBut l.run l.fn.t.0 l.fn.u.0 l.items.items l.counts;
-      room : 2 * length l.numbers + 2 * min l.run.length 1 ≤ spare l.counts + 2 * l.number-index;
+      short : l.batch.length ≤ l.number-index;
+      filed : AreFiledBut l.batch l.fn.t.0 l.fn.u.0 l.items.items l.counts;
+      room : 2 * length l.numbers + 2 * min l.batch.length 1 ≤ spare l.counts + 2 * l.number-index;
     }

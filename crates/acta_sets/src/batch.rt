@@ -1,0 +1,80 @@
+ghost use Rattle.std.specs.Prelude.{◌≡◌, ◌≢◌, ◌<◌, ◌≤◌, ◌+◌, ◌-◌, ◌*◌, ◌^◌, ℕ, min};
+ghost use Rattle.std.specs.HashMap.{spare};
+ghost use Rattle.acta_sets.specs.declared.mode.Tag.{Tag as the_tag};
+ghost use Rattle.acta_sets.specs.Operations.{handed_op};
+ghost use Rattle.acta_sets.specs.inside.Filing.{count, filings, tally_batch};
+
+use crate::counts::{Counts, file_as, unfile_as};
+use crate::held_op::HeldOp;
+use crate::mode::{Holder, are_alike};
+use acta_table::{Fate, ObjId, Op, TxnId};
+use std::alloc::Allocator;
+
+/// Operations that are handed on one after another, on one object and in the same modes: so many as this one. What they
+/// change of the counts is added up, and each count is written once.
+#[derive(Clone, Copy)]
+pub(crate) struct Batch {
+    pub item: HeldOp,
+    pub length: u32,
+}
+
+impl Batch {
+    /// No operation.
+    pub(crate) fn empty(t: TxnId) -> Batch
+        ensures { result.length ≡ 0 }
+    {
+        Batch {
+            item: HeldOp {
+                ob: ObjId(0),
+                op: Op::Read,
+                holder: t,
+                fate: Fate::InProgress,
+            },
+            length: 0,
+        }
+    }
+}
+
+/// The operations of the batch, filed as those of `t`, are filed as those of `u` instead.
+pub(crate) fn settle<A: Allocator + Copy>(counts: &mut Counts<A>, batch: Batch, t: TxnId, u: TxnId)
+    requires room { 2 * min batch.length 1 ≤ spare counts.old }
+    requires small { (q : the_tag) → count counts.old q + 2 * batch.length < 2 ^ 32 }
+    ensures counted { (q : the_tag) → count counts.new q ≡ (count counts.old q - tally_batch q t.0 batch) + tally_batch q u.0 batch }
+    ensures room { spare counts.old ≤ spare counts.new + 2 * min batch.length 1 }
+{
+    if batch.length > 0 {
+        unfile_as(counts, Holder::Txn(t.0), &batch.item, batch.length);
+        file_as(counts, Holder::Txn(u.0), &batch.item, batch.length);
+    }
+}
+
+/// The batch, with the operation where `t` holds it in progress, so that it goes to `u`. Where it is not like those of the
+/// batch, these are settled, and it begins another.
+pub(crate) fn hand<A: Allocator + Copy>(
+    counts: &mut Counts<A>,
+    batch: Batch,
+    item: HeldOp,
+    t: TxnId,
+    u: TxnId,
+) -> Batch
+    requires other { t.0 ≢ u.0 }
+    requires room { 2 * min batch.length 1 ≤ spare counts.old }
+    requires small { (q : the_tag) → count counts.old q + 2 * batch.length < 2 ^ 32 }
+    requires short { batch.length + 1 < 2 ^ 32 }
+    ensures filed { (q : the_tag) → (n : ℕ) → n + tally_batch q t.0 batch ≡ count counts.old q + tally_batch q u.0 batch → (n + filings q (handed_op t.0 u item)) + tally_batch q t.0 result ≡ (count counts.new q + tally_batch q u.0 result) + filings q item }
+    ensures room { spare counts.old + 2 * min result.length 1 ≤ (spare counts.new + 2) + 2 * min batch.length 1 }
+    ensures short { result.length ≤ batch.length + 1 }
+{
+    if !item.is_held(t) {
+        return batch;
+    }
+    if batch.item.ob.0 == item.ob.0 && are_alike(&batch.item.op, &item.op) {
+        let length = batch.length + 1;
+        return Batch {
+            item: batch.item,
+            length,
+        };
+    }
+    settle(counts, batch, t, u);
+    Batch { item, length: 1 }
+}
