@@ -29,60 +29,70 @@ fn shape<A: Handle>(machine: &Machine<A>) -> (usize, usize, Status) {
     )
 }
 
-// Takes the event, its first allocation refused, then the second, and so on, until it succeeds: each refused call has
-// to answer `Err`, and leaves the machine as it was. Gives the answer in the end, and how many calls were refused.
+// Runs the events but the last, and takes that one, its nth growth refused: the call has to answer `Err` then, and leaves
+// the machine as it was. Gives the answer of a call that has fewer growths.
+fn take_last<A: Handle, B: Allocator>(
+    rt: &impl Abort,
+    heap: &Refusing<B>,
+    alloc: A,
+    model: &Model<A>,
+    (before, last): (&[Event<A>], &Event<A>),
+    nth: u64,
+) -> Option<Answer> {
+    let mut run = made(rt, run_on(alloc, model, before), "a run");
+    let shown = shape(&run.machine);
+    heap.refuse(nth);
+    let answer = take(&mut run.machine, last).ok();
+    let was_refused = !heap.is_waiting();
+    heap.refuse(0);
+    holds(rt, answer.is_none() == was_refused, "an answer");
+    holds(
+        rt,
+        answer.is_some() || shape(&run.machine) == shown,
+        "a growth",
+    );
+    drop(run);
+    answer
+}
+
+// Takes the last event, each growth refused in turn, each time on a machine of its own, so that none has room left of a
+// refused call. Gives the answer in the end, and how many growths there are.
 fn refuse_each<A: Handle, B: Allocator>(
     rt: &impl Abort,
     heap: &Refusing<B>,
-    machine: &mut Machine<A>,
-    event: &Event<A>,
+    alloc: A,
+    model: &Model<A>,
+    events: (&[Event<A>], &Event<A>),
 ) -> (Answer, u64) {
     for nth in 1..MOST {
-        let before = shape(machine);
-        heap.refuse(nth);
-        let answer = take(machine, event);
-        if heap.is_waiting() {
-            heap.refuse(0);
-            return (made(rt, answer, "an answer"), nth.saturating_sub(1));
+        if let Some(answer) = take_last(rt, heap, alloc, model, events, nth) {
+            return (answer, nth.wrapping_sub(1));
         }
-        holds(rt, answer.is_err() && shape(machine) == before, "a growth");
     }
     panic!(rt; "too many allocations")
 }
 
-// Takes the event of the line, each growth refused in turn. The line has an event, its answer, and how many growths
-// were refused.
+// Takes the event of the line behind those before, each growth refused in turn, and puts it behind them. The line has an
+// event, its answer, and how many growths it has.
 fn grow_line<A: Handle, B: Allocator>(
     rt: &impl Abort,
     heap: &Refusing<B>,
     alloc: A,
-    machine: &mut Machine<A>,
+    model: &Model<A>,
+    before: &mut Vec<Event<A>, A>,
     line: &str,
 ) {
     let (said, due) = parted(rt, line, " : ");
     let (due, growths) = parted(rt, due, " : ");
-    let event = event_of(rt, alloc, machine.model(), said);
-    let (answer, refused) = refuse_each(rt, heap, machine, &event);
-    drop(event);
+    let event = event_of(rt, alloc, model, said);
+    let (answer, refused) = refuse_each(rt, heap, alloc, model, (before.as_slice(), &event));
     same(rt, &Some(refused), &number_of(growths), line);
     let told = made(rt, answer_line(alloc, &answer), line);
     tells(rt, told.as_slice(), due, line);
+    made(rt, before.push(event), line);
 }
 
-// Takes the events of the lines on the machine.
-fn grow_lines<A: Handle, B: Allocator>(
-    rt: &impl Abort,
-    heap: &Refusing<B>,
-    alloc: A,
-    machine: &mut Machine<A>,
-    text: &str,
-) {
-    for line in text.lines() {
-        grow_line(rt, heap, alloc, machine, line);
-    }
-}
-
-// Takes the events of the lines on a new machine.
+// Takes the events of the lines, one behind the other.
 fn grow_each<A: Handle, B: Allocator>(
     rt: &impl Abort,
     heap: &Refusing<B>,
@@ -91,9 +101,11 @@ fn grow_each<A: Handle, B: Allocator>(
     text: &str,
 ) {
     let model = model_of(rt, alloc, model);
-    let mut machine = made(rt, new_machine(alloc, &model), "a machine");
-    grow_lines(rt, heap, alloc, &mut machine, text);
-    drop(machine);
+    let mut events = Vec::new(alloc);
+    for line in text.lines() {
+        grow_line(rt, heap, alloc, &model, &mut events, line);
+    }
+    drop(events);
     drop(model);
 }
 
@@ -104,40 +116,39 @@ form AD 2 1 : ok 2 : 2
 begin 2 try : ok 3 : 0
 abort 1 : ok 4 : 1";
 
-// For the first operation, of the operations, of those in its mode and their list, of the counts, and of what each
-// transaction holds; for one in other modes, of their lists, of the counts, and of a set that is an object. For a
-// delegation, of the set that is kept, of the operations that are handed on, of the counts, and of what each transaction
-// holds; for a split with two edges, of the edges that are due and of the edges in force too. A join of one that holds
-// nothing has none.
+// Of a first operation: of its object's value, of the operations, and of each index of them; of one on an object of
+// another kind, of its value and its modes. Of a delegation: of the set that is kept, of what is handed on, of the counts,
+// and of what each transaction holds; of a split with two edges, of these too. A join of one that holds nothing has none.
 const OF_PARTS: &str = "\
 begin 1 part : ok 1 : 1
 begin 2 part : ok 2 : 0
-do 1 x write 5 : ok 3 done : 5
-do 1 s insert 3 : ok 4 yes : 4
-delegate 1 2 1,2 : ok 5 : 5
+do 1 x write 5 : ok 3 done : 13
+do 1 s insert 3 : ok 4 yes : 8
+delegate 1 2 1,2 : ok 5 : 7
 do 1 n add 1 : ok 6 done : 1
-split 1 4 part 3 : ok 7 : 4
+split 1 4 part 3 : ok 7 : 5
 join 1 2 : ok 8 : 0";
 
 // Of the list of what a transaction holds, which has room for eight of its own; of the list of a mode, of the maps of
-// modes and of counts; of a list into which a later one goes, so that they are merged.
+// modes and of counts; of the writes of a register that stand, and of each element's insertions and removals; of a list
+// into which a later one goes, so that they are merged.
 const OF_LISTS: &str = "\
 begin 1 part : ok 1 : 1
 begin 2 part : ok 2 : 0
-do 1 x write 1 : ok 3 done : 5
+do 1 x write 1 : ok 3 done : 13
 do 1 x write 2 : ok 4 done : 0
-do 1 x write 3 : ok 5 done : 3
+do 1 x write 3 : ok 5 done : 5
 do 1 x write 4 : ok 6 done : 0
-do 1 x write 5 : ok 7 done : 2
+do 1 x write 5 : ok 7 done : 3
 do 1 x write 6 : ok 8 done : 0
 do 1 x write 7 : ok 9 done : 1
-do 1 x write 8 : ok 10 done : 3
-do 1 x write 9 : ok 11 done : 3
-do 1 s insert 1 : ok 12 yes : 4
+do 1 x write 8 : ok 10 done : 4
+do 1 x write 9 : ok 11 done : 4
+do 1 s insert 1 : ok 12 yes : 8
 do 1 s insert 2 : ok 13 yes : 2
 do 1 s has 1 : ok 14 yes : 1
 do 1 s size : ok 15 2 : 1
-delegate 1 2 1,2,3,4,5,6,7,8,9,10,11,12,13 : ok 16 : 7
+delegate 1 2 1,2,3,4,5,6,7,8,9,10,11,12,13 : ok 16 : 9
 do 1 n add 1 : ok 17 done : 2
 do 2 n add 1 : ok 18 done : 0
 do 1 n add 1 : ok 19 done : 0
@@ -145,12 +156,12 @@ delegate 2 1 1,2,3,4,5,6,7,8,9,10,11,12,13,15 : ok 20 : 5
 join 1 2 : ok 21 : 1
 commit 2 : ok 22 : 0";
 
-// Of the edges that are due, and of the edges in force; of the list of ancestors who are spared, of the set of them, and
-// of a first operation; for a commit to a parent, of what is handed on.
+// Of the edges that are due, and of the edges in force; of a first operation, and of the list of ancestors who are spared
+// and the set of them; for a commit to a parent, of what is handed on.
 const OF_SPAWNS: &str = "\
 begin 1 top : ok 1 : 1
 spawn 1 2 sub : ok 2 : 2
-do 2 x write 5 : ok 3 done : 7
+do 2 x write 5 : ok 3 done : 15
 commit 2 : ok 4 : 1";
 
 // For an operation with two edges, of the set of those whom it depends on, of the edges that are due, of the edges in
@@ -158,11 +169,11 @@ commit 2 : ok 4 : 1";
 const OF_DEPENDING: &str = "\
 begin 1 loose : ok 1 : 1
 begin 2 loose : ok 2 : 0
-do 1 x write 5 : ok 3 done : 5
+do 1 x write 5 : ok 3 done : 13
 do 1 x write 5 : ok 4 done : 0
 do 1 x write 5 : ok 5 done : 1
 do 1 x write 5 : ok 6 done : 0
-do 2 x read : ok 7 5 : 4";
+do 2 x read : ok 7 5 : 5";
 
 #[test]
 fn of_events(rt: HostRuntime) {

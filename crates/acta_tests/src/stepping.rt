@@ -22,24 +22,45 @@ fn counts<A: Handle>(walk: &Walk<'_, A>) -> (usize, usize, usize) {
     )
 }
 
-// Steps, the first growth refused, then the second, and so on, until it succeeds. Gives how many were refused.
+// Steps through a list up to its last item, and over that one, the nth growth refused: the step has to answer `Err` then,
+// and leaves the walk as it was. Whether the step has as many growths.
+fn is_refused<A: Handle, B: Allocator>(
+    rt: &impl Abort,
+    heap: &Refusing<B>,
+    alloc: A,
+    model: &Model<A>,
+    kept: &[Kept<A>],
+    nth: u64,
+) -> bool {
+    let mut walk = made(rt, walk_of(alloc, model, kept), "a walk");
+    for _ in 1..kept.len() {
+        made(rt, walk.step(), "a step before");
+    }
+    let before = counts(&walk);
+    heap.refuse(nth);
+    let stepped = walk.step();
+    let was_refused = !heap.is_waiting();
+    heap.refuse(0);
+    holds(rt, stepped.is_err() == was_refused, "a step");
+    holds(rt, stepped.is_ok() || counts(&walk) == before, "a growth");
+    drop(walk);
+    was_refused
+}
+
+// Steps over the last item of a list, each growth refused in turn, each time in a walk of its own, so that none has room
+// left of a refused step. Gives how many growths there are.
 fn step_each<A: Handle, B: Allocator>(
     rt: &impl Abort,
     heap: &Refusing<B>,
-    walk: &mut Walk<'_, A>,
+    alloc: A,
+    model: &Model<A>,
+    kept: &[Kept<A>],
 ) -> u64 {
     for nth in 1..MOST {
-        let before = counts(walk);
-        heap.refuse(nth);
-        let stepped = walk.step();
-        if heap.is_waiting() {
-            heap.refuse(0);
-            holds(rt, stepped.is_ok(), "a step");
-            return nth.saturating_sub(1);
+        if !is_refused(rt, heap, alloc, model, kept, nth) {
+            return nth.wrapping_sub(1);
         }
-        holds(rt, stepped.is_err() && counts(walk) == before, "a growth");
     }
-    heap.refuse(0);
     MOST
 }
 
@@ -59,22 +80,8 @@ fn read<A: Allocator + Copy>(
     kept
 }
 
-// Steps over the events of the lines, each growth refused in turn: behind each event stands how many growths the step
-// over it has.
-fn step_over<A: Handle, B: Allocator>(
-    rt: &impl Abort,
-    heap: &Refusing<B>,
-    walk: &mut Walk<'_, A>,
-    text: &str,
-) {
-    for line in text.lines() {
-        let (_, growths) = parted(rt, line, " : ");
-        let refused = step_each(rt, heap, walk);
-        same(rt, &Some(refused), &number_of(growths), line);
-    }
-}
-
-// Steps through the list that the text means, on this model.
+// Steps through the list that the text means, on this model: behind each event stands how many growths the step over it
+// has.
 fn steps_on<A: Handle, B: Allocator>(
     rt: &impl Abort,
     heap: &Refusing<B>,
@@ -83,9 +90,11 @@ fn steps_on<A: Handle, B: Allocator>(
     text: &str,
 ) {
     let kept = read(rt, alloc, model, text);
-    let mut walk = made(rt, walk_of(alloc, model, kept.as_slice()), "a walk");
-    step_over(rt, heap, &mut walk, text);
-    drop(walk);
+    for (at, line) in text.lines().enumerate() {
+        let (_, growths) = parted(rt, line, " : ");
+        let refused = step_each(rt, heap, alloc, model, &kept[..=at]);
+        same(rt, &Some(refused), &number_of(growths), line);
+    }
 }
 
 // Steps through the list that the text means.
@@ -101,17 +110,16 @@ fn steps<A: Handle, B: Allocator>(
     drop(model);
 }
 
-// For the first operation, of the operations, of those in its mode and their list, of the counts, and of what each
-// transaction holds; for one with edges, of the set of those whom it depends on, of the edges that are due, of the set of
-// the edges, and of the counts; for one that spares its ancestor, of the set of these; for a delegation, of what is handed
-// on; of the edge that is formed.
+// Of a first operation: of its object's value, of the operations, and of each index of them; of one with edges, of the set
+// of those whom it depends on, of the edges that are due, of the set of the edges, and of the counts; of one that spares
+// its ancestor, of the set of these; of a delegation, of what is handed on; of the edge that is formed.
 const OF_DEPENDING: &str = "\
 begin 1 loose : 0
 begin 2 loose : 0
 spawn 2 3 loose : 0
-do 1 x write 5 : 5
-do 2 x read : 5
-do 3 x read : 6
+do 1 x write 5 : 13
+do 2 x read : 7
+do 3 x read : 7
 delegate 1 2 1 : 1
 form CD 7 8 : 1
 commit 2 : 0";
@@ -119,15 +127,32 @@ commit 2 : 0";
 // Of a first operation; for a split, of the edges that are due, of the set of the edges, and of what is handed on.
 const OF_PARTS: &str = "\
 begin 1 part : 0
-do 1 x write 5 : 5
-split 1 2 part 1 : 4
+do 1 x write 5 : 13
+split 1 2 part 1 : 6
 join 1 2 : 0
 abort 2 : 0";
+
+// Of a first operation on an object of each kind, and of those behind it; what aborts takes no memory.
+const OF_KINDS: &str = "\
+begin 1 loose : 0
+do 1 x write 5 : 13
+do 1 x write 6 : 0
+do 1 n add 5 : 5
+do 1 n add 6 : 0
+do 1 s insert 3 : 9
+do 1 s remove 3 : 0
+do 1 s insert 4 : 2
+do 1 s has 4 : 1
+abort 1 : 0";
 
 #[test]
 fn refuses_each_growth(rt: HostRuntime) {
     let heap = Refusing::new(rt.alloc());
-    for (model, text) in [(LENDING, OF_DEPENDING), (FOLLOWING, OF_PARTS)] {
+    for (model, text) in [
+        (LENDING, OF_DEPENDING),
+        (LENDING, OF_KINDS),
+        (FOLLOWING, OF_PARTS),
+    ] {
         steps(&rt, &heap, &heap, model, text);
     }
 }

@@ -152,19 +152,17 @@ fn plays<A: Handle>(
     for lines in [BEGINS, text, aborts] {
         takes(rt, alloc, &mut machine, lines, (object, kind));
     }
-    holds(rt, machine.history().len() == 6 + text.lines().count(), text);
+    holds(
+        rt,
+        machine.history().len() == 6 + text.lines().count(),
+        text,
+    );
     drop(machine);
     drop(model);
 }
 
 // The operations on an object of the kind, and the aborts in each order.
-fn plays_each<A: Handle>(
-    rt: &impl Abort,
-    alloc: A,
-    text: &str,
-    object: ObjId,
-    kind: &Kind,
-) {
+fn plays_each<A: Handle>(rt: &impl Abort, alloc: A, text: &str, object: ObjId, kind: &Kind) {
     for aborts in ORDERS {
         plays(rt, alloc, (text, aborts), (object, kind));
     }

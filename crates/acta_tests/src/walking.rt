@@ -73,7 +73,10 @@ fn is_equal<A: Allocator + Copy>(p: &ObjectState<A>, q: &ObjectState<A>) -> bool
 }
 
 /// Whether two values are the same, or there is none of either.
-pub fn is_same<A: Allocator + Copy>(p: Option<&ObjectState<A>>, q: Option<&ObjectState<A>>) -> bool {
+pub fn is_same<A: Allocator + Copy>(
+    p: Option<&ObjectState<A>>,
+    q: Option<&ObjectState<A>>,
+) -> bool {
     match (p, q) {
         (Some(p), Some(q)) => is_equal(p, q),
         (p, q) => p.is_none() && q.is_none(),
