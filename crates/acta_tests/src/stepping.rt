@@ -64,37 +64,21 @@ fn step_each<A: Handle, B: Allocator>(
     MOST
 }
 
-// The events of the lines.
-fn read<A: Allocator + Copy>(
-    rt: &impl Abort,
-    alloc: A,
-    model: &Model<A>,
-    text: &str,
-) -> Vec<Kept<A>, A> {
-    let mut kept = Vec::new(alloc);
-    for line in text.lines() {
-        let (said, _) = parted(rt, line, " : ");
-        let event = event_of(rt, alloc, model, said);
-        made(rt, kept.push(Kept { event, ret: None }), line);
-    }
-    kept
-}
-
-// Steps through the list that the text means, on this model: behind each event stands how many growths the step over it
-// has.
-fn steps_on<A: Handle, B: Allocator>(
+// Steps over the event of the line, behind those before, and puts it behind them. The line has an event, and how many
+// growths the step over it has.
+fn step_line<A: Handle, B: Allocator>(
     rt: &impl Abort,
     heap: &Refusing<B>,
     alloc: A,
     model: &Model<A>,
-    text: &str,
+    kept: &mut Vec<Kept<A>, A>,
+    line: &str,
 ) {
-    let kept = read(rt, alloc, model, text);
-    for (at, line) in text.lines().enumerate() {
-        let (_, growths) = parted(rt, line, " : ");
-        let refused = step_each(rt, heap, alloc, model, &kept[..=at]);
-        same(rt, &Some(refused), &number_of(growths), line);
-    }
+    let (said, growths) = parted(rt, line, " : ");
+    let event = event_of(rt, alloc, model, said);
+    made(rt, kept.push(Kept { event, ret: None }), line);
+    let refused = step_each(rt, heap, alloc, model, kept.as_slice());
+    same(rt, &Some(refused), &number_of(growths), line);
 }
 
 // Steps through the list that the text means.
@@ -106,7 +90,11 @@ fn steps<A: Handle, B: Allocator>(
     text: &str,
 ) {
     let model = model_of(rt, alloc, model);
-    steps_on(rt, heap, alloc, &model, text);
+    let mut kept = Vec::new(alloc);
+    for line in text.lines() {
+        step_line(rt, heap, alloc, &model, &mut kept, line);
+    }
+    drop(kept);
     drop(model);
 }
 
