@@ -51,7 +51,7 @@ fn run_on<R: Input + Print + AllocGlobal + Threads + Wait + Sync>(
     let mut output = Watched::new(io::writer(rt));
     match args.command {
         Command::Drive { .. } => drive_tool(rt, rt.alloc(), args, model, &mut input, &mut output),
-        _ => run_tool(rt.alloc(), args, model, &mut input, &mut output),
+        _ => run_tool(rt, rt.alloc(), args, model, &mut input, &mut output),
     }
 }
 

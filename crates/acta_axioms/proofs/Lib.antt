@@ -14,8 +14,8 @@ mod Tables
 mod Lineages
 mod Bringing
 mod Following
-mod FormedEdges
 pub mod Searches
+pub mod Unopposed
 mod EdgesWanted
 mod Walking
 mod Reordering

@@ -1,7 +1,7 @@
 //! What stands against an operation on an object of a model, and which edges an event forms: one search for whoever walks
 //! through a history and for whoever admits events.
 
-ghost use Rattle.std.specs.Prelude.{◌≡◌, ◌&&◌, [], None, IfOk, if◌then◌else◌};
+ghost use Rattle.std.specs.Prelude.{◌≡◌, ℕ, List, false, ◌&&◌, [], None, IfOk, if◌then◌else◌};
 ghost use Rattle.std.specs.List.{list_any};
 ghost use Rattle.acta_table.specs.Numbered.{first_number};
 ghost use Rattle.acta_sets.specs.Operations.{is_against, holders_against};
@@ -37,6 +37,21 @@ pub fn has_against<A: Handle>(
     ensures { result ≡ (is_well_formed model.now object.0 op.now && list_any (is_against t.0 spares.now.keys object.0 op.now) operations.now) }
 {
     is_well_formed(model, object, op) && operations.has_against(t, spares, object, op)
+}
+
+/// Whether an operation of another, in progress, conflicts with this one on the object, whomever `t` may spare. Where
+/// none does, none stands against it, and whom `t` spares need not be found out.
+pub fn is_opposed<A: Handle>(
+    alloc: A,
+    model: &Model<A>,
+    operations: &OpTable<A>,
+    t: TxnId,
+    object: ObjId,
+    op: &Op,
+) -> bool
+    ensures { (spares : List ℕ) → result ≡ false → (is_well_formed model.now object.0 op.now && list_any (is_against t.0 spares object.0 op.now) operations.now) ≡ false }
+{
+    has_against(model, operations, t, &BTreeSet::new(alloc), object, op)
 }
 
 /// The number of the first operation that does.

@@ -1,4 +1,4 @@
-ghost use Rattle.std.specs.Prelude.{◌≡◌, map, IfOk};
+ghost use Rattle.std.specs.Prelude.{◌≡◌, false, map, IfOk};
 ghost use Rattle.std.specs.List.{list_any};
 ghost use Rattle.acta_table.specs.Numbered.{ascending};
 ghost use Rattle.acta_table.specs.Classes.{spares};
@@ -116,6 +116,14 @@ impl<'a, A: Handle> Walk<'a, A> {
             && self.do_conflict(object, &item.op, op)
     }
 
+    /// Whether an operation of another on this object, in progress, conflicts with this one, whomever the transaction
+    /// spares. Where none does, none of its conflict set does.
+    pub(crate) fn is_opposed(&self, t: TxnId, object: ObjId, op: &Op) -> bool
+        ensures { result ≡ false → list_any (is_against self.now.model self.now.front t.0 object.0 op.now) (held_ops self.now.model self.now.front) ≡ false }
+    {
+        against::is_opposed(self.allocator(), self.model, self.table(), t, object, op)
+    }
+
     /// Whether an operation on this object and in the transaction's conflict set, which spares these, conflicts with
     /// this one.
     pub(crate) fn has_against(
@@ -168,6 +176,9 @@ impl<'a, A: Handle> Walk<'a, A> {
     ) -> Result<BTreeSet<u16, A>, AllocError>
         ensures { IfOk result (λ holders. holders.keys ≡ holders_against self.now.model self.now.front t.0 object.0 op.now) }
     {
+        if !self.is_opposed(t, object, op) {
+            return Ok(BTreeSet::new(self.allocator()));
+        }
         let spared = self.spared_numbers(t)?;
         against::holders_against(
             self.allocator(),

@@ -89,6 +89,20 @@ impl<'a, A: Handle> Walk<'a, A> {
         Ok(())
     }
 
+    /// A walk at the same place of the same list, in memory of its own. `Err` where there is no memory.
+    pub fn copy(&self) -> Result<Walk<'a, A>, AllocError>
+        ensures { IfOk result (λ walk. walk ≡ self.now) }
+    {
+        Ok(Walk {
+            model: self.model,
+            kept: self.kept,
+            taken: self.taken,
+            lines: Vec::from_slice(self.allocator(), self.lines.as_slice())?,
+            store: self.store.copy()?,
+            edges: self.edges.clone()?,
+        })
+    }
+
     /// The operations that the transaction holds in progress (ACTA's access set), by number, ascending. `Err` where
     /// there is no memory.
     pub fn access_set(&self, t: TxnId) -> Result<Vec<OpNo, A>, AllocError>
@@ -110,6 +124,9 @@ impl<'a, A: Handle> Walk<'a, A> {
     pub fn conflicting(&self, t: TxnId, object: ObjId, op: &Op) -> Result<Vec<OpNo, A>, AllocError>
         ensures { IfOk result (λ ops. ops.items ≡ op_numbers (conflicting self.now.model self.now.front t.0 object.0 op.now)) }
     {
+        if !self.is_opposed(t, object, op) {
+            return Ok(Vec::new(self.allocator()));
+        }
         let spared = self.spared_numbers(t)?;
         if self.has_against(t, &spared, object, op) {
             self.seek(t, &Sought::Against(object, *op))
@@ -156,6 +173,13 @@ impl<'a, A: Handle> Walk<'a, A> {
         ensures few { length result.now ≤ MOST_EVENTS }
     {
         &self.kept[..self.taken]
+    }
+
+    /// The items from the place that is reached on.
+    pub fn ahead(&self) -> &'a [Kept<A>]
+        ensures { result.now ≡ self.now.ahead }
+    {
+        &self.kept[self.taken..]
     }
 
     // The operations, with who holds them and what became of each.

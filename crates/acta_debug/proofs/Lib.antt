@@ -1,4 +1,5 @@
 mod Examples
+pub mod Fronts
 pub mod Replaying
 pub mod Standing
 pub mod Stopping

@@ -17,7 +17,7 @@ use Rattle.acta_debug.specs.Histories.{IsFirstOther, IsHistory, events_in, state
 abbrev pub with_kept : {A : Type 0} → Parts A → List (Kept A) → State A
 with_kept m ks = record { model = m; kept = ks }
 
-after_all-append : {A : Type 0} (s : State A) (xs ys : List (Event A)) → after_all s (xs ++ ys) ≡ after_all (after_all s xs) ys
+pub after_all-append : {A : Type 0} (s : State A) (xs ys : List (Event A)) → after_all s (xs ++ ys) ≡ after_all (after_all s xs) ys
 after_all-append s [] ys = refl
 after_all-append s (x ∷ xs) ys = after_all-append (after s x) xs ys
 
@@ -27,7 +27,7 @@ replay-more {A} m ks k =
     ap (run_state m) (map-append (λ (x : Kept A). x.event) ks (k ∷ [])) ∙ after_all-append (fresh m) (events_in ks) (k.event ∷ [])
 
 -- what a history gains by events: at most one item by each
-record Gained {A : Type 0} (s t : State A) (most : ℕ) : Type 0 where
+pub record Gained {A : Type 0} (s t : State A) (most : ℕ) : Type 0 where
   pub more : List (Kept A)
   pub model : t.model ≡ s.model
   pub kept : t.kept ≡ s.kept ++ more
@@ -37,7 +37,7 @@ moved-gained : {A : Type 0} (s : State A) (e : Event A) (r : Option Refusal) →
 moved-gained s e None = record { more = kept_as s e ∷ []; model = refl; kept = refl; few = omega arith }
 moved-gained s e (Some r) = record { more = []; model = refl; kept = sym (append-nil s.kept); few = omega arith }
 
-after-gained : {A : Type 0} (s : State A) (e : Event A) → Gained s (after s e) 1
+pub after-gained : {A : Type 0} (s : State A) (e : Event A) → Gained s (after s e) 1
 unfolding after
 after-gained s e = moved-gained s e (lowest_broken s.model (summary_of s.model s.kept) e)
 
@@ -89,6 +89,10 @@ fronts {A} m h whole n =
     let front-is = same-front reached.kept then.more front rest same both in
     λ i. with_kept (first.model i) (front-is i)
 
+-- no events change the model
+pub runs-model : {A : Type 0} (m : Parts A) (es : List (Event A)) → (run_state m es).model ≡ m
+runs-model m es = (all-gained (fresh m) es).model
+
 -- what a machine has kept is a history
 own-moved : {A : Type 0} (m : Parts A) (s : State A) (e : Event A) (r : Option Refusal) → run_state m (events_in s.kept) ≡ s → after s e ≡ moved_on s e r
     → run_state m (events_in (moved_on s e r).kept) ≡ moved_on s e r
@@ -107,7 +111,7 @@ pub runs : {A : Type 0} (m : Parts A) (es : List (Event A)) → IsHistory m (run
 runs m es =
     let s = run_state m es in
     let own = own-all m (fresh m) es refl in
-    let model = (all-gained (fresh m) es).model in
+    let model = runs-model m es in
     own ∙ (λ i. with_kept (model i) s.kept)
 
 -- the answer that an item is due

@@ -6,9 +6,10 @@ use Rattle.acta_table.specs.declared.event.Kept.{Kept}
 use Rattle.acta_table.specs.declared.limits.TheConstants.{MOST_EVENTS}
 use Rattle.acta_table.specs.declared.model.Parts.{Parts}
 use Rattle.acta_machine.specs.Places.{FollowsPlaces}
-use Rattle.acta_machine.specs.Table.{State, after, run_state}
+use Rattle.acta_machine.specs.Table.{State, after}
 use Rattle.acta_debug.specs.declared.breaks.Break.{Break}
-use Rattle.acta_debug.specs.Histories.{IsHistory, events_in, state_at}
+use Rattle.acta_debug.specs.declared.errors.MoveError.TheVariants.{AtEnd}
+use Rattle.acta_debug.specs.Histories.{IsHistory, state_at}
 use Rattle.acta_debug.specs.Moves.{stepped, stepped_back}
 use Rattle.acta_debug.specs.Sessions.{Session, moved_to}
 use Rattle.acta_debug.specs.inside.Shown.{IsInside, session_of}
@@ -33,6 +34,9 @@ shows-state s h at inside = stands s h at inside ∙ sym (fronts s.model h insid
 
 pub stepped-ahead : {A : Type 0} (s : Session A) → s.at < length s.history → stepped s ≡ Ok (moved_to s (s.at + 1))
 stepped-ahead s lt = grind (arith, nat_tests)
+
+pub stepped-end : {A : Type 0} (s : Session A) → length s.history ≤ s.at → stepped s ≡ Err AtEnd
+stepped-end s end = grind (arith, nat_tests)
 
 pub stepped-behind : {A : Type 0} (s : Session A) (at : ℕ) → at ≡ s.at → ¬ (at ≡ 0) → stepped_back s ≡ Ok (moved_to s (at - 1))
 stepped-behind s at is start = grind (arith, nat_tests)
@@ -59,15 +63,3 @@ module _ {A : Type 0} (s t : State A) (h list : List (Kept A)) (at : ℕ) (bs : 
     step-moves q view =
         ap (stepped {A = A}) (sym view) ∙ stepped-ahead (session_of s h at bs) below
         ∙ ap (λ (x : Session A). Ok x) (sym (moved-at s t h at (at + 1) bs (ap (λ (x : State A). x.model) step-kept)))
-
-  -- where it is the replay of the first n items, the debugger has moved there
-  module _ (n : ℕ) (m copied : Parts A) (q : Session A) (view : session_of s h at bs ≡ q) (within : n ≤ length q.history) (one : m ≡ copied) (other : copied ≡ s.model)
-      (goes : t ≡ run_state m (events_in (take n list))) where
-    replay-kept : t ≡ with_kept s.model (take n h)
-    replay-kept = goes ∙ (λ i. run_state ((one ∙ other) i) (events_in (take n (same i)))) ∙ fronts s.model h inside.whole n
-
-    pub replay-inside : IsInside t h n
-    replay-inside = let size = ap (λ (x : Session A). length x.history) view in inside-at s.model h n t inside.whole (omega (arith, within, size)) inside.few replay-kept follows
-
-    pub replay-moves : session_of t h n bs ≡ moved_to q n
-    replay-moves = moved-at s t h at n bs (ap (λ (x : State A). x.model) replay-kept) ∙ ap (λ (x : Session A). moved_to x n) view

@@ -1,22 +1,25 @@
 //! The debugger.
 
-ghost use Rattle.std.specs.Prelude.{◌≡◌, ◌⊎◌, ◌≤◌, ℕ, Ok, Err, take, length};
-ghost use Rattle.std.specs.Prelude.{IfErr, IfOk, IsOkUnless, OnErr, OnOk};
+ghost use Rattle.std.specs.Prelude.{◌≡◌, ◌⊎◌, ◌<◌, ◌≤◌, ℕ, Ok, Err, take, length, slice_index_or};
+ghost use Rattle.std.specs.Prelude.{IfErr, IfOk, IfSome, IsOkUnless, OnErr, OnOk};
 ghost use Rattle.acta_table.specs.declared.limits.TheConstants.{MOST_EVENTS};
 ghost use Rattle.acta_machine.specs.Places.{FollowsPlaces};
+ghost use Rattle.acta_machine.specs.Table.{State, run_state};
 ghost use Rattle.acta_debug.specs.Histories.{IsFirstOther, IsHistory, state_at};
 ghost use Rattle.acta_debug.specs.Moves.{gone_to, stepped, stepped_back, with_break, without_breaks};
 ghost use Rattle.acta_debug.specs.Sessions.{moved_to, opened};
 ghost use Rattle.acta_debug.specs.Stops.{IsStop, run_to_stop, stop_of};
+ghost use Rattle.acta_debug.specs.inside.Shown.{AreFronts, IsFront};
 ghost use Rattle.acta_debug.specs.declared.errors.MoveError.{MoveError as Fault};
 ghost use Rattle.acta_debug.specs.declared.errors.NewError.TheVariants as new;
 
 use crate::breaks::{Break, Stop};
 use crate::errors::{MoveError, NewError};
-use crate::replay::{first_other, replayed};
+use crate::recording::{LEAST_DISTANCE, Recording};
+use crate::replay::{accepted, take_events};
 use crate::running::{place_of, run_on};
 use acta_machine::{Handle, Machine};
-use acta_table::{Kept, Model};
+use acta_table::{Event, Kept, MOST_EVENTS, Model};
 use std::alloc::AllocError;
 use std::mem::replace;
 
@@ -28,31 +31,58 @@ pub struct Debugger<A: Handle> {
     history: Vec<Kept<A>, A>,
     at: usize,
     breaks: Vec<Break, A>,
+    // Machines that stand behind fronts of the history, from which a move goes on.
+    checkpoints: Vec<Machine<A>, A>,
 }
 
 impl<A: Handle> std::marker::Model for Debugger<A> {
     ghost use Rattle.acta_debug.specs.Sessions.{Session};
-    ghost use Rattle.acta_debug.specs.inside.Shown.{IsInside, session_of};
+    ghost use Rattle.acta_debug.specs.inside.Shown.{IsBehind, session_of};
 
     ghost Value = { Session A };
 
     ghost view = { λ d. session_of d.machine d.history.items d.at d.breaks.items };
 
-    ghost invariant = { λ d. IsInside d.machine d.history.items d.at };
+    ghost invariant = { λ d. IsBehind d.machine d.history.items d.at d.checkpoints.items };
 }
 
-// `Ok` for a history of the model. Of any other list `NotAHistory` tells the first place, from 1, at which it is none.
-// `Memory` where there is no memory.
-fn check_history<A: Handle>(alloc: A, model: &Model<A>, items: &[Kept<A>]) -> Result<(), NewError>
-    ensures only { OnOk result (IsHistory model.now items.now) }
-    ensures few { OnOk result (length items.now ≤ MOST_EVENTS) }
-    ensures accepted { IsHistory model.now items.now → IsOkUnless result new.Memory }
-    ensures other { (n : ℕ) → result ≡ Err (new.NotAHistory n) → IsFirstOther model.now items.now n }
+// The same items, in memory of their own.
+fn copied<A: Handle>(alloc: A, items: &[Kept<A>]) -> Result<Vec<Kept<A>, A>, AllocError>
+    ensures { IfOk result (λ copies. copies.items ≡ items.now) }
 {
-    match first_other(alloc, model.copy()?, items)? {
-        Some(place) => Err(NewError::NotAHistory(place)),
-        None => Ok(()),
+    let mut copies = Vec::with_capacity(alloc, items.len())?;
+    for item in items {
+        copies.push(item.copy()?)?;
     }
+    Ok(copies)
+}
+
+// Where among the machines that one is which has kept the most events, of those that have kept at most so many.
+fn nearest_of<A: Handle>(machines: &[Machine<A>], events: usize) -> Option<usize>
+    ensures within { IfSome result (λ k. k < length machines.now) }
+    ensures up_to { (t : State A) → IfSome result (λ k. length (slice_index_or machines.now k t).kept ≤ events) }
+{
+    let mut found = None;
+    let mut most = 0;
+    for (k, machine) in machines.iter().enumerate() {
+        let kept = machine.history().len();
+        if most <= kept && kept <= events {
+            found = Some(k);
+            most = kept;
+        }
+    }
+    found
+}
+
+// Whether one of the machines has kept so many events at least, and so many at most.
+fn has_between<A: Handle>(machines: &[Machine<A>], least: usize, most: usize) -> bool {
+    for machine in machines {
+        let kept = machine.history().len();
+        if least <= kept && kept <= most {
+            return true;
+        }
+    }
+    false
 }
 
 impl<A: Handle> Debugger<A> {
@@ -66,21 +96,56 @@ impl<A: Handle> Debugger<A> {
         ensures accepted { IsHistory model history.items → IsOkUnless result new.Memory }
         ensures other { (n : ℕ) → result ≡ Err (new.NotAHistory n) → IsFirstOther model history.items n }
     {
-        if let Err(error) = check_history(alloc, &model, history.as_slice()) {
-            drop(model);
-            drop(history);
-            return Err(error);
+        match accepted(alloc, &model, history.as_slice()) {
+            Ok(checkpoints) => Ok(Debugger::at_start(alloc, model, history, checkpoints)?),
+            Err(error) => {
+                drop(model);
+                drop(history);
+                Err(error)
+            }
         }
+    }
+
+    /// A debugger on what a machine on the model keeps of the events, at its start, with no break (ours): the events are
+    /// run once. `Err`, where there is no memory, drops the model.
+    pub fn of_events(
+        alloc: A,
+        model: Model<A>,
+        events: &[Event<A>],
+    ) -> Result<Debugger<A>, AllocError>
+        ensures { IfOk result (λ debugger. debugger ≡ opened model (run_state model events.now).kept) }
+    {
+        let mut recording = Recording::new(alloc, model.copy()?, events.len().min(MOST_EVENTS))?;
+        recording.take_all(events)?;
+        let history = copied(alloc, recording.machine().history())?;
+        let checkpoints = recording.checkpoints()?;
+        Ok(Debugger::at_start(alloc, model, history, checkpoints)?)
+    }
+
+    // A debugger on a history, at its start, with no break.
+    fn at_start(
+        alloc: A,
+        model: Model<A>,
+        history: Vec<Kept<A>, A>,
+        checkpoints: Vec<Machine<A>, A>,
+    ) -> Result<Debugger<A>, AllocError>
+        requires whole { IsHistory model history.items }
+        requires few { length history.items ≤ MOST_EVENTS }
+        requires fronts { AreFronts model history.items checkpoints.items }
+        ensures { IfOk result (λ debugger. debugger ≡ opened model history.items) }
+    {
         match Machine::new(alloc, model) {
             Ok(machine) => Ok(Debugger {
                 machine,
                 history,
                 at: 0,
                 breaks: Vec::new(alloc),
+                checkpoints,
             }),
             Err(error) => {
                 drop(history);
-                Err(NewError::from(error))
+                drop(checkpoints);
+                Err(error)
             }
         }
     }
@@ -115,6 +180,7 @@ impl<A: Handle> Debugger<A> {
         if at == 0 {
             return Err(MoveError::AtStart);
         }
+        self.draw_near(at - 1)?;
         self.stand_behind(at - 1)?;
         Ok(())
     }
@@ -134,17 +200,77 @@ impl<A: Handle> Debugger<A> {
         Ok(())
     }
 
-    // Moves to behind the first n events, by replay from the start. `Err`, where there is no memory, leaves it where it
-    // stood.
+    // A copy of the last of the checkpoints that stand behind no more than n events, or a new machine.
+    fn checkpoint_before(&self, n: usize) -> Result<Machine<A>, AllocError>
+        ensures front { IfOk result (IsFront self.now.model self.now.history) }
+        ensures before { IfOk result (λ machine. length machine.kept ≤ n) }
+    {
+        match nearest_of(self.checkpoints.as_slice(), n) {
+            Some(k) => Ok(self.checkpoints[k].copy()?),
+            None => {
+                let model = self.machine.model().copy()?;
+                Ok(Machine::new(*self.history.allocator(), model)?)
+            }
+        }
+    }
+
+    // A machine that stands behind no more than n events: a copy of its own where no checkpoint is nearer. `Err` where
+    // there is no memory.
+    fn machine_before(&self, n: usize) -> Result<Machine<A>, AllocError>
+        ensures front { IfOk result (IsFront self.now.model self.now.history) }
+        ensures before { IfOk result (λ machine. length machine.kept ≤ n) }
+    {
+        if self.at > n || has_between(self.checkpoints.as_slice(), self.at, n) {
+            return self.checkpoint_before(n);
+        }
+        Ok(self.machine.copy()?)
+    }
+
+    // The machine behind the first n events. `Err` where there is no memory.
+    fn machine_behind(&self, n: usize) -> Result<Machine<A>, AllocError>
+        requires { n ≤ length self.now.history }
+        ensures kept { IfOk result (λ machine. machine ≡ record { model = self.now.model; kept = take n self.now.history }) }
+        ensures follows { IfOk result FollowsPlaces }
+    {
+        let mut machine = self.machine_before(n)?;
+        let taken = machine.history().len();
+        match take_events(&mut machine, &self.history.as_slice()[taken..n]) {
+            Ok(()) => Ok(machine),
+            Err(error) => {
+                drop(machine);
+                Err(error)
+            }
+        }
+    }
+
+    // Sees to it that a checkpoint stands behind no more than n events, and not many fewer: where none does, the last of
+    // them is brought there. So one move back after another takes few events. `Err`, where there is no memory, leaves
+    // all as it was.
+    fn draw_near(&mut self, n: usize) -> Result<(), AllocError>
+        requires { n ≤ length self.old.history }
+        ensures { self.new ≡ self.old }
+    {
+        let start = n.saturating_sub(LEAST_DISTANCE);
+        if has_between(self.checkpoints.as_slice(), start, n) {
+            return Ok(());
+        }
+        let machine = self.machine_behind(start)?;
+        let count = self.checkpoints.len();
+        if count == 0 {
+            drop(machine);
+        } else {
+            drop(replace(&mut self.checkpoints[count - 1], machine));
+        }
+        Ok(())
+    }
+
+    // Moves to behind the first n events. `Err`, where there is no memory, leaves it where it stood.
     fn stand_behind(&mut self, n: usize) -> Result<(), AllocError>
         requires { n ≤ length self.old.history }
         ensures ok { OnOk result (self.new ≡ moved_to self.old n) }
         ensures err { OnErr result (self.new ≡ self.old) }
     {
-        let alloc = *self.history.allocator();
-        let model = self.machine.model().copy()?;
-        let behind = &self.history.as_slice()[..n];
-        let machine = replayed(alloc, model, behind)?;
+        let machine = self.machine_behind(n)?;
         drop(replace(&mut self.machine, machine));
         self.at = n;
         Ok(())

@@ -9,6 +9,7 @@ mod breaks;
 mod debugger;
 mod errors;
 mod laws;
+mod recording;
 mod replay;
 mod running;
 

@@ -1,3 +1,9 @@
-pub mod Aborting
-mod FormedEdges
+pub mod FormedEdges
+mod LastPlaces
 mod StatusTables
+mod Walks
+mod SmallestSame
+mod Clashes
+pub mod Clear
+mod Parties
+mod Refusals

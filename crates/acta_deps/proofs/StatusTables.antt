@@ -1,5 +1,5 @@
 -- A table of statuses in which one was set.
-use Rattle.std.proofs.Common.{◌≡◌, sym, ◌∙◌, ℕ, ◌<◌, List, length, slice_set, eq-eqb, inl, inr}
+use Rattle.std.proofs.Common.{◌≡◌, zero, suc, refl, arith, [], ◌∷◌, slice_get, sym, ◌∙◌, ℕ, ◌<◌, List, length, slice_set, eq-eqb, inl, inr}
 use Rattle.std.proofs.lemmas.Bool.{ne_eqb, cases_eq}
 use Rattle.std.proofs.lemmas.Option.{unwrap_or-slice_get}
 use Rattle.std.proofs.lemmas.List.{get_or-set_same, get_or-set_other}
@@ -17,3 +17,9 @@ at_set xs t s h u =
 
 pub status_set : (xs : List Status) (t : ℕ) (s : Status) → t < length xs → status_listed (slice_set xs t s) ≡ with_status (status_listed xs) t s
 status_set xs t s h = λ i u. at_set xs t s h u i
+
+-- the one in front stays where another is set
+pub front_kept : (xs : List Status) (t : ℕ) (s : Status) → 0 < t → slice_get (slice_set xs t s) 0 ≡ slice_get xs 0
+front_kept [] t s h = refl
+front_kept (x ∷ xs) zero s h = absurd (omega arith)
+front_kept (x ∷ xs) (suc t) s h = refl

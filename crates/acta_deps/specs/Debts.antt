@@ -64,3 +64,7 @@ owing_both status edges = map (λ e. e.j.0) (filter (clashes_by status edges) ed
 -- the smallest transaction that owes both
 abbrev pub clashing : (ℕ → Status) → List Edge → Option ℕ
 clashing status edges = smallest (owing_both status edges)
+
+-- whether t owes both a commit and an abort
+abbrev pub owes_both : (ℕ → Status) → List Edge → ℕ → Bool
+owes_both status edges t = list_any (owes_commit status t) edges && list_any (owes_abort status t) edges

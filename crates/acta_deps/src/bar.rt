@@ -4,7 +4,7 @@ ghost use Rattle.acta_deps.specs.Statuses.{has_begun, is_decided};
 ghost use Rattle.acta_deps.specs.Dependencies.{awaits_begin, awaits_end, awaits_commit, awaits_abort, ends_after, committed_first, began_first, cannot_pay_commit, cannot_pay_abort};
 ghost use Rattle.acta_deps.specs.inside.Bars.{bars};
 
-use crate::debt::{debt_by, is_abort, is_commit};
+use crate::debt::{is_abort, is_commit};
 use crate::deps::Deps;
 use acta_table::{Dep, Edge, Status, TxnId};
 use std::alloc::Allocator;
@@ -128,19 +128,18 @@ impl<A: Allocator> Deps<A> {
     {
         let is_j = e.j.0 == t.0;
         let is_i = e.i.0 == t.0;
-        let (i, j) = (self.status(e.i), self.status(e.j));
         match bar {
-            Bar::AwaitsBegin => is_j && awaits_begin(e.kind, i),
-            Bar::AwaitsEnd => is_j && awaits_end(e.kind, i),
-            Bar::AwaitsCommit => is_j && awaits_commit(e.kind, i),
-            Bar::AwaitsAbort => is_j && awaits_abort(e.kind, i),
-            Bar::EndsAfter => is_j && ends_after(e.kind, i),
-            Bar::CommittedFirst => is_i && committed_first(e.kind, j),
-            Bar::BeganFirst => is_i && began_first(e.kind, j),
-            Bar::CannotPayCommit => is_i && cannot_pay_commit(e.kind, j),
-            Bar::CannotPayAbort => is_i && cannot_pay_abort(e.kind, j),
-            Bar::OwesCommit => is_j && is_commit(debt_by(e.kind, i, j)),
-            Bar::OwesAbort => is_j && is_abort(debt_by(e.kind, i, j)),
+            Bar::AwaitsBegin => is_j && awaits_begin(e.kind, self.status(e.i)),
+            Bar::AwaitsEnd => is_j && awaits_end(e.kind, self.status(e.i)),
+            Bar::AwaitsCommit => is_j && awaits_commit(e.kind, self.status(e.i)),
+            Bar::AwaitsAbort => is_j && awaits_abort(e.kind, self.status(e.i)),
+            Bar::EndsAfter => is_j && ends_after(e.kind, self.status(e.i)),
+            Bar::CommittedFirst => is_i && committed_first(e.kind, self.status(e.j)),
+            Bar::BeganFirst => is_i && began_first(e.kind, self.status(e.j)),
+            Bar::CannotPayCommit => is_i && cannot_pay_commit(e.kind, self.status(e.j)),
+            Bar::CannotPayAbort => is_i && cannot_pay_abort(e.kind, self.status(e.j)),
+            Bar::OwesCommit => is_j && is_commit(self.debt(e)),
+            Bar::OwesAbort => is_j && is_abort(self.debt(e)),
         }
     }
 }

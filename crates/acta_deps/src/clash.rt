@@ -1,31 +1,29 @@
-ghost use Rattle.std.specs.Prelude.{◌≡◌, Some, min, IfOk, if◌then◌else◌};
+ghost use Rattle.std.specs.Prelude.{◌≡◌, ◌<◌, ◌≤◌, ◌-◌, Some, None, min, length, slice_index_or, if◌then◌else◌};
+ghost use Rattle.std.specs.List.{list_any};
 ghost use Rattle.std.specs.Option.{option_map_or};
-ghost use Rattle.std.specs.BTreeSet.{insert_key};
-ghost use Rattle.std.specs.Ordering.{nat_cmp};
-ghost use Rattle.acta_table.specs.Dependencies.{is_abort};
+ghost use Rattle.acta_table.specs.declared.dep.Edge.{Edge};
 ghost use Rattle.acta_deps.specs.Deps.{status_of};
-ghost use Rattle.acta_deps.specs.Statuses.{with_status};
-ghost use Rattle.acta_deps.specs.Debts.{debt_of, clashes_by, clashing};
+ghost use Rattle.acta_deps.specs.Debts.{debt_of, owes_commit, owes_abort, owes_both, clashing};
 ghost use Rattle.acta_deps.specs.Dependencies.{clash};
-ghost use Rattle.acta_deps.specs.inside.Bars.{aborting};
+ghost use Rattle.acta_deps.specs.inside.Bars.{owes, other_of, tears};
+ghost use Rattle.acta_deps.specs.inside.Refused.{status_after};
 
 use crate::debt::{debt_by, is_abort, is_commit};
 use crate::deps::Deps;
 use acta_table::{Edge, Missing, Refusal, Rule, Status, TxnId, lesser};
-use std::alloc::{AllocError, Allocator};
-use std::collections::BTreeSet;
+use std::alloc::Allocator;
 
-// A change of one status: the transaction, and how it is to stand.
-#[derive(Clone, Copy)]
+/// A change of one status: the transaction, and how it is to stand.
+#[derive(Clone, Copy, PartialEq, Eq)]
 pub(crate) struct Change {
     pub(crate) txn: TxnId,
     pub(crate) status: Status,
 }
 
-impl<A: Allocator + Copy> Deps<A> {
+impl<A: Allocator> Deps<A> {
     // How `u` would stand after the change.
     fn status_after(&self, change: Change, u: TxnId) -> Status
-        ensures { result ≡ with_status (status_of self.now) change.txn.0 change.status u.0 }
+        ensures { result ≡ status_after self.now change u.0 }
     {
         if u.0 == change.txn.0 {
             change.status
@@ -36,73 +34,129 @@ impl<A: Allocator + Copy> Deps<A> {
 
     // What would be owed by the edge.
     fn debt_after(&self, change: Change, e: &Edge) -> Option<Missing>
-        ensures { result ≡ debt_of (with_status (status_of self.now) change.txn.0 change.status) e.now }
+        ensures { result ≡ debt_of (status_after self.now change) e.now }
     {
         let i = self.status_after(change, e.i);
         let j = self.status_after(change, e.j);
         debt_by(e.kind, i, j)
     }
 
-    // Puts the one that would owe by the edge among the others, where it would owe an abort.
-    fn put_aborting(
-        &self,
-        change: Change,
-        e: &Edge,
-        txns: &mut BTreeSet<u16, A>,
-    ) -> Result<(), AllocError>
-        ensures { IfOk result (λ _. txns.new.keys ≡ (if is_abort (debt_of (with_status (status_of self.now) change.txn.0 change.status) e.now) then insert_key nat_cmp txns.old.keys e.now.j.0 else txns.old.keys)) }
+    // Whether `u` would owe the event by the edge.
+    fn owes_by(&self, change: Change, u: TxnId, missing: Missing, e: &Edge) -> bool
+        ensures { result ≡ owes missing (status_after self.now change) u.0 e.now }
     {
-        if is_abort(self.debt_after(change, e)) {
-            txns.insert(e.j.0)?;
-        }
-        Ok(())
+        let debt = self.debt_after(change, e);
+        let is_owed = match missing {
+            Missing::Commit => is_commit(debt),
+            Missing::Abort => is_abort(debt),
+        };
+        e.j.0 == u.0 && is_owed
     }
 
-    // Who would owe an abort. `Err` where there is no memory.
-    fn aborting(&self, change: Change) -> Result<BTreeSet<u16, A>, AllocError>
-        ensures { IfOk result (λ txns. txns.keys ≡ aborting (with_status (status_of self.now) change.txn.0 change.status) self.now.edges) }
+    // Whether `u` would owe the event.
+    fn owes(&self, change: Change, u: TxnId, missing: Missing) -> bool
+        ensures { result ≡ list_any (owes missing (status_after self.now change) u.0) self.now.edges }
     {
-        let mut txns = BTreeSet::new(self.allocator());
+        let parties = self.by_j();
         let edges = self.edges();
-        for e in edges {
-            self.put_aborting(change, e, &mut txns)?;
-        }
-        Ok(txns)
-    }
-
-    // Whether a commit would be owed by the edge, and an abort by another, where these would owe one.
-    #[tactic(auto, using(crate::proofs::Aborting::in_aborting))]
-    fn clashes_by(&self, change: Change, owing: &BTreeSet<u16, A>, e: &Edge) -> bool
-        requires { owing.now.keys ≡ aborting (with_status (status_of self.now) change.txn.0 change.status) self.now.edges }
-        ensures { result ≡ clashes_by (with_status (status_of self.now) change.txn.0 change.status) self.now.edges e.now }
-    {
-        is_commit(self.debt_after(change, e)) && owing.contains(&e.j.0)
-    }
-
-    // The smallest transaction that would owe both a commit and an abort. `Err` where there is no memory.
-    #[tactic(auto, using(acta_table::proofs::Smallest::least_is_smallest))]
-    fn clashing(&self, change: Change) -> Result<Option<u32>, AllocError>
-        ensures { IfOk result (λ least. least ≡ clashing (with_status (status_of self.now) change.txn.0 change.status) self.now.edges) }
-    {
-        let owing = self.aborting(change)?;
-        let mut least = None;
-        let edges = self.edges();
-        for e in edges {
-            if self.clashes_by(change, &owing, e) {
-                least = lesser(least, e.j.0 as u32);
+        let mut place = parties.last(u);
+        while place > 0 {
+            let e = &edges[place as usize - 1];
+            if self.owes_by(change, u, missing, e) {
+                return true;
             }
+            place = parties.before(place);
         }
-        Ok(least)
+        false
     }
 
-    /// Whether after the change some transaction would owe both a commit and an abort. `Err` where there is no memory.
-    #[tactic(auto, unfolding(crate::specs::Dependencies::clash))]
-    pub(crate) fn clash(&self, change: Change) -> Result<Option<Refusal>, AllocError>
-        ensures { IfOk result (λ refusal. refusal ≡ clash (status_of self.now) self.now.edges change.txn.0 change.status) }
+    // Whether `u` would owe both.
+    fn owes_both(&self, change: Change, u: TxnId) -> bool
+        ensures { result ≡ owes_both (status_after self.now change) self.now.edges u.0 }
     {
-        Ok(match self.clashing(change)? {
+        self.owes(change, u, Missing::Commit) && self.owes(change, u, Missing::Abort)
+    }
+
+    // Whether `u`, who would owe the one event, would owe the other too.
+    fn owes_other(&self, change: Change, u: TxnId, debt: Option<Missing>) -> bool
+        ensures { result ≡ other_of debt (list_any (owes_commit (status_after self.now change) u.0) self.now.edges) (list_any (owes_abort (status_after self.now change) u.0) self.now.edges) }
+    {
+        match debt {
+            None => false,
+            Some(Missing::Commit) => self.owes(change, u, Missing::Abort),
+            Some(Missing::Abort) => self.owes(change, u, Missing::Commit),
+        }
+    }
+
+    // The edge of this number.
+    fn edge(&self, place: u16) -> &Edge
+        requires place { 0 < place }
+        requires within { place ≤ length self.now.edges }
+        ensures { (d : Edge) → result.now ≡ slice_index_or self.now.edges (place - 1) d }
+    {
+        &self.edges()[place as usize - 1]
+    }
+
+    // Whether the edge of this number is on the one that changes, and the other would owe by it, and owe both.
+    fn tears(&self, change: Change, place: u16) -> bool
+        requires place { 0 < place }
+        requires within { place ≤ length self.now.edges }
+        ensures { (d : Edge) → result ≡ tears (status_after self.now change) self.now.edges change.txn.0 (slice_index_or self.now.edges (place - 1) d) }
+    {
+        let e = self.edge(place);
+        let debt = self.debt_after(change, e);
+        let is_other = self.owes_other(change, e.j, debt);
+        e.i.0 == change.txn.0 && is_other
+    }
+
+    // The smaller of the least so far and the one that the edge tears, where it does.
+    fn with_torn(&self, change: Change, place: u16, least: Option<u32>) -> Option<u32>
+        requires place { 0 < place }
+        requires within { place ≤ length self.now.edges }
+        ensures { (d : Edge) → result ≡ (if tears (status_after self.now change) self.now.edges change.txn.0 (slice_index_or self.now.edges (place - 1) d) then Some (option_map_or (min (slice_index_or self.now.edges (place - 1) d).j.0) least (slice_index_or self.now.edges (place - 1) d).j.0) else least) }
+    {
+        if self.tears(change, place) {
+            lesser(least, u32::from(self.edge(place).j.0))
+        } else {
+            least
+        }
+    }
+
+    // The one that changes, where it would owe both.
+    fn torn(&self, change: Change) -> Option<u32>
+        ensures { result ≡ (if owes_both (status_after self.now change) self.now.edges change.txn.0 then Some change.txn.0 else None) }
+    {
+        if self.owes_both(change, change.txn) {
+            Some(u32::from(change.txn.0))
+        } else {
+            None
+        }
+    }
+
+    // The smallest transaction that would owe both a commit and an abort: the one that changes, or one that owes by an
+    // edge on it, since no other owes more than before.
+    fn clashing(&self, change: Change) -> Option<u32>
+        ensures { result ≡ clashing (status_after self.now change) self.now.edges }
+    {
+        self.known();
+        let parties = self.by_i();
+        let mut place = parties.last(change.txn);
+        let mut least = self.torn(change);
+        while place > 0 {
+            least = self.with_torn(change, place, least);
+            place = parties.before(place);
+        }
+        least
+    }
+
+    /// The smallest transaction that after the change would owe both a commit and an abort.
+    #[tactic(auto, unfolding(crate::specs::Dependencies::clash))]
+    pub(crate) fn clash(&self, change: Change) -> Option<Refusal>
+        ensures { result ≡ clash (status_of self.now) self.now.edges change.txn.0 change.status }
+    {
+        match self.clashing(change) {
             Some(number) => Some(Refusal::by(Rule::Clash, number)),
             None => None,
-        })
+        }
     }
 }

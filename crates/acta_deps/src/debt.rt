@@ -50,8 +50,8 @@ pub(crate) fn is_abort(missing: Option<Missing>) -> bool
 }
 
 impl<A: Allocator> Deps<A> {
-    // What is owed by the edge.
-    fn debt(&self, e: &Edge) -> Option<Missing>
+    /// What is owed by the edge.
+    pub(crate) fn debt(&self, e: &Edge) -> Option<Missing>
         ensures { result ≡ debt_of (status_of self.now) e.now }
     {
         debt_by(e.kind, self.status(e.i), self.status(e.j))

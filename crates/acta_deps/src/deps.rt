@@ -1,12 +1,19 @@
-ghost use Rattle.std.specs.Prelude.{◌≡◌, true, ◌<◌, ◌≤◌, ◌+◌, ◌-◌, [], None, IfOk, OnOk, OnErr, length, take, replicate};
-ghost use Rattle.acta_table.specs.Edges.{formed};
+ghost use Rattle.std.specs.Prelude.{◌≡◌, true, ◌<◌, ◌≤◌, ◌+◌, ◌-◌, [], None, Some, IfOk, IfSome, OnOk, OnErr, length, take, replicate, map, false, ℕ};
+ghost use Rattle.std.specs.List.{All};
+ghost use Rattle.acta_table.specs.Edges.{formed, is_among};
 ghost use Rattle.acta_table.specs.WellFormed.{is_bad_number};
 ghost use Rattle.acta_deps.specs.Deps.{status_of};
 ghost use Rattle.acta_deps.specs.Statuses.{with_status};
+ghost use Rattle.acta_deps.specs.Debts.{debt_of, owes_both};
+ghost use Rattle.acta_deps.specs.inside.Refused.{refusal_upon};
 ghost use Rattle.acta_deps.specs.Dependencies.{start_refusal, commit_refusal, abort_refusal, join_refusal};
 
-use crate::forming::{add_edges, count_new};
-use acta_table::{Edge, LAST_TXN, MOST_EDGES, Status, TABLE_SIZE, TxnId};
+use crate::clash::Change;
+use crate::edge_list::EdgeList;
+use crate::forming::new_among;
+use crate::places::Places;
+use crate::refused::{ROOM, Refused, keep_refused, refusal_among};
+use acta_table::{Edge, LAST_TXN, MOST_EDGES, Refusal, Status, TABLE_SIZE, TxnId};
 use std::alloc::{AllocError, Allocator};
 
 /// How the transactions stand, and the edges in force among them (ACTA's dependencies, kept as a
@@ -14,23 +21,28 @@ use std::alloc::{AllocError, Allocator};
 #[derive(Drop)]
 pub struct Deps<A: Allocator> {
     statuses: Vec<Status, A>,
-    edges: Vec<Edge, A>,
+    edges: EdgeList<A>,
+    // What was refused since the last change of a status or an edge: a refusal stands until then.
+    refused: Vec<Refused, A>,
 }
 
 impl<A: Allocator> std::marker::Model for Deps<A> {
-    ghost use Rattle.std.specs.Prelude.{◌≡◌, ◌≤◌, length, slice_get, Some};
+    ghost use Rattle.std.specs.Prelude.{◌≡◌, ℕ, false, length, slice_get, Some};
     ghost use Rattle.acta_table.specs.declared.answer.Status.{Status};
-    ghost use Rattle.acta_table.specs.declared.limits.TheConstants.{MOST_EDGES, TABLE_SIZE};
-    ghost use Rattle.acta_deps.specs.Deps.{DepState};
+    ghost use Rattle.acta_table.specs.declared.limits.TheConstants.{TABLE_SIZE};
+    ghost use Rattle.acta_deps.specs.Deps.{DepState, status_listed};
+    ghost use Rattle.acta_deps.specs.Debts.{owes_both};
+    ghost use Rattle.acta_deps.specs.inside.Refused.{AreRefused};
 
     ghost Value = { DepState };
 
-    ghost view = { λ d. record { statuses = d.statuses.items; edges = d.edges.items } };
+    ghost view = { λ d. record { statuses = d.statuses.items; edges = d.edges } };
 
     ghost invariant = { λ d. record {
       table : length d.statuses.items ≡ TABLE_SIZE;
       nobody : slice_get d.statuses.items 0 ≡ Some Status.NotBegun;
-      few : length d.edges.items ≤ MOST_EDGES;
+      clear : (u : ℕ) → owes_both (status_listed d.statuses.items) d.edges u ≡ false;
+      refused : AreRefused (status_listed d.statuses.items) d.edges d.refused.items;
     } };
 }
 
@@ -63,17 +75,29 @@ impl<A: Allocator> Deps<A> {
         self.edges.as_slice()
     }
 
-    // From now on `t` stands so.
+    /// What holds of each table, for laws that need it: a number that no transaction can have has not begun, and no
+    /// transaction owes both a commit and an abort. Changes nothing.
+    pub fn known(&self)
+        ensures nobody { (t : ℕ) → is_bad_number t ≡ true → status_of self.now t ≡ Status.NotBegun }
+        ensures clear { (t : ℕ) → owes_both (status_of self.now) self.now.edges t ≡ false }
+    {
+        let _ = &self.statuses;
+    }
+
+    // From now on `t` stands so, and then nobody owes both a commit and an abort.
     fn set(&mut self, t: TxnId, status: Status)
         requires low { 0 < t.0 }
         requires high { t.0 ≤ LAST_TXN }
+        requires clear { (u : ℕ) → owes_both (with_status (status_of self.old) t.0 status) self.old.edges u ≡ false }
         ensures status { status_of self.new ≡ with_status (status_of self.old) t.0 status }
         ensures edges { self.new.edges ≡ self.old.edges }
     {
         self.statuses[t.0 as usize] = status;
+        self.refused.clear();
     }
 
     /// `t`, a number from 1 to 4,095 that has not begun, begins. Ask `may_start` first.
+    #[tactic(auto, using(crate::proofs::Clear::start_clear))]
     pub fn started(&mut self, t: TxnId)
         requires low { 0 < t.0 }
         requires high { t.0 ≤ LAST_TXN }
@@ -86,6 +110,7 @@ impl<A: Allocator> Deps<A> {
     }
 
     /// `t`, a number from 1 to 4,095 that is in progress, commits. Ask `may_commit` first.
+    #[tactic(auto, using(crate::proofs::Clear::commit_clear))]
     pub fn committed(&mut self, t: TxnId)
         requires low { 0 < t.0 }
         requires high { t.0 ≤ LAST_TXN }
@@ -98,6 +123,7 @@ impl<A: Allocator> Deps<A> {
     }
 
     /// `t`, a number from 1 to 4,095 that is in progress, aborts. Ask `may_abort` first.
+    #[tactic(auto, using(crate::proofs::Clear::abort_clear))]
     pub fn aborted(&mut self, t: TxnId)
         requires low { 0 < t.0 }
         requires high { t.0 ≤ LAST_TXN }
@@ -111,6 +137,7 @@ impl<A: Allocator> Deps<A> {
 
     /// `t`, a number from 1 to 4,095 that is in progress, joins another, and so neither commits nor
     /// aborts (ACTA's join of split transactions). Ask `may_join` first.
+    #[tactic(auto, using(crate::proofs::Clear::join_clear))]
     pub fn joined(&mut self, t: TxnId)
         requires low { 0 < t.0 }
         requires high { t.0 ≤ LAST_TXN }
@@ -119,14 +146,29 @@ impl<A: Allocator> Deps<A> {
         ensures status { status_of self.new ≡ with_status (status_of self.old) t.0 Status.Joined }
         ensures edges { self.new.edges ≡ self.old.edges }
     {
+        self.known();
         self.set(t, Status::Joined);
     }
 
-    /// How many edges `form` would form of these: those not yet in force, each counted once.
-    pub fn lacks(&self, more: &[Edge]) -> usize
-        ensures { length (formed self.now.edges more.now) ≡ length self.now.edges + result }
+    // Whether the edge is in force.
+    pub(crate) fn has(&self, edge: &Edge) -> bool
+        ensures { result ≡ is_among self.now.edges edge.now }
     {
-        count_new(self.edges(), more)
+        self.edges.has(edge)
+    }
+
+    /// The transactions that depend, by the number of the edge.
+    pub(crate) fn by_j(&self) -> &Places<A>
+        ensures { result.now ≡ map (λ e. e.j.0) self.now.edges }
+    {
+        self.edges.by_j()
+    }
+
+    /// The transactions on which they depend, by the number of the edge.
+    pub(crate) fn by_i(&self) -> &Places<A>
+        ensures { result.now ≡ map (λ e. e.i.0) self.now.edges }
+    {
+        self.edges.by_i()
     }
 
     /// The last `n` edges are in force no longer, of at least as many (ours).
@@ -135,8 +177,24 @@ impl<A: Allocator> Deps<A> {
         ensures statuses { self.new.statuses ≡ self.old.statuses }
         ensures edges { self.new.edges ≡ take (length self.old.edges - n) self.old.edges }
     {
-        let left = self.edges.len() - n;
+        let left = self.edges().len() - n;
         self.edges.truncate(left);
+        self.refused.clear();
+    }
+
+    // The refusal of the change, where it is known.
+    pub(crate) fn known_refusal(&self, change: Change) -> Option<Refusal>
+        ensures { IfSome result (λ refusal. refusal_upon (status_of self.now) self.now.edges change ≡ Some refusal) }
+    {
+        refusal_among(&self.refused, change)
+    }
+
+    // Keeps the refusal of the change, where there is room for it.
+    pub(crate) fn keep_refusal(&mut self, change: Change, refusal: Refusal)
+        requires { refusal_upon (status_of self.old) self.old.edges change ≡ Some refusal }
+        ensures { self.new ≡ self.old }
+    {
+        keep_refused(&mut self.refused, Refused { change, refusal });
     }
 }
 
@@ -147,31 +205,46 @@ impl<A: Allocator + Copy> Deps<A> {
     {
         Ok(Deps {
             statuses: fresh(alloc, TABLE_SIZE)?,
-            edges: Vec::new(alloc),
+            edges: EdgeList::new(alloc)?,
+            refused: Vec::with_capacity(alloc, ROOM)?,
         })
     }
 
     /// The allocator of the lists.
     pub(crate) fn allocator(&self) -> A {
-        *self.edges.allocator()
+        self.edges.allocator()
     }
 
-    /// Forms those of these edges that are not yet in force, in order, each once, and answers how
-    /// many they are. Those in force before keep their numbers. At most 16,384 are in force
+    /// How many edges `form` would form of these: those not yet in force, each counted once. `Err` where there is no
+    /// memory.
+    pub fn lacks(&self, more: &[Edge]) -> Result<usize, AllocError>
+        ensures { IfOk result (λ count. length (formed self.now.edges more.now) ≡ length self.now.edges + count) }
+    {
+        let new = new_among(self, more)?;
+        Ok(new.len())
+    }
+
+    /// Forms those of these edges, by which nothing is owed yet, that are not in force, in order, each once, and answers
+    /// how many they are. Those in force before keep their numbers. At most 16,384 are in force
     /// afterwards. `Err` where there is no memory, and then none is formed (that an edge is in
     /// force once is ours).
-    #[tactic(auto, using(crate::proofs::FormedEdges::take_formed))]
+    #[tactic(auto, using(crate::proofs::FormedEdges::take_formed, crate::proofs::FormedEdges::le_formed))]
     pub fn form(&mut self, more: &[Edge]) -> Result<usize, AllocError>
-        requires { length (formed self.old.edges more.now) ≤ MOST_EDGES }
+        requires fits { length (formed self.old.edges more.now) ≤ MOST_EDGES }
+        requires known { All (λ e. (is_bad_number e.j.0 ≡ false) × (is_bad_number e.i.0 ≡ false)) more.now }
+        requires unowed { All (λ e. debt_of (status_of self.old) e ≡ None) more.now }
         ensures formed { OnOk result (self.new.edges ≡ formed self.old.edges more.now) }
         ensures count { IfOk result (λ count. length self.new.edges ≡ length self.old.edges + count) }
         ensures kept { OnOk result (take (length self.old.edges) self.new.edges ≡ self.old.edges) }
         ensures statuses { self.new.statuses ≡ self.old.statuses }
         ensures err { OnErr result (self.new ≡ self.old) }
     {
-        let count = self.lacks(more);
-        self.edges.reserve(count)?;
-        add_edges(&mut self.edges, more);
+        let before = self.edges().len();
+        self.edges.form_all(more)?;
+        let count = self.edges.as_slice().len() - before;
+        if count > 0 {
+            self.refused.clear();
+        }
         Ok(count)
     }
 
@@ -181,7 +254,8 @@ impl<A: Allocator + Copy> Deps<A> {
     {
         Ok(Deps {
             statuses: Vec::from_slice(self.allocator(), &self.statuses)?,
-            edges: Vec::from_slice(self.allocator(), &self.edges)?,
+            edges: self.edges.copy()?,
+            refused: Vec::with_capacity(self.allocator(), ROOM)?,
         })
     }
 }

@@ -10,7 +10,10 @@ mod bar;
 mod clash;
 mod debt;
 mod deps;
+mod edge_list;
 mod forming;
+mod places;
+mod refused;
 mod rules;
 
 pub use deps::Deps;

@@ -1,30 +1,53 @@
-ghost use Rattle.std.specs.Prelude.{◌≡◌, IfOk};
+ghost use Rattle.std.specs.Prelude.{◌≡◌, Some, map, if◌then◌else◌};
+ghost use Rattle.std.specs.Option.{option_or};
 ghost use Rattle.acta_table.specs.Numbered.{first_number};
 ghost use Rattle.acta_table.specs.Refusals.{broken_by};
 ghost use Rattle.acta_deps.specs.Deps.{status_of};
-ghost use Rattle.acta_deps.specs.inside.Bars.{bars};
-ghost use Rattle.acta_deps.specs.Dependencies.{start_refusal, commit_refusal, abort_refusal, join_refusal};
+ghost use Rattle.acta_deps.specs.inside.Bars.{bars, party};
+ghost use Rattle.acta_deps.specs.inside.Refused.{refusal_to, refusal_upon};
+ghost use Rattle.acta_deps.specs.Dependencies.{commit_order, weak_begin, unpayable_commit, start_refusal, commit_refusal, abort_refusal, join_refusal};
 
 use crate::bar::Bar;
 use crate::clash::Change;
 use crate::deps::Deps;
+use crate::places::Places;
 use acta_table::{Refusal, Rule, Status, TxnId};
-use std::alloc::{AllocError, Allocator};
+use std::alloc::Allocator;
+
+// The place, where the test is true, or else the one that was found behind it.
+fn or_here(test: bool, place: u16, behind: Option<u32>) -> Option<u32>
+    ensures { result ≡ (if test then Some place else behind) }
+{
+    if test { Some(u32::from(place)) } else { behind }
+}
 
 impl<A: Allocator> Deps<A> {
+    // The transactions that edges bar in this way, by the number of the edge.
+    fn parties(&self, bar: Bar) -> &Places<A>
+        ensures { result.now ≡ map (party bar) self.now.edges }
+    {
+        match bar {
+            Bar::CommittedFirst | Bar::BeganFirst | Bar::CannotPayCommit | Bar::CannotPayAbort => {
+                self.by_i()
+            }
+            _ => self.by_j(),
+        }
+    }
+
     // The number of the first edge that bars `t` in this way.
     fn first_barring(&self, bar: Bar, t: TxnId) -> Option<u32>
         ensures { result ≡ first_number (bars bar (status_of self.now) t.0) self.now.edges }
     {
+        let parties = self.parties(bar);
         let edges = self.edges();
-        let mut number = 0;
-        for e in edges {
-            number += 1;
-            if self.is_barred(bar, t, e) {
-                return Some(number);
-            }
+        let mut place = parties.last(t);
+        let mut first = None;
+        while place > 0 {
+            let e = &edges[place as usize - 1];
+            first = or_here(self.is_barred(bar, t, e), place, first);
+            place = parties.before(place);
         }
-        None
+        first
     }
 
     // The rule, where an edge bars `t` in this way, with the first such edge.
@@ -38,86 +61,184 @@ impl<A: Allocator> Deps<A> {
     }
 }
 
-impl<A: Allocator + Copy> Deps<A> {
-    /// The lowest rule that the start of `t` would break, with the smallest number of an edge that
-    /// breaks it, and for `Clash` the smallest transaction. `None` where it breaks none (ACTA's
-    /// begin, serial, begin-on-commit and begin-on-abort dependencies; the clash is ours). `Err` where
-    /// there is no memory.
+// The first edges that bar a commit of the one on which they depend, by rule.
+#[derive(Clone, Copy)]
+struct Later {
+    order: Option<u32>,
+    begun: Option<u32>,
+    unpayable: Option<u32>,
+}
+
+// The rule, where there is such a number.
+fn broken_by(rule: Rule, number: Option<u32>) -> Option<Refusal>
+    ensures { result ≡ broken_by rule number }
+{
+    match number {
+        Some(number) => Some(Refusal::by(rule, number)),
+        None => None,
+    }
+}
+
+impl<A: Allocator> Deps<A> {
+    // The first edges by which others bar the commit of `t`.
+    fn later(&self, t: TxnId) -> Later
+        ensures order { result.order ≡ first_number (bars Bar.CommittedFirst (status_of self.now) t.0) self.now.edges }
+        ensures begun { result.begun ≡ first_number (bars Bar.BeganFirst (status_of self.now) t.0) self.now.edges }
+        ensures unpayable { result.unpayable ≡ first_number (bars Bar.CannotPayCommit (status_of self.now) t.0) self.now.edges }
+    {
+        let parties = self.parties(Bar::CommittedFirst);
+        let edges = self.edges();
+        let mut place = parties.last(t);
+        let mut order = None;
+        let mut begun = None;
+        let mut unpayable = None;
+        while place > 0 {
+            let e = &edges[place as usize - 1];
+            order = or_here(self.is_barred(Bar::CommittedFirst, t, e), place, order);
+            begun = or_here(self.is_barred(Bar::BeganFirst, t, e), place, begun);
+            unpayable = or_here(self.is_barred(Bar::CannotPayCommit, t, e), place, unpayable);
+            place = parties.before(place);
+        }
+        Later {
+            order,
+            begun,
+            unpayable,
+        }
+    }
+
+    // The lowest rule that the commit of `t` would break by an edge on it.
+    #[tactic(auto, unfolding(crate::specs::Dependencies::commit_order, crate::specs::Dependencies::weak_begin, crate::specs::Dependencies::unpayable_commit))]
+    fn broken_by_later(&self, t: TxnId) -> Option<Refusal>
+        ensures { result ≡ option_or (option_or (commit_order (status_of self.now) self.now.edges t.0) (weak_begin (status_of self.now) self.now.edges t.0)) (unpayable_commit (status_of self.now) self.now.edges t.0) }
+    {
+        let later = self.later(t);
+        let (order, begun, unpayable) = (later.order, later.begun, later.unpayable);
+        broken_by(Rule::CommitOrder, order)
+            .or_else(|| broken_by(Rule::WeakBegin, begun))
+            .or_else(|| broken_by(Rule::Unpayable, unpayable))
+    }
+}
+
+impl<A: Allocator> Deps<A> {
+    // The lowest rule that the start would break.
     #[tactic(auto, unfolding(crate::specs::Dependencies::start_refusal, crate::specs::Dependencies::begin_dep, crate::specs::Dependencies::serial_dep, crate::specs::Dependencies::begin_on_commit, crate::specs::Dependencies::begin_on_abort))]
-    pub fn may_start(&self, t: TxnId) -> Result<Option<Refusal>, AllocError>
-        ensures { IfOk result (λ refusal. refusal ≡ start_refusal (status_of self.now) self.now.edges t.0) }
+    fn start_refusal(&self, t: TxnId) -> Option<Refusal>
+        ensures { result ≡ start_refusal (status_of self.now) self.now.edges t.0 }
     {
         let change = Change {
             txn: t,
             status: Status::InProgress,
         };
-        let barred = self
-            .broken(Rule::BeginDep, Bar::AwaitsBegin, t)
+        self.broken(Rule::BeginDep, Bar::AwaitsBegin, t)
             .or_else(|| self.broken(Rule::SerialDep, Bar::AwaitsEnd, t))
             .or_else(|| self.broken(Rule::BeginOnCommit, Bar::AwaitsCommit, t))
-            .or_else(|| self.broken(Rule::BeginOnAbort, Bar::AwaitsAbort, t));
-        match barred {
-            Some(refusal) => Ok(Some(refusal)),
-            None => self.clash(change),
-        }
+            .or_else(|| self.broken(Rule::BeginOnAbort, Bar::AwaitsAbort, t))
+            .or_else(|| self.clash(change))
     }
 
-    /// The lowest rule that the commit of `t` would break, with the smallest number of an edge that
-    /// breaks it, and for `Clash` the smallest transaction. `None` where it breaks none (ACTA's
-    /// dependencies; that what is owed can be paid, and the clash, are ours). `Err` where there is no
-    /// memory.
-    #[tactic(auto, unfolding(crate::specs::Dependencies::commit_refusal, crate::specs::Dependencies::termination_dep, crate::specs::Dependencies::owing_abort, crate::specs::Dependencies::commit_order, crate::specs::Dependencies::weak_begin, crate::specs::Dependencies::unpayable_commit))]
-    pub fn may_commit(&self, t: TxnId) -> Result<Option<Refusal>, AllocError>
-        ensures { IfOk result (λ refusal. refusal ≡ commit_refusal (status_of self.now) self.now.edges t.0) }
+    // The lowest rule that the commit would break.
+    #[tactic(auto, unfolding(crate::specs::Dependencies::commit_refusal, crate::specs::Dependencies::termination_dep, crate::specs::Dependencies::owing_abort), using(crate::proofs::Walks::or_assoc))]
+    fn commit_refusal(&self, t: TxnId) -> Option<Refusal>
+        ensures { result ≡ commit_refusal (status_of self.now) self.now.edges t.0 }
     {
         let change = Change {
             txn: t,
             status: Status::Committed,
         };
-        let barred = self
-            .broken(Rule::TerminationDep, Bar::EndsAfter, t)
+        self.broken(Rule::TerminationDep, Bar::EndsAfter, t)
             .or_else(|| self.broken(Rule::OwesAbort, Bar::OwesAbort, t))
-            .or_else(|| self.broken(Rule::CommitOrder, Bar::CommittedFirst, t))
-            .or_else(|| self.broken(Rule::WeakBegin, Bar::BeganFirst, t))
-            .or_else(|| self.broken(Rule::Unpayable, Bar::CannotPayCommit, t));
-        match barred {
-            Some(refusal) => Ok(Some(refusal)),
-            None => self.clash(change),
-        }
+            .or_else(|| self.broken_by_later(t))
+            .or_else(|| self.clash(change))
     }
 
-    /// The lowest rule that the abort of `t` would break, with the smallest number of an edge that
-    /// breaks it, and for `Clash` the smallest transaction. `None` where it breaks none (ACTA's
-    /// dependencies; that what is owed can be paid, and the clash, are ours). `Err` where there is no
-    /// memory.
+    // The lowest rule that the abort would break.
     #[tactic(auto, unfolding(crate::specs::Dependencies::abort_refusal, crate::specs::Dependencies::termination_dep, crate::specs::Dependencies::owing_commit, crate::specs::Dependencies::unpayable_abort))]
-    pub fn may_abort(&self, t: TxnId) -> Result<Option<Refusal>, AllocError>
-        ensures { IfOk result (λ refusal. refusal ≡ abort_refusal (status_of self.now) self.now.edges t.0) }
+    fn abort_refusal(&self, t: TxnId) -> Option<Refusal>
+        ensures { result ≡ abort_refusal (status_of self.now) self.now.edges t.0 }
     {
         let change = Change {
             txn: t,
             status: Status::Aborted,
         };
-        let barred = self
-            .broken(Rule::TerminationDep, Bar::EndsAfter, t)
+        self.broken(Rule::TerminationDep, Bar::EndsAfter, t)
             .or_else(|| self.broken(Rule::OwesCommit, Bar::OwesCommit, t))
-            .or_else(|| self.broken(Rule::Unpayable, Bar::CannotPayAbort, t));
-        match barred {
-            Some(refusal) => Ok(Some(refusal)),
-            None => self.clash(change),
-        }
+            .or_else(|| self.broken(Rule::Unpayable, Bar::CannotPayAbort, t))
+            .or_else(|| self.clash(change))
     }
-}
 
-impl<A: Allocator> Deps<A> {
-    /// The lowest rule that `t` would break by joining another, with the smallest number of an edge
-    /// that breaks it. `None` where it breaks none (ACTA's dependencies; that one that joins
-    /// another neither commits nor aborts, and so breaks no other rule on dependencies, is ours).
+    // The lowest rule that joining another would break.
     #[tactic(auto, unfolding(crate::specs::Dependencies::join_refusal, crate::specs::Dependencies::owing_abort, crate::specs::Dependencies::owing_commit))]
-    pub fn may_join(&self, t: TxnId) -> Option<Refusal>
+    fn join_refusal(&self, t: TxnId) -> Option<Refusal>
         ensures { result ≡ join_refusal (status_of self.now) self.now.edges t.0 }
     {
         let owing_abort = self.broken(Rule::OwesAbort, Bar::OwesAbort, t);
         owing_abort.or_else(|| self.broken(Rule::OwesCommit, Bar::OwesCommit, t))
+    }
+
+    // The lowest rule that the change would break.
+    fn refusal(&self, change: Change) -> Option<Refusal>
+        ensures { result ≡ refusal_upon (status_of self.now) self.now.edges change }
+    {
+        match change.status {
+            Status::NotBegun => None,
+            Status::InProgress => self.start_refusal(change.txn),
+            Status::Committed => self.commit_refusal(change.txn),
+            Status::Aborted => self.abort_refusal(change.txn),
+            Status::Joined => self.join_refusal(change.txn),
+        }
+    }
+
+    // The lowest rule that it would break where `t` came to stand so.
+    fn asked(&mut self, txn: TxnId, status: Status) -> Option<Refusal>
+        ensures refusal { result ≡ refusal_to (status_of self.old) self.old.edges txn.0 status }
+        ensures same { self.new ≡ self.old }
+    {
+        let change = Change { txn, status };
+        if let Some(refusal) = self.known_refusal(change) {
+            return Some(refusal);
+        }
+        let refusal = self.refusal(change)?;
+        self.keep_refusal(change, refusal);
+        Some(refusal)
+    }
+
+    /// The lowest rule that the start of `t` would break, with the smallest number of an edge that breaks it, and for
+    /// `Clash` the smallest transaction. `None` where it breaks none (ACTA's begin, serial, begin-on-commit and
+    /// begin-on-abort dependencies; the clash is ours).
+    pub fn may_start(&mut self, t: TxnId) -> Option<Refusal>
+        ensures refusal { result ≡ start_refusal (status_of self.old) self.old.edges t.0 }
+        ensures same { self.new ≡ self.old }
+    {
+        self.asked(t, Status::InProgress)
+    }
+
+    /// The lowest rule that the commit of `t` would break, with the smallest number of an edge that breaks it, and for
+    /// `Clash` the smallest transaction. `None` where it breaks none (ACTA's dependencies; that what is owed can be
+    /// paid, and the clash, are ours).
+    pub fn may_commit(&mut self, t: TxnId) -> Option<Refusal>
+        ensures refusal { result ≡ commit_refusal (status_of self.old) self.old.edges t.0 }
+        ensures same { self.new ≡ self.old }
+    {
+        self.asked(t, Status::Committed)
+    }
+
+    /// The lowest rule that the abort of `t` would break, with the smallest number of an edge that breaks it, and for
+    /// `Clash` the smallest transaction. `None` where it breaks none (ACTA's dependencies; that what is owed can be
+    /// paid, and the clash, are ours).
+    pub fn may_abort(&mut self, t: TxnId) -> Option<Refusal>
+        ensures refusal { result ≡ abort_refusal (status_of self.old) self.old.edges t.0 }
+        ensures same { self.new ≡ self.old }
+    {
+        self.asked(t, Status::Aborted)
+    }
+
+    /// The lowest rule that `t` would break by joining another, with the smallest number of an edge that breaks it.
+    /// `None` where it breaks none (ACTA's dependencies; that one that joins another neither commits nor aborts, and so
+    /// breaks no other rule on dependencies, is ours).
+    pub fn may_join(&mut self, t: TxnId) -> Option<Refusal>
+        ensures refusal { result ≡ join_refusal (status_of self.old) self.old.edges t.0 }
+        ensures same { self.new ≡ self.old }
+    {
+        self.asked(t, Status::Joined)
     }
 }

@@ -1,4 +1,6 @@
+pub mod Advancing
 pub mod Clashing
+pub mod Collecting
 pub mod Counting
 mod Examples
 pub mod Forms
@@ -6,3 +8,4 @@ mod Histories
 pub mod Meeting
 pub mod Merging
 pub mod Spotless
+pub mod Stretches

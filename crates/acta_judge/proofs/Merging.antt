@@ -1,7 +1,6 @@
--- Faults that are put in, some after others, and the axioms on places in groups.
-use Rattle.std.proofs.Common.{◌≡◌, ℕ, List, ◌++◌, Option, sym, ap, ◌∙◌}
+-- Faults that are put behind others, and the axioms on places in groups.
+use Rattle.std.proofs.Common.{◌≡◌, ℕ, List, ◌++◌, Option, append_assoc, sym, ap, ◌∙◌}
 use Rattle.std.proofs.lemmas.Grind.{flat_map-append}
-use Rattle.std.proofs.lemmas.List.Sums.{fold-append}
 use Rattle.acta_table.specs.declared.event.Event.{Event}
 use Rattle.acta_table.specs.declared.event.Kept.{Kept}
 use Rattle.acta_table.specs.declared.event.Ret.{Ret}
@@ -9,12 +8,11 @@ use Rattle.acta_table.specs.declared.model.Parts.{Parts}
 use Rattle.acta_axioms.specs.declared.fault.Axiom.{Axiom}
 use Rattle.acta_axioms.specs.declared.fault.Fault.{Fault}
 use Rattle.acta_axioms.specs.Faults.{breaches, faults_of}
-use Rattle.acta_judge.specs.Order.{with_fault, merged}
 use Rattle.acta_judge.specs.inside.Places.{faults_by, out_of_course, out_of_model, badly_handed, badly_operated, too_late}
 
--- some put in, and then others, are put in at once
-pub then_others : (old : List Fault) {mid : List Fault} (some others : List Fault) → mid ≡ merged old some → merged mid others ≡ merged old (some ++ others)
-then_others old some others first = ap (λ (xs : List Fault). merged xs others) first ∙ sym (fold-append with_fault old some others)
+-- some put behind, and then others, are put behind at once
+pub then_others : (old : List Fault) {mid : List Fault} (some others : List Fault) → mid ≡ old ++ some → mid ++ others ≡ old ++ (some ++ others)
+then_others old some others first = ap (λ (xs : List Fault). xs ++ others) first ∙ append_assoc old some others
 
 -- the faults at a place, group by group
 pub in_groups : {A : Type 0} (m : Parts A) (before : List (Kept A)) (n : ℕ) (ret : Option Ret) (e : Event A) →

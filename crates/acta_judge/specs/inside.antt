@@ -1,3 +1,4 @@
 -- Words that code and proofs use, beside the definitions that a reader must believe.
 pub mod Edges
 pub mod Places
+pub mod Parts

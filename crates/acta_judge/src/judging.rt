@@ -1,70 +1,69 @@
 //! The judge.
 
-ghost use Rattle.std.specs.Prelude.{◌≡◌, ◌<◌, [], length, Err, IfOk, OnOk};
-ghost use Rattle.acta_axioms.specs.Faults.{faults_in_places};
+ghost use Rattle.std.specs.Prelude.{◌≡◌, ◌<◌, [], length, Err, IfOk};
 ghost use Rattle.acta_judge.specs.declared.verdict.JudgeError.{JudgeError};
-ghost use Rattle.acta_judge.specs.Order.{merged};
 ghost use Rattle.acta_judge.specs.Verdicts.{verdict};
 
-use crate::dependencies::{tell_clashes, tell_edges};
-use crate::telling::tell_item;
+use crate::clashes::tell_clashes;
+use crate::cut::Cut;
+use crate::edges::{owed_by, tell_edges};
+use crate::ordering::in_order;
+use crate::parts::tell_places;
 use crate::verdict::{JudgeError, Verdict};
-use acta_axioms::{Fault, Handle, Walk};
+use acta_axioms::{Handle, Walk};
 use acta_table::{Items, Kept, MOST_EVENTS, Model};
 use std::alloc::AllocError;
-use std::collections::BTreeSet;
+use std::thread::Threads;
 
-// Tells the faults at all places, and leaves the walk behind the last. `Err` where there is no memory.
-fn tell_places<'a, A: Handle>(
-    walk: &mut Walk<'a, A>,
-    kept: &'a [Kept<A>],
-    faults: &mut BTreeSet<Fault, A>,
-) -> Result<(), AllocError>
-    requires { walk.old ≡ record { model = walk.old.model; front = []; ahead = kept.now } }
-    ensures told { OnOk result (faults.new.keys ≡ merged faults.old.keys (faults_in_places walk.old.model kept.now)) }
-    ensures walked { OnOk result (walk.new ≡ record { model = walk.old.model; front = kept.now; ahead = [] }) }
-{
-    for item in kept {
-        tell_item(walk, item, faults)?;
-        walk.step()?;
-    }
-    Ok(())
-}
-
-// The faults, in order.
-fn listed<A: Handle>(alloc: A, faults: &BTreeSet<Fault, A>) -> Result<Vec<Fault, A>, AllocError>
-    ensures { IfOk result (λ listed. listed.items ≡ faults.now.keys) }
-{
-    let mut listed = Vec::with_capacity(alloc, faults.len())?;
-    for fault in faults.iter() {
-        listed.push(*fault)?;
-    }
-    Ok(listed)
-}
-
-// The verdict on a list that a walk goes through.
-fn told<'a, A: Handle>(
+// The verdict on the list that a walk goes through from its front.
+fn told<'a, A: Handle + Send + Sync, R: Threads + Sync>(
+    rt: &R,
     alloc: A,
+    cut: Cut,
     walk: &mut Walk<'a, A>,
-    kept: &'a [Kept<A>],
 ) -> Result<Verdict<A>, AllocError>
-    requires { walk.old ≡ record { model = walk.old.model; front = []; ahead = kept.now } }
-    ensures { IfOk result (λ v. v ≡ verdict walk.old.model kept.now) }
+    requires { walk.old.front ≡ [] }
+    ensures { IfOk result (λ v. v ≡ verdict walk.old.model walk.old.ahead) }
 {
-    let mut faults = BTreeSet::new(alloc);
-    tell_places(walk, kept, &mut faults)?;
-    let owed = tell_edges(alloc, walk, &mut faults)?;
-    tell_clashes(alloc, walk.front().len() as u32, &owed, &mut faults)?;
+    let size = cut.size(walk.ahead().len(), cut.places);
+    let places = tell_places(rt, alloc, walk, size)?;
+    let size = cut.size(walk.edges().len(), cut.edges);
+    let edges = tell_edges(rt, alloc, walk, size)?;
+    let owed = owed_by(alloc, edges.as_slice())?;
+    let clashes = tell_clashes(alloc, walk.front().len() as u32, owed.as_slice())?;
+    let faults = in_order(
+        alloc,
+        places.as_slice(),
+        edges.as_slice(),
+        clashes.as_slice(),
+    )?;
     Ok(Verdict {
-        faults: Items::of(listed(alloc, &faults)?),
+        faults: Items::of(faults),
         owed: Items::of(owed),
     })
 }
 
 /// What is wrong with a list of kept items, legal or not, and what is owed at its end (ours, by ACTA's axioms and those
-/// of the model). `Err` where the list has more than `MOST_EVENTS` items, and where there is no memory.
-pub fn judge<A: Handle>(
+/// of the model). Where threads pay, a long list is judged in parts (`Cut::usual`). `Err` where the list has more than `MOST_EVENTS` items, and
+/// where there is no memory.
+pub fn judge<A: Handle + Send + Sync, R: Threads + Sync>(
+    rt: &R,
     alloc: A,
+    model: &Model<A>,
+    kept: &[Kept<A>],
+) -> Result<Verdict<A>, JudgeError>
+    ensures verdict { IfOk result (λ v. v ≡ verdict model.now kept.now) }
+    ensures long { MOST_EVENTS < length kept.now → result ≡ Err JudgeError.TooLong }
+    ensures short { result ≡ Err JudgeError.TooLong → MOST_EVENTS < length kept.now }
+{
+    judge_in_parts(rt, alloc, Cut::usual(rt, model), model, kept)
+}
+
+/// As `judge`, with the list and its edges cut as is said: the verdict is the same however they are cut.
+pub fn judge_in_parts<A: Handle + Send + Sync, R: Threads + Sync>(
+    rt: &R,
+    alloc: A,
+    cut: Cut,
     model: &Model<A>,
     kept: &[Kept<A>],
 ) -> Result<Verdict<A>, JudgeError>
@@ -76,5 +75,5 @@ pub fn judge<A: Handle>(
         return Err(JudgeError::TooLong);
     }
     let mut walk = Walk::of(alloc, model, kept)?;
-    Ok(told(alloc, &mut walk, kept)?)
+    Ok(told(rt, alloc, cut, &mut walk)?)
 }

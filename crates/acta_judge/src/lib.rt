@@ -1,17 +1,23 @@
 //! The judge: what is wrong with a history from elsewhere, legal or not, and what is owed at its end. It asks each
-//! axiom at each place of one walk through the history, and the formula of each edge once; it rests on the meaning of
-//! histories by their places, and never on a machine, so that the two can be checked against each other.
+//! axiom at each place of a walk through the history, and the formula of each edge once, both in threads where the history
+//! is long; it rests on the meaning of histories by their places, and never on a machine, so that the two can be checked
+//! against each other.
 #![tactic(auto)]
 
-mod dependencies;
+mod clashes;
+mod cut;
+mod edges;
 mod formulas;
 mod judging;
 mod laws;
+mod ordering;
+mod parts;
 mod places;
 mod reporting;
 mod telling;
 mod verdict;
 
-pub use judging::judge;
+pub use cut::Cut;
+pub use judging::{judge, judge_in_parts};
 pub use laws::{met_axioms_leave_no_fault, no_fault_in_places};
 pub use verdict::{JudgeError, Verdict};

@@ -1,13 +1,11 @@
-//! Faults, put among those that are known, in their order and each once.
+//! Faults, put behind those that are known.
 
-ghost use Rattle.std.specs.Prelude.{◌≡◌, ◌∷◌, [], OnOk, map, option_to_list, if◌then◌else◌};
+ghost use Rattle.std.specs.Prelude.{◌≡◌, ◌++◌, ◌∷◌, [], OnOk, map, option_to_list, if◌then◌else◌};
 ghost use Rattle.acta_axioms.specs.Faults.{faults_of};
-ghost use Rattle.acta_judge.specs.Order.{merged};
 
 use acta_axioms::{Axiom, Fault, Handle};
 use acta_table::OpNo;
 use std::alloc::AllocError;
-use std::collections::BTreeSet;
 
 /// An axiom, and a place at which it may be broken.
 #[derive(Clone, Copy)]
@@ -21,11 +19,11 @@ impl Breach {
     pub(crate) fn tell<A: Handle>(
         self,
         by: u64,
-        faults: &mut BTreeSet<Fault, A>,
+        faults: &mut Vec<Fault, A>,
     ) -> Result<(), AllocError>
-        ensures { OnOk result (faults.new.keys ≡ merged faults.old.keys (faults_of self.broken self.place (by ∷ []))) }
+        ensures { OnOk result (faults.new.items ≡ faults.old.items ++ (faults_of self.broken self.place (by ∷ []))) }
     {
-        faults.insert(Fault {
+        faults.push(Fault {
             broken: self.broken,
             place: self.place,
             by,
@@ -37,9 +35,9 @@ impl Breach {
     pub(crate) fn tell_any<A: Handle>(
         self,
         by: Option<u32>,
-        faults: &mut BTreeSet<Fault, A>,
+        faults: &mut Vec<Fault, A>,
     ) -> Result<(), AllocError>
-        ensures { OnOk result (faults.new.keys ≡ merged faults.old.keys (faults_of self.broken self.place (option_to_list by))) }
+        ensures { OnOk result (faults.new.items ≡ faults.old.items ++ (faults_of self.broken self.place (option_to_list by))) }
     {
         match by {
             Some(by) => self.tell(u64::from(by), faults),
@@ -51,9 +49,9 @@ impl Breach {
     pub(crate) fn tell_each<A: Handle>(
         self,
         ops: &[OpNo],
-        faults: &mut BTreeSet<Fault, A>,
+        faults: &mut Vec<Fault, A>,
     ) -> Result<(), AllocError>
-        ensures { OnOk result (faults.new.keys ≡ merged faults.old.keys (faults_of self.broken self.place (map (λ o. o.0) ops.now))) }
+        ensures { OnOk result (faults.new.items ≡ faults.old.items ++ (faults_of self.broken self.place (map (λ o. o.0) ops.now))) }
     {
         for op in ops {
             self.tell(u64::from(op.0), faults)?;

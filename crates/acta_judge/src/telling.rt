@@ -1,11 +1,10 @@
 //! The faults at the place that a walk has reached, axiom by axiom.
 
-ghost use Rattle.std.specs.Prelude.{◌≡◌, not, map, filter, OnOk};
+ghost use Rattle.std.specs.Prelude.{◌≡◌, ◌++◌, not, map, filter, OnOk};
 ghost use Rattle.acta_table.specs.Sets.{numbers_of, is_named};
 ghost use Rattle.acta_axioms.specs.declared.fault.Axiom.TheVariants.{PartiesInProgress, Responsible, HandsWhole, Conflict};
 ghost use Rattle.acta_axioms.specs.Operations.{access_set};
 ghost use Rattle.acta_axioms.specs.Faults.{faults_at, faults_of, has_number, handed_unheld, idle_party, in_conflict, kept_back};
-ghost use Rattle.acta_judge.specs.Order.{merged};
 ghost use Rattle.acta_judge.specs.inside.Places.{faults_by, out_of_course, out_of_model, badly_handed, badly_operated, too_late};
 
 use crate::places::{
@@ -16,7 +15,6 @@ use crate::reporting::Breach;
 use acta_axioms::{Axiom, Fault, Handle, Walk};
 use acta_table::{Event, Kept, OpNo, OpSet, TxnId};
 use std::alloc::AllocError;
-use std::collections::BTreeSet;
 
 // The axiom, at this place.
 fn breach(broken: Axiom, place: u32) -> Breach
@@ -30,9 +28,9 @@ fn tell_course<'a, A: Handle>(
     walk: &Walk<'a, A>,
     place: u32,
     event: &Event<A>,
-    faults: &mut BTreeSet<Fault, A>,
+    faults: &mut Vec<Fault, A>,
 ) -> Result<(), AllocError>
-    ensures { OnOk result (faults.new.keys ≡ merged faults.old.keys (faults_by place (out_of_course walk.now.front event.now))) }
+    ensures { OnOk result (faults.new.items ≡ faults.old.items ++ (faults_by place (out_of_course walk.now.front event.now))) }
 {
     breach(Axiom::BegunOnce, place).tell_any(begun_again(walk, event), faults)?;
     breach(Axiom::EndedAfterBegun, place).tell_any(ended_unbegun(walk, event), faults)?;
@@ -45,9 +43,9 @@ fn tell_model<'a, A: Handle>(
     walk: &Walk<'a, A>,
     place: u32,
     event: &Event<A>,
-    faults: &mut BTreeSet<Fault, A>,
+    faults: &mut Vec<Fault, A>,
 ) -> Result<(), AllocError>
-    ensures { OnOk result (faults.new.keys ≡ merged faults.old.keys (faults_by place (out_of_model walk.now.model walk.now.front event.now))) }
+    ensures { OnOk result (faults.new.items ≡ faults.old.items ++ (faults_by place (out_of_model walk.now.model walk.now.front event.now))) }
 {
     breach(Axiom::FormOfEvent, place).tell_any(ill_formed(walk.model(), event), faults)?;
     breach(Axiom::Allowed, place).tell_any(not_allowed(walk, event), faults)
@@ -58,9 +56,9 @@ fn tell_party<'a, A: Handle>(
     walk: &Walk<'a, A>,
     place: u32,
     event: &Event<A>,
-    faults: &mut BTreeSet<Fault, A>,
+    faults: &mut Vec<Fault, A>,
 ) -> Result<(), AllocError>
-    ensures { OnOk result (faults.new.keys ≡ merged faults.old.keys (faults_of PartiesInProgress place (idle_party walk.now.front event.now))) }
+    ensures { OnOk result (faults.new.items ≡ faults.old.items ++ (faults_of PartiesInProgress place (idle_party walk.now.front event.now))) }
 {
     let breach = breach(Axiom::PartiesInProgress, place);
     let (one, other) = party(event);
@@ -74,9 +72,9 @@ fn tell_unheld<'a, A: Handle>(
     breach: Breach,
     t: TxnId,
     ops: &[OpNo],
-    faults: &mut BTreeSet<Fault, A>,
+    faults: &mut Vec<Fault, A>,
 ) -> Result<(), AllocError>
-    ensures { OnOk result (faults.new.keys ≡ merged faults.old.keys (faults_of breach.broken breach.place (filter (λ o. not (has_number (map (λ q. q.number) (access_set walk.now.model walk.now.front t.0)) o)) (numbers_of ops.now)))) }
+    ensures { OnOk result (faults.new.items ≡ faults.old.items ++ (faults_of breach.broken breach.place (filter (λ o. not (has_number (map (λ q. q.number) (access_set walk.now.model walk.now.front t.0)) o)) (numbers_of ops.now)))) }
 {
     for op in ops {
         if !walk.holds(t, *op) {
@@ -91,9 +89,9 @@ fn tell_handed<'a, A: Handle>(
     walk: &Walk<'a, A>,
     place: u32,
     event: &Event<A>,
-    faults: &mut BTreeSet<Fault, A>,
+    faults: &mut Vec<Fault, A>,
 ) -> Result<(), AllocError>
-    ensures { OnOk result (faults.new.keys ≡ merged faults.old.keys (faults_of Responsible place (handed_unheld walk.now.model walk.now.front event.now))) }
+    ensures { OnOk result (faults.new.items ≡ faults.old.items ++ (faults_of Responsible place (handed_unheld walk.now.model walk.now.front event.now))) }
 {
     match event {
         Event::Split(t, _, _, ops) | Event::Delegate(t, _, ops) => {
@@ -114,9 +112,9 @@ fn tell_unnamed<A: Handle>(
     breach: Breach,
     held: &[OpNo],
     ops: &OpSet<A>,
-    faults: &mut BTreeSet<Fault, A>,
+    faults: &mut Vec<Fault, A>,
 ) -> Result<(), AllocError>
-    ensures { OnOk result (faults.new.keys ≡ merged faults.old.keys (faults_of breach.broken breach.place (filter (λ o. not (is_named ops.now o)) (numbers_of held.now)))) }
+    ensures { OnOk result (faults.new.items ≡ faults.old.items ++ (faults_of breach.broken breach.place (filter (λ o. not (is_named ops.now o)) (numbers_of held.now)))) }
 {
     for op in held {
         if !ops.has_number(op.0 as usize) {
@@ -132,9 +130,9 @@ fn tell_left<'a, A: Handle>(
     breach: Breach,
     t: TxnId,
     ops: &OpSet<A>,
-    faults: &mut BTreeSet<Fault, A>,
+    faults: &mut Vec<Fault, A>,
 ) -> Result<(), AllocError>
-    ensures { OnOk result (faults.new.keys ≡ merged faults.old.keys (faults_of breach.broken breach.place (filter (λ o. not (is_named ops.now o)) (map (λ q. q.number) (access_set walk.now.model walk.now.front t.0))))) }
+    ensures { OnOk result (faults.new.items ≡ faults.old.items ++ (faults_of breach.broken breach.place (filter (λ o. not (is_named ops.now o)) (map (λ q. q.number) (access_set walk.now.model walk.now.front t.0))))) }
 {
     let held = walk.access_set(t)?;
     tell_unnamed(breach, held.as_slice(), ops, faults)
@@ -145,9 +143,9 @@ fn tell_kept_back<'a, A: Handle>(
     walk: &Walk<'a, A>,
     place: u32,
     event: &Event<A>,
-    faults: &mut BTreeSet<Fault, A>,
+    faults: &mut Vec<Fault, A>,
 ) -> Result<(), AllocError>
-    ensures { OnOk result (faults.new.keys ≡ merged faults.old.keys (faults_of HandsWhole place (kept_back walk.now.model walk.now.front event.now))) }
+    ensures { OnOk result (faults.new.items ≡ faults.old.items ++ (faults_of HandsWhole place (kept_back walk.now.model walk.now.front event.now))) }
 {
     match event {
         Event::Split(t, _, _, ops) | Event::Delegate(t, _, ops) if wants_whole(walk, *t) => {
@@ -162,9 +160,9 @@ fn tell_handing<'a, A: Handle>(
     walk: &Walk<'a, A>,
     place: u32,
     event: &Event<A>,
-    faults: &mut BTreeSet<Fault, A>,
+    faults: &mut Vec<Fault, A>,
 ) -> Result<(), AllocError>
-    ensures { OnOk result (faults.new.keys ≡ merged faults.old.keys (faults_by place (badly_handed walk.now.model walk.now.front event.now))) }
+    ensures { OnOk result (faults.new.items ≡ faults.old.items ++ (faults_by place (badly_handed walk.now.model walk.now.front event.now))) }
 {
     tell_party(walk, place, event, faults)?;
     tell_handed(walk, place, event, faults)?;
@@ -176,9 +174,9 @@ fn tell_conflicts<'a, A: Handle>(
     walk: &Walk<'a, A>,
     place: u32,
     event: &Event<A>,
-    faults: &mut BTreeSet<Fault, A>,
+    faults: &mut Vec<Fault, A>,
 ) -> Result<(), AllocError>
-    ensures { OnOk result (faults.new.keys ≡ merged faults.old.keys (faults_of Conflict place (in_conflict walk.now.model walk.now.front event.now))) }
+    ensures { OnOk result (faults.new.items ≡ faults.old.items ++ (faults_of Conflict place (in_conflict walk.now.model walk.now.front event.now))) }
 {
     match event {
         Event::Operate(t, object, op) if refuses(walk, *t) => {
@@ -194,9 +192,9 @@ fn tell_operation<'a, A: Handle>(
     walk: &Walk<'a, A>,
     place: u32,
     item: &Kept<A>,
-    faults: &mut BTreeSet<Fault, A>,
+    faults: &mut Vec<Fault, A>,
 ) -> Result<(), AllocError>
-    ensures { OnOk result (faults.new.keys ≡ merged faults.old.keys (faults_by place (badly_operated walk.now.model walk.now.front item.now.ret item.now.event))) }
+    ensures { OnOk result (faults.new.items ≡ faults.old.items ++ (faults_by place (badly_operated walk.now.model walk.now.front item.now.ret item.now.event))) }
 {
     tell_conflicts(walk, place, &item.event, faults)?;
     let by = wrong_return(walk, item)?;
@@ -208,9 +206,9 @@ fn tell_lateness<'a, A: Handle>(
     walk: &Walk<'a, A>,
     place: u32,
     event: &Event<A>,
-    faults: &mut BTreeSet<Fault, A>,
+    faults: &mut Vec<Fault, A>,
 ) -> Result<(), AllocError>
-    ensures { OnOk result (faults.new.keys ≡ merged faults.old.keys (faults_by place (too_late walk.now.model walk.now.front event.now))) }
+    ensures { OnOk result (faults.new.items ≡ faults.old.items ++ (faults_by place (too_late walk.now.model walk.now.front event.now))) }
 {
     breach(Axiom::Heir, place).tell_any(without_heir(walk, event), faults)?;
     breach(Axiom::FormedInTime, place).tell_any(not_in_time(walk, event), faults)
@@ -220,9 +218,9 @@ fn tell_lateness<'a, A: Handle>(
 pub(crate) fn tell_item<'a, A: Handle>(
     walk: &Walk<'a, A>,
     item: &Kept<A>,
-    faults: &mut BTreeSet<Fault, A>,
+    faults: &mut Vec<Fault, A>,
 ) -> Result<(), AllocError>
-    ensures { OnOk result (faults.new.keys ≡ merged faults.old.keys (faults_at walk.now.model (record { before = walk.now.front; kept = item.now }))) }
+    ensures { OnOk result (faults.new.items ≡ faults.old.items ++ (faults_at walk.now.model (record { before = walk.now.front; kept = item.now }))) }
 {
     let place = walk.front().len() as u32 + 1;
     let event = &item.event;

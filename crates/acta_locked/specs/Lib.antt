@@ -1,4 +1,5 @@
 pub mod Books
 pub mod Desks
 pub mod Drives
+pub mod Fronts
 pub mod inside

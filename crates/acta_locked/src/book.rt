@@ -1,6 +1,7 @@
 //! The book.
 
-ghost use Rattle.std.specs.Prelude.{◌≡◌, ◌<◌, [], Err, length, true, false, Decides, IfOk, OnErr, OnOk};
+ghost use Rattle.std.specs.Prelude.{◌≡◌, ◌<◌, ◌≤◌, [], Err, length, true, false, Decides, IfOk, OnErr, OnOk};
+ghost use Rattle.acta_judge.specs.Verdicts.{verdict};
 ghost use Rattle.acta_machine.specs.Places.{FollowsPlaces};
 ghost use Rattle.acta_machine.specs.Table.{after, answer_to, debts_in};
 ghost use Rattle.acta_locked.specs.Books.{IsRun, entered, entry_of, no_entries, state_of};
@@ -8,8 +9,9 @@ ghost use Rattle.acta_locked.specs.declared.book.TakeError.TheVariants.{Memory};
 
 use acta_judge::{JudgeError, Verdict, judge};
 use acta_machine::{Handle, Machine};
-use acta_table::{Answer, Event, MOST_EVENTS, Model};
+use acta_table::{Answer, Event, Kept, MOST_EVENTS, Model};
 use std::alloc::{AllocError, AllocFailed, Allocator};
+use std::thread::Threads;
 
 /// What a call at a desk came to: its number in the book, from 1, the seat that made it, the event and the
 /// machine's answer (ours).
@@ -175,6 +177,28 @@ impl<A: Handle> Book<A> {
     }
 }
 
+// The same items, in memory of their own. `Err` where there is no memory.
+fn copied<A: Handle>(alloc: A, items: &[Kept<A>]) -> Result<Vec<Kept<A>, A>, AllocError>
+    ensures { IfOk result (λ copied. copied.items ≡ items.now) }
+{
+    let mut copied = Vec::with_capacity(alloc, items.len())?;
+    for item in items {
+        copied.push(item.copy()?)?;
+    }
+    Ok(copied)
+}
+
+impl<A: Handle> Book<A> {
+    /// A copy of the history that the machine keeps, on which a verdict has no fault (ours). `Err` where there is no memory.
+    pub fn history(&self, alloc: A) -> Result<Vec<Kept<A>, A>, AllocError>
+        ensures all { IfOk result (λ copy. copy.items ≡ (state_of self.now).kept) }
+        ensures few { IfOk result (λ copy. length copy.items ≤ MOST_EVENTS) }
+        ensures faultless { IfOk result (λ copy. (verdict self.now.model copy.items).faults ≡ []) }
+    {
+        copied(alloc, self.machine().history())
+    }
+}
+
 impl<A: Handle> Book<A> {
     /// The entries, in order; at most 65,536 (ours).
     pub fn entries(&self) -> &[Entry<A>]
@@ -194,15 +218,15 @@ impl<A: Handle> Book<A> {
     }
 }
 
-impl<A: Handle> Book<A> {
+impl<A: Handle + Send + Sync> Book<A> {
     /// The verdict on the history that the machine keeps (ours): it has no fault, and what is owed is what the machine
     /// owes. `Err` where there is no memory.
-    pub fn verdict(&self) -> Result<Verdict<A>, AllocError>
+    pub fn verdict<R: Threads + Sync>(&self, rt: &R) -> Result<Verdict<A>, AllocError>
         ensures { IfOk result (λ verdict. verdict ≡ record { faults = []; owed = debts_in (state_of self.now) }) }
     {
         let machine = self.machine();
         let history = machine.history();
-        match judge(*self.entries.allocator(), machine.model(), history) {
+        match judge(rt, *self.entries.allocator(), machine.model(), history) {
             Ok(verdict) => Ok(verdict),
             Err(JudgeError::Memory) => Err(AllocError),
             Err(JudgeError::TooLong) => unreachable!(),

@@ -10,6 +10,7 @@ mod run;
 mod settle;
 mod threads;
 mod vault;
+mod watch;
 mod worker;
 
 pub use book::{Book, Entry, TakeError};
@@ -18,4 +19,5 @@ pub use laws::runs_are_faultless;
 pub use limits::MOST_WORKERS;
 pub use run::{DriveError, Driven, drive};
 pub use vault::{Job, LockedDesk, Vault};
+pub use watch::{Front, Watched, drive_watched};
 pub use worker::{Gate, OpenGate, Report, Script, WorkError, work};

@@ -83,8 +83,8 @@ fn are_too_long<A: Allocator>(scripts: &[Script<A>]) -> bool
     false
 }
 
-// Why the scripts are not run.
-fn fault_of<A: Allocator>(scripts: &[Script<A>]) -> Option<DriveError>
+/// Why the scripts are not run.
+pub(crate) fn fault_of<A: Allocator>(scripts: &[Script<A>]) -> Option<DriveError>
     ensures fault { result ≡ scripts_fault scripts.now }
     ensures few { result ≡ None → length scripts.now ≤ MOST_WORKERS }
 {
@@ -99,8 +99,8 @@ fn fault_of<A: Allocator>(scripts: &[Script<A>]) -> Option<DriveError>
     }
 }
 
-// All reports, in order of seats, and the whole ledger; or why the lowest seat that failed has none.
-fn gathered<A: Allocator, J: Job<A>>(
+/// All reports, in order of seats, and the whole ledger; or why the lowest seat that failed has none.
+pub(crate) fn gathered<A: Allocator, J: Job<A>>(
     back: Back<A, J>,
 ) -> Result<(Share<J>, Vec<Report<A>, A>), DriveError>
     requires parts { J.parts ≡ vec_len back.done + 1 }
@@ -123,18 +123,20 @@ fn gathered<A: Allocator, J: Job<A>>(
     Ok((all, reports))
 }
 
-// The book and the reports, where these are its parts and answer the scripts.
-fn closed<A: Handle, J: Job<A>>(
+/// The book and the reports, where these are its parts and answer the scripts, and else `Unsettled`.
+pub(crate) fn settled<A: Handle, J: Job<A>>(
     vault: Vault<A, J>,
-    back: Back<A, J>,
+    all: Share<J>,
+    reports: Vec<Report<A>, A>,
     scripts: &[Script<A>],
 ) -> Result<Driven<A>, DriveError>
     requires few { length scripts.now ≤ MOST_WORKERS }
-    requires parts { J.parts ≡ vec_len back.done + 1 }
+    requires parts { all.parts ≡ J.parts }
+    requires counted { all.amount ≡ sum_by (λ report. length report.entries) reports.items }
     ensures driven { IfOk result (IsDriven J.model scripts.now) }
     ensures late { IfErr result (λ e. is_of_scripts e ≡ false) }
 {
-    let (mut all, reports) = gathered(back)?;
+    let mut all = all;
     let book = vault.close(&mut all);
     if !are_settled(&book, scripts, reports.as_slice()) {
         return Err(DriveError::Unsettled);
@@ -170,7 +172,8 @@ fn run<
     let (calls, rest) = blank.open::<J>();
     let vault = Mutex::new(Vault::new(Book::new(alloc, model)?, calls));
     let back = in_scope(rt, alloc, &vault, rest, scripts, gate)?;
-    closed(vault.into_inner(), back, scripts)
+    let (all, reports) = gathered(back)?;
+    settled(vault.into_inner(), all, reports, scripts)
 }
 
 /// Runs each script in a thread of its own, over one book of the model, with the gate round each call (ours). Where it

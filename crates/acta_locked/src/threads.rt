@@ -86,8 +86,8 @@ fn joined<A: Allocator, J: Job<A>, R: Threads>(
     done
 }
 
-// Starts a thread for each script, and joins each that was started, also where one could not be.
-fn run_in<
+/// Starts a thread for each script, and joins each that was started, also where one could not be.
+pub fn run_in<
     's,
     E: 's,
     A: Handle + Send + Sync + 's,

@@ -1,12 +1,14 @@
 //! The book under its lock, with the ledger that counts its entries.
 
-ghost use Rattle.std.specs.Prelude.{◌≡◌, ◌+◌, ◌<◌, [], Err, length, IfOk, OnErr, OnOk};
-ghost use Rattle.acta_locked.specs.Books.{IsRun, entered, entry_of};
+ghost use Rattle.std.specs.Prelude.{◌≡◌, ◌+◌, ◌<◌, ◌≤◌, [], Err, length, IfOk, OnErr, OnOk};
+ghost use Rattle.acta_judge.specs.Verdicts.{verdict};
+ghost use Rattle.acta_locked.specs.Books.{IsRun, entered, entry_of, state_of};
 
 use crate::book::{Book, Entry, TakeError};
 use crate::desk::Desk;
 use acta_machine::Handle;
-use acta_table::{Event, MOST_EVENTS};
+use acta_table::{Event, Kept, MOST_EVENTS};
+use std::alloc::AllocError;
 use std::marker::Brand;
 use std::sync::ledger::{Ledger, Share};
 use std::sync::{Mutex, Wait, ledger};
@@ -69,6 +71,15 @@ impl<A: Handle, J: Job<A>> Vault<A, J> {
         let entry = book.take(seat, event)?;
         calls.add(mine, 1);
         Ok(entry)
+    }
+
+    /// A copy of the history that the machine keeps, on which a verdict has no fault (ours). `Err` where there is no memory.
+    pub fn history(&self, alloc: A) -> Result<Vec<Kept<A>, A>, AllocError>
+        ensures all { IfOk result (λ copy. copy.items ≡ (state_of self.now.book).kept) }
+        ensures few { IfOk result (λ copy. length copy.items ≤ MOST_EVENTS) }
+        ensures faultless { IfOk result (λ copy. (verdict J.model copy.items).faults ≡ []) }
+    {
+        self.book.history(alloc)
     }
 
     /// The book, once all shares are back (ours): it has as many entries as they counted.

@@ -6,6 +6,7 @@ ghost use Rattle.acta_locked.specs.Desks.{IsReport, IsStopped};
 
 use crate::book::{Entry, TakeError};
 use crate::desk::Desk;
+use crate::watch::Front;
 use acta_table::{Event, Items};
 use std::alloc::Allocator;
 
@@ -22,6 +23,10 @@ pub trait Gate<X> {
     /// Called with the entry that was answered.
     fn after(&self, seat: u8, call: usize, entry: &X) -> bool
         ensures { result ≡ false → may_stop self.now seat call };
+
+    /// Called by a judging thread after each front, outside the lock, with which of its turns it is, from 1. It may
+    /// wait.
+    fn judged<A: Allocator>(&self, turn: u8, front: &Front<A>);
 }
 
 /// A gate that is always true, and never waits (ours).
@@ -38,6 +43,8 @@ impl<X> Gate<X> for OpenGate {
     fn after(&self, _seat: u8, _call: usize, _entry: &X) -> bool {
         true
     }
+
+    fn judged<A: Allocator>(&self, _turn: u8, _front: &Front<A>) {}
 }
 
 /// The events that one worker hands in, in order (ours).

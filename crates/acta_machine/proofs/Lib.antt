@@ -4,6 +4,7 @@ pub mod Courses
 pub mod DependencyTies
 pub mod EdgeSteps
 pub mod Exactness
+pub mod FreshEdges
 pub mod FamilyTies
 pub mod Idle
 pub mod Handing
@@ -13,6 +14,7 @@ pub mod OperationGrowth
 pub mod SetTies
 pub mod Opponents
 pub mod Origins
+pub mod Refusals
 pub mod Runs
 pub mod Starting
 pub mod StatusGrowth

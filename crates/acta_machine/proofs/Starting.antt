@@ -61,14 +61,14 @@ each-between p t u each (e ∷ es) plain =
 
 module _ {A : Type 0} (p : Edge → Bool) (m : Parts A) (faultless : lowest_fault m ≡ None) (t u : TxnId) (class : ClassId)
     (each : (kind : Dep) (d : Dependent) → is_begin_kind kind ≡ false → p (directed kind t u d) ≡ true) where
-  each-spawned : list_all p (spawn_due m t u class) ≡ true
+  pub each-spawned : list_all p (spawn_due m t u class) ≡ true
   each-spawned = of_class (class_at m class.0) (plain-class m faultless class.0)
     where
       of_class : (k : Option (Class A)) → option_map_or has_begin_kind k false ≡ false → list_all p (option_map_or (λ c. edges_between t u c.spawn_edges) k []) ≡ true
       of_class None plain = refl
       of_class (Some k) plain = each-between p t u each k.spawn_edges (or_parts (has_begin_edge k.spawn_edges) (has_begin_edge k.split_edges) plain).0
 
-  each-split : list_all p (split_due m t u class) ≡ true
+  pub each-split : list_all p (split_due m t u class) ≡ true
   each-split = of_class (class_at m class.0) (plain-class m faultless class.0)
     where
       of_class : (k : Option (Class A)) → option_map_or has_begin_kind k false ≡ false → list_all p (option_map_or (λ c. edges_between t u c.split_edges) k []) ≡ true

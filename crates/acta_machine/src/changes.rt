@@ -6,6 +6,7 @@ ghost use Rattle.acta_table.specs.declared.answer.Status.{Status};
 ghost use Rattle.acta_table.specs.WellFormed.{bad_number};
 ghost use Rattle.acta_table.specs.Events.{acting, operations_named};
 ghost use Rattle.acta_table.specs.Fates.{is_open};
+ghost use Rattle.std.specs.List.{list_all};
 ghost use Rattle.std.specs.Option.{option_map_or};
 ghost use Rattle.acta_sets.specs.Operations.{are_held};
 ghost use Rattle.acta_table.specs.Edges.{formed};
@@ -14,6 +15,7 @@ ghost use Rattle.acta_machine.specs.Families.{heir_of};
 ghost use Rattle.acta_machine.specs.Summary.{stood, entered, linked, given, inherited, operated, fated, counted};
 ghost use Rattle.acta_machine.specs.Changes.{begun, settled, changed};
 ghost use Rattle.acta_machine.specs.Rules.{not_in_progress, already_begun, dependency};
+ghost use Rattle.acta_machine.specs.inside.FreshEdges.{is_fresh_edge};
 ghost use Rattle.acta_machine.specs.inside.Shown.{shown};
 
 use crate::board::{Board, Origin};
@@ -209,7 +211,8 @@ impl<A: Handle> Board<A> {
     // Forms these edges, and answers how many are new. `Err` where there is no memory, and then none is formed.
     #[tactic(auto, unfolding(crate::specs::Summary::linked))]
     fn link(&mut self, due: &[Edge]) -> Result<usize, AllocError>
-        requires { length (formed self.old.deps.edges due.now) ≤ MOST_EDGES }
+        requires fits { length (formed self.old.deps.edges due.now) ≤ MOST_EDGES }
+        requires fresh { list_all (is_fresh_edge (shown self.old).status) due.now ≡ true }
         ensures shows { OnOk result (shown self.new ≡ linked (shown self.old) due.now) }
         ensures count { IfOk result (λ count. length (shown self.new).edges ≡ length (shown self.old).edges + count) }
         ensures kept { OnOk result (take (length (shown self.old).edges) (shown self.new).edges ≡ (shown self.old).edges) }
@@ -232,6 +235,7 @@ impl<A: Handle> Board<A> {
         requires origins { length self.old.origins.items ≡ TABLE_SIZE }
         requires few { length self.old.store.items < MOST_EVENTS }
         requires fits { length (formed self.old.deps.edges due.now) ≤ MOST_EDGES }
+        requires fresh { list_all (is_fresh_edge (shown self.old).status) due.now ≡ true }
         requires number { bad_number event.now ≡ None }
         requires progress { not_in_progress (linked (shown self.old) due.now) event.now ≡ None }
         requires new { already_begun (linked (shown self.old) due.now) event.now ≡ None }

@@ -8,7 +8,7 @@ ghost use Rattle.acta_machine.specs.Conflicts.{stands_against, opponents, confli
 ghost use Rattle.acta_machine.specs.inside.Shown.{shown};
 
 use crate::board::Board;
-use acta_axioms::{edges_wanted, first_against, holders_against};
+use acta_axioms::{edges_wanted, first_against, holders_against, is_opposed};
 use acta_sets::Handle;
 use acta_table::{Edge, Event, ObjId, Op, TxnId};
 use std::alloc::AllocError;
@@ -24,6 +24,10 @@ impl<A: Handle> Board<A> {
     ) -> Result<Option<u32>, AllocError>
         ensures { IfOk result (λ number. number ≡ first_number (stands_against self.now.model (shown self.now) t.0 ob op.now) self.now.store.items) }
     {
+        let alloc = self.allocator();
+        if !is_opposed(alloc, &self.model, self.operations(), t, ob, op) {
+            return Ok(None);
+        }
         let spares = self.spared_numbers(t)?;
         let number = first_against(&self.model, self.operations(), t, &spares, ob, op);
         Ok(number)
@@ -33,8 +37,11 @@ impl<A: Handle> Board<A> {
     fn opponents(&self, t: TxnId, ob: ObjId, op: &Op) -> Result<BTreeSet<u16, A>, AllocError>
         ensures { IfOk result (λ holders. holders.keys ≡ opponents self.now.model (shown self.now) t.0 ob op.now) }
     {
-        let spares = self.spared_numbers(t)?;
         let alloc = self.allocator();
+        if !is_opposed(alloc, &self.model, self.operations(), t, ob, op) {
+            return Ok(BTreeSet::new(alloc));
+        }
+        let spares = self.spared_numbers(t)?;
         holders_against(alloc, &self.model, self.operations(), t, &spares, ob, op)
     }
 

@@ -7,6 +7,7 @@ mod board;
 mod changes;
 mod conflicts;
 mod machine;
+mod refused;
 mod rules;
 mod serial;
 

@@ -1,4 +1,4 @@
-ghost use Rattle.std.specs.Prelude.{◌≡◌, ◌<◌, ◌≤◌, All, true, false, [], length, map, None, Some, Err, OnOk, OnErr, IfOk, replicate};
+ghost use Rattle.std.specs.Prelude.{◌≡◌, ◌<◌, ◌≤◌, All, true, false, [], length, map, None, Some, Err, OnOk, OnErr, IfOk, IfSome, replicate};
 ghost use Rattle.acta_table.specs.Faults.{lowest_fault};
 ghost use Rattle.acta_table.specs.WellFormed.{is_bad_number};
 ghost use Rattle.acta_machine.specs.Changes.{edges_due, summary_of};
@@ -14,6 +14,7 @@ ghost use Rattle.acta_machine.specs.Places.{FollowsPlaces, op_numbers, value_at}
 ghost use Rattle.acta_machine.specs.Table.{fresh, answer_to, answers_to, after, after_all, run_answers, run_state, status_in, value_in, access_set_in, conflict_set_in, view_set_in, edges_in, debts_in};
 
 use crate::board::{Board, Origin};
+use crate::refused::{ROOM, Refused, keep_refused, refusal_among};
 use crate::serial::SerialError;
 use acta_axioms::{SerialItem, is_strict, serial_items};
 use acta_deps::Deps;
@@ -31,6 +32,8 @@ use std::alloc::{AllocError, Allocator};
 #[derive(Drop)]
 pub struct Machine<A: Handle> {
     board: Board<A>,
+    // Operations that were refused since the last event that was admitted.
+    refused: Vec<Refused<A>, A>,
 }
 
 impl<A: Handle> std::marker::Model for Machine<A> {
@@ -40,6 +43,7 @@ impl<A: Handle> std::marker::Model for Machine<A> {
     ghost Value = { State A };
 
     ghost use Rattle.acta_machine.specs.Changes.{summary_of};
+    ghost use Rattle.acta_machine.specs.inside.Refused.{AreRefused};
     ghost use Rattle.acta_machine.specs.inside.Shown.{shown};
     ghost use Rattle.acta_machine.specs.Places.{FollowsPlaces};
     ghost use Rattle.acta_values.specs.KeptValues.{kinds_of};
@@ -53,6 +57,7 @@ impl<A: Handle> std::marker::Model for Machine<A> {
       kinds : m.board.store.kinds ≡ kinds_of m.board.model.objects;
       within : length m.board.kept.items ≤ MOST_EVENTS;
       follows : FollowsPlaces (record { model = m.board.model; kept = m.board.kept.items });
+      refused : AreRefused m.board.model (shown m.board) m.refused.items;
     } };
 }
 
@@ -73,6 +78,7 @@ impl<A: Handle> Machine<A> {
         let store = Store::new(alloc, model.objects())?;
         let deps = Deps::new(alloc)?;
         let origins = no_origins(alloc, TABLE_SIZE)?;
+        let refused = Vec::with_capacity(alloc, ROOM)?;
         let board = Board {
             model,
             deps,
@@ -80,7 +86,7 @@ impl<A: Handle> Machine<A> {
             store,
             kept: Vec::new(alloc),
         };
-        Ok(Machine { board })
+        Ok(Machine { board, refused })
     }
 
     /// Takes one event: it is admitted and kept, or refused with the lowest rule that it breaks. A refusal
@@ -94,10 +100,32 @@ impl<A: Handle> Machine<A> {
         // events that may come next the rules on dependencies refuse exactly those that would be illegal.
         ensures follows { FollowsPlaces self.new }
     {
+        if let Some(Refusal { rule, by }) = self.known_refusal(event) {
+            return Ok(Answer::Refused { rule, by });
+        }
         match self.board.judged(event)? {
             Ok(due) => self.keep(event, &due),
-            Err(Refusal { rule, by }) => Ok(Answer::Refused { rule, by }),
+            Err(refusal) => Ok(self.refuse(event, refusal)),
         }
+    }
+
+    // The lowest rule that the event breaks, where it is known.
+    fn known_refusal(&self, event: &Event<A>) -> Option<Refusal>
+        ensures { IfSome result (λ refusal. lowest_broken self.now.model (summary_of self.now.model self.now.kept) event.now ≡ Some refusal) }
+    {
+        refusal_among(&self.refused, event)
+    }
+
+    // Refuses an event by the lowest rule that it breaks.
+    #[tactic(auto, unfolding(crate::specs::Table::answer_to))]
+    fn refuse(&mut self, event: &Event<A>, refusal: Refusal) -> Answer
+        requires { lowest_broken self.old.model (summary_of self.old.model self.old.kept) event.now ≡ Some refusal }
+        ensures answer { result ≡ answer_to self.old event.now }
+        ensures same { self.new ≡ self.old }
+    {
+        keep_refused(&mut self.refused, event, refusal);
+        let Refusal { rule, by } = refusal;
+        Answer::Refused { rule, by }
     }
 
     // Keeps an event that breaks no rule, and forms these edges. `Err` where there is no memory: then nothing is kept.
@@ -111,6 +139,7 @@ impl<A: Handle> Machine<A> {
         ensures err { OnErr result (self.new ≡ self.old) }
         ensures follows { FollowsPlaces self.new }
     {
+        self.board.deps.known();
         let place = self.board.next_place(event);
         let ret = self.board.return_of(event);
         let kept = Kept {
@@ -119,6 +148,7 @@ impl<A: Handle> Machine<A> {
         };
         self.board.make_room()?;
         self.board.admit(event, kept, due)?;
+        self.refused.clear();
         Ok(Answer::Admitted { place, ret })
     }
 
@@ -215,8 +245,10 @@ impl<A: Handle> Machine<A> {
     pub fn copy(&self) -> Result<Machine<A>, AllocError>
         ensures { IfOk result (λ machine. machine ≡ self.now) }
     {
+        let refused = Vec::with_capacity(self.board.allocator(), ROOM)?;
         Ok(Machine {
             board: self.board.copy()?,
+            refused,
         })
     }
 }

@@ -309,16 +309,18 @@ impl<A: Handle> Board<A> {
         broken_by(Rule::FormTooLate, self.too_late(*kind, *j, *i))
     }
 
-    // More edges would be in force than there may be, where the event forms these.
+    // More edges would be in force than there may be, where the event forms these. `Err` where there is no memory.
     #[tactic(auto, unfolding(crate::specs::Rules::edges_full))]
-    fn edges_full(&self, event: &Event<A>, due: &[Edge]) -> Option<Refusal>
+    fn edges_full(&self, event: &Event<A>, due: &[Edge]) -> Result<Option<Refusal>, AllocError>
         requires { due.now ≡ edges_due self.now.model (shown self.now) event.now }
-        ensures { result ≡ edges_full self.now.model (shown self.now) event.now }
+        ensures { IfOk result (λ refusal. refusal ≡ edges_full self.now.model (shown self.now) event.now) }
     {
-        if self.deps.lacks(due) > MOST_EDGES - self.deps.edges().len() {
-            Some(Refusal::of(Rule::EdgesFull))
+        let room = MOST_EDGES - self.deps.edges().len();
+        // (where all would fit, none need be looked for)
+        if due.len() > room && self.deps.lacks(due)? > room {
+            Ok(Some(Refusal::of(Rule::EdgesFull)))
         } else {
-            None
+            Ok(None)
         }
     }
 
@@ -348,18 +350,19 @@ impl<A: Handle> Board<A> {
         Ok(self.form_too_late(event))
     }
 
-    // The lowest rule on dependencies that the event breaks. `Err` where there is no memory.
-    fn dependency(&self, event: &Event<A>) -> Result<Option<Refusal>, AllocError>
-        ensures { IfOk result (λ refusal. refusal ≡ dependency (shown self.now) event.now) }
+    // The lowest rule on dependencies that the event breaks.
+    fn dependency(&mut self, event: &Event<A>) -> Option<Refusal>
+        ensures refusal { result ≡ dependency (shown self.old) event.now }
+        ensures same { self.new ≡ self.old }
     {
         match event {
             Event::Begin(t, _) => self.deps.may_start(*t),
             Event::Spawn(_, c, _) => self.deps.may_start(*c),
             Event::Split(_, u, _, _) => self.deps.may_start(*u),
-            Event::Join(t, _) => Ok(self.deps.may_join(*t)),
+            Event::Join(t, _) => self.deps.may_join(*t),
             Event::Commit(t) => self.deps.may_commit(*t),
             Event::Abort(t) => self.deps.may_abort(*t),
-            Event::Delegate(_, _, _) | Event::Form(_, _, _) | Event::Operate(_, _, _) => Ok(None),
+            Event::Delegate(_, _, _) | Event::Form(_, _, _) | Event::Operate(_, _, _) => None,
         }
     }
 
@@ -388,18 +391,19 @@ impl<A: Handle> Board<A> {
     /// The lowest rule that the event breaks, where it breaks none before that on too many edges, and forms these
     /// edges. `Err` where there is no memory.
     pub(crate) fn broken_from_edges(
-        &self,
+        &mut self,
         event: &Event<A>,
         due: &[Edge],
     ) -> Result<Option<Refusal>, AllocError>
-        requires due { due.now ≡ edges_due self.now.model (shown self.now) event.now }
-        requires none_before { broken_before_edges self.now.model (shown self.now) event.now ≡ None }
-        ensures { IfOk result (λ refusal. refusal ≡ lowest_broken self.now.model (shown self.now) event.now) }
+        requires due { due.now ≡ edges_due self.old.model (shown self.old) event.now }
+        requires none_before { broken_before_edges self.old.model (shown self.old) event.now ≡ None }
+        ensures refusal { IfOk result (λ refusal. refusal ≡ lowest_broken self.old.model (shown self.old) event.now) }
+        ensures same { self.new ≡ self.old }
     {
-        if let Some(refusal) = self.edges_full(event, due) {
+        if let Some(refusal) = self.edges_full(event, due)? {
             return Ok(Some(refusal));
         }
-        if let Some(refusal) = self.dependency(event)? {
+        if let Some(refusal) = self.dependency(event) {
             return Ok(Some(refusal));
         }
         Ok(self.no_heir(event))
@@ -408,13 +412,14 @@ impl<A: Handle> Board<A> {
     /// The edges that the event forms, where it breaks no rule, or else the lowest that it breaks. `Err` where there is
     /// no memory.
     pub(crate) fn judged(
-        &self,
+        &mut self,
         event: &Event<A>,
     ) -> Result<Result<Vec<Edge, A>, Refusal>, AllocError>
-        ensures broken { IfOk result (λ said. IfErr said (λ refusal. lowest_broken self.now.model (shown self.now) event.now ≡ Some refusal)) }
-        ensures none { IfOk result (λ said. IfOk said (λ _. lowest_broken self.now.model (shown self.now) event.now ≡ None)) }
-        ensures due { IfOk result (λ said. IfOk said (λ due. due.items ≡ edges_due self.now.model (shown self.now) event.now)) }
-        ensures faultless { IfOk result (λ said. IfOk said (λ _. lowest_fault self.now.model ≡ None)) }
+        ensures broken { IfOk result (λ said. IfErr said (λ refusal. lowest_broken self.old.model (shown self.old) event.now ≡ Some refusal)) }
+        ensures none { IfOk result (λ said. IfOk said (λ _. lowest_broken self.old.model (shown self.old) event.now ≡ None)) }
+        ensures due { IfOk result (λ said. IfOk said (λ due. due.items ≡ edges_due self.old.model (shown self.old) event.now)) }
+        ensures faultless { IfOk result (λ said. IfOk said (λ _. lowest_fault self.old.model ≡ None)) }
+        ensures same { self.new ≡ self.old }
     {
         if let Some(refusal) = self.broken_before_edges(event)? {
             return Ok(Err(refusal));

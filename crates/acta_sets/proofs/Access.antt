@@ -462,10 +462,3 @@ AreHeld-handed_of items held shared after t u ops given is apart given_is share 
     (AreHeld-given items held after t u (λ k i. is_held t.0 i && is_named ops k) given (without ops (list_at held t.0)) is apart (named_held t.0 ops) given_is
     (ap (without ops) (is t.0) ∙ left-named t.0 ops 1 items)
     (lists_after held shared after t.0 u.0 (joined (list_at held u.0) given) (without ops) apart share change))
-
--- an operation that is in progress no more is held by nobody
-pub AreHeld-past : (items : List HeldOp) (held : List (SmallVec ℕ)) (i : HeldOp) → is_open i.fate ≡ false → AreHeld items held → AreHeld (items ++ i ∷ []) held
-AreHeld-past items held i closed is t =
-    let more = numbers_from-append (is_held t) 1 items i in
-    let here = is t in
-    grind (arith, common_steps, more, here, closed)

@@ -7,3 +7,4 @@ mod Listed
 mod Searching
 mod Access
 mod Among
+mod Unnamed

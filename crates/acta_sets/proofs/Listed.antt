@@ -1,6 +1,8 @@
 -- ModeLists in a map.
 use Rattle.std.proofs.Common.{◌≡◌, ℕ, ◌+◌, Bool, true, false, cond, if◌then◌else◌, List, [], ◌∷◌, ◌++◌, Option, Some, None, is_some, zero, suc, not, length, take, drop, refl, ap, sym, subst, ◌∙◌, arith}
 use Rattle.std.specs.Prelude.{find}
+use Rattle.std.specs.Option.{IsSomeAnd, MatchOption}
+use Rattle.std.proofs.lemmas.Map.Entries.{lookup_clone}
 use Rattle.std.specs.List.{list_all}
 use Rattle.std.proofs.lemmas.Bool.{and_parts}
 use Rattle.acta_table.specs.Fates.{is_open}
@@ -47,6 +49,18 @@ pub read-same : {X Y S : Type 0} (f : X → Y) (d : Y) (m n : HashMap Tag X S) (
 read-same f d m n k w is same q =
     read-put f d m n k w is q
     ∙ same_step (same_tag k q) (f w) (option_map_or f (hash.get same_tag m q) d) (λ e. same ∙ ap (λ p. option_map_or f (hash.get same_tag m p) d) (tag_is k q e))
+
+-- what is read of the value at a tag, in a clone of the map
+read_clone : {X Y : Type 0} (f : X → Y) (d : Y) (D : X → X → Type 0) → ((v w : X) → D v w → f w ≡ f v) → (o p : Option X) → MatchOption o (p ≡ None) (λ v. IsSomeAnd p (D v))
+    → option_map_or f p d ≡ option_map_or f o d
+read_clone f d D same None p e = ap (λ x. option_map_or f x d) e
+read_clone f d D same (Some v) None e = absurd e
+read_clone f d D same (Some v) (Some w) e = same v w e
+
+pub read-clone : {X Y S : Type 0} (f : X → Y) (d : Y) (C : Tag → Tag → Type 0) (D : X → X → Type 0) → ((x y : Tag) → C x y → y ≡ x) → ((v w : X) → D v w → f w ≡ f v)
+    → (m n : HashMap Tag X S) → hash.IsClone C D m n → (q : Tag) → option_map_or f (hash.get same_tag n q) d ≡ option_map_or f (hash.get same_tag m q) d
+read-clone f d C D key same m n is q =
+    read_clone f d D same (hash.get same_tag m q) (hash.get same_tag n q) (lookup_clone C D (same_tag q) (λ x y e. ap (same_tag q) (key x y e)) m.entries n.entries is)
 
 -- what a map has at a tag, after it is put there
 pub at_put : {X S : Type 0} (m n : HashMap Tag X S) (k : Tag) (w : X) → hash.Updates (eq-value).it m n k (Some w) → hash.get same_tag n k ≡ Some w

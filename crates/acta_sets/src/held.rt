@@ -17,6 +17,27 @@ pub(crate) type OpList<A> = SmallVec<u32, 8, A>;
 /// The operations that each transaction holds in progress, by its number.
 pub(crate) type Held<A> = Vec<SmallVec<u32, 8, A>, A>;
 
+// The same list, in memory of its own. `Err` where there is no memory.
+fn copied_list<A: Handle>(alloc: A, list: &[u32]) -> Result<OpList<A>, AllocError>
+    ensures { IfOk result (λ (copied : short_list _). copied.items ≡ list.now) }
+{
+    let mut copied = SmallVec::new(alloc);
+    copied.extend_from_slice(list)?;
+    Ok(copied)
+}
+
+/// The same lists, in memory of their own. `Err` where there is no memory.
+pub(crate) fn copied<A: Handle>(held: &Held<A>) -> Result<Held<A>, AllocError>
+    ensures { IfOk result (λ copied. lists copied.items ≡ lists held.now.items) }
+{
+    let alloc = *held.allocator();
+    let mut copied = Vec::with_capacity(alloc, held.len())?;
+    for list in held {
+        copied.push(copied_list(alloc, list.as_slice())?)?;
+    }
+    Ok(copied)
+}
+
 /// Makes the list at this place, if there is none, with no other change. `Err` where there is no
 /// memory.
 fn grow_to<A: Handle>(held: &mut Held<A>, at: u16) -> Result<(), AllocError>
@@ -78,6 +99,9 @@ fn clear_at<A: Handle>(held: &mut Held<A>, at: u16)
 fn leave_out<A: Handle>(list: &mut OpList<A>, ops: &OpSet<A>)
     ensures { list.new.items ≡ without ops.now list.old.items }
 {
+    if ops.as_slice().is_empty() {
+        return;
+    }
     list.retain(|op| !ops.has_number(*op as usize));
 }
 
@@ -90,12 +114,8 @@ pub(crate) fn leave_out_at<A: Handle>(held: &mut Held<A>, at: u16, ops: &OpSet<A
     }
 }
 
-/// Those of the list that are named. `Err` where there is no memory.
-pub(crate) fn named_in<A: Handle>(
-    alloc: A,
-    list: &[u32],
-    ops: &OpSet<A>,
-) -> Result<Vec<u32, A>, AllocError>
+// Those of the list that are named. `Err` where there is no memory.
+fn picked<A: Handle>(alloc: A, list: &[u32], ops: &OpSet<A>) -> Result<Vec<u32, A>, AllocError>
     ensures { IfOk result (λ named. named.items ≡ named_of ops.now list.now) }
 {
     let mut named = Vec::new(alloc);
@@ -105,6 +125,20 @@ pub(crate) fn named_in<A: Handle>(
         }
     }
     Ok(named)
+}
+
+/// Those of the list that are named. `Err` where there is no memory.
+pub(crate) fn named_in<A: Handle>(
+    alloc: A,
+    list: &[u32],
+    ops: &OpSet<A>,
+) -> Result<Vec<u32, A>, AllocError>
+    ensures { IfOk result (λ named. named.items ≡ named_of ops.now list.now) }
+{
+    if ops.as_slice().is_empty() {
+        return Ok(Vec::new(alloc));
+    }
+    picked(alloc, list, ops)
 }
 
 /// The first of the list that is not named.
@@ -201,6 +235,13 @@ fn share_at<A: Handle>(held: &mut Held<A>, at: u16, more: &[u32]) -> Result<(), 
 
 /// Those who hold something, by number. One who holds nothing any more may be among them still: the lists say who does.
 pub(crate) type Holders<A> = BTreeSet<u16, A>;
+
+/// The same holders, in memory of their own. `Err` where there is no memory.
+pub(crate) fn copied_holders<A: Handle>(holders: &Holders<A>) -> Result<Holders<A>, AllocError>
+    ensures { IfOk result (λ copied. copied.keys ≡ holders.now.keys) }
+{
+    holders.clone()
+}
 
 // The transaction is among the holders. `Err` where there is no memory, and then they stay as they were.
 fn note<A: Handle>(holders: &mut Holders<A>, at: u16) -> Result<(), AllocError>

@@ -16,7 +16,7 @@ use crate::held_op::HeldOp;
 use crate::listing::ModeLists;
 use crate::mode::{Holder, coarse, listed_fine};
 use crate::selection::{Selection, selected};
-use crate::{counts, listing};
+use crate::{counts, held, listing};
 use acta_table::{Fate, MOST_EVENTS, ObjId, Op, OpNo, OpSet, TxnId};
 use std::alloc::{AllocError, Allocator};
 use std::collections::BTreeSet;
@@ -111,41 +111,6 @@ impl<A: Handle> OpTable<A> {
         listing::list_under(&mut self.fine, ob.0, fine, number);
         self.items.push_reserved(item);
         Ok(OpNo(number))
-    }
-
-    // Adds an operation that is in progress no more. `Err` where there is no memory, and then it is not added.
-    fn add_past(&mut self, item: HeldOp) -> Result<(), AllocError>
-        requires room { length self.old < MOST_EVENTS }
-        requires past { is_open item.fate ≡ false }
-        ensures added { OnOk result (self.new ≡ self.old ++ item ∷ []) }
-        ensures err { OnErr result (self.new ≡ self.old) }
-    {
-        let number = self.items.len() as u32 + 1;
-        let alloc = *self.items.allocator();
-        let coarse = coarse(&item.op);
-        let fine = listed_fine(&item.op);
-        self.items.reserve(1)?;
-        listing::make_place(alloc, &mut self.coarse, item.ob.0, coarse)?;
-        listing::make_place(alloc, &mut self.fine, item.ob.0, fine)?;
-        listing::list_under(&mut self.coarse, item.ob.0, coarse, number);
-        listing::list_under(&mut self.fine, item.ob.0, fine, number);
-        self.items.push_reserved(item);
-        Ok(())
-    }
-
-    // Adds an operation as it is. `Err` where there is no memory, and then it is not added.
-    fn add_item(&mut self, item: HeldOp) -> Result<(), AllocError>
-        requires room { length self.old < MOST_EVENTS }
-        ensures added { OnOk result (self.new ≡ self.old ++ item ∷ []) }
-        ensures err { OnErr result (self.new ≡ self.old) }
-    {
-        if item.fate == Fate::InProgress {
-            return match self.add(item.holder, item.ob, item.op) {
-                Ok(_) => Ok(()),
-                Err(error) => Err(error),
-            };
-        }
-        self.add_past(item)
     }
 
     /// The numbers of the operations that the transaction holds in progress, ascending (ACTA's access set).
@@ -367,18 +332,13 @@ impl<A: Handle> OpTable<A> {
     pub fn copy(&self) -> Result<OpTable<A>, AllocError>
         ensures { IfOk result (λ table. table ≡ self.now) }
     {
-        copied(self.allocator(), self.operations())
+        Ok(OpTable {
+            items: Vec::from_slice(self.allocator(), self.operations())?,
+            held: held::copied(&self.held)?,
+            holders: held::copied_holders(&self.holders)?,
+            counts: counts::copied(&self.counts)?,
+            coarse: listing::copied(&self.coarse)?,
+            fine: listing::copied(&self.fine)?,
+        })
     }
-}
-
-// A table of these operations. `Err` where there is no memory.
-fn copied<A: Handle>(alloc: A, items: &[HeldOp]) -> Result<OpTable<A>, AllocError>
-    requires { length items.now ≤ MOST_EVENTS }
-    ensures { IfOk result (λ table. table ≡ items.now) }
-{
-    let mut table = OpTable::new(alloc);
-    for item in items {
-        table.add_item(*item)?;
-    }
-    Ok(table)
 }

@@ -1,5 +1,7 @@
 pub mod AscendingSets
+pub mod EdgeSets
 pub mod Held
+mod InOrder
 pub mod KindSets
 mod OpSearch
 pub mod OpSets

@@ -1,4 +1,4 @@
-ghost use Rattle.std.specs.Prelude.{◌≡◌, Decides, [], fold, IfOk};
+ghost use Rattle.std.specs.Prelude.{◌≡◌, Decides, [], fold, IfOk, IsTrue};
 ghost use Rattle.std.specs.BTreeSet.{insert_key};
 ghost use Rattle.std.specs.List.Sorted.{IsStrictlySortedBy};
 ghost use Rattle.std.specs.Ordering.{nat_cmp};
@@ -52,6 +52,13 @@ fn listed<A: Allocator + Copy>(alloc: A, set: &BTreeSet<u32, A>) -> Result<Vec<O
     Ok(ops)
 }
 
+// Whether each number stands before the next, and below it.
+fn ascend(ops: &[OpNo]) -> bool
+    ensures { IsTrue result → IsStrictlySortedBy nat_cmp (numbers_of ops.now) }
+{
+    ops.is_sorted_by(|op, next| op.0 < next.0)
+}
+
 impl<A: Allocator> OpSet<A> {
     /// Whether the two sets have the same numbers.
     pub fn is_same(&self, other: &OpSet<A>) -> bool
@@ -84,6 +91,12 @@ impl<A: Allocator + Copy> OpSet<A> {
     pub fn of(alloc: A, ops: &[OpNo]) -> Result<OpSet<A>, AllocError>
         ensures { IfOk result (λ set. set ≡ each_once ops.now) }
     {
+        // (nearly always they stand in order, as a set is written)
+        if ascend(ops) {
+            return Ok(OpSet {
+                ops: Items::of(Vec::from_slice(alloc, ops)?),
+            });
+        }
         let set = ordered(alloc, ops)?;
         Ok(OpSet {
             ops: Items::of(listed(alloc, &set)?),

@@ -1,5 +1,6 @@
 //! Tests of the locked book: workers in threads of their own who meet at gates, the faults of a driven run, a full
-//! book, both kinds of desk, many workers over standard models, and each refused growth of a book.
+//! book, both kinds of desk, many workers over standard models, each refused growth of a book, and a thread that judges
+//! while they work.
 
 mod books;
 mod crowds;
@@ -10,3 +11,4 @@ mod gates;
 mod meetings;
 mod refusals;
 mod scripts;
+mod watching;

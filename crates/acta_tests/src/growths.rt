@@ -18,7 +18,7 @@ use std::process::Abort;
 const ONE: TxnId = TxnId(1);
 
 // More allocations than any of these calls makes.
-const MOST: u64 = 60;
+const MOST: u64 = 99;
 
 // How many events and edges the machine has, and how the first transaction stands.
 fn shape<A: Handle>(machine: &Machine<A>) -> (usize, usize, Status) {
@@ -109,12 +109,13 @@ fn grow_each<A: Handle, B: Allocator>(
     drop(model);
 }
 
-// Of the history, of the edges, and of the set of those who would owe an abort.
+// Of the history, and of the edges: of their set, and of the two lists of places by which each transaction's are found. An
+// end takes no memory, whatever is owed by it.
 const OF_FORMS: &str = "\
 begin 1 try : ok 1 : 1
-form AD 2 1 : ok 2 : 2
+form AD 2 1 : ok 2 : 9
 begin 2 try : ok 3 : 0
-abort 1 : ok 4 : 1";
+abort 1 : ok 4 : 0";
 
 // Of a first operation: of its object's value, of the operations, and of each index of them; of one on an object of
 // another kind, of its value and its modes. Of a delegation: of the set that is kept, of what is handed on, of the counts,
@@ -126,7 +127,7 @@ do 1 x write 5 : ok 3 done : 13
 do 1 s insert 3 : ok 4 yes : 8
 delegate 1 2 1,2 : ok 5 : 7
 do 1 n add 1 : ok 6 done : 1
-split 1 4 part 3 : ok 7 : 5
+split 1 4 part 3 : ok 7 : 12
 join 1 2 : ok 8 : 0";
 
 // Of the list of what a transaction holds, which has room for eight of its own; of the list of a mode, of the maps of
@@ -156,12 +157,12 @@ delegate 2 1 1,2,3,4,5,6,7,8,9,10,11,12,13,15 : ok 20 : 5
 join 1 2 : ok 21 : 1
 commit 2 : ok 22 : 0";
 
-// Of the edges that are due, and of the edges in force; of a first operation, and of the list of ancestors who are spared
-// and the set of them; for a commit to a parent, of what is handed on.
+// Of the edges that are due, and of the edges in force; of a first operation, which nothing stands against, so that no
+// ancestors are listed; for a commit to a parent, of what is handed on.
 const OF_SPAWNS: &str = "\
 begin 1 top : ok 1 : 1
-spawn 1 2 sub : ok 2 : 2
-do 2 x write 5 : ok 3 done : 15
+spawn 1 2 sub : ok 2 : 9
+do 2 x write 5 : ok 3 done : 13
 commit 2 : ok 4 : 1";
 
 // For an operation with two edges, of the set of those whom it depends on, of the edges that are due, of the edges in
@@ -173,7 +174,7 @@ do 1 x write 5 : ok 3 done : 13
 do 1 x write 5 : ok 4 done : 0
 do 1 x write 5 : ok 5 done : 1
 do 1 x write 5 : ok 6 done : 0
-do 2 x read : ok 7 5 : 5";
+do 2 x read : ok 7 5 : 12";
 
 #[test]
 fn of_events(rt: HostRuntime) {
@@ -210,10 +211,10 @@ conflicts of child : 2 : 2
 view set : 1 : 12
 value : 1 : 1
 owed : 1 : 1
-machine copy : 37 : 961
-run : 46 : 9
+machine copy : 47 : 961
+run : 59 : 9
 model copy : 9 : 2
-new machine : 13 : 0
+new machine : 17 : 0
 first start : 31 : 1
 element : 2 : 1
 replay : 2 : 2

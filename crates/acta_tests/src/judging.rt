@@ -6,6 +6,7 @@ mod asking;
 mod breaking;
 mod limits;
 mod machines;
+mod parts;
 mod places;
 mod reading;
 mod refusals;

@@ -17,6 +17,8 @@ mod debugging;
 #[cfg(test)]
 mod driving;
 #[cfg(test)]
+mod edges;
+#[cfg(test)]
 mod expecting;
 #[cfg(test)]
 mod formulas;

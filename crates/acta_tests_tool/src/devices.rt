@@ -7,6 +7,7 @@ use std::alloc::Global;
 use std::io;
 use std::io::{ErrorKind, Read, Write};
 use std::process::Abort;
+use std::thread::Threads;
 
 // The text of the model that is run.
 fn text() -> &'static [u8] {
@@ -14,7 +15,13 @@ fn text() -> &'static [u8] {
 }
 
 // The run of a model's text over this reader and writer.
-fn run<R: Read, W: Write>(alloc: Global, text: &[u8], input: &mut R, output: &mut W) -> Outcome {
+fn run<T: Threads + Sync, R: Read, W: Write>(
+    rt: &T,
+    alloc: Global,
+    text: &[u8],
+    input: &mut R,
+    output: &mut W,
+) -> Outcome {
     let (command, model) = (
         Command::Run { kept: false },
         ModelName::Standard(Standard::Atomic),
@@ -22,7 +29,7 @@ fn run<R: Read, W: Write>(alloc: Global, text: &[u8], input: &mut R, output: &mu
     let args = Args { command, model };
     let mut input = Metered::new(input);
     let mut output = Watched::new(output);
-    run_tool(alloc, &args, text, &mut input, &mut output)
+    run_tool(rt, alloc, &args, text, &mut input, &mut output)
 }
 
 /// Gives its bytes in pieces, or one byte at each read without end, fails at one read, and counts the reads.
@@ -89,7 +96,7 @@ const LINE: &[u8] = b"begin 1 flat\n";
 // The line is read in pieces of so many bytes, or without end, where this read fails: the run ends so, behind so many
 // reads, and this is told.
 fn expect(
-    rt: &impl Abort,
+    rt: &(impl Threads + Sync + Abort),
     alloc: Global,
     (piece, is_unending, fails_at): (usize, bool, u32),
     (due, reads, told): (Outcome, u32, &[u8]),
@@ -103,7 +110,7 @@ fn expect(
         reads: 0,
     };
     let mut output = Vec::new(alloc);
-    let ended = run(alloc, text(), &mut input, &mut output);
+    let ended = run(rt, alloc, text(), &mut input, &mut output);
     holds(rt, ended == due, row);
     counts(rt, u64::from(input.reads), u64::from(reads), row);
     tells(rt, output.as_slice(), told, row);
@@ -137,10 +144,10 @@ fn a_reader_without_end(rt: HostRuntime) {
 }
 
 // A writer that takes a write, or takes none, is written to once.
-fn is_stuck(rt: &impl Abort, alloc: Global, takes: bool, row: &str) {
+fn is_stuck(rt: &(impl Threads + Sync + Abort), alloc: Global, takes: bool, row: &str) {
     let mut input = LINE;
     let mut output = Stuck { takes, writes: 0 };
-    let ended = run(alloc, text(), &mut input, &mut output);
+    let ended = run(rt, alloc, text(), &mut input, &mut output);
     holds(rt, ended == Outcome::Unwritten, row);
     counts(rt, u64::from(output.writes), 1, row);
 }
@@ -152,9 +159,14 @@ fn writers(rt: HostRuntime) {
 }
 
 // How the run of the text over this input ends. Nothing is told.
-fn ends(rt: &impl Abort, alloc: Global, text: &[u8], mut input: &[u8]) -> Outcome {
+fn ends(
+    rt: &(impl Threads + Sync + Abort),
+    alloc: Global,
+    text: &[u8],
+    mut input: &[u8],
+) -> Outcome {
     let mut output = Vec::new(alloc);
-    let ended = run(alloc, text, &mut input, &mut output);
+    let ended = run(rt, alloc, text, &mut input, &mut output);
     holds(rt, output.is_empty(), "a long input");
     ended
 }

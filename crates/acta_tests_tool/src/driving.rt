@@ -168,6 +168,34 @@ status 2
 
 $ run --workers 1 @atomic
 status 2
+
+$ drive --workers 1 --watch 0 @atomic
+| 1 begin 1 flat
+| 1 commit 1
+1 1 begin 1 flat : ok 1
+2 1 commit 1 : ok 2
+status 0
+
+$ drive --workers 2 --watch 3 @atomic
+front 0 0 0
+front 0 0 0
+front 0 0 0
+status 0
+
+$ drive --watch 1 @atomic
+status 2
+
+$ drive --workers 1 --watch @atomic
+status 2
+
+$ drive --workers 1 --watch 256 @atomic
+status 2
+
+$ drive --workers 1 --watch some @atomic
+status 2
+
+$ run --watch 1 @atomic
+status 2
 ";
 
 // What is told on the model of flat transactions of a line that stands so many times, and how it ends.
@@ -216,10 +244,17 @@ fn tells<R: Threads + Wait + Sync + Abort, B: Allocator + Send + Sync>(
 fn as_many_lines_as_a_book_takes(rt: HostRuntime) {
     let heap = Refusing::new(rt.alloc());
     let line = b"1 commit 1\n".as_slice();
-    let (command, due) = (Command::Drive { workers: 16 }, ("drive fault 3\n", ""));
+    let command = Command::Drive {
+        workers: 16,
+        turns: 0,
+    };
+    let due = ("drive fault 3\n", "");
     tells(&rt, rt.alloc(), &heap, command, (line, 65_537), due);
     let (command, due) = (
-        Command::Drive { workers: 1 },
+        Command::Drive {
+            workers: 1,
+            turns: 0,
+        },
         ("", "\n65536 1 commit 1 : no 7 by 1\n"),
     );
     tells(&rt, rt.alloc(), &heap, command, (line, 65_536), due);
@@ -279,9 +314,47 @@ fn seats_end(rt: &impl Abort, alloc: Global, output: &str) {
 #[test]
 fn three_workers(rt: HostRuntime) {
     let heap = Refusing::new(rt.alloc());
-    let command = Command::Drive { workers: 3 };
+    let command = Command::Drive {
+        workers: 3,
+        turns: 0,
+    };
     let (ended, output) = told(&rt, rt.alloc(), &heap, command, (THREE, 1));
     holds(&rt, ended == Outcome::Done, "the end of the run");
     let output = made(&rt, str::from_utf8(output.as_slice()), "what is told");
     seats_end(&rt, rt.alloc(), output);
+}
+
+const ONE: &[u8] = b"1 begin 1 flat\n1 commit 1\n";
+
+// What is told of one worker's two lines, which is judged so many times.
+fn watched<R: Threads + Wait + Sync + Abort>(rt: &R, alloc: Global, turns: u8) -> Vec<u8> {
+    let heap = Refusing::new(alloc);
+    let command = Command::Drive { workers: 1, turns };
+    let (ended, output) = told(rt, alloc, &heap, command, (ONE, 1));
+    holds(rt, ended == Outcome::Done, "the end of the run");
+    output
+}
+
+// The length of a front of a history without faults and debts, which its line tells.
+fn length_of(rt: &impl Abort, line: Option<&str>) -> u64 {
+    let line = line.expect(rt, "a front");
+    let length = line.strip_prefix("front ").expect(rt, line);
+    let length = length.strip_suffix(" 0 0").expect(rt, line);
+    made(rt, length.parse::<u64>(), line)
+}
+
+// Without a turn nothing is told of fronts; with two there are two, behind the entries, and their lengths never fall.
+#[test]
+fn one_worker_is_watched(rt: HostRuntime) {
+    let entries = "1 1 begin 1 flat : ok 1\n2 1 commit 1 : ok 2\n";
+    let none = watched(&rt, rt.alloc(), 0);
+    holds(&rt, none.as_slice() == entries.as_bytes(), "no turn");
+    let two = watched(&rt, rt.alloc(), 2);
+    let output = made(&rt, str::from_utf8(two.as_slice()), "two turns");
+    holds(&rt, output.starts_with(entries), output);
+    counts(&rt, output.lines().count() as u64, 4, output);
+    let mut fronts = output.lines().skip(2);
+    let first = length_of(&rt, fronts.next());
+    let second = length_of(&rt, fronts.next());
+    holds(&rt, first <= second && second <= 2, output);
 }

@@ -84,7 +84,7 @@ pub fn serve<R: Threads + Wait + Sync, B: Allocator + Send + Sync>(
     let mut output = Watched::new(output);
     match args.command {
         Command::Drive { .. } => drive_tool(rt, heap, args, model, &mut input, &mut output),
-        _ => run_tool(heap, args, model, &mut input, &mut output),
+        _ => run_tool(rt, heap, args, model, &mut input, &mut output),
     }
 }
 

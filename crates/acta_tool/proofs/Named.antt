@@ -19,14 +19,15 @@ both {A = A} {B = B} f g (Some x) a b h k =
 abbrev is_kept_in : Option Text → Bool
 is_kept_in value = option_map_or (bytes_eq (codes "true")) value false
 
--- the subcommand that was met, and what was read of its flag, its workers and its model
-pub named_is : (m inner : ArgMatches) (command : Text) (is_kept : Bool) (workers model : Option Text) → Some command ≡ subcommand_name_of m → Some (rows_of (found_of inner)) ≡ option_map (λ p. p.1) (subcommand_rows_of m)
+-- the subcommand that was met, and what was read of its flag, its workers, its turns and its model
+pub named_is : (m inner : ArgMatches) (command : Text) (is_kept : Bool) (workers watch model : Option Text) → Some command ≡ subcommand_name_of m → Some (rows_of (found_of inner)) ≡ option_map (λ p. p.1) (subcommand_rows_of m)
     → is_kept ≡ option_map_or (bytes_eq (codes "true")) (first_value (found_of inner) (codes "kept")) false
-    → workers ≡ first_value (found_of inner) (codes "workers") → model ≡ first_value (found_of inner) (codes "MODEL")
-    → option_map {U = Named} (λ t. record { command = command; is_kept = is_kept; workers = workers; model = t }) model ≡ named_in (subcommand_rows_of m)
-named_is m inner command is_kept workers model h k flag seats e =
+    → workers ≡ first_value (found_of inner) (codes "workers") → watch ≡ first_value (found_of inner) (codes "watch") → model ≡ first_value (found_of inner) (codes "MODEL")
+    → option_map {U = Named} (λ t. record { command = command; is_kept = is_kept; workers = workers; watch = watch; model = t }) model ≡ named_in (subcommand_rows_of m)
+named_is m inner command is_kept workers watch model h k flag seats turns e =
     let kept = flag ∙ ap is_kept_in (first_value-rows (found_of inner) (codes "kept")) in
     let seated = seats ∙ first_value-rows (found_of inner) (codes "workers") in
+    let watched = turns ∙ first_value-rows (found_of inner) (codes "watch") in
     let named = e ∙ first_value-rows (found_of inner) (codes "MODEL") in
-    (λ i. option_map {U = Named} (λ t. record { command = command; is_kept = kept i; workers = seated i; model = t }) (named i))
+    (λ i. option_map {U = Named} (λ t. record { command = command; is_kept = kept i; workers = seated i; watch = watched i; model = t }) (named i))
     ∙ sym (ap named_in (both _ _ _ command (rows_of (found_of inner)) h k))

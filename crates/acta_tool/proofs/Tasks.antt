@@ -5,13 +5,15 @@ use Rattle.acta_words.specs.Text.{text_of}
 use Rattle.acta_locked.specs.declared.run.DriveError.{DriveError}
 use Rattle.acta_locked.specs.declared.run.DriveError.TheVariants.{NoWorker, TooManyWorkers, TooManyEvents, Memory, NoThread, GaveUp, Unsettled}
 use Rattle.acta_locked.specs.declared.run.Driven.{Driven}
+use Rattle.acta_locked.specs.declared.watch.Front.{Front}
+use Rattle.acta_locked.specs.declared.watch.Watched.{Watched}
 use Rattle.acta_locked.specs.Drives.{IsDriven, is_of_scripts, scripts_fault}
 use Rattle.acta_tool.specs.declared.args.Command.{Command}
 use Rattle.acta_tool.specs.declared.outcome.Outcome.{Outcome}
 use Rattle.acta_tool.specs.declared.outcome.Outcome.TheVariants.{Done, Refused, Unread, Undriven, Unwritten}
 use Rattle.acta_tool.specs.Outcome.{Answers, is_undriven}
 use Rattle.acta_tool.specs.Output.{Output}
-use Rattle.acta_tool.specs.Driving.{AnswersOne, MayCome, MayWrite, Task, book_lines, is_too_long, unless_too_long}
+use Rattle.acta_tool.specs.Driving.{AnswersOne, AreAsked, MayCome, MayWrite, Task, book_lines, is_too_long, unless_too_long}
 use Rattle.acta_tool.specs.declared.reports.Report.{Report}
 use Rattle.acta_tool.specs.inside.Reports.{MayComeOf, output_of}
 
@@ -40,16 +42,16 @@ other (Ok task) e is = λ of_scripts. absurd (true≢false (sym of_scripts ∙ i
 other (Err line) e is = is
 
 -- a run that has a result is told
-pub driven : {A : Type 0} (task : Task A) (d : Driven A) (r : Result (Report A) DriveError) → ((e : DriveError) → scripts_fault task.scripts ≡ Some e → Ok d ≡ Err e) → IsDriven task.model task.scripts d
-    → IfOk r (λ report. output_of report ≡ record { is_refused = false; text = text_of (book_lines d.book) }) → IfErr r (λ e. e ≡ Memory) → MayComeOf (unless_too_long task) r
-driven task d (Ok report) barred is told memory =
-    let free : (e : DriveError) → scripts_fault task.scripts ≡ Some e → ⊥ = λ e has. never d e (barred e has) in
+pub driven : {A : Type 0} (task : Task A) (d : Driven A) (fs : List (Front A)) (r : Result (Report A) DriveError) → ((e : DriveError) → scripts_fault task.scripts ≡ Some e → Ok (let w : Watched A = record { driven = d; fronts = fs } in w) ≡ Err e) → IsDriven task.model task.scripts d → AreAsked task d fs
+    → IfOk r (λ report. output_of report ≡ record { is_refused = false; text = text_of (book_lines d.book fs) }) → IfErr r (λ e. e ≡ Memory) → MayComeOf (unless_too_long task) r
+driven {A} task d fs (Ok report) barred is asked told memory =
+    let free : (e : DriveError) → scripts_fault task.scripts ≡ Some e → ⊥ = λ e has. never (let w : Watched A = record { driven = d; fronts = fs } in w) e (barred e has) in
     subst (λ found. MayCome found (Ok (output_of report))) (sym (free_kept task (scripts_fault task.scripts) refl free))
-    (none_of task (scripts_fault task.scripts) refl free, d, is, told)
-driven task d (Err e) barred is told memory = other (unless_too_long task) e (ap is_of_scripts memory)
+    (none_of task (scripts_fault task.scripts) refl free, d, is, fs, asked, told)
+driven task d fs (Err e) barred is asked told memory = other (unless_too_long task) e (ap is_of_scripts memory)
 
 undriven_by : {A : Type 0} (task : Task A) (e : DriveError) (fault : Option DriveError) → scripts_fault task.scripts ≡ fault → (is_of_scripts e ≡ true → scripts_fault task.scripts ≡ Some e)
-    → ((f : DriveError) → scripts_fault task.scripts ≡ Some f → ◌≡◌ {A = Result (Driven A) DriveError} (Err e) (Err f)) → e ≢ TooManyEvents → MayCome (by_fault task fault) (Err e)
+    → ((f : DriveError) → scripts_fault task.scripts ≡ Some f → ◌≡◌ {A = Result (Watched A) DriveError} (Err e) (Err f)) → e ≢ TooManyEvents → MayCome (by_fault task fault) (Err e)
 undriven_by task e None is only barred kept = only
 undriven_by task e (Some NoWorker) is only barred kept = only
 undriven_by task e (Some TooManyWorkers) is only barred kept = only
@@ -60,7 +62,7 @@ undriven_by task e (Some (GaveUp seat)) is only barred kept = only
 undriven_by task e (Some Unsettled) is only barred kept = only
 
 -- and one that has none says why, unless there are too many events
-pub undriven : {A : Type 0} (task : Task A) (e : DriveError) → (is_of_scripts e ≡ true → scripts_fault task.scripts ≡ Some e) → ((f : DriveError) → scripts_fault task.scripts ≡ Some f → ◌≡◌ {A = Result (Driven A) DriveError} (Err e) (Err f))
+pub undriven : {A : Type 0} (task : Task A) (e : DriveError) → (is_of_scripts e ≡ true → scripts_fault task.scripts ≡ Some e) → ((f : DriveError) → scripts_fault task.scripts ≡ Some f → ◌≡◌ {A = Result (Watched A) DriveError} (Err e) (Err f))
     → e ≢ TooManyEvents → MayCome (unless_too_long task) (Err e)
 undriven task e only barred kept = undriven_by task e (scripts_fault task.scripts) refl only barred kept
 

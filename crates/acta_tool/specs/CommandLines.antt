@@ -1,5 +1,5 @@
 -- What the words of a command line ask for, in the words of `clap`.
-use Rattle.std.specs.Prelude.{◌≡◌, ◌≢◌, ◌==◌, ◌<◌, ◌≤◌, ⊤, Bool, true, false, ◌⊎◌, ℕ, List, [], ◌∷◌, Option, Some, option_map, IsSomeAnd, slice_index, codes, pos}
+use Rattle.std.specs.Prelude.{◌≡◌, ◌≢◌, ◌==◌, ◌<◌, ◌≤◌, ⊤, Bool, true, false, ◌⊎◌, ℕ, List, [], ◌∷◌, Option, Some, None, option_map, IsSomeAnd, slice_index, codes, pos}
 use Rattle.std.specs.Option.{option_and_then, option_map_or}
 use Rattle.std.specs.Str.{bytes_eq}
 use Rattle.clap.specs.Words.{App, Row, Rule, Text, IsAmong, Kinds, fault_of, first_of, kind_of, new_app, new_rule, subcommand_of, with_rule, with_subcommand}
@@ -35,6 +35,14 @@ workers_rule = record (new_rule (codes "workers")) {
   parser = Some (Signed (pos 1) (pos 16));
 }
 
+-- the option `--watch`, with a number from 0 to 255
+abbrev pub watch_rule : Rule
+watch_rule = record (new_rule (codes "watch")) {
+  long = Some (codes "watch");
+  action = Some Set;
+  parser = Some (Signed (pos 0) (pos 255));
+}
+
 -- the commands
 abbrev pub assemble_app : App
 assemble_app = with_rule (new_app (codes "assemble")) model_rule
@@ -55,7 +63,7 @@ abbrev pub serial_app : App
 serial_app = with_rule (new_app (codes "serial")) model_rule
 
 abbrev pub drive_app : App
-drive_app = with_rule (with_rule (new_app (codes "drive")) model_rule) workers_rule
+drive_app = with_rule (with_rule (with_rule (new_app (codes "drive")) model_rule) workers_rule) watch_rule
 
 -- the program without its commands, of which one has to be there
 abbrev pub bare_app : App
@@ -73,12 +81,13 @@ plain_app =
 abbrev pub tool_app : App
 tool_app = with_subcommand (with_subcommand plain_app run_app.top) drive_app.top
 
--- a command line as it is spelled: the command, whether the flag stands with it, the number of workers if one does,
--- and the model
+-- a command line as it is spelled: the command, whether the flag stands with it, the numbers of workers and of turns
+-- if they do, and the model
 pub record Named : Type 0 where
   pub command : Text
   pub is_kept : Bool
   pub workers : Option Text
+  pub watch : Option Text
   pub model : Text
 
 -- whether a flag was set
@@ -92,6 +101,7 @@ named_in = option_and_then (λ p.
       command = p.0;
       is_kept = is_set (codes "kept") p.1;
       workers = first_of (codes "workers") p.1;
+      watch = first_of (codes "watch") p.1;
       model = model;
     }) (first_of (codes "MODEL") p.1))
 
@@ -115,6 +125,18 @@ standard_text name = 64 ∷ name_of_standard name
 abbrev pub workers_in : Named → Option ℕ
 workers_in line = option_and_then (read_natural 0xffff) line.workers
 
+-- how often the history is judged meanwhile: not at all where nothing is said
+abbrev pub turns_by : Option Text → Option ℕ
+turns_by None = Some 0
+turns_by (Some text) = read_natural 0xffff text
+
+abbrev pub turns_in : Named → Option ℕ
+turns_in line = turns_by line.watch
+
+-- as often as a byte counts
+abbrev pub AreTurns : ℕ → Type 0
+AreTurns turns = turns ≤ 255
+
 -- a seat for each: from 1 to 16
 abbrev pub AreSeated : ℕ → Type 0
 AreSeated workers = (0 < workers) × (workers ≤ MOST_WORKERS)
@@ -127,7 +149,9 @@ IsCommand line (Run kept) = (line.command ≡ codes "run") × (line.is_kept ≡ 
 IsCommand line Judge = line.command ≡ codes "judge"
 IsCommand line Debug = line.command ≡ codes "debug"
 IsCommand line Serial = line.command ≡ codes "serial"
-IsCommand line (Drive workers) = (line.command ≡ codes "drive") × (workers_in line ≡ Some workers) × AreSeated workers
+IsCommand line (Drive workers turns) =
+    (line.command ≡ codes "drive") × (workers_in line ≡ Some workers) × AreSeated workers
+    × (turns_in line ≡ Some turns) × AreTurns turns
 
 -- it is one of them
 abbrev pub IsKnown : Named → Type 0
@@ -138,7 +162,7 @@ IsKnown line =
     ⊎ ((line.command ≡ codes "judge")
     ⊎ ((line.command ≡ codes "debug")
     ⊎ ((line.command ≡ codes "serial")
-    ⊎ ((line.command ≡ codes "drive") × IsSomeAnd (workers_in line) AreSeated))))))
+    ⊎ ((line.command ≡ codes "drive") × IsSomeAnd (workers_in line) AreSeated × IsSomeAnd (turns_in line) AreTurns))))))
 
 -- the model is this one: a standard one, or a file
 abbrev pub IsModel : Text → ModelName → Type 0

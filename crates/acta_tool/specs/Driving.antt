@@ -1,5 +1,5 @@
 -- What `drive` may write: whatever some driven run of the scripts that the lines give leaves.
-use Rattle.std.specs.Prelude.{◌≡◌, ⊤, ℕ, Bool, true, false, ◌==◌, List, [], ◌∷◌, ◌++◌, map, filter, codes, decimal, if◌then◌else◌, Option, Some, None, Result, Ok, Err}
+use Rattle.std.specs.Prelude.{◌≡◌, ⊤, ℕ, Bool, true, false, ◌==◌, List, [], ◌∷◌, ◌++◌, length, map, filter, codes, decimal, if◌then◌else◌, Option, Some, None, Result, Ok, Err}
 use Rattle.std.specs.List.{range_with_len}
 use Rattle.acta_table.specs.declared.event.Event.{Event}
 use Rattle.acta_table.specs.declared.model.Parts.{Parts}
@@ -14,7 +14,9 @@ use Rattle.acta_locked.specs.declared.run.DriveError.{DriveError}
 use Rattle.acta_locked.specs.declared.run.DriveError.TheVariants.{TooManyEvents}
 use Rattle.acta_locked.specs.declared.run.Driven.{Driven}
 use Rattle.acta_locked.specs.Books.{Entries, state_of}
+use Rattle.acta_locked.specs.declared.watch.Front.{Front}
 use Rattle.acta_locked.specs.Drives.{IsDriven, is_of_scripts, scripts_fault}
+use Rattle.acta_locked.specs.Fronts.{AreFronts}
 use Rattle.acta_tool.specs.declared.args.Command.{Command}
 use Rattle.acta_tool.specs.declared.args.Command.TheVariants.{Drive}
 use Rattle.acta_tool.specs.declared.models.NoModel.{NoModel}
@@ -38,14 +40,25 @@ unfoldable pub entry_line : {A : Type 0} → Parts A → Entry A → List ℕ
 entry_line m e =
     line_of (decimal e.number ∷ decimal e.seat ∷ event_line m e.event ∷ codes ":" ∷ answer_line e.answer ∷ [])
 
--- what is told of a book: its entries, then what is owed
-abbrev pub book_lines : {A : Type 0} → Entries A → List (List ℕ)
-book_lines b = map (entry_line b.model) b.entries ++ map owed_line (debts_in (state_of b))
+-- front LENGTH FAULTS OWED
+abbrev pub front_line : {A : Type 0} → Front A → List ℕ
+front_line f =
+    line_of (codes "front" ∷ decimal f.length ∷ decimal (length f.verdict.faults) ∷ decimal (length f.verdict.owed) ∷ [])
 
--- what is to be driven: scripts, on a model
+-- what is told of a book and of the fronts that were judged while it grew: its entries, the fronts, then what is owed
+abbrev pub book_lines : {A : Type 0} → Entries A → List (Front A) → List (List ℕ)
+book_lines b fs = map (entry_line b.model) b.entries ++ (map front_line fs ++ map owed_line (debts_in (state_of b)))
+
+-- what is to be driven: scripts, on a model, and how often the history is judged meanwhile
 pub record Task (A : Type 0) : Type 0 where
   pub model : Parts A
   pub scripts : List (List (Event A))
+  pub turns : ℕ
+
+-- these are as many fronts as the task asks for, of the history that the run kept
+pub record AreAsked {A : Type 0} (task : Task A) (d : Driven A) (fs : List (Front A)) : Type 0 where
+  pub fronts : AreFronts task.model (state_of d.book).kept fs
+  pub asked : length fs ≡ task.turns
 
 -- whether the fault is that the scripts have more events than a book takes
 abbrev pub is_too_long : Option DriveError → Bool
@@ -57,31 +70,32 @@ abbrev pub unless_too_long : {A : Type 0} → Task A → Result (Task A) (List �
 unless_too_long task = if is_too_long (scripts_fault task.scripts) then Err (codes "drive fault 3") else Ok task
 
 -- the task of the lines on a model, or the line for the first that is faulty
-abbrev pub task_by : {A : Type 0} → ℕ → Parts A → List (Seated A) → Option BadLine → Result (Task A) (List ℕ)
-task_by workers m said None = unless_too_long (record { model = m; scripts = scripts_of workers said })
-task_by workers m said (Some b) = Err (stop_line b)
+abbrev pub task_by : {A : Type 0} → ℕ → ℕ → Parts A → List (Seated A) → Option BadLine → Result (Task A) (List ℕ)
+task_by workers turns m said None = unless_too_long (record { model = m; scripts = scripts_of workers said; turns = turns })
+task_by workers turns m said (Some b) = Err (stop_line b)
 
-abbrev pub task_on : {A : Type 0} → ℕ → Parts A → Said (Seated A) → Result (Task A) (List ℕ)
-task_on workers m s = task_by workers m s.said s.stop
+abbrev pub task_on : {A : Type 0} → ℕ → ℕ → Parts A → Said (Seated A) → Result (Task A) (List ℕ)
+task_on workers turns m s = task_by workers turns m s.said s.stop
 
--- the task that the bytes of a model and of an input give so many workers, or the line that says what is wrong
-abbrev pub task_of : {A : Type 0} → ℕ → Result (Parts A) NoModel → List ℕ → Result (Task A) (List ℕ)
-task_of workers (Err fault) input = Err (no_model_line fault)
-task_of workers (Ok m) input = task_on workers m (said_in (seated_of m workers) input)
+-- the task that the bytes of a model and of an input give so many workers and turns, or the line that says what is wrong
+abbrev pub task_of : {A : Type 0} → ℕ → ℕ → Result (Parts A) NoModel → List ℕ → Result (Task A) (List ℕ)
+task_of workers turns (Err fault) input = Err (no_model_line fault)
+task_of workers turns (Ok m) input = task_on workers turns m (said_in (seated_of m workers) input)
 
--- what may be written: what some driven run of the task leaves, or the line that refuses it; and why nothing may be,
+-- what may be written: what some driven run of the task leaves, with any fronts that it asks for, or the line that refuses it; and why nothing may be,
 -- which is no fault of the scripts unless they have it
 abbrev pub MayCome : {A : Type 0} → Result (Task A) (List ℕ) → Result Output DriveError → Type 0
 MayCome {A} (Ok task) (Ok out) =
     (scripts_fault task.scripts ≡ None) × (d : Driven A) × IsDriven task.model task.scripts d
-    × (out ≡ record { is_refused = false; text = text_of (book_lines d.book) })
+    × (fs : List (Front A)) × AreAsked task d fs
+    × (out ≡ record { is_refused = false; text = text_of (book_lines d.book fs) })
 MayCome (Ok task) (Err e) = is_of_scripts e ≡ true → scripts_fault task.scripts ≡ Some e
 MayCome (Err line) (Ok out) = out ≡ record { is_refused = true; text = text_of (line ∷ []) }
 MayCome (Err line) (Err e) = is_of_scripts e ≡ false
 
 -- what may come of the command `drive`, for the bytes of a model and of an input; A is the allocator's type
 abbrev pub MayWrite : (A : Type 0) → Command → List ℕ → List ℕ → Result Output DriveError → Type 0
-MayWrite A (Drive workers) model input left = MayCome {A = A} (task_of workers (of_either model) input) left
+MayWrite A (Drive workers turns) model input left = MayCome {A = A} (task_of workers turns (of_either model) input) left
 MayWrite A _ model input left = ⊥
 
 -- where the input was answered, the writer got an output that may be written, and nothing else; and where no run was

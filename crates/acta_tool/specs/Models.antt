@@ -36,4 +36,4 @@ model_by (Run kept) bytes = of_either bytes
 model_by Judge bytes = of_either bytes
 model_by Debug bytes = of_either bytes
 model_by Serial bytes = of_either bytes
-model_by (Drive workers) bytes = of_either bytes
+model_by (Drive workers turns) bytes = of_either bytes

@@ -29,7 +29,7 @@ exit_status_of (Err (no_memory e)) = 3
 
 -- whether the command is for threads
 abbrev pub is_drive : Command → Bool
-is_drive (Drive workers) = true
+is_drive (Drive workers turns) = true
 is_drive _ = false
 
 -- whether the command reads the input
@@ -40,7 +40,7 @@ reads_input (Run kept) = true
 reads_input Judge = true
 reads_input Debug = true
 reads_input Serial = true
-reads_input (Drive workers) = true
+reads_input (Drive workers turns) = true
 
 -- the input of a command, where this is left to be read: none, where it reads none
 abbrev pub input_of : Command → Option (List ℕ) → Option (List ℕ)

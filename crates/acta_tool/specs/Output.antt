@@ -186,7 +186,7 @@ output_on (Run kept) m input = run_on kept m (said_in (event_of m) input)
 output_on Judge m input = judge_on m (said_in (kept_of m) input)
 output_on Debug m input = debug_on m input
 output_on Serial m input = serial_on m (said_in (event_of m) input)
-output_on (Drive workers) m input = record { is_refused = false; text = [] }
+output_on (Drive workers turns) m input = record { is_refused = false; text = [] }
 
 -- the output for bytes that mean no model
 abbrev pub refused_model : NoModel → Output

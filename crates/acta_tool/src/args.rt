@@ -5,7 +5,7 @@ ghost use Rattle.std.specs.Option.{option_map_or};
 ghost use Rattle.std.specs.Str.{bytes_eq};
 ghost use Rattle.clap.specs.Words.{app_of, first_value, found_of, new_app, rule_of, subcommand_rows_of, with_rule, with_subcommand};
 ghost use Rattle.acta_models.specs.declared.texts.Standard.{Standard as StandardModel};
-ghost use Rattle.acta_tool.specs.CommandLines.{AreSeated, AsksFor, IsCommand, IsFaultOf, IsKnown, IsModel, IsUnknown, bare_app, begins_at, faults_of, kept_rule, model_rule, named_by, named_in, plain_app, standard_text, tool_app, workers_in, workers_rule};
+ghost use Rattle.acta_tool.specs.CommandLines.{AreSeated, AreTurns, AsksFor, IsCommand, IsFaultOf, IsKnown, IsModel, IsUnknown, bare_app, begins_at, drive_app, faults_of, kept_rule, model_rule, named_by, named_in, plain_app, standard_text, tool_app, turns_in, watch_rule, workers_in, workers_rule};
 ghost use Rattle.acta_tool.specs.inside.Spelling.{IsMissing, named_of};
 
 use crate::fault::UsageFault;
@@ -35,8 +35,9 @@ pub enum Command {
     /// Tells the committed operations of a run of the event lines of the standard input, in serial order, where the
     /// model is strict.
     Serial,
-    /// Hands the event lines of the standard input in by this many threads, and tells the entries of the book.
-    Drive { workers: u8 },
+    /// Hands the event lines of the standard input in by this many threads, and tells the entries of the book; the kept
+    /// history is judged so many times meanwhile, and each front is told behind the entries.
+    Drive { workers: u8, turns: u8 },
 }
 
 /// Where the model is.
@@ -61,6 +62,7 @@ struct Spelled<'a> {
     command: &'a str,
     is_kept: bool,
     workers: Option<&'a str>,
+    watch: Option<&'a str>,
     model: &'a str,
 }
 
@@ -75,6 +77,18 @@ fn workers_named(spelled: &Spelled<'_>) -> Option<u8>
     } else {
         Some(workers as u8)
     }
+}
+
+// How often the history is judged meanwhile, if that is a number up to 255; not at all where nothing is said.
+fn turns_named(spelled: &Spelled<'_>) -> Option<u8>
+    ensures some { IfSome result (λ turns. (turns_in (named_of spelled.now) ≡ Some turns) × AreTurns turns) }
+    ensures none { IfNone result (¬ (IsSomeAnd (turns_in (named_of spelled.now)) AreTurns)) }
+{
+    let turns = match spelled.watch {
+        Some(turns) => read_u16(turns.as_bytes())?,
+        None => 0,
+    };
+    if turns > 255 { None } else { Some(turns as u8) }
 }
 
 // The command that is spelled so.
@@ -93,7 +107,8 @@ fn command_named(spelled: &Spelled<'_>) -> Option<Command>
         "serial" => Some(Command::Serial),
         "drive" => {
             let workers = workers_named(spelled)?;
-            Some(Command::Drive { workers })
+            let turns = turns_named(spelled)?;
+            Some(Command::Drive { workers, turns })
         }
         _ => None,
     }
@@ -213,6 +228,33 @@ fn workers_option<'a>(alloc: Global) -> Arg<'a>
         .help("How many threads hand in the events, from 1 to 16")
 }
 
+// How often the history is judged while it grows.
+fn watch_option<'a>(alloc: Global) -> Arg<'a>
+    ensures rule { rule_of result ≡ watch_rule }
+    ensures local { result.global ≡ false }
+{
+    Arg::new(alloc, "watch")
+        .long("watch")
+        .action(ArgAction::Set)
+        .value_parser(ValueParser::Signed(0, 255))
+        .help("How often the history is judged while it grows, from 0 to 255")
+}
+
+// The command that drives, with what it has beside the model.
+fn drive_command<'a>(
+    alloc: Global,
+    program: clap::Command<'a>,
+) -> Result<clap::Command<'a>, AllocError>
+    ensures { IfOk result (λ command. app_of command ≡ with_subcommand (app_of program.entry) drive_app.top) }
+{
+    let added = clap::Command::new(alloc, "drive")
+        .about("Hands in the lines SEAT EVENT of the standard input by a thread for each seat")
+        .arg(model_argument(alloc))?
+        .arg(workers_option(alloc))?
+        .arg(watch_option(alloc))?;
+    program.subcommand(added)
+}
+
 // The program with the commands that have the model alone.
 fn plain_commands<'a>(alloc: Global) -> Result<clap::Command<'a>, AllocError>
     ensures { IfOk result (λ command. app_of command ≡ plain_app) }
@@ -261,13 +303,7 @@ fn surface<'a>(alloc: Global) -> Result<clap::Command<'a>, AllocError>
         "Answers the events of the standard input, one line for each, and tells what is owed",
         kept_flag(alloc),
     )?;
-    with_argument(
-        alloc,
-        program,
-        "drive",
-        "Hands in the lines SEAT EVENT of the standard input by a thread for each seat",
-        workers_option(alloc),
-    )
+    drive_command(alloc, program)
 }
 
 // Whether the flag was set.
@@ -289,6 +325,7 @@ fn spelling<'a>(matches: &ArgMatches<'a>) -> Option<Spelled<'a>>
     };
     let is_kept = is_set(inner, "kept");
     let workers = inner.get_str("workers");
+    let watch = inner.get_str("watch");
     let Some(model) = inner.get_str("MODEL") else {
         return None;
     };
@@ -296,6 +333,7 @@ fn spelling<'a>(matches: &ArgMatches<'a>) -> Option<Spelled<'a>>
         command,
         is_kept,
         workers,
+        watch,
         model,
     })
 }

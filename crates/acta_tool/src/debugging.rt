@@ -3,8 +3,6 @@
 
 ghost use Rattle.std.specs.Prelude.{◌≡◌, ◌<◌, ◌+◌, ◌-◌, ◌^◌, ◌++◌, ◌∷◌, [], drop, length, option_map, IfOk, OnOk, Some};
 ghost use Rattle.std.specs.Option.{option_map_or};
-ghost use Rattle.acta_debug.specs.Sessions.{opened};
-ghost use Rattle.acta_machine.specs.Table.{run_state};
 ghost use Rattle.acta_script.specs.Reading.{event_of};
 ghost use Rattle.acta_words.specs.Text.{lines_of, text_of};
 ghost use Rattle.acta_words.specs.inside.LinesToCome.{lines_to_come};
@@ -17,54 +15,12 @@ use crate::input::{BadLine, CommandLines, EventLines, Input, read_left, read_lin
 use crate::reports::{Report, refuse_line};
 use crate::session::tell_commands;
 use crate::telling::tell_stop;
-use acta_debug::{Debugger, NewError, kept_histories};
-use acta_machine::{Handle, Machine};
+use acta_debug::Debugger;
+use acta_machine::Handle;
 use acta_script::DebugCommand;
-use acta_table::{Event, Kept, Model};
+use acta_table::{Event, Model};
 use acta_words::{Lines, words_of};
 use std::alloc::{AllocError, Allocator};
-
-// The same items, in memory of their own.
-fn copied<A: Allocator + Copy>(alloc: A, items: &[Kept<A>]) -> Result<Vec<Kept<A>, A>, AllocError>
-    ensures { IfOk result (λ copies. copies.items ≡ items.now) }
-{
-    let mut copies = Vec::with_capacity(alloc, items.len())?;
-    for item in items {
-        copies.push(item.copy()?)?;
-    }
-    Ok(copies)
-}
-
-// What a run of the events keeps.
-fn kept_of<A: Handle>(
-    alloc: A,
-    model: &Model<A>,
-    events: &[Event<A>],
-) -> Result<Vec<Kept<A>, A>, AllocError>
-    ensures { IfOk result (λ history. history.items ≡ (run_state model.now events.now).kept) }
-{
-    let run = Machine::run(alloc, model.copy()?, events)?;
-    let history = copied(alloc, run.machine.history());
-    drop(run);
-    history
-}
-
-// A debugger on what a run of the events keeps: a machine's history is one, so the debugger accepts it.
-fn debugger_on<A: Handle>(
-    alloc: A,
-    model: Model<A>,
-    events: &[Event<A>],
-) -> Result<Debugger<A>, AllocError>
-    ensures { IfOk result (λ debugger. debugger ≡ opened model (run_state model events.now).kept) }
-{
-    let history = kept_of(alloc, &model, events)?;
-    kept_histories::<A>();
-    match Debugger::new(alloc, model, history) {
-        Ok(debugger) => Ok(debugger),
-        Err(NewError::Memory) => Err(AllocError),
-        Err(NewError::NotAHistory(_)) => unreachable!(),
-    }
-}
 
 // Tells the line that stopped the commands, if one did.
 fn tell_last<A: Allocator>(text: &mut Vec<u8, A>, stop: Option<BadLine>) -> Result<(), AllocError>
@@ -85,7 +41,7 @@ fn report_commands<A: Handle>(
 ) -> Result<Report<A>, AllocError>
     ensures { IfOk result (λ report. output_of report ≡ debugged_on model events.now (said_of commands.now)) }
 {
-    let mut debugger = debugger_on(alloc, model, events)?;
+    let mut debugger = Debugger::of_events(alloc, model, events)?;
     let mut text = Vec::new(alloc);
     let told = tell_commands(alloc, &mut debugger, commands.said.as_slice(), &mut text);
     drop(debugger);

@@ -1,9 +1,13 @@
 //! The driven run of the tool: the lines of each seat in a thread of its own.
 
-ghost use Rattle.std.specs.Prelude.{◌≡◌, ◌≤◌, ◌+◌, ◌∷◌, [], All, codes, false, true, IfErr, IfOk, IfSome};
+ghost use Rattle.std.specs.Prelude.{◌≡◌, ◌≤◌, ◌+◌, ◌∷◌, [], All, codes, false, true, length, Err, Some, IfErr, IfOk, IfSome};
 ghost use Rattle.acta_script.specs.Laws.{IsInModel};
 ghost use Rattle.acta_script.specs.Reading.{seated_of};
 ghost use Rattle.acta_words.specs.Text.{text_of};
+ghost use Rattle.acta_locked.specs.Books.{state_of};
+ghost use Rattle.acta_locked.specs.Drives.{IsDriven, is_of_scripts, scripts_fault};
+ghost use Rattle.acta_locked.specs.Fronts.{AreFronts};
+ghost use Rattle.acta_locked.specs.declared.run.DriveError.{DriveError as RunError};
 ghost use Rattle.acta_locked.specs.declared.run.DriveError.TheVariants.{Memory};
 ghost use Rattle.acta_tool.specs.Driving.{AnswersOne, MayWrite, book_lines, script_of, scripts_of, task_of, task_on, unless_too_long};
 ghost use Rattle.acta_tool.specs.Models.{of_either};
@@ -20,10 +24,12 @@ use crate::run::read_within;
 use crate::sink::Sink;
 use crate::source::Source;
 use crate::telling::tell_book;
-use acta_locked::{Book, DriveError, Driven, OpenGate, Script, drive};
+use acta_locked::{
+    Book, DriveError, Driven, Front, OpenGate, Script, Watched, drive, drive_watched,
+};
 use acta_machine::Handle;
 use acta_script::Seated;
-use acta_table::Model;
+use acta_table::{Items, Model};
 use std::alloc::{AllocError, Allocator};
 use std::sync::Wait;
 use std::thread::Threads;
@@ -61,18 +67,48 @@ fn scripts_of<A: Allocator + Copy>(
     Ok(scripts)
 }
 
-// What is told of the book that a driven run leaves.
-fn report_book<A: Handle>(alloc: A, book: &Book<A>) -> Result<Report<A>, DriveError>
+// What is told of the book that a driven run leaves, and of the fronts that were judged meanwhile.
+fn report_book<A: Handle>(
+    alloc: A,
+    book: &Book<A>,
+    fronts: &[Front<A>],
+) -> Result<Report<A>, DriveError>
     requires { All (λ e. IsInModel book.now.model e.event) book.now.entries }
-    ensures told { IfOk result (λ report. output_of report ≡ record { is_refused = false; text = text_of (book_lines book.now) }) }
+    ensures told { IfOk result (λ report. output_of report ≡ record { is_refused = false; text = text_of (book_lines book.now fronts.now) }) }
     ensures memory { IfErr result (λ e. e ≡ Memory) }
 {
     let mut text = Vec::new(alloc);
-    tell_book(alloc, book, &mut text)?;
+    tell_book(alloc, book, fronts, &mut text)?;
     Ok(Report {
         text,
         is_refused: false,
     })
+}
+
+// The driven run of the scripts, and a front for each turn; without a turn there is no judging thread.
+fn driven<A: Handle + Send + Sync, R: Threads + Wait + Sync>(
+    rt: &R,
+    alloc: A,
+    model: Model<A>,
+    scripts: &[Script<A>],
+    turns: u8,
+) -> Result<Watched<A>, DriveError>
+    ensures driven { IfOk result (λ w. IsDriven model scripts.now w.driven) }
+    ensures turns { IfOk result (λ w. length w.fronts ≡ turns) }
+    ensures fronts { IfOk result (λ w. AreFronts model (state_of w.driven.book).kept w.fronts) }
+    ensures barred { (e : RunError) → scripts_fault scripts.now ≡ Some e → result ≡ Err e }
+    ensures only { IfErr result (λ e. is_of_scripts e ≡ true → scripts_fault scripts.now ≡ Some e) }
+{
+    if turns > 0 {
+        return drive_watched(rt, alloc, model, scripts, &OpenGate, turns);
+    }
+    match drive(rt, alloc, model, scripts, &OpenGate) {
+        Ok(driven) => Ok(Watched {
+            driven,
+            fronts: Items::of(Vec::new(alloc)),
+        }),
+        Err(error) => Err(error),
+    }
 }
 
 // What is told of a driven run of the scripts.
@@ -81,15 +117,18 @@ fn drive_scripts<A: Handle + Send + Sync, R: Threads + Wait + Sync>(
     alloc: A,
     model: Model<A>,
     scripts: &[Script<A>],
+    turns: u8,
 ) -> Result<Report<A>, DriveError>
     requires { All (All (IsInModel model)) scripts.now }
-    ensures { MayComeOf (unless_too_long (record { model = model; scripts = scripts.now })) result }
+    ensures { MayComeOf (unless_too_long (record { model = model; scripts = scripts.now; turns = turns })) result }
 {
-    match drive(rt, alloc, model, scripts, &OpenGate) {
-        Ok(driven) => {
+    match driven(rt, alloc, model, scripts, turns) {
+        Ok(watched) => {
+            let Watched { driven, fronts } = watched;
             let Driven { book, reports } = driven;
             drop(reports);
-            let told = report_book(alloc, &book);
+            let told = report_book(alloc, &book, fronts.as_slice());
+            drop(fronts);
             drop(book);
             told
         }
@@ -105,14 +144,15 @@ fn drive_said<A: Handle + Send + Sync, R: Threads + Wait + Sync>(
     rt: &R,
     alloc: A,
     workers: u8,
+    turns: u8,
     model: Model<A>,
     said: &[Seated<A>],
 ) -> Result<Report<A>, DriveError>
     requires { All (λ s. IsInModel model s.event) said.now }
-    ensures { MayComeOf (unless_too_long (record { model = model; scripts = scripts_of workers said.now })) result }
+    ensures { MayComeOf (unless_too_long (record { model = model; scripts = scripts_of workers said.now; turns = turns })) result }
 {
     match scripts_of(alloc, workers, said) {
-        Ok(scripts) => drive_scripts(rt, alloc, model, scripts.as_slice()),
+        Ok(scripts) => drive_scripts(rt, alloc, model, scripts.as_slice(), turns),
         Err(_) => Err(DriveError::Memory),
     }
 }
@@ -122,10 +162,11 @@ fn drive_lines<A: Handle + Send + Sync, R: Threads + Wait + Sync>(
     rt: &R,
     alloc: A,
     workers: u8,
+    turns: u8,
     model: Model<A>,
     input: &[u8],
 ) -> Result<Report<A>, DriveError>
-    ensures { MayComeOf (task_on workers model (said_in (seated_of model workers) input.now)) result }
+    ensures { MayComeOf (task_on workers turns model (said_in (seated_of model workers) input.now)) result }
 {
     let lines = SeatedLines {
         alloc,
@@ -135,7 +176,7 @@ fn drive_lines<A: Handle + Send + Sync, R: Threads + Wait + Sync>(
     let read = read_lines(alloc, &lines, input)?;
     match read.stop {
         Some(stop) => Ok(refuse_line(alloc, stop)?),
-        None => drive_said(rt, alloc, workers, model, read.said.as_slice()),
+        None => drive_said(rt, alloc, workers, turns, model, read.said.as_slice()),
     }
 }
 
@@ -144,23 +185,24 @@ fn answer<A: Handle + Send + Sync, R: Threads + Wait + Sync>(
     rt: &R,
     alloc: A,
     workers: u8,
+    turns: u8,
     model: &[u8],
     input: &[u8],
 ) -> Result<Report<A>, DriveError>
-    ensures { MayComeOf (task_of {A = A} workers (of_either model.now) input.now) result }
+    ensures { MayComeOf (task_of {A = A} workers turns (of_either model.now) input.now) result }
 {
-    match read_model(alloc, Command::Drive { workers }, model) {
-        Ok(model) => drive_lines(rt, alloc, workers, model, input),
+    match read_model(alloc, Command::Drive { workers, turns }, model) {
+        Ok(model) => drive_lines(rt, alloc, workers, turns, model, input),
         Err(ModelError::Fault(fault)) => Ok(refuse_model(alloc, fault)?),
         Err(ModelError::Memory) => Err(DriveError::Memory),
     }
 }
 
 /// Reads the whole input as lines `SEAT EVENT`, hands each seat's events in, in order, by a thread of its own, and
-/// writes in one go the entries of the book, and then what is owed. Where the model or a line is faulty, or there are
-/// more than 65,536 lines, that alone is written. `Unread` and `Unwritten` come as of `run_tool`, and `Undriven` where
-/// the threads have no result; then nothing is written. Not promised: which order of the threads' events the book has,
-/// and that the call returns.
+/// writes in one go the entries of the book, a line for each front that a judging thread made meanwhile, and then what
+/// is owed. Where the model or a line is faulty, or there are more than 65,536 lines, that alone is written. `Unread` and
+/// `Unwritten` come as of `run_tool`, and `Undriven` where the threads have no result; then nothing is written. Not
+/// promised: which order of the threads' events the book has, and that the call returns.
 pub fn drive_tool<A: Handle + Send + Sync, R: Threads + Wait + Sync, S: Source, W: Sink>(
     rt: &R,
     alloc: A,
@@ -177,14 +219,14 @@ pub fn drive_tool<A: Handle + Send + Sync, R: Threads + Wait + Sync, S: Source, 
     ensures failed { FailsBy (reason_of result) (S.has_failed input.old) (S.has_failed input.new) }
     ensures too_long { IsUnreadTooLong model.now (S.remaining input.old) (reason_of result) }
 {
-    let Command::Drive { workers } = args.command else {
+    let Command::Drive { workers, turns } = args.command else {
         unreachable!()
     };
     let bytes = match read_within(alloc, args.command, model, input) {
         Ok(bytes) => bytes,
         Err(reason) => return Outcome::Unread(reason),
     };
-    match answer(rt, alloc, workers, model, bytes.as_slice()) {
+    match answer(rt, alloc, workers, turns, model, bytes.as_slice()) {
         Ok(report) => write_report(&report, output),
         Err(e) => Outcome::Undriven(e),
     }

@@ -13,6 +13,7 @@ use acta_judge::{JudgeError, Verdict, judge};
 use acta_machine::Handle;
 use acta_table::{Kept, Model};
 use std::alloc::{AllocError, Allocator};
+use std::thread::Threads;
 
 // What is told of a verdict.
 fn report_verdict<A: Allocator + Copy>(
@@ -30,14 +31,15 @@ fn report_verdict<A: Allocator + Copy>(
 }
 
 // What is told of kept items.
-fn judge_kept<A: Handle>(
+fn judge_kept<A: Handle + Send + Sync, R: Threads + Sync>(
+    rt: &R,
     alloc: A,
     model: &Model<A>,
     kept: &[Kept<A>],
 ) -> Result<Report<A>, AllocError>
     ensures { IfOk result (λ report. output_of report ≡ judged_on model.now kept.now None) }
 {
-    match judge(alloc, model, kept) {
+    match judge(rt, alloc, model, kept) {
         Ok(verdict) => report_verdict(alloc, &verdict),
         Err(JudgeError::TooLong) => refuse_by(alloc, b"judge fault 1"),
         Err(JudgeError::Memory) => Err(AllocError),
@@ -45,7 +47,8 @@ fn judge_kept<A: Handle>(
 }
 
 /// What is told of the kept lines of the input.
-pub fn judge_model<A: Handle>(
+pub fn judge_model<A: Handle + Send + Sync, R: Threads + Sync>(
+    rt: &R,
     alloc: A,
     model: &Model<A>,
     input: &[u8],
@@ -56,6 +59,6 @@ pub fn judge_model<A: Handle>(
     let read = read_lines(alloc, &lines, input)?;
     match read.stop {
         Some(stop) => refuse_line(alloc, stop),
-        None => judge_kept(alloc, model, read.said.as_slice()),
+        None => judge_kept(rt, alloc, model, read.said.as_slice()),
     }
 }

@@ -24,6 +24,7 @@ use acta_lang::print_model;
 use acta_machine::{Handle, Machine, Run};
 use acta_table::Model;
 use std::alloc::{AllocError, Allocator};
+use std::thread::Threads;
 
 // What is told of a run that this line stopped, if one did: the answers and what is owed, or the kept events alone.
 fn tell_run<A: Handle>(
@@ -65,7 +66,8 @@ fn run_model<A: Handle>(
 }
 
 // What a command tells of a model.
-fn tell_model<A: Handle>(
+fn tell_model<A: Handle + Send + Sync, R: Threads + Sync>(
+    rt: &R,
     alloc: A,
     command: Command,
     model: Model<A>,
@@ -78,7 +80,7 @@ fn tell_model<A: Handle>(
         Command::Assemble => write_image(alloc, &model)?,
         Command::CheckImage => print_model(alloc, &model)?,
         Command::Run { kept } => return run_model(alloc, kept, model, input),
-        Command::Judge => return judge_model(alloc, &model, input),
+        Command::Judge => return judge_model(rt, alloc, &model, input),
         Command::Debug => return debug_model(alloc, model, input),
         Command::Serial => return serial_model(alloc, model, input),
         Command::Drive { .. } => unreachable!(),
@@ -90,7 +92,8 @@ fn tell_model<A: Handle>(
 }
 
 // What is told for the bytes of a model and of an input.
-fn answer<A: Handle>(
+fn answer<A: Handle + Send + Sync, R: Threads + Sync>(
+    rt: &R,
     alloc: A,
     command: Command,
     model: &[u8],
@@ -100,7 +103,7 @@ fn answer<A: Handle>(
     ensures { IfOk result (λ report. output_of report ≡ tool_output A command model.now input.now) }
 {
     match read_model(alloc, command, model) {
-        Ok(model) => tell_model(alloc, command, model, input),
+        Ok(model) => tell_model(rt, alloc, command, model, input),
         Err(ModelError::Fault(fault)) => refuse_model(alloc, fault),
         Err(ModelError::Memory) => Err(AllocError),
     }
@@ -153,7 +156,8 @@ pub fn read_within<A: Allocator, S: Source>(
 /// and writes the answer in one go. `Unread` with `Device` where a read fails, with `TooMuch` where the model or the
 /// input is over 16,777,216 bytes or the input doesn't end, and with `Memory` where there is none, and then nothing is
 /// written; `Unwritten` where a write fails. It is not for `drive`, which `drive_tool` serves.
-pub fn run_tool<A: Handle, S: Source, W: Sink>(
+pub fn run_tool<A: Handle + Send + Sync, R: Threads + Sync, S: Source, W: Sink>(
+    rt: &R,
     alloc: A,
     args: &Args<'_>,
     model: &[u8],
@@ -174,7 +178,7 @@ pub fn run_tool<A: Handle, S: Source, W: Sink>(
         Ok(bytes) => bytes,
         Err(reason) => return Outcome::Unread(reason),
     };
-    match answer(alloc, args.command, model, bytes.as_slice()) {
+    match answer(rt, alloc, args.command, model, bytes.as_slice()) {
         Ok(report) => write_report(&report, output),
         Err(_) => Outcome::Unread(ReadFault::Memory),
     }

@@ -9,7 +9,7 @@ ghost use Rattle.acta_script.specs.Answers.{answer_line, fault_line, owed_line};
 ghost use Rattle.acta_script.specs.Laws.{IsInModel};
 ghost use Rattle.acta_script.specs.Writing.{kept_line};
 ghost use Rattle.acta_words.specs.Text.{line_of, text_of};
-ghost use Rattle.acta_tool.specs.Driving.{book_lines, entry_line};
+ghost use Rattle.acta_tool.specs.Driving.{book_lines, entry_line, front_line};
 ghost use Rattle.acta_tool.specs.Output.{fault_number_words, fault_words, image_line, model_line, no_model_line, stop_line, told, told_last, verdict_lines};
 
 use crate::input::BadLine;
@@ -18,7 +18,7 @@ use acta_axioms::Fault;
 use acta_image::ImageFault;
 use acta_judge::Verdict;
 use acta_lang::AsmFault;
-use acta_locked::{Book, Entry};
+use acta_locked::{Book, Entry, Front};
 use acta_machine::{Handle, Machine, Run};
 use acta_script::{answer_line, fault_line, owed_line, write_event, write_kept};
 use acta_table::{Answer, Model, Owed};
@@ -213,17 +213,40 @@ fn tell_entries<A: Allocator + Copy>(
     Ok(())
 }
 
-/// Tells the entries of a book, and then what is owed.
+// Tells a front: how many items it has, and how many faults and debts the verdict on them.
+fn tell_front<A: Allocator>(front: &Front<A>, text: &mut Vec<u8, A>) -> Result<(), AllocError>
+    ensures { OnOk result (text.new.items ≡ text.old.items ++ text_of (front_line front.now ∷ [])) }
+{
+    text.extend_from_slice(b"front")?;
+    push_natural(text, front.length as u64)?;
+    push_natural(text, front.verdict.faults.as_slice().len() as u64)?;
+    push_natural(text, front.verdict.owed.as_slice().len() as u64)?;
+    push_line(text, b"")
+}
+
+// Tells the fronts, a line each.
+fn tell_fronts<A: Allocator>(fronts: &[Front<A>], text: &mut Vec<u8, A>) -> Result<(), AllocError>
+    ensures { OnOk result (text.new.items ≡ text.old.items ++ text_of (map front_line fronts.now)) }
+{
+    for front in fronts {
+        tell_front(front, text)?;
+    }
+    Ok(())
+}
+
+/// Tells the entries of a book, then the fronts that were judged while it grew, and then what is owed.
 pub fn tell_book<A: Handle>(
     alloc: A,
     book: &Book<A>,
+    fronts: &[Front<A>],
     text: &mut Vec<u8, A>,
 ) -> Result<(), AllocError>
     requires { All (λ e. IsInModel book.now.model e.event) book.now.entries }
-    ensures { OnOk result (text.new.items ≡ text.old.items ++ text_of (book_lines book.now)) }
+    ensures { OnOk result (text.new.items ≡ text.old.items ++ text_of (book_lines book.now fronts.now)) }
 {
     let machine = book.machine();
     tell_entries(alloc, machine.model(), book.entries(), text)?;
+    tell_fronts(fronts, text)?;
     tell_debts(alloc, machine, text)?;
     Ok(())
 }

@@ -1,6 +1,7 @@
 -- What stands behind a debugger.
-use Rattle.std.specs.Prelude.{◌≡◌, ◌≤◌, ℕ, List, length, take}
+use Rattle.std.specs.Prelude.{◌≡◌, ◌≤◌, ℕ, All, List, length, take}
 use Rattle.acta_table.specs.declared.event.Kept.{Kept}
+use Rattle.acta_table.specs.declared.model.Parts.{Parts}
 use Rattle.acta_table.specs.declared.limits.TheConstants.{MOST_EVENTS}
 use Rattle.acta_machine.specs.Places.{FollowsPlaces}
 use Rattle.acta_machine.specs.Table.{State}
@@ -19,3 +20,17 @@ pub record IsInside {A : Type 0} (machine : State A) (history : List (Kept A)) (
   pub within : at ≤ length history
   pub few : length history ≤ MOST_EVENTS
   pub follows : FollowsPlaces machine
+
+-- the machine has kept the first so many items of the history
+pub record IsFront {A : Type 0} (m : Parts A) (history : List (Kept A)) (machine : State A) : Type 0 where
+  pub model : machine.model ≡ m
+  pub kept : machine.kept ≡ take (length machine.kept) history
+
+-- each of the machines has
+pub record AreFronts {A : Type 0} (m : Parts A) (history : List (Kept A)) (machines : List (State A)) : Type 0 where
+  pub each : All (IsFront m history) machines
+
+-- the machine is inside, and the checkpoints have kept fronts of the history
+pub record IsBehind {A : Type 0} (machine : State A) (history : List (Kept A)) (at : ℕ) (checkpoints : List (State A)) : Type 0 where
+  pub stands : IsInside machine history at
+  pub fronts : AreFronts machine.model history checkpoints

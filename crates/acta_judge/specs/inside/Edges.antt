@@ -1,17 +1,29 @@
--- What the courses of two transactions give for an edge, and what debts say of who owes both a commit and an abort.
-use Rattle.std.specs.Prelude.{ℕ, Bool, ◌&&◌, ◌==◌, List, map, filter, if◌then◌else◌, Option, Some, None}
+-- What the courses of two transactions give for an edge, what edges give, and what debts say of who owes both a commit and
+-- an abort.
+use Rattle.std.specs.Prelude.{ℕ, Bool, ◌&&◌, ◌==◌, List, map, filter, filter_map, flat_map, option_map, if◌then◌else◌, Option, Some, None}
 use Rattle.std.specs.List.{list_any}
 use Rattle.acta_table.specs.declared.dep.Dep.{Dep}
+use Rattle.acta_table.specs.declared.dep.Edge.{Edge}
 use Rattle.acta_table.specs.declared.dep.Owed.{Owed}
+use Rattle.acta_table.specs.declared.event.Kept.{Kept}
 use Rattle.acta_table.specs.Dependencies.{is_commit, is_abort}
 use Rattle.acta_table.specs.Numbered.{ascending}
 use Rattle.acta_axioms.specs.declared.course.Course.{Course}
 use Rattle.acta_axioms.specs.Formulas.{is_broken}
-use Rattle.acta_judge.specs.Broken.{place_broken}
+use Rattle.acta_axioms.specs.Legal.{debt_in, owed_on}
+use Rattle.acta_judge.specs.declared.edges.ByEdges.{ByEdges}
+use Rattle.acta_judge.specs.Broken.{edge_faults, place_broken}
 
 -- where the formula of an edge of this kind is false with nothing owed, by the courses of j and i
 abbrev pub place_by : Dep → Course → Course → Option ℕ
 place_by kind j i = if is_broken kind j i then place_broken kind j i else None
+
+-- what these numbered edges give over the whole history: the faults by them, and what is owed by them
+abbrev pub by_edges : {A : Type 0} → List (Kept A) → List (ℕ × Edge) → ByEdges A
+by_edges h es = record {
+  faults = flat_map (edge_faults h) es;
+  owed = filter_map (λ e. option_map (owed_on e) (debt_in h e.1)) es;
+}
 
 -- who owes an abort by some of these debts, ascending, each once
 abbrev pub aborting : List Owed → List ℕ

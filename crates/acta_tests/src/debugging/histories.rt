@@ -1,13 +1,13 @@
 //! Histories: a history is written as text, a kept item a line.
 
 use crate::expecting::made;
-use crate::models::model_of;
+use crate::models::{event_of, model_of};
 use acta_debug::{Debugger, NewError};
 use acta_machine::Handle;
 use acta_models::Standard;
 use acta_script::read_kept;
-use acta_table::{Kept, Model};
-use std::alloc::{Allocator, Global};
+use acta_table::{Event, Kept, Model};
+use std::alloc::{AllocError, Allocator, Global};
 use std::process::Abort;
 
 /// The items that the lines say, in the words of the model.
@@ -32,6 +32,41 @@ pub fn opened<A: Handle>(
     list: Vec<Kept<A>, A>,
 ) -> Result<Debugger<A>, NewError> {
     Debugger::new(heap, model, list)
+}
+
+/// A debugger on what a machine keeps of the events, in a function of its own too.
+pub fn ran<A: Handle>(
+    heap: A,
+    model: Model<A>,
+    events: &[Event<A>],
+) -> Result<Debugger<A>, AllocError> {
+    Debugger::of_events(heap, model, events)
+}
+
+/// Events, of which the third and the sixth are refused.
+pub const SAID: &str = "\
+form SCD 2 1
+begin 1 try
+begin 1 try
+begin 2 try
+do 2 n add 5
+commit 7
+commit 1
+commit 2";
+
+/// The events that the lines say, in the words of the model.
+pub fn events_of<A: Allocator + Copy>(
+    rt: &impl Abort,
+    heap: A,
+    model: &Model<A>,
+    text: &str,
+) -> Vec<Event<A>, A> {
+    let mut events = Vec::new(heap);
+    for line in text.lines() {
+        let event = event_of(rt, heap, model, line);
+        made(rt, events.push(event), line);
+    }
+    events
 }
 
 /// A debugger on the history that the lines say.

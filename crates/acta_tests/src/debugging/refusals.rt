@@ -1,7 +1,7 @@
 //! Each growth refused in turn: a call answers want of memory, and the debugger stays as it was.
 
 use crate::debugging::commands::told;
-use crate::debugging::histories::{items, on_sums, opened, sums};
+use crate::debugging::histories::{SAID, events_of, items, on_sums, opened, ran, sums};
 use crate::expecting::{holds, made, parted, same};
 use crate::models::model_of;
 use crate::showing::number_in;
@@ -27,6 +27,13 @@ run : Broke { number: 1, place: 2 } at 2 : 0
 run : Broke { number: 1, place: 3 } at 3 : 0
 run : Broke { number: 1, place: 6 } at 6 : 0
 run : Finished at 70 : 64";
+
+// The same on a history whose checkpoints stand 128 events apart, so that the first move back brings one near.
+const CALLS_FAR: &str = "\
+goto 2505 : at 2505 : 2499
+back : at 2504 : 2498
+back : at 2503 : 2497
+goto 2506 : at 2506 : 2500";
 
 // The counter n, where the debugger stands.
 fn sum<A: Handle>(rt: &impl Abort, debugger: &Debugger<A>) -> Option<i64> {
@@ -134,10 +141,51 @@ fn new_each<A: Handle>(rt: &impl Abort, refusing: &Refusing<Global>, heap: A, te
     rt.panic("a call makes too many allocations")
 }
 
+// Makes a debugger on what is kept of the events, the nth allocation refused; where it came, there is none. Says whether
+// it came.
+fn ran_refused<A: Handle>(
+    rt: &impl Abort,
+    refusing: &Refusing<Global>,
+    heap: A,
+    text: &str,
+    nth: u64,
+) -> bool {
+    let model = model_of(rt, heap, Standard::Contingent.text());
+    let events = events_of(rt, heap, &model, text);
+    refusing.refuse(nth);
+    let debugger = ran(heap, model, events.as_slice());
+    let is_whole = refusing.is_waiting();
+    refusing.refuse(0);
+    let last = debugger.as_ref().ok().map(|it| it.last());
+    same(rt, &last, &is_whole.then_some(6), text);
+    drop(debugger);
+    drop(events);
+    !is_whole
+}
+
+// Makes a debugger on what is kept of the events, its first allocation refused, then the second, and so on, until none
+// is.
+fn ran_each<A: Handle>(rt: &impl Abort, refusing: &Refusing<Global>, heap: A, text: &str) {
+    for nth in 1..MOST {
+        if !ran_refused(rt, refusing, heap, text, nth) {
+            holds(rt, nth > 9, "a debugger on events");
+            return;
+        }
+    }
+    rt.panic("a call makes too many allocations")
+}
+
 // For no command of a debugger that allocates from `heap`, which is `refusing`, is there memory.
-fn refuse_calls<A: Handle>(rt: &impl Abort, alloc: Global, refusing: &Refusing<Global>, heap: A) {
-    let mut debugger = on_sums(rt, alloc, heap, 64);
-    for line in CALLS.lines() {
+fn refuse_calls<A: Handle>(
+    rt: &impl Abort,
+    alloc: Global,
+    refusing: &Refusing<Global>,
+    heap: A,
+    times: u32,
+    calls: &str,
+) {
+    let mut debugger = on_sums(rt, alloc, heap, times);
+    for line in calls.lines() {
         refuse_each(rt, alloc, refusing, &mut debugger, line);
     }
     drop(debugger);
@@ -148,5 +196,7 @@ fn a_debugger_for_which_there_is_no_memory(rt: HostRuntime) {
     let heap = Refusing::new(rt.alloc());
     let text = sums(&rt, rt.alloc(), 10);
     new_each(&rt, &heap, &heap, text.as_str());
-    refuse_calls(&rt, rt.alloc(), &heap, &heap);
+    ran_each(&rt, &heap, &heap, SAID);
+    refuse_calls(&rt, rt.alloc(), &heap, &heap, 64, CALLS);
+    refuse_calls(&rt, rt.alloc(), &heap, &heap, 2_500, CALLS_FAR);
 }

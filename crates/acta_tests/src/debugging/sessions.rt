@@ -1,8 +1,9 @@
 //! Sessions with debuggers: moves, values along the way, and each break.
 
 use crate::debugging::commands::play;
-use crate::debugging::histories::{debugger, on_sums};
-use crate::expecting::{parted, same};
+use crate::debugging::histories::{SAID, debugger, events_of, on_sums, ran};
+use crate::expecting::{made, parted, same};
+use crate::models::model_of;
 use acta_machine::Handle;
 use acta_models::Standard;
 use refusing::Refusing;
@@ -42,7 +43,53 @@ back : at 4
 owed : 1
 back : at 3
 owed : 0
-goto 4294967295 : OutOfRange at 3";
+goto 4294967295 : OutOfRange at 3
+goto 63 : at 63
+value n : 57
+goto 64 : at 64
+value n : 58
+goto 65 : at 65
+value n : 59
+goto 127 : at 127
+value n : 121
+goto 128 : at 128
+value n : 122
+goto 129 : at 129
+value n : 123
+goto 4 : at 4
+owed : 1
+status 1 : Committed
+status 2 : InProgress
+goto 5 : at 5
+owed : 0
+status 2 : Committed";
+
+// A history whose checkpoints stand 128 events apart, in which each move back but the first goes on from one that was
+// brought near; some before the place, and then the debugger's own machine is the nearest.
+const OVER_MORE: &str = "\
+goto 2505 : at 2505
+value n : 2499
+back : at 2504
+value n : 2498
+back : at 2503
+value n : 2497
+goto 2440 : at 2440
+value n : 2434
+back : at 2439
+value n : 2433
+goto 2500 : at 2500
+value n : 2494
+goto 127 : at 127
+value n : 121
+back : at 126
+value n : 120
+goto 130 : at 130
+value n : 124
+step : at 131
+value n : 125
+goto 2506 : at 2506
+value n : 2500
+step : AtEnd at 2506";
 
 // Histories, each under its model and with what is done with a debugger on it. In the third some split, delegate and
 // join, and 7 is the end of 1, and not of 2: each break alone; then some together, of which the lowest number is told;
@@ -207,6 +254,36 @@ fn over_sums<A: Handle>(rt: &impl Abort, alloc: Global, heap: A) {
     drop(debugger);
 }
 
+// On what is kept of events, of which two are refused.
+const OVER_EVENTS: &str = "\
+break owed 1 : break 1
+run : Broke { number: 1, place: 5 } at 5
+owed : 1
+value n : 5
+back : at 4
+owed : 0
+goto 6 : at 6
+owed : 0
+step : AtEnd at 6
+goto 7 : OutOfRange at 6";
+
+// A session on events.
+fn over_events<A: Handle>(rt: &impl Abort, alloc: Global, heap: A) {
+    let model = model_of(rt, heap, Standard::Contingent.text());
+    let events = events_of(rt, heap, &model, SAID);
+    let mut debugger = made(rt, ran(heap, model, events.as_slice()), "a debugger");
+    drop(events);
+    play(rt, alloc, &mut debugger, OVER_EVENTS);
+    drop(debugger);
+}
+
+// A session over a longer history.
+fn over_more<A: Handle>(rt: &impl Abort, alloc: Global, heap: A) {
+    let mut debugger = on_sums(rt, alloc, heap, 2_500);
+    play(rt, alloc, &mut debugger, OVER_MORE);
+    drop(debugger);
+}
+
 #[test]
 fn each_session(rt: HostRuntime) {
     let heap = Refusing::new(rt.alloc());
@@ -214,4 +291,6 @@ fn each_session(rt: HostRuntime) {
         session(&rt, rt.alloc(), &heap, text);
     }
     over_sums(&rt, rt.alloc(), &heap);
+    over_more(&rt, rt.alloc(), &heap);
+    over_events(&rt, rt.alloc(), &heap);
 }

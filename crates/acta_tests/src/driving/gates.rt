@@ -1,6 +1,6 @@
 //! Gates of the tests: one at which two workers meet, and one that is false at one place.
 
-use acta_locked::{Entry, Gate};
+use acta_locked::{Entry, Front, Gate};
 use std::alloc::Allocator;
 use std::sync::atomic::{AtomicU64, Ordering};
 use std::sync::{Mutex, Wait};
@@ -93,6 +93,8 @@ impl<'a, R: Wait, A: Allocator + Copy> Gate<Entry<A>> for Meeting<'a, R, A> {
         }
         self.place != Place::AfterFirst || call != 1 || self.meets(seat)
     }
+
+    fn judged<B: Allocator>(&self, _turn: u8, _front: &Front<B>) {}
 }
 
 /// A gate that is false before one call of one seat, and open elsewhere.
@@ -112,4 +114,6 @@ impl<X> Gate<X> for Stopping {
     fn after(&self, _seat: u8, _call: usize, _entry: &X) -> bool {
         true
     }
+
+    fn judged<A: Allocator>(&self, _turn: u8, _front: &Front<A>) {}
 }

@@ -7,6 +7,7 @@ use crate::models::{DELEGATING, Models, PARTING, UNTIED};
 use acta_machine::Handle;
 use acta_models::Standard;
 use std::process::Abort;
+use std::thread::Threads;
 
 // Flat transactions.
 const FLAT: &str = "\
@@ -525,7 +526,12 @@ fn alone_in(due: &str) -> Option<u8> {
 }
 
 // The verdict on the list is the one that is due. Gives the axiom that is broken, where only one is, and once.
-fn expect<A: Handle>(rt: &impl Abort, alloc: A, models: &Models<A>, list: &str) -> Option<u8> {
+fn expect<A: Handle + Send + Sync>(
+    rt: &(impl Threads + Sync + Abort),
+    alloc: A,
+    models: &Models<A>,
+    list: &str,
+) -> Option<u8> {
     let (title, lines) = list.split_once('\n').unwrap_or((list, ""));
     let judged = Judged::read(rt, alloc, &models.wider, lines);
     let (items, due) = (judged.items.as_slice(), judged.due.as_str());
@@ -538,8 +544,8 @@ fn expect<A: Handle>(rt: &impl Abort, alloc: A, models: &Models<A>, list: &str) 
 }
 
 // The same of each list, with each axiom that is broken alone.
-fn expect_all<A: Handle>(
-    rt: &impl Abort,
+fn expect_all<A: Handle + Send + Sync>(
+    rt: &(impl Threads + Sync + Abort),
     alloc: A,
     models: &Models<A>,
     lists: &str,
@@ -553,14 +559,20 @@ fn expect_all<A: Handle>(
 }
 
 // The same of each list of the model that the text means.
-fn play<A: Handle>(rt: &impl Abort, alloc: A, model: &str, lists: &str, alone: &mut Vec<u8, A>) {
+fn play<A: Handle + Send + Sync>(
+    rt: &(impl Threads + Sync + Abort),
+    alloc: A,
+    model: &str,
+    lists: &str,
+    alone: &mut Vec<u8, A>,
+) {
     let models = Models::of(rt, alloc, model);
     expect_all(rt, alloc, &models, lists, alone);
     drop(models);
 }
 
 // Each number of an axiom is among these, and no other up to the last.
-fn are_broken(rt: &impl Abort, alone: &[u8]) {
+fn are_broken(rt: &(impl Threads + Sync + Abort), alone: &[u8]) {
     for axiom in 1..=33u8 {
         assert_eq!(rt;
             alone.contains(&axiom),

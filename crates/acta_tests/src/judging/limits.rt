@@ -9,10 +9,11 @@ use acta_models::Standard;
 use acta_table::{Dep, Event, Kept, TxnId};
 use std::alloc::Allocator;
 use std::process::Abort;
+use std::thread::Threads;
 
-// So many times the same event, that of the transaction 1.
-fn repeated<A: Allocator + Copy>(
-    rt: &impl Abort,
+/// So many times the same event, that of the transaction 1.
+pub fn repeated<A: Allocator + Copy>(
+    rt: &(impl Threads + Sync + Abort),
     alloc: A,
     times: u32,
     is_commit: bool,
@@ -30,8 +31,8 @@ fn repeated<A: Allocator + Copy>(
 }
 
 // What the judge says of so many commits, or of so many times one edge.
-fn judged<A: Handle>(
-    rt: &impl Abort,
+fn judged<A: Handle + Send + Sync>(
+    rt: &(impl Threads + Sync + Abort),
     alloc: A,
     times: u32,
     is_commit: bool,
@@ -43,11 +44,11 @@ fn judged<A: Handle>(
     };
     let model = model_of(rt, alloc, name.text());
     let items = repeated(rt, alloc, times, is_commit);
-    judge(alloc, &model, items.as_slice())
+    judge(rt, alloc, &model, items.as_slice())
 }
 
-// A commit that comes again and again never began at any place, and ends once more at each but the first.
-fn has_faults(rt: &impl Abort, faults: &[Fault], times: u32) {
+/// A commit that comes again and again never began at any place, and ends once more at each but the first.
+pub fn has_faults(rt: &(impl Threads + Sync + Abort), faults: &[Fault], times: u32) {
     let (mut broken, mut place) = (Axiom::EndedAfterBegun, 0u32);
     for fault in faults {
         place = place.wrapping_add(1);

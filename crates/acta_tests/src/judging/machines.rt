@@ -9,9 +9,14 @@ use acta_judge::Verdict;
 use acta_machine::{Handle, Machine};
 use acta_table::Items;
 use std::process::Abort;
+use std::thread::Threads;
 
 // The lines of a verdict with no fault, by which is owed what the machine does.
-fn due<A: Handle>(rt: &impl Abort, alloc: A, machine: &Machine<A>) -> Vec<u8, A> {
+fn due<A: Handle + Send + Sync>(
+    rt: &(impl Threads + Sync + Abort),
+    alloc: A,
+    machine: &Machine<A>,
+) -> Vec<u8, A> {
     let verdict = Verdict {
         faults: Items::new(alloc),
         owed: Items::of(made(rt, owed_by(machine), "debts")),
@@ -20,8 +25,8 @@ fn due<A: Handle>(rt: &impl Abort, alloc: A, machine: &Machine<A>) -> Vec<u8, A>
 }
 
 // The machine takes the event of the line; its history has no fault, and owes what the machine does.
-fn step<A: Handle>(
-    rt: &impl Abort,
+fn step<A: Handle + Send + Sync>(
+    rt: &(impl Threads + Sync + Abort),
     alloc: A,
     models: &Models<A>,
     machine: &mut Machine<A>,
@@ -41,8 +46,8 @@ fn step<A: Handle>(
 }
 
 // Does what a line says: it begins a history, asks what the machine shows, or has an event and its answer.
-fn follow<A: Handle>(
-    rt: &impl Abort,
+fn follow<A: Handle + Send + Sync>(
+    rt: &(impl Threads + Sync + Abort),
     alloc: A,
     models: &Models<A>,
     machine: &mut Machine<A>,
@@ -56,7 +61,12 @@ fn follow<A: Handle>(
 }
 
 // Does what the lines say, on a new machine.
-fn follow_all<A: Handle>(rt: &impl Abort, alloc: A, models: &Models<A>, histories: &str) {
+fn follow_all<A: Handle + Send + Sync>(
+    rt: &(impl Threads + Sync + Abort),
+    alloc: A,
+    models: &Models<A>,
+    histories: &str,
+) {
     let mut machine = made(rt, new_machine(alloc, &models.model), "a machine");
     for line in histories.lines() {
         follow(rt, alloc, models, &mut machine, line);
@@ -65,7 +75,12 @@ fn follow_all<A: Handle>(rt: &impl Abort, alloc: A, models: &Models<A>, historie
 }
 
 // Plays the histories of the model that the text means.
-fn play<A: Handle>(rt: &impl Abort, alloc: A, model: &str, histories: &str) {
+fn play<A: Handle + Send + Sync>(
+    rt: &(impl Threads + Sync + Abort),
+    alloc: A,
+    model: &str,
+    histories: &str,
+) {
     let models = Models::of(rt, alloc, model);
     follow_all(rt, alloc, &models, histories);
     drop(models);

@@ -8,9 +8,15 @@ use acta_machine::Handle;
 use acta_table::{EventKind, Kept, Model, Ret};
 use std::alloc::Allocator;
 use std::process::Abort;
+use std::thread::Threads;
 
 // The event as it is kept. Each operation returns the same, so that some returns are not those due.
-fn kept<A: Allocator + Copy>(rt: &impl Abort, alloc: A, model: &Model<A>, line: &str) -> Kept<A> {
+fn kept<A: Allocator + Copy>(
+    rt: &(impl Threads + Sync + Abort),
+    alloc: A,
+    model: &Model<A>,
+    line: &str,
+) -> Kept<A> {
     let event = event_of(rt, alloc, model, line);
     let ret = if event.kind() == EventKind::Operate {
         Some(Ret::Done)
@@ -21,8 +27,8 @@ fn kept<A: Allocator + Copy>(rt: &impl Abort, alloc: A, model: &Model<A>, line: 
 }
 
 // Does what a line says: it begins a list, asks something of it, or puts an event behind it, with which it is judged.
-fn follow<A: Handle>(
-    rt: &impl Abort,
+fn follow<A: Handle + Send + Sync>(
+    rt: &(impl Threads + Sync + Abort),
     alloc: A,
     models: &Models<A>,
     items: &mut Vec<Kept<A>, A>,
@@ -37,7 +43,12 @@ fn follow<A: Handle>(
 }
 
 // Does what the lines say, from an empty list on.
-fn follow_all<A: Handle>(rt: &impl Abort, alloc: A, models: &Models<A>, lists: &str) {
+fn follow_all<A: Handle + Send + Sync>(
+    rt: &(impl Threads + Sync + Abort),
+    alloc: A,
+    models: &Models<A>,
+    lists: &str,
+) {
     let mut items = Vec::new(alloc);
     for line in lists.lines() {
         follow(rt, alloc, models, &mut items, line);
@@ -45,7 +56,12 @@ fn follow_all<A: Handle>(rt: &impl Abort, alloc: A, models: &Models<A>, lists: &
 }
 
 // Goes through the lists of the model that the text means.
-fn play<A: Handle>(rt: &impl Abort, alloc: A, model: &str, lists: &str) {
+fn play<A: Handle + Send + Sync>(
+    rt: &(impl Threads + Sync + Abort),
+    alloc: A,
+    model: &str,
+    lists: &str,
+) {
     let models = Models::of(rt, alloc, model);
     follow_all(rt, alloc, &models, lists);
     drop(models);

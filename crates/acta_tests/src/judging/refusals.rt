@@ -11,13 +11,14 @@ use acta_table::Model;
 use refusing::Refusing;
 use std::alloc::Global;
 use std::process::Abort;
+use std::thread::Threads;
 
 // More allocations than any of these calls makes.
 const MOST: u64 = 4_000;
 
-// Histories with faults at places and by edges, with edges by behaviour, with clashes and with debts; and how many
-// allocations their judging makes at least.
-const HISTORIES: [(Standard, &str, u64); 4] = [
+/// Histories with faults at places and by edges, with edges by behaviour, with clashes and with debts; and how many
+/// allocations their judging makes at least.
+pub const HISTORIES: [(Standard, &str, u64); 4] = [
     (Standard::Atomic, "commit 1\nbegin 1 flat\nfault 2 1 1", 2),
     (
         Standard::Contingent,
@@ -63,7 +64,8 @@ owed 3 2 abort",
 ];
 
 // What the judge answers where the nth allocation is refused, and whether it came to that one.
-fn refused<A: Handle>(
+fn refused<A: Handle + Send + Sync>(
+    rt: &(impl Threads + Sync),
     heap: &Refusing<Global>,
     alloc: A,
     model: &Model<A>,
@@ -71,22 +73,22 @@ fn refused<A: Handle>(
     nth: u64,
 ) -> (Result<Verdict<A>, JudgeError>, bool) {
     heap.refuse(nth);
-    let answer = judge(alloc, model, judged.items.as_slice());
+    let answer = judge(rt, alloc, model, judged.items.as_slice());
     let was_refused = !heap.is_waiting();
     heap.refuse(0);
     (answer, was_refused)
 }
 
 // Judges the list, the nth allocation refused; where it came, the answer is want of memory. Says whether it came.
-fn is_refused<A: Handle>(
-    rt: &impl Abort,
+fn is_refused<A: Handle + Send + Sync>(
+    rt: &(impl Threads + Sync + Abort),
     heap: &Refusing<Global>,
     alloc: A,
     model: &Model<A>,
     judged: &Judged<A>,
     nth: u64,
 ) -> bool {
-    let (answer, was_refused) = refused(heap, alloc, model, judged, nth);
+    let (answer, was_refused) = refused(rt, heap, alloc, model, judged, nth);
     match answer {
         Ok(verdict) => {
             let lines = told(rt, alloc, &verdict);
@@ -100,8 +102,8 @@ fn is_refused<A: Handle>(
 
 // Judges what the lines say, its first allocation refused, then the second, and so on, until none is. Says how many
 // were.
-fn refuse_each<A: Handle>(
-    rt: &impl Abort,
+fn refuse_each<A: Handle + Send + Sync>(
+    rt: &(impl Threads + Sync + Abort),
     heap: &Refusing<Global>,
     alloc: A,
     name: Standard,

@@ -9,9 +9,14 @@ use acta_table::{Kept, Model};
 use acta_words::push_line;
 use std::alloc::Allocator;
 use std::process::Abort;
+use std::thread::Threads;
 
 /// The lines of the verdict.
-pub fn told<A: Allocator + Copy>(rt: &impl Abort, alloc: A, verdict: &Verdict<A>) -> Vec<u8, A> {
+pub fn told<A: Allocator + Copy>(
+    rt: &(impl Threads + Sync + Abort),
+    alloc: A,
+    verdict: &Verdict<A>,
+) -> Vec<u8, A> {
     let mut lines = Vec::new(alloc);
     for fault in verdict.faults.as_slice() {
         let line = fault_line(alloc, fault.broken.number(), fault.place, fault.by);
@@ -26,14 +31,14 @@ pub fn told<A: Allocator + Copy>(rt: &impl Abort, alloc: A, verdict: &Verdict<A>
 }
 
 /// The lines of the verdict on the items. They are those of a slow judge.
-pub fn lines_on<A: Handle>(
-    rt: &impl Abort,
+pub fn lines_on<A: Handle + Send + Sync>(
+    rt: &(impl Threads + Sync + Abort),
     alloc: A,
     model: &Model<A>,
     items: &[Kept<A>],
     at: &str,
 ) -> Vec<u8, A> {
-    let verdict = made(rt, judge(alloc, model, items), at);
+    let verdict = made(rt, judge(rt, alloc, model, items), at);
     let slowly = judged_slowly(rt, alloc, model, items);
     let lines = told(rt, alloc, &verdict);
     same(
@@ -47,8 +52,8 @@ pub fn lines_on<A: Handle>(
 
 /// Judges the items, and then without the first, without the first two, and so on, which leaves few histories legal.
 /// Gives the lines of the verdict on all.
-pub fn lines_of_all<A: Handle>(
-    rt: &impl Abort,
+pub fn lines_of_all<A: Handle + Send + Sync>(
+    rt: &(impl Threads + Sync + Abort),
     alloc: A,
     model: &Model<A>,
     items: &[Kept<A>],

@@ -13,6 +13,7 @@ named_of s = record {
   command = s.command.now;
   is_kept = s.is_kept;
   workers = option_map (λ w. w.now) s.workers;
+  watch = option_map (λ w. w.now) s.watch;
   model = s.model.now;
 }
 

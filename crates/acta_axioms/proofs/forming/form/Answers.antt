@@ -1,5 +1,5 @@
 use Rattle.std.proofs.Common.{◌∙◌}
-use Rattle.acta_axioms.proofs.FormedEdges.{form-edge}
+use Rattle.acta_table.proofs.EdgeSets.{form-edge}
 use Rattle.acta_axioms.proofs.forming.form.Goals as goal
 
 pub returns-in-Ok-clause-formed : goal.returns-in-Ok-clause-formed

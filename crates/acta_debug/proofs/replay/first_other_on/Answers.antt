@@ -8,7 +8,7 @@ use Rattle.acta_debug.proofs.replay.first_other_on.Goals as goal
 
 pub returns-then-not-is_admitted-clause-other : goal.returns-then-not-is_admitted-clause-other
 returns-then-not-is_admitted-clause-other g c =
-    let m = c.args.machine.now.model in
+    let m = c.args.recording.now.model in
     let h = c.args.items.now in
     let i = c.loop-item.item-index in
     let k = c.item-item.result in
@@ -25,38 +25,39 @@ returns-then-not-is_admitted-clause-taken g c =
     let items = c.args.items.now in
     let at = c.loop-item.item-index in
     let so = c.loop-item.invariant in
-    subst (λ n. c.take.new.self ≡ state_at c.args.machine.now.model items n) (sym so.place)
-    (state-next c.args.machine.now.model items at c.item-item.result c.loop-item.machine c.take.new.self (record { kept = so.kept; so_far = so.so_far })
+    subst (λ n. c.take.new.self ≡ state_at c.args.recording.now.model items n) (sym so.place)
+    (state-next c.args.recording.now.model items at c.item-item.result c.loop-item.recording c.take.new.self (record { kept = so.kept; so_far = so.so_far })
     (taken items at c.item-item.result c.loop-item-test.true c.item-item.is) c.in_ok-answer.ensures.ok)
 
 pub loop-item-preserved : goal.loop-item-preserved
 loop-item-preserved g c =
-    let m = c.args.machine.now.model in
+    let m = c.args.recording.now.model in
     let h = c.args.items.now in
     let i = c.loop-item.item-index in
     let k = c.item-item.result in
     let t = c.take.new.self in
     let inv = c.loop-item.invariant in
-    let before : HasKept m (take i h) c.loop-item.machine = record { kept = inv.kept; so_far = inv.so_far } in
-    let admitted : answer_to c.loop-item.machine k.event ≡ Admitted c.loop-item.place k.ret = sym c.in_ok-answer.ensures.answer ∙ c.is_admitted.ensures.0 c.if-not-is_admitted.false in
-    let has = kept-one m h i k c.loop-item.machine t before (taken h i k c.loop-item-test.true c.item-item.is) c.loop-item.place admitted c.in_ok-answer.ensures.ok in
+    let before : HasKept m (take i h) c.loop-item.recording = record { kept = inv.kept; so_far = inv.so_far } in
+    let admitted : answer_to c.loop-item.recording k.event ≡ Admitted c.loop-item.place k.ret = sym c.in_ok-answer.ensures.answer ∙ c.is_admitted.ensures.0 c.if-not-is_admitted.false in
+    let has = kept-one m h i k c.loop-item.recording t before (taken h i k c.loop-item-test.true c.item-item.is) c.loop-item.place admitted c.in_ok-answer.ensures.ok in
     let size : length t.kept ≡ i + 1 = ap (λ (s : State g.row.A.Denot). length s.kept) has.kept ∙ length-take-le (i + 1) h (omega arith) in
-    let told = ap length c.history.ensures.history in
+    let told = ap length (c.history.ensures.history ∙ ap (λ (s : State g.row.A.Denot). s.kept) c.machine.ensures) in
     let few = c.history.ensures.within in
+    let same = ap (λ (s : State g.row.A.Denot). length s.kept) c.machine.ensures in
     record {
       place = omega (arith, told, size);
-      few = omega (arith, few, size);
+      few = omega (arith, few, same, size);
       kept = has.kept;
       so_far = has.so_far;
     }
 
 pub returns-clause-history : goal.returns-clause-history
 returns-clause-history g c =
-    subst (λ h. IsHistory c.args.machine.now.model h) (take_all c.loop-item.item-index c.args.items.now c.loop-item-test.false) c.loop-item.invariant.so_far
+    subst (λ h. IsHistory c.args.recording.now.model h) (take_all c.loop-item.item-index c.args.items.now c.loop-item-test.false) c.loop-item.invariant.so_far
 
 pub returns-clause-kept : goal.returns-clause-kept
 returns-clause-kept g c =
-    ap (λ (s : State g.row.A.Denot). s.kept) c.loop-item.invariant.kept ∙ take_all c.loop-item.item-index c.args.items.now c.loop-item-test.false
+    c.loop-item.invariant.kept ∙ ap (with_kept c.args.recording.now.model) (take_all c.loop-item.item-index c.args.items.now c.loop-item-test.false)
 
 pub loop-item-init : goal.loop-item-init
 loop-item-init g c = record { place = refl; few = omega arith; kept = c.requires; so_far = refl }

@@ -10,6 +10,6 @@ invariant-loop-item g l =
     record {
       place : l.place ≡ l.item-index + 1;
       few : l.item-index ≤ MOST_EVENTS;
-      kept : l.machine ≡ with_kept l.fn.machine.model (take l.item-index l.items);
-      so_far : IsHistory l.fn.machine.model (take l.item-index l.items);
+      kept : l.recording ≡ with_kept l.fn.recording.model (take l.item-index l.items);
+      so_far : IsHistory l.fn.recording.model (take l.item-index l.items);
     }

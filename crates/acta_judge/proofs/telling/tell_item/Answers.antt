@@ -2,7 +2,6 @@ use Rattle.std.proofs.Common.{◌≡◌, ◌+◌, ◌++◌, List, length, ap, su
 use Rattle.std.specs.Prelude.{OnOk}
 use Rattle.acta_axioms.specs.declared.fault.Fault.{Fault}
 use Rattle.acta_axioms.specs.Faults.{breaches}
-use Rattle.acta_judge.specs.Order.{merged}
 use Rattle.acta_judge.specs.inside.Places.{faults_by, out_of_course, out_of_model, badly_handed, badly_operated, too_late}
 use Rattle.acta_judge.proofs.Merging.{then_others, in_groups}
 use Rattle.acta_judge.proofs.telling.tell_item.Goals as goal
@@ -14,18 +13,18 @@ returns g c =
     let e = c.args.item.now.event in
     let ret = c.args.item.now.ret in
     let n = length c.front.result.now + 1 in
-    let first = c.args.faults.now.keys in
+    let first = c.args.faults.now.items in
     let course = faults_by n (out_of_course before e) in
     let model = faults_by n (out_of_model m before e) in
     let handed = faults_by n (badly_handed m before e) in
     let operated = faults_by n (badly_operated m before ret e) in
     let late = faults_by n (too_late m before e) in
-    let all : merged c.tell_operation.new.faults.keys late ≡ merged first (faults_by (length before + 1) (breaches m before ret e)) =
-    then_others c.tell_handing.new.faults.keys operated late c.in_ok-tell_operation.ensures
-    ∙ then_others c.tell_model.new.faults.keys handed (operated ++ late) c.in_ok-tell_handing.ensures
-    ∙ then_others c.tell_course.new.faults.keys model (handed ++ (operated ++ late)) c.in_ok-tell_model.ensures
+    let all : c.tell_operation.new.faults.items ++ late ≡ first ++ (faults_by (length before + 1) (breaches m before ret e)) =
+    then_others c.tell_handing.new.faults.items operated late c.in_ok-tell_operation.ensures
+    ∙ then_others c.tell_model.new.faults.items handed (operated ++ late) c.in_ok-tell_handing.ensures
+    ∙ then_others c.tell_course.new.faults.items model (handed ++ (operated ++ late)) c.in_ok-tell_model.ensures
     ∙ then_others first course (model ++ (handed ++ (operated ++ late))) c.in_ok-tell_course.ensures
-    ∙ ap (merged first) (in_groups m before n ret e)
-    ∙ ap (λ h. merged first (faults_by (length h + 1) (breaches m before ret e))) c.front.ensures.front
+    ∙ ap (λ fs. first ++ fs) (in_groups m before n ret e)
+    ∙ ap (λ h. first ++ (faults_by (length h + 1) (breaches m before ret e))) c.front.ensures.front
     in
-    subst (λ (fs : List Fault). OnOk c.tell_lateness.result (c.tell_lateness.new.faults.keys ≡ fs)) all c.tell_lateness.ensures
+    subst (λ (fs : List Fault). OnOk c.tell_lateness.result (c.tell_lateness.new.faults.items ≡ fs)) all c.tell_lateness.ensures

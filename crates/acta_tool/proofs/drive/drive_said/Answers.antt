@@ -15,9 +15,9 @@ drive_scripts-requires-after_bounds g c κs within =
 
 pub returns-in-Ok : goal.returns-in-Ok
 returns-in-Ok g c =
-    subst (λ scripts. MayComeOf (unless_too_long (record { model = c.args.model; scripts = scripts })) c.drive_scripts.result) (c.as_slice.ensures.value ∙ c.in-Ok.ensures) c.drive_scripts.ensures
+    subst (λ scripts. MayComeOf (unless_too_long (record { model = c.args.model; scripts = scripts; turns = c.args.turns })) c.drive_scripts.result) (c.as_slice.ensures.value ∙ c.in-Ok.ensures) c.drive_scripts.ensures
 
 pub returns-in-Err : goal.returns-in-Err
 returns-in-Err g c =
-    let task : Task g.row.A.Denot = record { model = c.args.model; scripts = scripts_of c.args.workers c.args.said.now } in
+    let task : Task g.row.A.Denot = record { model = c.args.model; scripts = scripts_of c.args.workers c.args.said.now; turns = c.args.turns } in
     other (unless_too_long task) Memory refl

@@ -16,6 +16,6 @@ returns-in-Ok-answer-clause-answers g c =
     written g.row.A.Denot c.args.args.now.command model items left c.write_report.result out (g.W.Sink.contents c.args.output.now) (g.W.Sink.contents c.write_report.new.output)
     (subst (λ command. IfSome (input_of command left) (λ xs. items ≡ xs)) c.in-Drive.is c.in-Ok.ensures.bytes)
     (subst (λ command. MayWrite g.row.A.Denot command model items (Ok out)) (sym c.in-Drive.is)
-    (subst (λ bytes. MayCome {A = g.row.A.Denot} (task_of c.in-Drive.workers (of_either model) bytes) (Ok out)) c.as_slice.ensures.value c.in-Ok-answer.ensures))
+    (subst (λ bytes. MayCome {A = g.row.A.Denot} (task_of c.in-Drive.workers c.in-Drive.turns (of_either model) bytes) (Ok out)) c.as_slice.ensures.value c.in-Ok-answer.ensures))
     c.write_report.ensures.driven
     c.write_report.ensures.answers

@@ -1,9 +1,20 @@
-use Rattle.std.proofs.Common.{[], if◌then◌else◌, ap, ◌∙◌}
+use Rattle.std.proofs.Common.{true, [], if◌then◌else◌, ap, ◌∙◌}
 use Rattle.std.proofs.lemmas.Result.{IfOk-weaker}
 use Rattle.acta_sets.specs.Operations.{holders_against}
 use Rattle.acta_axioms.specs.Values.{is_well_formed}
-use Rattle.acta_axioms.proofs.Searches.{holders-tell}
+use Rattle.acta_axioms.specs.Walks.{held_ops}
+use Rattle.acta_axioms.specs.inside.Walking.{is_against}
+use Rattle.acta_axioms.proofs.Searches.{holders-found, holders-tell}
+use Rattle.acta_axioms.proofs.Unopposed.{holders-unopposed}
 use Rattle.acta_axioms.proofs.walk.Walk.holders_against.Goals as goal
+
+pub returns-then-not-is_opposed : goal.returns-then-not-is_opposed
+returns-then-not-is_opposed g c =
+    let m = c.args.self.now.model in
+    let h = c.args.self.now.front in
+    c.new.ensures.empty
+    ∙ holders-unopposed true (is_against m h c.args.t.0 c.args.object.0 c.args.op.now) (held_ops m h) (c.is_opposed.ensures c.if-not-is_opposed.true)
+    ∙ holders-found m h c.args.t.0 c.args.object.0 c.args.op.now
 
 pub returns : goal.returns
 returns g c =

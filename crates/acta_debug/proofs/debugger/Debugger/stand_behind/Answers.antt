@@ -1,17 +1,32 @@
-use Rattle.std.proofs.Common.{◌≡◌, subst, sym}
-use Rattle.acta_debug.specs.Sessions.{moved_to}
-use Rattle.acta_debug.specs.inside.Shown.{IsInside, session_of}
-use Rattle.acta_debug.proofs.Standing.{replay-inside, replay-moves}
+use Rattle.std.proofs.Common.{◌≡◌, ◌∙◌, ap, arith, length, subst, sym, take}
+use Rattle.acta_machine.specs.Places.{FollowsPlaces}
+use Rattle.acta_machine.specs.Table.{State}
+use Rattle.acta_debug.specs.Sessions.{Session, moved_to}
+use Rattle.acta_debug.specs.inside.Shown.{AreFronts}
+use Rattle.acta_debug.proofs.Replaying.{with_kept}
+use Rattle.acta_debug.proofs.Standing.{inside-at, moved-at}
+use Rattle.acta_debug.proofs.debugger.Debugger.stand_behind.Given.{Over}
 use Rattle.acta_debug.proofs.debugger.Debugger.stand_behind.Goals as goal
+
+-- the new machine has kept the items in front of the place
+stands : (g : Over) (c : goal.After-self-1 g) → c.replace.new.dest ≡ with_kept c.self.inside.machine.model (take c.args.n c.self.inside.history.items)
+stands g c =
+    c.replace.ensures.after ∙ c.in_ok-machine.ensures.kept
+    ∙ ap (λ (q : Session g.row.A.Denot). with_kept q.model (take c.args.n q.history)) (sym c.self.view_is)
 
 pub invariant_of-self : goal.invariant_of-self
 invariant_of-self g c =
-    subst (λ t. IsInside t c.self.inside.history.items c.args.n) (sym c.replace.ensures.after)
-    (replay-inside c.self.inside.machine c.in_ok-machine.machine c.self.inside.history.items c.as_slice.result.now c.self.inside.at c.self.inside.breaks.items c.self.invariant c.as_slice.ensures.value c.in_ok-machine.ensures.follows
-    c.args.n c.in_ok-model.model c.model.result.now c.args.self.now c.self.view_is c.requires c.in_ok-model.ensures c.model.ensures c.in_ok-machine.ensures.machine)
+    let inside = c.self.inside in
+    let behind = c.self.invariant.stands in
+    let size = ap (λ (q : Session g.row.A.Denot). length q.history) c.self.view_is in
+    let model = ap (λ (s : State g.row.A.Denot). s.model) (stands g c) in
+    record {
+      stands = inside-at inside.machine.model inside.history.items c.args.n c.replace.new.dest behind.whole (omega (arith, size, c.requires)) behind.few (stands g c) (subst FollowsPlaces (sym c.replace.ensures.after) c.in_ok-machine.ensures.follows);
+      fronts = subst (λ m. AreFronts m inside.history.items inside.checkpoints.items) (sym model) c.self.invariant.fronts;
+    }
 
 pub returns-clause-ok : goal.returns-clause-ok
 returns-clause-ok g c =
-    subst (λ t. session_of t c.self.inside.history.items c.args.n c.self.inside.breaks.items ≡ moved_to c.args.self.now c.args.n) (sym c.replace.ensures.after)
-    (replay-moves c.self.inside.machine c.in_ok-machine.machine c.self.inside.history.items c.as_slice.result.now c.self.inside.at c.self.inside.breaks.items c.self.invariant c.as_slice.ensures.value c.in_ok-machine.ensures.follows
-    c.args.n c.in_ok-model.model c.model.result.now c.args.self.now c.self.view_is c.requires c.in_ok-model.ensures c.model.ensures c.in_ok-machine.ensures.machine)
+    let inside = c.self.inside in
+    moved-at inside.machine c.replace.new.dest inside.history.items inside.at c.args.n inside.breaks.items (ap (λ (s : State g.row.A.Denot). s.model) (stands g c))
+    ∙ ap (λ (q : Session g.row.A.Denot). moved_to q c.args.n) c.self.view_is

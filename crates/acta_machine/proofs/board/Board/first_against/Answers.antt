@@ -1,11 +1,25 @@
-use Rattle.std.proofs.Common.{List, None, if◌then◌else◌, ap, ◌∙◌}
+use Rattle.std.proofs.Common.{List, None, ◌&&◌, if◌then◌else◌, refl, sym, ap, ◌∙◌}
+use Rattle.std.specs.List.{list_any}
 use Rattle.acta_table.specs.Numbered.{first_number}
 use Rattle.acta_sets.specs.declared.held_op.HeldOp.{HeldOp}
 use Rattle.acta_sets.specs.Operations.{is_against}
 use Rattle.acta_axioms.specs.Values.{is_well_formed}
+use Rattle.acta_axioms.proofs.Unopposed.{first-unopposed}
+use Rattle.acta_machine.specs.Families.{spared_numbers}
 use Rattle.acta_machine.specs.inside.Shown.{shown}
 use Rattle.acta_machine.proofs.Opponents.{first-tells}
 use Rattle.acta_machine.proofs.board.Board.first_against.Goals as goal
+
+pub returns-then-not-is_opposed : goal.returns-then-not-is_opposed
+returns-then-not-is_opposed g c =
+    let m = c.args.self.now.model in
+    let s = shown c.args.self.now in
+    let t = c.args.t.0 in
+    let keys = spared_numbers m s t in
+    let w = is_well_formed m c.args.ob.0 c.args.op.now in
+    let against = is_against t keys c.args.ob.0 c.args.op.now in
+    first-unopposed w against s.operations (ap (λ (items : List HeldOp). w && list_any against items) (sym c.operations.ensures) ∙ c.is_opposed.ensures keys c.if-not-is_opposed.true)
+    ∙ first-tells m s t c.args.ob c.args.op.now keys refl
 
 pub returns : goal.returns
 returns g c =
@@ -13,5 +27,5 @@ returns g c =
     let keys = c.in_ok-spares.spares.keys in
     let object = c.args.ob.0 in
     c.first_against-number.ensures
-    ∙ ap (λ (items : List HeldOp). if is_well_formed m object c.args.op.now then first_number (is_against c.args.t.0 keys object c.args.op.now) items else None) c.operations.ensures
+    ∙ ap (λ (items : List HeldOp). if is_well_formed m object c.args.op.now then first_number (is_against c.args.t.0 keys object c.args.op.now) items else None) c.operations-2.ensures
     ∙ first-tells m (shown c.args.self.now) c.args.t.0 c.args.ob c.args.op.now keys c.in_ok-spares.ensures

@@ -5,6 +5,7 @@ use Rattle.acta_machine.specs.Table.{State}
 use Rattle.acta_machine.specs.inside.Shown.{summary_in}
 use Rattle.acta_values.specs.KeptValues.{kinds_of}
 use Rattle.acta_values.specs.Stores.{Stored}
+use Rattle.acta_machine.proofs.Refusals.{none_refused}
 use Rattle.acta_machine.proofs.machine.Machine.copy.Goals as goal
 
 -- all that is copied is as it was
@@ -22,4 +23,5 @@ invariant_of-result g c =
       kinds = ap (λ (s : Stored). s.kinds) store ∙ c.self.invariant.kinds ∙ (λ i. kinds_of (sym model i).objects);
       within = omega (arith, long, c.self.invariant.within);
       follows = subst (λ (w : State g.row.A.Denot). FollowsPlaces w) (λ i. record { model = sym model i; kept = sym kept i }) c.self.invariant.follows;
+      refused = none_refused _ _ _ c.in_ok-refused.ensures.items;
     }

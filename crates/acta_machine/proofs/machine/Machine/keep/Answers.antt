@@ -1,4 +1,5 @@
 use Rattle.std.proofs.Common.{◌≡◌, List, sym, ◌∙◌, ap, subst, ◌++◌, ◌∷◌, [], length, length-append, arith, None, true}
+use Rattle.std.specs.List.{list_all}
 use Rattle.std.specs.Option.{option_map_or}
 use Rattle.acta_table.specs.declared.dep.Edge.{Edge}
 use Rattle.acta_table.specs.declared.event.Event.{Event}
@@ -11,11 +12,15 @@ use Rattle.acta_machine.specs.Values.{return_due}
 use Rattle.acta_machine.specs.Rules.{lowest_broken}
 use Rattle.acta_machine.specs.inside.Shown.{shown}
 use Rattle.acta_machine.specs.Table.{State, kept_as}
-use Rattle.acta_machine.specs.Places.{FollowsPlaces}
+use Rattle.acta_machine.specs.Places.{AreHeldWell, FollowsPlaces}
+use Rattle.acta_machine.specs.inside.FreshEdges.{is_fresh_edge}
 use Rattle.acta_table.specs.Edges.{formed}
 use Rattle.acta_table.specs.Events.{acting, operations_named}
 use Rattle.acta_sets.specs.Operations.{are_held}
 use Rattle.acta_values.specs.KeptValues.{kinds_of}
+use Rattle.acta_deps.specs.Deps.{status_of}
+use Rattle.acta_machine.proofs.FreshEdges.{fresh-due}
+use Rattle.acta_machine.proofs.Refusals.{none_refused}
 use Rattle.acta_machine.proofs.Handing.{event-held}
 use Rattle.acta_machine.proofs.Histories.{summary_more, operations_few}
 use Rattle.acta_machine.proofs.Unbroken.{Admissible, Unbroken, unbroken, none-earlier, still-admissible, linked-room}
@@ -79,6 +84,20 @@ admit-requires-clause-fits g c =
     let same : length (formed c.make_room.new.self.deps.edges c.args.due.now) ≡ length (formed s.edges (edges_due model s event)) = λ i. length (formed (roomy i) (due i)) in
     omega (arith, room, same)
 
+-- they are between transactions that there can be, and nothing is owed by them yet
+pub admit-requires-clause-fresh : goal.admit-requires-clause-fresh
+admit-requires-clause-fresh g c =
+    let event = c.args.event.now in
+    let model = c.self.inside.board.model in
+    let s = shown c.self.inside.board in
+    let u = unbroken-shown _ _ _ _ _ _ c.self.invariant.agrees c.self.view_is c.requires.none c.requires.due c.requires.faultless in
+    let due = due-shown _ _ _ _ _ _ c.self.invariant.agrees c.self.view_is c.requires.none c.requires.due c.requires.faultless in
+    let faultless = faultless-kept _ _ _ _ _ _ c.self.invariant.agrees c.self.view_is c.requires.none c.requires.due c.requires.faultless in
+    let well : AreHeldWell s = subst AreHeldWell (sym c.self.invariant.agrees) c.self.invariant.follows.holders in
+    ap (λ (es : List Edge). list_all (is_fresh_edge (status_of c.make_room.new.self.deps)) es) due
+    ∙ ap (λ b. list_all (is_fresh_edge (status_of b.deps)) (edges_due model s event)) c.make_room.ensures.others
+    ∙ fresh-due model s event faultless well c.known.ensures.nobody u
+
 pub admit-requires-clause-progress : goal.admit-requires-clause-progress
 admit-requires-clause-progress g c =
     (admissible _ _ _ _ _ _ c.self.invariant.agrees c.self.view_is c.requires.none c.requires.due c.requires.faultless (ap (λ (s : Summary). linked s c.args.due.now) c.make_room.ensures.shows)).progress
@@ -120,6 +139,7 @@ invariant_of-self-2 g c =
       kinds = c.admit.ensures.kinds ∙ ap (λ b. b.store.kinds) c.make_room.ensures.others ∙ c.self.invariant.kinds ∙ sym (ap (λ (m : Parts g.row.A.Denot). kinds_of m.objects) same_model);
       within = omega (arith, count, room);
       follows = subst (λ (x : State g.row.A.Denot). FollowsPlaces x) (λ i. record { model = sym same_model i; kept = sym same_kept i }) (follows-push model before event faultless c.self.invariant.follows none);
+      refused = none_refused _ _ _ c.clear.ensures.items;
     }
 
 pub returns-clause-follows : goal.returns-clause-follows

@@ -4,6 +4,7 @@ use Rattle.acta_values.specs.KeptValues.{kinds_of}
 use Rattle.acta_values.specs.Stores.{Stored}
 use Rattle.acta_machine.specs.Places.{FollowsPlaces}
 use Rattle.acta_machine.proofs.Steps.{follows-fresh}
+use Rattle.acta_machine.proofs.Refusals.{none_refused}
 use Rattle.acta_machine.proofs.Histories.{fresh_summary, fresh_room}
 use Rattle.acta_machine.proofs.machine.Machine.new.Goals as goal
 
@@ -16,6 +17,7 @@ invariant_of-result g c =
       kinds = ap (λ (s : Stored). s.kinds) c.in_ok-store.ensures ∙ ap kinds_of c.objects.ensures.objects;
       within = omega arith;
       follows = subst (λ (kept : List (Kept g.row.A.Denot)). FollowsPlaces {A = g.row.A.Denot} (record { model = c.args.model; kept = kept })) (sym c.new-3.ensures.items) (follows-fresh c.args.model);
+      refused = none_refused _ _ _ c.in_ok-refused.ensures.items;
     }
 
 pub returns-clause-follows : goal.returns-clause-follows

@@ -1,0 +1,83 @@
+//! Faults put in order, each once.
+
+ghost use Rattle.std.specs.Prelude.{◌≡◌, ◌++◌, flat_map, IfOk, OnOk};
+ghost use Rattle.acta_judge.specs.Order.{with_fault, merged, in_order};
+ghost use Rattle.acta_judge.specs.inside.Parts.{together};
+
+use crate::edges::ByEdges;
+use acta_axioms::{Fault, Handle};
+use acta_table::Items;
+use std::alloc::AllocError;
+use std::collections::BTreeSet;
+
+// Puts the fault at its place among those in order, unless it is there. `Err` where there is no memory.
+fn put<A: Handle>(fault: Fault, ordered: &mut BTreeSet<Fault, A>) -> Result<(), AllocError>
+    ensures { OnOk result (ordered.new.keys ≡ with_fault ordered.old.keys fault) }
+{
+    ordered.insert(fault)?;
+    Ok(())
+}
+
+// Puts the faults at their places among those in order. `Err` where there is no memory.
+fn put_all<A: Handle>(faults: &[Fault], ordered: &mut BTreeSet<Fault, A>) -> Result<(), AllocError>
+    ensures { OnOk result (ordered.new.keys ≡ merged ordered.old.keys faults.now) }
+{
+    for fault in faults {
+        put(*fault, ordered)?;
+    }
+    Ok(())
+}
+
+// The same, of the faults at places, part by part.
+fn put_places<A: Handle>(
+    parts: &[Items<Fault, A>],
+    ordered: &mut BTreeSet<Fault, A>,
+) -> Result<(), AllocError>
+    ensures { OnOk result (ordered.new.keys ≡ merged ordered.old.keys (together parts.now)) }
+{
+    for part in parts {
+        put_all(part.as_slice(), ordered)?;
+    }
+    Ok(())
+}
+
+// The same, of the faults by edges, part by part.
+fn put_edges<A: Handle>(
+    parts: &[ByEdges<A>],
+    ordered: &mut BTreeSet<Fault, A>,
+) -> Result<(), AllocError>
+    ensures { OnOk result (ordered.new.keys ≡ merged ordered.old.keys (flat_map (λ part. part.faults) parts.now)) }
+{
+    for part in parts {
+        put_all(part.faults.as_slice(), ordered)?;
+    }
+    Ok(())
+}
+
+// The faults, in order.
+fn listed<A: Handle>(alloc: A, faults: &BTreeSet<Fault, A>) -> Result<Vec<Fault, A>, AllocError>
+    ensures { IfOk result (λ listed. listed.items ≡ faults.now.keys) }
+{
+    let mut listed = Vec::with_capacity(alloc, faults.len())?;
+    for fault in faults.iter() {
+        listed.push(*fault)?;
+    }
+    Ok(listed)
+}
+
+/// The faults at places, by edges and by who owes both a commit and an abort, in order and each once. `Err` where there
+/// is no memory.
+pub(crate) fn in_order<A: Handle>(
+    alloc: A,
+    places: &[Items<Fault, A>],
+    edges: &[ByEdges<A>],
+    clashes: &[Fault],
+) -> Result<Vec<Fault, A>, AllocError>
+    ensures { IfOk result (λ listed. listed.items ≡ in_order (together places.now ++ flat_map (λ part. part.faults) edges.now ++ clashes.now)) }
+{
+    let mut ordered = BTreeSet::new(alloc);
+    put_places(places, &mut ordered)?;
+    put_edges(edges, &mut ordered)?;
+    put_all(clashes, &mut ordered)?;
+    listed(alloc, &ordered)
+}

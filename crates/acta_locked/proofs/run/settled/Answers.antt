@@ -1,0 +1,10 @@
+use Rattle.acta_locked.specs.Drives.{AreParts}
+use Rattle.acta_locked.proofs.Settling.{is-driven}
+use Rattle.acta_locked.proofs.run.settled.Goals as goal
+
+pub returns-clause-driven : goal.returns-clause-driven
+returns-clause-driven g c =
+    let parts : AreParts c.close-book.result 1 c.args.scripts.now c.as_slice.result.now = c.are_settled.ensures.0 c.if-not-are_settled.false in
+    is-driven g.J.Job.model c.args.scripts.now c.close-book.result _ c.args.reports.items c.of.result c.args.all.amount
+    c.close-book.ensures.of_model c.book.invariant.run c.book.view_is c.close-book.ensures.counted c.requires.counted c.of.ensures
+    (rw c.as_slice.ensures.value at parts)
