@@ -101,8 +101,9 @@ fn watched<A: Handle + Send + Sync, R: Threads + Wait + Sync + Abort, G: Gate<En
     drive_watched(rt, alloc, model, scripts, gate, turns)
 }
 
-// The length of a front whose verdict has no fault and no debt.
-fn length_of<A: Allocator>(rt: &impl Abort, front: &Front<A>) -> usize {
+// The length of the front at the place, whose verdict has no fault and no debt.
+fn length_at<A: Allocator>(rt: &impl Abort, fronts: &[Front<A>], place: usize) -> usize {
+    let front = fronts.get(place).expect(rt, "a front");
     let faults = front.verdict.faults.as_slice().len();
     let owed = front.verdict.owed.as_slice().len();
     holds(rt, faults == 0 && owed == 0, "a verdict that is empty");
@@ -122,9 +123,9 @@ fn watch_two<A: Handle + Send + Sync, R: Threads + Wait + Sync + Abort>(rt: &R, 
     same(rt, &watched.driven.book.entries().len(), &4, "entries");
     let fronts = watched.fronts.as_slice();
     same(rt, &fronts.len(), &3, "fronts");
-    let first = length_of(rt, &fronts[0]);
-    let second = length_of(rt, &fronts[1]);
-    let third = length_of(rt, &fronts[2]);
+    let first = length_at(rt, fronts, 0);
+    let second = length_at(rt, fronts, 1);
+    let third = length_at(rt, fronts, 2);
     holds(rt, first <= 2 && first <= second, "the first front");
     holds(rt, 1 <= second && second <= 3, "the second front");
     holds(rt, second <= third && third <= 4, "the third front");

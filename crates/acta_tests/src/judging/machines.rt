@@ -45,6 +45,17 @@ fn step<A: Handle + Send + Sync>(
     drop(event);
 }
 
+// Puts a new machine in the place of one whose history is over.
+fn renew<A: Handle>(
+    rt: &impl Abort,
+    alloc: A,
+    models: &Models<A>,
+    machine: &mut Machine<A>,
+    line: &str,
+) {
+    *machine = made(rt, new_machine(alloc, &models.model), line);
+}
+
 // Does what a line says: it begins a history, asks what the machine shows, or has an event and its answer.
 fn follow<A: Handle + Send + Sync>(
     rt: &(impl Threads + Sync + Abort),
@@ -54,7 +65,7 @@ fn follow<A: Handle + Send + Sync>(
     line: &str,
 ) {
     if line.starts_with("# ") {
-        *machine = made(rt, new_machine(alloc, &models.model), line);
+        renew(rt, alloc, models, machine, line);
     } else if !line.starts_with("? ") {
         step(rt, alloc, models, machine, line);
     }

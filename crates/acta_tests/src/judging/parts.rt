@@ -11,7 +11,7 @@ use acta_machine::Handle;
 use acta_models::Standard;
 use acta_table::Model;
 use refusing::Refusing;
-use std::alloc::Global;
+use std::alloc::{Allocator, Global};
 use std::process::Abort;
 use std::thread::Threads;
 
@@ -86,9 +86,9 @@ fn commits_in_parts(rt: HostRuntime) {
 
 // Judges the list in three parts, the nth allocation refused; where it came, the answer is want of memory. Says whether
 // it came.
-fn is_refused<A: Handle + Send + Sync>(
+fn is_refused<A: Handle + Send + Sync, B: Allocator>(
     rt: &(impl Threads + Sync + Abort),
-    heap: &Refusing<Global>,
+    heap: &Refusing<B>,
     alloc: A,
     (model, judged): (&Model<A>, &Judged<A>),
     nth: u64,
@@ -104,22 +104,37 @@ fn is_refused<A: Handle + Send + Sync>(
     was_refused
 }
 
+// The first allocation refused, then the second, and so on, until none is. Says how many were.
+fn refuse_each<A: Handle + Send + Sync, B: Allocator>(
+    rt: &(impl Threads + Sync + Abort),
+    heap: &Refusing<B>,
+    alloc: A,
+    (name, lines): (Standard, &str),
+) -> u64 {
+    let model = model_of(rt, alloc, name.text());
+    let judged = Judged::read(rt, alloc, &model, lines);
+    for nth in 1..MOST {
+        if !is_refused(rt, heap, alloc, (&model, &judged), nth) {
+            return nth.wrapping_sub(1);
+        }
+    }
+    panic!(rt; "too many allocations at {lines}")
+}
+
+// With an allocator that may be shared by threads, since the one inside it may.
+fn refuse_parts<B: Allocator + Send + Sync>(
+    rt: &(impl Threads + Sync + Abort),
+    heap: &Refusing<B>,
+    judged: (Standard, &str),
+) -> u64 {
+    refuse_each(rt, heap, heap, judged)
+}
+
 #[test]
 fn parts_for_which_there_is_no_memory(rt: HostRuntime) {
     let heap = Refusing::new(rt.alloc());
     for (name, lines, least) in HISTORIES {
-        let model = model_of(&rt, &heap, name.text());
-        let judged = Judged::read(&rt, &heap, &model, lines);
-        let mut refused = 0;
-        for nth in 1..MOST {
-            if !is_refused(&rt, &heap, &heap, (&model, &judged), nth) {
-                break;
-            }
-            refused = nth;
-        }
-        assert!(rt;
-            refused >= least && refused < MOST - 1,
-            "{refused} at {lines}"
-        );
+        let refused = refuse_parts(&rt, &heap, (name, lines));
+        assert!(rt; refused >= least, "only {refused} at {lines}");
     }
 }

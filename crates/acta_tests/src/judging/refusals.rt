@@ -9,7 +9,7 @@ use acta_machine::Handle;
 use acta_models::Standard;
 use acta_table::Model;
 use refusing::Refusing;
-use std::alloc::Global;
+use std::alloc::Allocator;
 use std::process::Abort;
 use std::thread::Threads;
 
@@ -64,9 +64,9 @@ owed 3 2 abort",
 ];
 
 // What the judge answers where the nth allocation is refused, and whether it came to that one.
-fn refused<A: Handle + Send + Sync>(
+fn refused<A: Handle + Send + Sync, B: Allocator>(
     rt: &(impl Threads + Sync),
-    heap: &Refusing<Global>,
+    heap: &Refusing<B>,
     alloc: A,
     model: &Model<A>,
     judged: &Judged<A>,
@@ -80,9 +80,9 @@ fn refused<A: Handle + Send + Sync>(
 }
 
 // Judges the list, the nth allocation refused; where it came, the answer is want of memory. Says whether it came.
-fn is_refused<A: Handle + Send + Sync>(
+fn is_refused<A: Handle + Send + Sync, B: Allocator>(
     rt: &(impl Threads + Sync + Abort),
-    heap: &Refusing<Global>,
+    heap: &Refusing<B>,
     alloc: A,
     model: &Model<A>,
     judged: &Judged<A>,
@@ -102,9 +102,9 @@ fn is_refused<A: Handle + Send + Sync>(
 
 // Judges what the lines say, its first allocation refused, then the second, and so on, until none is. Says how many
 // were.
-fn refuse_each<A: Handle + Send + Sync>(
+fn refuse_each<A: Handle + Send + Sync, B: Allocator>(
     rt: &(impl Threads + Sync + Abort),
-    heap: &Refusing<Global>,
+    heap: &Refusing<B>,
     alloc: A,
     name: Standard,
     lines: &str,
@@ -119,11 +119,20 @@ fn refuse_each<A: Handle + Send + Sync>(
     panic!(rt; "too many allocations at {lines}")
 }
 
+// With an allocator that may be shared by threads, since the one inside it may.
+fn refuse_judging<B: Allocator + Send + Sync>(
+    rt: &(impl Threads + Sync + Abort),
+    heap: &Refusing<B>,
+    (name, lines): (Standard, &str),
+) -> u64 {
+    refuse_each(rt, heap, heap, name, lines)
+}
+
 #[test]
 fn a_judge_for_whom_there_is_no_memory(rt: HostRuntime) {
     let heap = Refusing::new(rt.alloc());
     for (name, lines, least) in HISTORIES {
-        let refused = refuse_each(&rt, &heap, &heap, name, lines);
+        let refused = refuse_judging(&rt, &heap, (name, lines));
         assert!(rt; refused >= least, "only {refused} at {lines}");
     }
 }
