@@ -24,13 +24,13 @@ held-shown {X} holder show test held holds (o ∷ os) = of_test (test (show o)) 
 
 -- those who hold them, by what is shown
 pub holders-shown : {A X : Type 0} (m : Parts A) (h : List (Kept A)) (t object : ℕ) (op : Op) (show : Operation → X) (test : X → Bool) (held : X → ℕ) →
-    ((o : Operation) → test (show o) ≡ (is_of_others m h t (standing m h o) && ((o.object == object) && do_conflict m object o.op op))) →
+    ((o : Operation) → test (show o) ≡ (is_of_others m h t o.object (standing m h o) && ((o.object == object) && do_conflict m object o.op op))) →
     ((o : Operation) → held (show o) ≡ (standing m h o).holder) →
     map (λ o. (standing m h o).holder) (conflicting m h t object op) ≡ map held (filter test (map show (operations h)))
 holders-shown m h t object op show test held tells holds =
     ap (map (λ (o : Operation). (standing m h o).holder))
-    (sym (filter-both (λ o. is_of_others m h t (standing m h o)) (λ o. (o.object == object) && do_conflict m object o.op op) (operations h))
-    ∙ filter_agree (λ o. is_of_others m h t (standing m h o) && ((o.object == object) && do_conflict m object o.op op)) (λ o. test (show o)) (λ o. sym (tells o)) (operations h))
+    (sym (filter-both (λ o. is_of_others m h t o.object (standing m h o)) (λ o. (o.object == object) && do_conflict m object o.op op) (operations h))
+    ∙ filter_agree (λ o. is_of_others m h t o.object (standing m h o) && ((o.object == object) && do_conflict m object o.op op)) (λ o. test (show o)) (λ o. sym (tells o)) (operations h))
     ∙ held-shown (λ o. (standing m h o).holder) show test held holds (operations h)
 
 asked-shown : {X : Type 0} (seen : Operation → Bool) (asked : Operation → Option Op) (show : Operation → X) (ask : X → Option Op) →

@@ -1,7 +1,7 @@
 -- What an event forms that is no operation does not hang on what stands before it.
 use Rattle.std.proofs.Common.{◌≡◌, List, refl}
 use Rattle.acta_table.specs.declared.event.Event.{Event}
-use Rattle.acta_table.specs.declared.event.Event.TheVariants.{Begin, Spawn, Split, Join, Delegate, Form, Operate, Commit, Abort}
+use Rattle.acta_table.specs.declared.event.Event.TheVariants.{Begin, Spawn, Split, Join, Delegate, Form, Operate, Commit, Abort, Permit}
 use Rattle.acta_table.specs.declared.event.TxnId.{TxnId}
 use Rattle.acta_table.specs.declared.event.ObjId.{ObjId}
 use Rattle.acta_table.specs.declared.event.Op.{Op}
@@ -20,3 +20,4 @@ wanted-formed m before (Form kind j i) other = refl
 wanted-formed m before (Operate t object op) other = absurd (other t object op refl)
 wanted-formed m before (Commit t) other = refl
 wanted-formed m before (Abort t) other = refl
+wanted-formed m before (Permit t u ob) other = refl

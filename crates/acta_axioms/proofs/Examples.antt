@@ -16,6 +16,7 @@ use Rattle.acta_objects.specs.WellFormed.{bad_operation}
 use Rattle.acta_axioms.specs.declared.fault.Fault.{Fault}
 use Rattle.acta_axioms.specs.declared.fault.Axiom.TheVariants.{BegunOnce, EndedAfterBegun, EndedOnce, OperatesInProgress, FormOfEvent, Allowed, PartiesInProgress, Responsible, HandsWhole, Conflict, Return, Heir, FormedInTime}
 use Rattle.acta_axioms.specs.History.{course, is_in_progress, class_number, ancestors}
+use Rattle.acta_axioms.specs.Permits.{is_permitted}
 use Rattle.acta_axioms.specs.Operations.{Operation, heir, holder_at, fate_at, access_set, conflict_set, view_set}
 use Rattle.acta_axioms.specs.Values.{return_due}
 use Rattle.acta_axioms.specs.Edges.{edges}
@@ -204,6 +205,7 @@ sets_shown :
     × (map (λ n. numbers (access_set model (take n partial) 2)) (6 ∷ 7 ∷ 8 ∷ [])
     ≡ (3 ∷ []) ∷ (2 ∷ 3 ∷ []) ∷ (1 ∷ 2 ∷ 3 ∷ 4 ∷ []) ∷ [])
     × (map (λ t. numbers (conflict_set nesting (take 4 nested) t)) (1 ∷ 2 ∷ 3 ∷ []) ≡ (2 ∷ []) ∷ [] ∷ (1 ∷ 2 ∷ []) ∷ [])
+unfolding is_permitted
 sets_shown = (refl, refl, refl, refl, refl, refl, refl)
 
 -- what is said of an edge of 2 on 1, by its kind and the history behind it
@@ -324,7 +326,7 @@ faulty =
     ∷ []
 
 faulty_shown : map (λ r. faults_in_places r.0 r.1) faulty ≡ map (λ r. r.2) faulty
-unfolding breaches bad_number bad_class bad_object bad_operation same_transaction
+unfolding breaches bad_number bad_class bad_object bad_operation same_transaction is_permitted
 faulty_shown = refl
 
 -- the edges
@@ -357,6 +359,7 @@ linked =
     ∷ []
 
 linked_shown : map (λ r. edges r.0 r.1) linked ≡ map (λ r. r.2) linked
+unfolding is_permitted
 linked_shown = refl
 
 -- the objects x, n, m and s, and a class that may operate, commit and abort

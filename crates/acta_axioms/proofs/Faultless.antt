@@ -4,10 +4,11 @@ use Rattle.acta_table.specs.declared.answer.Status.TheVariants.{NotBegun, InProg
 use Rattle.acta_table.specs.declared.dep.Dep.{Dep}
 use Rattle.acta_table.specs.declared.event.ClassId.{ClassId}
 use Rattle.acta_table.specs.declared.event.Event.{Event}
-use Rattle.acta_table.specs.declared.event.Event.TheVariants.{Begin, Spawn, Split, Join, Delegate, Form, Commit, Abort}
+use Rattle.acta_table.specs.declared.event.Event.TheVariants.{Begin, Spawn, Split, Join, Delegate, Form, Commit, Abort, Permit}
 use Rattle.acta_table.specs.declared.event.Kept.{Kept}
 use Rattle.acta_table.specs.declared.event.OpNo.{OpNo}
 use Rattle.acta_table.specs.declared.event.TxnId.{TxnId}
+use Rattle.acta_table.specs.declared.event.ObjId.{ObjId}
 use Rattle.acta_table.specs.declared.model.Parts.{Parts}
 use Rattle.acta_table.specs.WellFormed.{bad_number, bad_class, bad_object, same_transaction}
 use Rattle.acta_objects.specs.WellFormed.{bad_operation}
@@ -230,6 +231,14 @@ faultless-join m h t u status status_of_other form allowed =
       formed_in_time = refl;
     }
 
+-- of two that are in progress, or one named twice, none is idle
+both-under-way : {A : Type 0} (h : List (Kept A)) (t u : TxnId) → status_at h t.0 ≡ InProgress → status_at h u.0 ≡ InProgress → filter (λ v. not (is_in_progress h v)) (if t.0 == u.0 then t.0 ∷ [] else t.0 ∷ u.0 ∷ []) ≡ []
+both-under-way h t u status status_of_other = of_test (t.0 == u.0)
+  where
+    of_test : (b : Bool) → filter (λ v. not (is_in_progress h v)) (if b then t.0 ∷ [] else t.0 ∷ u.0 ∷ []) ≡ []
+    of_test true = ap (λ b. cond (not b) (t.0 ∷ []) []) (under_way h t.0 status)
+    of_test false = λ i. let others = cond (not (under_way h u.0 status_of_other i)) (u.0 ∷ []) [] in cond (not (under_way h t.0 status i)) (t.0 ∷ others) others
+
 -- a delegation by one in progress to one in progress, of operations that it holds, and of all where it has to
 pub faultless-delegate : {A : Type 0} (m : Parts A) (h : List (Kept A)) (t u : TxnId) (ops : List OpNo) → status_at h t.0 ≡ InProgress → status_at h u.0 ≡ InProgress →
     ill_formed m (Delegate t u ops) ≡ [] → not_allowed m h (Delegate t u ops) ≡ [] → handed_unheld m h (Delegate t u ops) ≡ [] → kept_back m h (Delegate t u ops) ≡ [] →
@@ -242,7 +251,7 @@ faultless-delegate m h t u ops status status_of_other form allowed held whole =
       operates_in_progress = refl;
       form_of_event = form;
       allowed = allowed;
-      parties_in_progress = of_test (t.0 == u.0);
+      parties_in_progress = both-under-way h t u status status_of_other;
       responsible = held;
       hands_whole = whole;
       conflict = refl;
@@ -250,10 +259,26 @@ faultless-delegate m h t u ops status status_of_other form allowed held whole =
       heir = refl;
       formed_in_time = refl;
     }
-  where
-    of_test : (b : Bool) → filter (λ v. not (is_in_progress h v)) (if b then t.0 ∷ [] else t.0 ∷ u.0 ∷ []) ≡ []
-    of_test true = ap (λ b. cond (not b) (t.0 ∷ []) []) (under_way h t.0 status)
-    of_test false = λ i. let others = cond (not (under_way h u.0 status_of_other i)) (u.0 ∷ []) [] in cond (not (under_way h t.0 status i)) (t.0 ∷ others) others
+
+-- a permit of one in progress for one in progress
+pub faultless-permit : {A : Type 0} (m : Parts A) (h : List (Kept A)) (t u : TxnId) (ob : ObjId) → status_at h t.0 ≡ InProgress → status_at h u.0 ≡ InProgress →
+    ill_formed m (Permit t u ob) ≡ [] → not_allowed m h (Permit t u ob) ≡ [] → IsFaultless m h (record { event = Permit t u ob; ret = None })
+faultless-permit m h t u ob status status_of_other form allowed =
+    record {
+      begun_once = refl;
+      ended_after_begun = refl;
+      ended_once = refl;
+      operates_in_progress = refl;
+      form_of_event = form;
+      allowed = allowed;
+      parties_in_progress = both-under-way h t u status status_of_other;
+      responsible = refl;
+      hands_whole = refl;
+      conflict = refl;
+      return = refl;
+      heir = refl;
+      formed_in_time = refl;
+    }
 
 -- an end of one in progress, which has a parent in progress where it commits to its parent
 pub faultless-commit : {A : Type 0} (m : Parts A) (h : List (Kept A)) (t : TxnId) → status_at h t.0 ≡ InProgress →

@@ -5,7 +5,7 @@ use Rattle.std.proofs.lemmas.Bool.Decides.{nat_tests}
 use Rattle.std.proofs.lemmas.List.{append-nil}
 use Rattle.acta_table.specs.declared.answer.Fate.TheVariants.{InProgress, Committed, Aborted}
 use Rattle.acta_table.specs.declared.event.Event.{Event}
-use Rattle.acta_table.specs.declared.event.Event.TheVariants.{Split, Join, Delegate, Operate, Commit, Abort}
+use Rattle.acta_table.specs.declared.event.Event.TheVariants.{Split, Join, Delegate, Operate, Commit, Abort, Permit}
 use Rattle.acta_table.specs.declared.event.ClassId.{ClassId}
 use Rattle.acta_table.specs.declared.event.ObjId.{ObjId}
 use Rattle.acta_table.specs.declared.event.Op.{Op}
@@ -97,6 +97,11 @@ pub operate-on : {A : Type 0} (left : Option TxnId) (e : Event A) (t : TxnId) (o
 operate-on {A} left e t object op xs is =
     ap (λ ys. ys ++ (record { ob = object; op = op; holder = t; fate = InProgress }) ∷ []) (still_from {A = A} left (Operate t object op) 1 xs (λ k x. still (is_open x.fate) x))
     ∙ ap (λ (f : Event A). further_on left f xs) (sym is)
+
+-- a permit does nothing to them
+pub permit-on : {A : Type 0} (left : Option TxnId) (e : Event A) (t u : TxnId) (ob : ObjId) (xs : List HeldOp) → e ≡ Permit t u ob → xs ≡ further_on left e xs
+permit-on {A} left e t u ob xs is =
+    still_from {A = A} left (Permit t u ob) 1 xs (λ k x. still (is_open x.fate) x) ∙ sym (append-nil (brought_from {A = A} left (Permit t u ob) 1 xs)) ∙ ap (λ (f : Event A). further_on left f xs) (sym is)
 
 -- the other events do nothing to them
 pub other-on : {A : Type 0} (left : Option TxnId) (e : Event A) (xs : List HeldOp) → ((s u : TxnId) (class : ClassId) (ops : List OpNo) → e ≡ Split s u class ops → ⊥) → ((s u : TxnId) → e ≡ Join s u → ⊥) →

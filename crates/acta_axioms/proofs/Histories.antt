@@ -8,7 +8,7 @@ use Rattle.acta_table.specs.declared.dep.Owed.{Owed}
 use Rattle.acta_table.specs.declared.event.Op.{Op}
 use Rattle.acta_table.specs.declared.event.Ret.{Ret}
 use Rattle.acta_table.specs.declared.event.Event.{Event}
-use Rattle.acta_table.specs.declared.event.Event.TheVariants.{Begin, Spawn, Split, Join, Delegate, Form, Operate, Commit, Abort}
+use Rattle.acta_table.specs.declared.event.Event.TheVariants.{Begin, Spawn, Split, Join, Delegate, Form, Operate, Commit, Abort, Permit}
 use Rattle.acta_table.specs.declared.event.Kept.{Kept}
 use Rattle.acta_table.specs.declared.model.Class.{Class}
 use Rattle.acta_table.specs.declared.model.AtCommit.TheVariants.{Keeps, ToParent}
@@ -57,6 +57,9 @@ commit t = plain (Commit (record { 0 = t }))
 abbrev pub abort : ℕ → Kept (Unit {0})
 abort t = plain (Abort (record { 0 = t }))
 
+abbrev pub permit : ℕ → ℕ → ℕ → Kept (Unit {0})
+permit t u object = plain (Permit (record { 0 = t }) (record { 0 = u }) (record { 0 = object }))
+
 abbrev pub edge : Dep → ℕ → ℕ → Edge
 edge kind j i = record { kind = kind; j = record { 0 = j }; i = record { 0 = i } }
 
@@ -71,7 +74,7 @@ abbrev pub objects : List (Object (Unit {0}))
 objects = record { name = []; kind = Register (pos 0) } ∷ record { name = []; kind = Counter (pos 0) } ∷ record { name = []; kind = Elements } ∷ []
 
 -- a class, by whether it starts by begin and the bits of what it may do: 1 is to spawn, 8 to delegate, 16 to form,
--- 32 to operate, 64 to commit and 128 to abort
+-- 32 to operate, 64 to commit, 128 to abort and 256 to permit
 abbrev pub class : Bool → ℕ → Class (Unit {0})
 class begins may = record { name = []; starts = record { begin = begins; spawned = false; split = false }; may = may; scope = Others; policy = Refuse; at_commit = Keeps; extent = Any; spawn_edges = []; split_edges = [] }
 
@@ -84,7 +87,11 @@ model = record {
       ∷ class true 232 ∷ record (class true 232) { extent = Whole } ∷ [];
 }
 
--- the same with no class that may form
+-- classes 0 and 1 may permit, and class 0 all but form too
+abbrev pub granting : Parts (Unit {0})
+granting = record { objects = objects; classes = class true 488 ∷ class true 256 ∷ [] }
+
+-- no class may form
 abbrev pub edgeless : Parts (Unit {0})
 edgeless = record { objects = objects; classes = class true 224 ∷ [] }
 

@@ -89,9 +89,9 @@ holders-others m h t object op =
     all-ascending (λ u. not (u == t)) (map (λ (o : Operation). (standing m h o).holder) (conflicting m h t object op))
     (list_all-map (λ u. not (u == t)) (λ (o : Operation). (standing m h o).holder) (conflicting m h t object op)
     ∙ all-fewer (λ o. (o.object == object) && do_conflict m object o.op op) (λ o. not ((standing m h o).holder == t)) (conflict_set m h t)
-    (all-passing (λ o. is_of_others m h t (standing m h o)) (λ o. not ((standing m h o).holder == t)) (λ o is. other (standing m h o) is) (operations h)))
+    (all-passing (λ o. is_of_others m h t o.object (standing m h o)) (λ o. not ((standing m h o).holder == t)) (λ o is. other o.object (standing m h o) is) (operations h)))
   where
-    other : (s : Standing) → is_of_others m h t s ≡ true → not (s.holder == t) ≡ true
-    other s is =
-        let parts = and_parts (is_open s.fate && not (s.holder == t)) (not (is_spared m h t s.holder)) is in
+    other : (on : ℕ) (s : Standing) → is_of_others m h t on s ≡ true → not (s.holder == t) ≡ true
+    other on s is =
+        let parts = and_parts (is_open s.fate && not (s.holder == t)) (not (is_spared m h t on s.holder)) is in
         (and_parts (is_open s.fate) (not (s.holder == t)) parts.0).1

@@ -17,6 +17,8 @@ mod Following
 pub mod Searches
 pub mod Unopposed
 mod EdgesWanted
+pub mod Permitting
+mod Taken
 mod Walking
 mod Reordering
 mod Replays

@@ -8,7 +8,7 @@ use Rattle.std.specs.List.{list_any}
 use Rattle.std.specs.Ordering.{nat_cmp}
 use Rattle.std.specs.BTreeMap.{is_at}
 use Rattle.std.specs.Option.{option_map_or}
-use Rattle.std.proofs.lemmas.Bool.{false≢true}
+use Rattle.std.proofs.lemmas.Bool.{false≢true, eqb-true}
 use Rattle.std.proofs.lemmas.List.Elements.{filter_agree}
 use Rattle.std.proofs.lemmas.Simd.{map-map}
 use Rattle.acta_table.specs.declared.event.Event.TheVariants.{Operate}
@@ -36,17 +36,19 @@ use Rattle.acta_objects.specs.Conflicts.{conflict_on}
 use Rattle.acta_table.specs.Classes.{kind_at}
 use Rattle.acta_table.specs.Numbered.{numbers_from}
 use Rattle.acta_sets.specs.declared.held_op.HeldOp.{HeldOp}
-use Rattle.acta_sets.specs.Operations.{is_held, is_against as is_against_in, holders_against as holders_against_in}
+use Rattle.acta_sets.specs.Operations.{is_held, ops_conflict, is_against as is_against_in, holders_against as holders_against_in}
 use Rattle.acta_axioms.specs.declared.seeking.Sought.TheVariants.{Others, Against}
 use Rattle.acta_axioms.specs.History.{has_class, class_of, ancestors}
 use Rattle.acta_axioms.specs.Operations.{Operation, Standing, standing, operations, is_spared, is_of_others, access_set, conflict_set}
+use Rattle.acta_axioms.specs.Permits.{is_permitted}
+use Rattle.acta_axioms.specs.inside.Against.{is_against_but}
 use Rattle.acta_axioms.specs.Values.{do_conflict, conflicting, value, is_well_formed}
 use Rattle.acta_axioms.specs.Edges.{holders_against, formed_by}
 use Rattle.acta_axioms.specs.Walks.{held_op, held_ops, op_numbers}
 use Rattle.acta_values.specs.KeptValues.{kinds_of}
 use Rattle.acta_values.specs.Live.{live_on, live_ops}
 use Rattle.acta_values.specs.Stores.{Stored}
-use Rattle.acta_axioms.specs.inside.Walking.{standing_in, spared, spared_numbers, is_against, is_sought, numbers_of}
+use Rattle.acta_axioms.specs.inside.Walking.{standing_in, spared, spared_numbers, AreSpared, is_against, is_sought, numbers_of}
 use Rattle.acta_axioms.proofs.ByOperations.{holders-shown, value-shown}
 use Rattle.acta_axioms.proofs.Conflicts.{do_conflict-on, suits-conflicts, ill-conflicts}
 use Rattle.acta_axioms.proofs.Numbers.{numbers-shown}
@@ -63,28 +65,33 @@ by-number : (ts : List TxnId) (u : ℕ) → list_any (λ n. n == u) (map (λ t. 
 by-number [] u = refl
 by-number (t ∷ ts) u = ap (λ b. (t.0 == u) || b) (by-number ts u)
 
-pub in-spared : {A : Type 0} (m : Parts A) (h : List (Kept A)) (t u : ℕ) → list_any (is_at (nat_cmp u)) (spared_numbers m h t) ≡ is_spared m h t u
+pub in-spared : {A : Type 0} (m : Parts A) (h : List (Kept A)) (t u : ℕ) → list_any (is_at (nat_cmp u)) (spared_numbers m h t) ≡ (has_class (λ k. spares k.scope) m h t && list_any (λ a. a.0 == u) (ancestors h t))
 in-spared m h t u = in-ascending u (map (λ x. x.0) (spared m h t)) ∙ by-number (spared m h t) u ∙ of_test (has_class (λ k. spares k.scope) m h t)
   where
     of_test : (b : Bool) → list_any (λ a. a.0 == u) (if b then ancestors h t else []) ≡ (b && list_any (λ a. a.0 == u) (ancestors h t))
     of_test true = refl
     of_test false = refl
 
+-- those who are spared on an object: ancestors, and those who permit it
+pub spared-on : {A : Type 0} (m : Parts A) (h : List (Kept A)) (t object : ℕ) (base keys : List ℕ) (found : List TxnId) → base ≡ spared_numbers m h t → ((u : ℕ) → list_any (λ s. s.0 == u) found ≡ is_permitted h u t object)
+    → ((u : ℕ) → list_any (λ k. k == u) keys ≡ (list_any (λ k. k == u) base || list_any (λ s. s.0 == u) found)) → AreSpared m h t object keys
+spared-on m h t object base keys found ancestors_are permit all u =
+    all u ∙ (λ i. (ap (λ (ns : List ℕ). list_any (λ k. k == u) ns) ancestors_are ∙ sym (any-number u (spared_numbers m h t)) ∙ in-spared m h t u) i || permit u i)
+
+none_and : (a : Bool) → (a && false) ≡ false
+none_and true = refl
+none_and false = refl
+
 -- an operation conflicts as it is kept where it does by the definitions
 against-tells : {A : Type 0} (m : Parts A) (h : List (Kept A)) (t object : ℕ) (op : Op) (o : Operation) (s : Standing) →
-    is_against m h t object op (held_op o s) ≡ (is_of_others m h t s && ((o.object == object) && do_conflict m object o.op op))
+    is_against m h t object op (held_op o s) ≡ (is_of_others m h t o.object s && ((o.object == object) && do_conflict m object o.op op))
 against-tells m h t object op o s =
-    ap (λ b. (o.object == object) && (is_of_others m h t s && b)) (sym (do_conflict-on m object o.op op)) ∙ turned (o.object == object) (is_of_others m h t s) (do_conflict m object o.op op)
+    ap (λ b. (o.object == object) && (is_of_others m h t object s && b)) (sym (do_conflict-on m object o.op op))
+    ∙ turned (o.object == object) refl (do_conflict m object o.op op)
   where
-    turned : (a b c : Bool) → (a && (b && c)) ≡ (b && (a && c))
-    turned true true c = refl
-    turned true false c = refl
-    turned false true c = refl
-    turned false false c = refl
-
--- by number, in the words of the table
-spared_by : {A : Type 0} (m : Parts A) (h : List (Kept A)) (t u : ℕ) → list_any (λ k. k == u) (spared_numbers m h t) ≡ is_spared m h t u
-spared_by m h t u = sym (any-number u (spared_numbers m h t)) ∙ in-spared m h t u
+    turned : (a : Bool) → (o.object == object) ≡ a → (c : Bool) → (a && (is_of_others m h t object s && c)) ≡ (is_of_others m h t o.object s && (a && c))
+    turned true same c = ap (λ ob. is_of_others m h t ob s && c) (sym (eqb-true o.object object same))
+    turned false other c = sym (none_and (is_of_others m h t o.object s))
 
 moved_on : (f a b o c : Bool) → (f && a && b && o && c) ≡ (o && ((f && a && b) && c))
 moved_on true true true true c = refl
@@ -96,33 +103,34 @@ moved_on true false b false c = refl
 moved_on false a b true c = refl
 moved_on false a b false c = refl
 
-against_by : {A : Type 0} (m : Parts A) (h : List (Kept A)) (t object : ℕ) (op : Op) (x : HeldOp) → is_well_formed m object op ≡ true → is_against_in t (spared_numbers m h t) object op x ≡ is_against m h t object op x
-against_by m h t object op x is =
-    (λ i. is_open x.fate && not (x.holder.0 == t) && not (spared_by m h t x.holder.0 i) && (x.ob.0 == object) && suits-conflicts m object x.op op is i)
-    ∙ moved_on (is_open x.fate) (not (x.holder.0 == t)) (not (is_spared m h t x.holder.0)) (x.ob.0 == object) (conflict_on m object x.op op)
+-- in the words of the table
+against_but : {A : Type 0} (m : Parts A) (h : List (Kept A)) (t object : ℕ) (op : Op) (x : HeldOp) → is_well_formed m object op ≡ true → is_against_but t (is_spared m h t object) object op x ≡ is_against m h t object op x
+against_but m h t object op x is =
+    ap (λ b. is_open x.fate && not (x.holder.0 == t) && not (is_spared m h t object x.holder.0) && (x.ob.0 == object) && b) (suits-conflicts m object x.op op is)
+    ∙ moved_on (is_open x.fate) (not (x.holder.0 == t)) (not (is_spared m h t object x.holder.0)) (x.ob.0 == object) (conflict_on m object x.op op)
 
-none_and : (a : Bool) → (a && false) ≡ false
-none_and true = refl
-none_and false = refl
+against_by : {A : Type 0} (m : Parts A) (h : List (Kept A)) (t object : ℕ) (op : Op) (keys : List ℕ) (x : HeldOp) → AreSpared m h t object keys → is_well_formed m object op ≡ true → is_against_in t keys object op x ≡ is_against m h t object op x
+against_by m h t object op keys x same is =
+    ap (λ b. is_open x.fate && not (x.holder.0 == t) && not b && (x.ob.0 == object) && ops_conflict x.op op) (same x.holder.0)
+    ∙ against_but m h t object op x is
 
 none_against : {A : Type 0} (m : Parts A) (h : List (Kept A)) (t object : ℕ) (op : Op) (x : HeldOp) → is_well_formed m object op ≡ false → is_against m h t object op x ≡ false
 none_against m h t object op x is =
-    ap (λ b. (x.ob.0 == object) && (is_of_others m h t (standing_in x) && b)) (ill-conflicts m object x.op op is)
-    ∙ ap (λ b. (x.ob.0 == object) && b) (none_and (is_of_others m h t (standing_in x))) ∙ none_and (x.ob.0 == object)
+    ap (λ b. (x.ob.0 == object) && (is_of_others m h t object (standing_in x) && b)) (ill-conflicts m object x.op op is)
+    ∙ ap (λ b. (x.ob.0 == object) && b) (none_and (is_of_others m h t object (standing_in x))) ∙ none_and (x.ob.0 == object)
 
 any_none : (test : HeldOp → Bool) (xs : List HeldOp) → ((x : HeldOp) → test x ≡ false) → list_any test xs ≡ false
 any_none test [] none = refl
 any_none test (x ∷ xs) none = ap (λ b. b || list_any test xs) (none x) ∙ any_none test xs none
 
-any-by : {A : Type 0} (m : Parts A) (h : List (Kept A)) (t object : ℕ) (op : Op) (keys : List ℕ) (xs : List HeldOp) → keys ≡ spared_numbers m h t → is_well_formed m object op ≡ true →
+any-by : {A : Type 0} (m : Parts A) (h : List (Kept A)) (t object : ℕ) (op : Op) (keys : List ℕ) (xs : List HeldOp) → AreSpared m h t object keys → is_well_formed m object op ≡ true →
     list_any (is_against_in t keys object op) xs ≡ list_any (is_against m h t object op) xs
-any-by m h t object op keys xs same is =
-    ap (λ (ks : List ℕ). list_any (is_against_in t ks object op) xs) same ∙ ap (λ (test : HeldOp → Bool). list_any test xs) (λ i x. against_by m h t object op x is i)
+any-by m h t object op keys xs same is = ap (λ (test : HeldOp → Bool). list_any test xs) (λ i x. against_by m h t object op keys x same is i)
 
 any-ill : {A : Type 0} (m : Parts A) (h : List (Kept A)) (t object : ℕ) (op : Op) (xs : List HeldOp) → is_well_formed m object op ≡ false → false ≡ list_any (is_against m h t object op) xs
 any-ill m h t object op xs is = sym (any_none (is_against m h t object op) xs (λ x. none_against m h t object op x is))
 
-pub any-tells : {A : Type 0} (m : Parts A) (h : List (Kept A)) (t object : ℕ) (op : Op) (keys : List ℕ) (xs : List HeldOp) → keys ≡ spared_numbers m h t
+pub any-tells : {A : Type 0} (m : Parts A) (h : List (Kept A)) (t object : ℕ) (op : Op) (keys : List ℕ) (xs : List HeldOp) → AreSpared m h t object keys
     → (is_well_formed m object op && list_any (is_against_in t keys object op) xs) ≡ list_any (is_against m h t object op) xs
 any-tells m h t object op keys xs same = told (is_well_formed m object op) (any-by m h t object op keys xs same) (any-ill m h t object op xs)
   where
@@ -130,6 +138,14 @@ any-tells m h t object op keys xs same = told (is_well_formed m object op) (any-
         → (b && list_any (is_against_in t keys object op) xs) ≡ list_any (is_against m h t object op) xs
     told true is ill = is refl
     told false is ill = ill refl
+
+-- where no operation of another conflicts, none is against
+pub none-opposed : {A : Type 0} (m : Parts A) (h : List (Kept A)) (t object : ℕ) (op : Op) (xs : List HeldOp) → (is_well_formed m object op && list_any (is_against_but t (is_spared m h t object) object op) xs) ≡ false → list_any (is_against m h t object op) xs ≡ false
+none-opposed m h t object op xs none = told (is_well_formed m object op) refl none
+  where
+    told : (b : Bool) → is_well_formed m object op ≡ b → (b && list_any (is_against_but t (is_spared m h t object) object op) xs) ≡ false → list_any (is_against m h t object op) xs ≡ false
+    told true is e = sym (ap (λ (test : HeldOp → Bool). list_any test xs) (λ i x. against_but m h t object op x is i)) ∙ e
+    told false is e = sym (any-ill m h t object op xs is)
 
 -- where none is against, none is found
 none_numbered : (test : HeldOp → Bool) (n : ℕ) (xs : List HeldOp) → list_any test xs ≡ false → [] ≡ numbers_from test n xs
@@ -145,11 +161,10 @@ pub holders-found : {A : Type 0} (m : Parts A) (h : List (Kept A)) (t object : �
 holders-found m h t object op =
     ap ascending (sym (holders-shown m h t object op (λ o. held_op o (standing m h o)) (is_against m h t object op) (λ x. x.holder.0) (λ o. against-tells m h t object op o (standing m h o)) (λ o. refl)))
 
-holders-by : {A : Type 0} (m : Parts A) (h : List (Kept A)) (t object : ℕ) (op : Op) (keys : List ℕ) → keys ≡ spared_numbers m h t → is_well_formed m object op ≡ true →
+holders-by : {A : Type 0} (m : Parts A) (h : List (Kept A)) (t object : ℕ) (op : Op) (keys : List ℕ) → AreSpared m h t object keys → is_well_formed m object op ≡ true →
     holders_against_in t keys object op (held_ops m h) ≡ holders_against m h t object op
 holders-by m h t object op keys same is =
-    ap (λ (ks : List ℕ). holders_against_in t ks object op (held_ops m h)) same
-    ∙ ap (λ xs. ascending (map (λ (x : HeldOp). x.holder.0) xs)) (filter_agree (is_against_in t (spared_numbers m h t) object op) (is_against m h t object op) (λ x. against_by m h t object op x is) (held_ops m h))
+    ap (λ xs. ascending (map (λ (x : HeldOp). x.holder.0) xs)) (filter_agree (is_against_in t keys object op) (is_against m h t object op) (λ x. against_by m h t object op keys x same is) (held_ops m h))
     ∙ holders-found m h t object op
 
 none_held : (test : HeldOp → Bool) (xs : List HeldOp) → ((x : HeldOp) → test x ≡ false) → [] ≡ filter test xs
@@ -160,7 +175,7 @@ holders-ill : {A : Type 0} (m : Parts A) (h : List (Kept A)) (t object : ℕ) (o
 holders-ill m h t object op is =
     ap (λ xs. ascending (map (λ (x : HeldOp). x.holder.0) xs)) (none_held (is_against m h t object op) (held_ops m h) (λ x. none_against m h t object op x is)) ∙ holders-found m h t object op
 
-pub holders-tell : {A : Type 0} (m : Parts A) (h : List (Kept A)) (t object : ℕ) (op : Op) (keys : List ℕ) → keys ≡ spared_numbers m h t
+pub holders-tell : {A : Type 0} (m : Parts A) (h : List (Kept A)) (t object : ℕ) (op : Op) (keys : List ℕ) → AreSpared m h t object keys
     → (if is_well_formed m object op then holders_against_in t keys object op (held_ops m h) else []) ≡ holders_against m h t object op
 holders-tell m h t object op keys same = told (is_well_formed m object op) (holders-by m h t object op keys same) (holders-ill m h t object op)
   where
@@ -185,8 +200,8 @@ pub against-found : {A : Type 0} (m : Parts A) (h : List (Kept A)) (t : ℕ) (ob
 against-found m h t object op =
     found m h (is_sought m h t (Against object op))
     ∙ ap op_numbers
-    (filter_agree (λ o. is_against m h t object.0 op (held_op o (standing m h o))) (λ o. is_of_others m h t (standing m h o) && ((o.object == object.0) && do_conflict m object.0 o.op op)) (λ o. against-tells m h t object.0 op o (standing m h o)) (operations h)
-    ∙ filter-both (λ o. is_of_others m h t (standing m h o)) (λ o. (o.object == object.0) && do_conflict m object.0 o.op op) (operations h))
+    (filter_agree (λ o. is_against m h t object.0 op (held_op o (standing m h o))) (λ o. is_of_others m h t o.object (standing m h o) && ((o.object == object.0) && do_conflict m object.0 o.op op)) (λ o. against-tells m h t object.0 op o (standing m h o)) (operations h)
+    ∙ filter-both (λ o. is_of_others m h t o.object (standing m h o)) (λ o. (o.object == object.0) && do_conflict m object.0 o.op op) (operations h))
 
 pub none-found : {A : Type 0} (m : Parts A) (h : List (Kept A)) (t : ℕ) (object : ObjId) (op : Op) → list_any (is_against m h t object.0 op) (held_ops m h) ≡ false → [] ≡ op_numbers (conflicting m h t object.0 op)
 none-found m h t object op none =

@@ -11,7 +11,7 @@ use Rattle.acta_table.specs.declared.answer.Fate.TheVariants.{InProgress, Commit
 use Rattle.acta_table.specs.declared.answer.Status.{Status}
 use Rattle.acta_table.specs.declared.answer.Status.TheVariants as status
 use Rattle.acta_table.specs.declared.event.Event.{Event}
-use Rattle.acta_table.specs.declared.event.Event.TheVariants.{Begin, Spawn, Split, Join, Delegate, Form, Operate, Commit, Abort}
+use Rattle.acta_table.specs.declared.event.Event.TheVariants.{Begin, Spawn, Split, Join, Delegate, Form, Operate, Commit, Abort, Permit}
 use Rattle.acta_table.specs.declared.event.Kept.{Kept}
 use Rattle.acta_table.specs.declared.event.ObjId.{ObjId}
 use Rattle.acta_table.specs.declared.event.Op.{Op}
@@ -35,7 +35,10 @@ use Rattle.acta_axioms.proofs.ValueGrowth.{filter-both, eqb-turned}
 use Rattle.acta_axioms.specs.Serial.{is_strict_class, is_strict, committed_by, commit_order, is_of_group, group_of, serial_order, first_values, values_after, returned_from, replayed}
 use Rattle.acta_axioms.proofs.Reordering.{IsSerial, ended_so, serial-none, serial-commit, serial-abort, serial-operate, serial-returns}
 use Rattle.acta_axioms.proofs.Replays.{AreValues, values-first, values-step, is_free, commute-values, due-replayed}
-use Rattle.acta_axioms.proofs.StrictItems.{of-strict, class-strict, no-spawn, no-split, no-join, no-delegation, ends-begun, ends-open, delegates-begun, operates-open, conflicts-none, returns-due}
+use Rattle.acta_axioms.specs.Permits.{has_permitted, is_permitted}
+use Rattle.acta_table.specs.Events.{permits}
+use Rattle.acta_axioms.proofs.Permitting.{has_permitted-push, unpermitted-counts}
+use Rattle.acta_axioms.proofs.StrictItems.{of-strict, class-strict, no-spawn, no-split, no-join, no-delegation, no-permit, ends-begun, ends-open, parties-begun, operates-open, conflicts-none, returns-due}
 
 -- the fate that all operations of a transaction with this status have
 abbrev pub fate_of : Status → Fate
@@ -63,6 +66,7 @@ pub record IsSerialSoFar {A : Type 0} (m : Parts A) (h : List (Kept A)) (f : ℕ
   pub stand : AllByRecursion (λ o. standing m h o ≡ stands_so f o) (operations h)
   pub classes : (t : ℕ) → has_begun h t ≡ true → has_class is_strict_class m h t ≡ true
   pub orphans : (t : ℕ) → parent_of h t ≡ None
+  pub unpermitted : (u t object : ℕ) → has_permitted h u t object ≡ false
 
 -- lists
 
@@ -115,6 +119,9 @@ orphans-push h k none earlier t = parent_of-push h k t ∙ of (has_begun h t) (s
     of false true = none
     of false false = refl
 
+unpermitted-push : {A : Type 0} (h : List (Kept A)) (k : Kept A) → ((u t object : ℕ) → permits u t object k.event ≡ false) → ((u t object : ℕ) → has_permitted h u t object ≡ false) → (u t object : ℕ) → has_permitted (h ++ k ∷ []) u t object ≡ false
+unpermitted-push h k none earlier u t object = has_permitted-push h k u t object ∙ (λ i. earlier u t object i || none u t object i)
+
 -- how operations stand
 
 stand-push : {A : Type 0} (m : Parts A) (h : List (Kept A)) (k : Kept A) (f g : ℕ → Fate) → ((o : Operation) → carried m o.number (stands_so f o) (at_end h k) ≡ stands_so g o) → AllByRecursion (λ o. held_by o.invoker ≡ stands_so g o) (added h k)
@@ -148,8 +155,8 @@ order-push h k = filter_map-append (λ q. committed_by q.event) h (k ∷ [])
 
 -- an event that ends none, and is no operation
 step-idle : {A : Type 0} (m : Parts A) (h : List (Kept A)) (k : Kept A) → is_strict m ≡ true → ill_formed m k.event ≡ [] → added h k ≡ [] → committed_by k.event ≡ None → ((o v : ℕ) → followed m h o v k.event ≡ held_by v)
-    → ((t : ℕ) → fates (h ++ k ∷ []) t ≡ fates h t) → spawner h k.event ≡ None → IsSerialSoFar m h (fates h) → IsSerialSoFar m (h ++ k ∷ []) (fates (h ++ k ∷ []))
-step-idle {A} m h k strict formed no_operation no_commit idle same no_spawn so_far =
+    → ((t : ℕ) → fates (h ++ k ∷ []) t ≡ fates h t) → spawner h k.event ≡ None → ((u t object : ℕ) → permits u t object k.event ≡ false) → IsSerialSoFar m h (fates h) → IsSerialSoFar m (h ++ k ∷ []) (fates (h ++ k ∷ []))
+step-idle {A} m h k strict formed no_operation no_commit idle same no_spawn no_permits so_far =
     subst (IsSerialSoFar m (h ++ k ∷ [])) (λ i t. sym (same t) i)
     (record {
       serial =
@@ -160,13 +167,14 @@ step-idle {A} m h k strict formed no_operation no_commit idle same no_spawn so_f
           (subst (AllByRecursion (λ o. held_by o.invoker ≡ stands_so (fates h) o)) (sym no_operation) tt) so_far.stand;
       classes = classes-push m h k strict formed so_far.classes;
       orphans = orphans-push h k no_spawn so_far.orphans;
+      unpermitted = unpermitted-push h k no_permits so_far.unpermitted;
     })
 
 -- an event that ends one in progress
 step-ended : {A : Type 0} (m : Parts A) (h : List (Kept A)) (k : Kept A) (t : ℕ) (end : Fate) → is_strict m ≡ true → ill_formed m k.event ≡ [] → fates h t ≡ InProgress → added h k ≡ []
-    → ((o v : ℕ) → followed m h o v k.event ≡ (if v == t then ended_by v end else held_by v)) → ((u : ℕ) → fates (h ++ k ∷ []) u ≡ ended_so (fates h) t end u) → spawner h k.event ≡ None
+    → ((o v : ℕ) → followed m h o v k.event ≡ (if v == t then ended_by v end else held_by v)) → ((u : ℕ) → fates (h ++ k ∷ []) u ≡ ended_so (fates h) t end u) → spawner h k.event ≡ None → ((u v object : ℕ) → permits u v object k.event ≡ false)
     → AreSerial m (operations h) (ended_so (fates h) t end) (commit_order (h ++ k ∷ [])) → IsSerialSoFar m h (fates h) → IsSerialSoFar m (h ++ k ∷ []) (fates (h ++ k ∷ []))
-step-ended {A} m h k t end strict formed on no_operation ends so no_spawn serial so_far =
+step-ended {A} m h k t end strict formed on no_operation ends so no_spawn no_permits serial so_far =
     subst (IsSerialSoFar m (h ++ k ∷ [])) (λ i u. sym (so u) i)
     (record {
       serial =
@@ -177,6 +185,7 @@ step-ended {A} m h k t end strict formed on no_operation ends so no_spawn serial
           (subst (AllByRecursion (λ o. held_by o.invoker ≡ stands_so (ended_so (fates h) t end) o)) (sym no_operation) tt) so_far.stand;
       classes = classes-push m h k strict formed so_far.classes;
       orphans = orphans-push h k no_spawn so_far.orphans;
+      unpermitted = unpermitted-push h k no_permits so_far.unpermitted;
     })
 
 -- one in progress has no fate yet
@@ -219,9 +228,9 @@ no_heir m h t none = of (has_class (λ k. has_heir k.at_commit) m h t)
     of false = refl
 
 -- an operation that conflicts with nothing stands against none in progress of others
-unopposed : {A : Type 0} (m : Parts A) (h : List (Kept A)) (t : ℕ) (o : Operation) (f : ℕ → Fate) → o.invoker ≡ t → has_class is_strict_class m h t ≡ true → AllByRecursion (λ x. standing m h x ≡ stands_so f x) (operations h) → conflicting m h t o.object o.op ≡ []
+unopposed : {A : Type 0} (m : Parts A) (h : List (Kept A)) (t : ℕ) (o : Operation) (f : ℕ → Fate) → o.invoker ≡ t → has_class is_strict_class m h t ≡ true → ((u v object : ℕ) → has_permitted h u v object ≡ false) → AllByRecursion (λ x. standing m h x ≡ stands_so f x) (operations h) → conflicting m h t o.object o.op ≡ []
     → list_all (λ x. (x.invoker == o.invoker) || is_free m x o) (filter (λ x. is_open (f x.invoker)) (operations h)) ≡ true
-unopposed {A} m h t o f of_t strict stand none =
+unopposed {A} m h t o f of_t strict unpermitted stand none =
     (λ i. list_all (λ x. (x.invoker == of_t i) || not ((x.object == o.object) && sym (do_conflict-on m o.object x.op o.op) i)) waiting)
     ∙ none-against (λ x. x.invoker == t) (λ x. (x.object == o.object) && do_conflict m o.object x.op o.op) waiting
     (ap (filter (λ x. (x.object == o.object) && do_conflict m o.object x.op o.op)) (sym others) ∙ none)
@@ -229,8 +238,11 @@ unopposed {A} m h t o f of_t strict stand none =
     waiting : List Operation
     waiting = filter (λ x. is_open (f x.invoker)) (operations h)
 
-    unspared : (u : ℕ) → is_spared m h t u ≡ false
-    unspared u = ap (λ b. b && list_any (λ a. a.0 == u) (ancestors h t)) (of-strict (λ (k : Class A). spares k.scope) false (λ k s. s.scope) (class_of m h t) strict)
+    no_permit : (u object : ℕ) → is_permitted h u t object ≡ false
+    no_permit u object = unpermitted-counts h u t object (unpermitted u t object)
+
+    unspared : (u object : ℕ) → is_spared m h t object u ≡ false
+    unspared u object = λ i. (of-strict (λ (k : Class A). spares k.scope) false (λ k s. s.scope) (class_of m h t) strict i && list_any (λ a. a.0 == u) (ancestors h t)) || no_permit u object i
 
     and-true : (b : Bool) → (b && not false) ≡ b
     and-true true = refl
@@ -238,8 +250,8 @@ unopposed {A} m h t o f of_t strict stand none =
 
     others : conflict_set m h t ≡ filter (λ x. not (x.invoker == t)) waiting
     others =
-        filter-within (λ x. standing m h x ≡ stands_so f x) (λ x. is_of_others m h t (standing m h x)) (λ x. is_open (f x.invoker) && not (x.invoker == t))
-        (λ x so. ap (is_of_others m h t) so ∙ ap (λ b. is_open (f x.invoker) && not (x.invoker == t) && not b) (unspared x.invoker) ∙ and-true (is_open (f x.invoker) && not (x.invoker == t)))
+        filter-within (λ x. standing m h x ≡ stands_so f x) (λ x. is_of_others m h t x.object (standing m h x)) (λ x. is_open (f x.invoker) && not (x.invoker == t))
+        (λ x so. ap (is_of_others m h t x.object) so ∙ ap (λ b. is_open (f x.invoker) && not (x.invoker == t) && not b) (unspared x.invoker x.object) ∙ and-true (is_open (f x.invoker) && not (x.invoker == t)))
         (operations h) stand
         ∙ filter-both (λ x. is_open (f x.invoker)) (λ x. not (x.invoker == t)) (operations h)
 
@@ -253,12 +265,13 @@ step-operate {A} m h ret t ob op strict fine so_far =
           (subst (AreSerial m (operations h ++ o ∷ []) (fates h)) (sym (order-push h k ∙ append-nil (commit_order h)))
           (serial-operate values_after returned_from (λ x. x.ret) (AreValues m) (values-step m) (λ x. x.invoker) (is_free m) (commute-values m) (first_values m) (operations h) (fates h) (commit_order h) o on
           (ap (λ os. returned_from (fold values_after (first_values m) os) o) (sym seen) ∙ due-replayed m h o ∙ returns-due m h ret t ob op fine.form_of_event fine.return)
-          (unopposed m h t.0 o (fates h) refl class so_far.stand (conflicts-none m h t ob op class fine.conflict))
+          (unopposed m h t.0 o (fates h) refl class so_far.unpermitted so_far.stand (conflicts-none m h t ob op class fine.conflict))
           so_far.serial));
       stand =
           stand-push m h k (fates h) (fates h) (λ x. stays_idle (fates h x.invoker) x.invoker (held_by x.invoker) refl) ((λ i. record { holder = t.0; fate = sym on i }), tt) so_far.stand;
       classes = classes-push m h k strict fine.form_of_event so_far.classes;
       orphans = orphans-push h k refl so_far.orphans;
+      unpermitted = unpermitted-push h k (λ u v object. refl) so_far.unpermitted;
     })
   where
     k : Kept A
@@ -283,15 +296,16 @@ step : {A : Type 0} (m : Parts A) (h : List (Kept A)) (e : Event A) (ret : Optio
     → IsSerialSoFar m h (fates h) → IsSerialSoFar m (h ++ (record { event = e; ret = ret }) ∷ []) (fates (h ++ (record { event = e; ret = ret }) ∷ []))
 step {A} m h (Begin t class) ret strict fine so_far =
     let k : Kept A = record { event = Begin t class; ret = ret } in
-    step-idle m h k strict fine.form_of_event refl refl (λ o v. refl) (λ u. ap fate_of (status_at-push h k u) ∙ fate_begun (t.0 == u) (status_at h u)) refl so_far
+    step-idle m h k strict fine.form_of_event refl refl (λ o v. refl) (λ u. ap fate_of (status_at-push h k u) ∙ fate_begun (t.0 == u) (status_at h u)) refl (λ u v object. refl) so_far
 step m h (Spawn t c class) ret strict fine so_far = absurd (no-spawn m h t c class strict fine.form_of_event fine.allowed)
 step m h (Split t u class ops) ret strict fine so_far = absurd (no-split m h t u class ops strict fine.form_of_event fine.allowed)
 step m h (Join t u) ret strict fine so_far = absurd (no-join m h t u (so_far.classes t.0 (ends-begun h t.0 fine.ended_after_begun)) fine.allowed)
-step m h (Delegate t u ops) ret strict fine so_far = absurd (no-delegation m h t u ops (so_far.classes t.0 (delegates-begun h t u ops fine.parties_in_progress)) fine.allowed)
+step m h (Delegate t u ops) ret strict fine so_far = absurd (no-delegation m h t u ops (so_far.classes t.0 (parties-begun h t u fine.parties_in_progress)) fine.allowed)
 step {A} m h (Form kind j i) ret strict fine so_far =
     let k : Kept A = record { event = Form kind j i; ret = ret } in
-    step-idle m h k strict fine.form_of_event refl refl (λ o v. refl) (λ u. ap fate_of (status_at-push h k u)) refl so_far
+    step-idle m h k strict fine.form_of_event refl refl (λ o v. refl) (λ u. ap fate_of (status_at-push h k u)) refl (λ u v object. refl) so_far
 step m h (Operate t ob op) ret strict fine so_far = step-operate m h ret t ob op strict fine so_far
+step m h (Permit t u ob) ret strict fine so_far = absurd (no-permit m h t u ob (so_far.classes t.0 (parties-begun h t u fine.parties_in_progress)) fine.allowed)
 step {A} m h (Commit t) ret strict fine so_far =
     let k : Kept A = record { event = Commit t; ret = ret } in
     let on : fates h t.0 ≡ InProgress = fates-open h t.0 (λ i. ends-begun h t.0 fine.ended_after_begun i && not (ends-open h t.0 fine.ended_once i)) in
@@ -299,6 +313,7 @@ step {A} m h (Commit t) ret strict fine so_far =
     (λ o v. λ i. if eqb-turned t.0 v i then option_map_or (λ u. held_by u.0) (no_heir m h v (so_far.orphans v) i) (ended_by v Committed) else held_by v)
     (λ u. ap fate_of (status_at-push h k u) ∙ fate_committed (t.0 == u) (status_at h u) ∙ ap (λ b. if b then Committed else fates h u) (eqb-turned t.0 u))
     refl
+    (λ u v object. refl)
     (subst (AreSerial m (operations h) (ended_so (fates h) t.0 Committed)) (sym (order-push h k))
     (serial-commit values_after returned_from (λ x. x.ret) (AreValues m) (values-step m) (λ x. x.invoker) (is_free m) (commute-values m) (first_values m) (values-first m) (operations h) (fates h) (commit_order h) t.0 on so_far.serial))
     so_far
@@ -309,6 +324,7 @@ step {A} m h (Abort t) ret strict fine so_far =
     (λ o v. ap (λ b. if b then ended_by v Aborted else held_by v) (eqb-turned t.0 v))
     (λ u. ap fate_of (status_at-push h k u) ∙ fate_aborted (t.0 == u) (status_at h u) (λ is. ap (fates h) (sym (eqb-true t.0 u is)) ∙ on) ∙ ap (λ b. if b then Aborted else fates h u) (eqb-turned t.0 u))
     refl
+    (λ u v object. refl)
     (subst (AreSerial m (operations h) (ended_so (fates h) t.0 Aborted)) (sym (order-push h k ∙ append-nil (commit_order h)))
     (serial-abort values_after returned_from (λ x. x.ret) (AreValues m) (values-step m) (λ x. x.invoker) (is_free m) (commute-values m) (first_values m) (values-first m) (operations h) (fates h) (commit_order h) t.0 on so_far.serial))
     so_far
@@ -328,6 +344,7 @@ serial-nothing {A} m =
       stand = tt;
       classes = λ t begun. absurd (true≢false (sym begun));
       orphans = λ t. refl;
+      unpermitted = λ u t object. refl;
     }
 
 pub serial-history : {A : Type 0} (m : Parts A) (h : List (Kept A)) → is_strict m ≡ true → faults_in_places m h ≡ [] → IsSerialSoFar m h (fates h)

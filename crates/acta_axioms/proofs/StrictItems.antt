@@ -11,8 +11,8 @@ use Rattle.acta_table.specs.declared.limits.TheConstants.{LAST_TXN, TABLE_SIZE}
 use Rattle.acta_table.specs.Numbered.{smallest}
 use Rattle.acta_table.specs.declared.event.ClassId.{ClassId}
 use Rattle.acta_table.specs.declared.event.Event.{Event}
-use Rattle.acta_table.specs.declared.event.Event.TheVariants.{Spawn, Split, Join, Delegate, Operate, Commit}
-use Rattle.acta_table.specs.declared.event.EventKind.TheVariants.{Spawn as spawn_kind, Split as split_kind, Join as join_kind, Delegate as delegate_kind}
+use Rattle.acta_table.specs.declared.event.Event.TheVariants.{Spawn, Split, Join, Delegate, Operate, Commit, Permit}
+use Rattle.acta_table.specs.declared.event.EventKind.TheVariants.{Spawn as spawn_kind, Split as split_kind, Join as join_kind, Delegate as delegate_kind, Permit as permit_kind}
 use Rattle.acta_table.specs.declared.event.Kept.{Kept}
 use Rattle.acta_table.specs.declared.event.ObjId.{ObjId}
 use Rattle.acta_table.specs.declared.event.Op.{Op}
@@ -33,7 +33,7 @@ use Rattle.acta_objects.specs.WellFormed.{bad_operation}
 use Rattle.acta_axioms.specs.History.{has_begun, has_ended, is_in_progress, has_class, class_of}
 use Rattle.acta_axioms.specs.Operations.{Operation, number_after}
 use Rattle.acta_axioms.specs.Values.{is_well_formed, return_due, conflicting}
-use Rattle.acta_axioms.specs.Faults.{when, first_named, ill_formed, lacks_start, lacks_kind, cannot_form, not_allowed, idle_party, in_conflict, is_same_ret, is_due, wrong_return}
+use Rattle.acta_axioms.specs.Faults.{when, first_named, ill_formed, lacks_start, lacks_kind, cannot_form, not_allowed, in_conflict, is_same_ret, is_due, wrong_return}
 use Rattle.acta_axioms.proofs.Growth.{class_in}
 use Rattle.acta_axioms.specs.Serial.{is_strict_class, is_strict}
 
@@ -63,6 +63,7 @@ pub record StrictParts {A : Type 0} (k : Class A) : Type 0 where
   pub splits : can_do split_kind k ≡ false
   pub joins : can_do join_kind k ≡ false
   pub delegates : can_do delegate_kind k ≡ false
+  pub permits : can_do permit_kind k ≡ false
 
 pub strict-parts : {A : Type 0} (k : Class A) → is_strict_class k ≡ true → StrictParts k
 strict-parts k e =
@@ -72,7 +73,9 @@ strict-parts k e =
     let t5 = t4 && not (can_do spawn_kind k) in
     let t6 = t5 && not (can_do split_kind k) in
     let t7 = t6 && not (can_do join_kind k) in
-    let p8 = and_parts t7 (not (can_do delegate_kind k)) e in
+    let t8 = t7 && not (can_do delegate_kind k) in
+    let p9 = and_parts t8 (not (can_do permit_kind k)) e in
+    let p8 = and_parts t7 (not (can_do delegate_kind k)) p9.0 in
     let p7 = and_parts t6 (not (can_do join_kind k)) p8.0 in
     let p6 = and_parts t5 (not (can_do split_kind k)) p7.0 in
     let p5 = and_parts t4 (not (can_do spawn_kind k)) p6.0 in
@@ -88,6 +91,7 @@ strict-parts k e =
       splits = not-true _ p6.1;
       joins = not-true _ p7.1;
       delegates = not-true _ p8.1;
+      permits = not-true _ p9.1;
     }
 
 -- of a class that is there and strict, what holds of each strict class holds
@@ -171,6 +175,13 @@ no-delegation m h t u ops strict allowed =
     (sym (of-strict (λ k. not (can_do delegate_kind k)) true (λ k s. ap not s.delegates) (class_of m h t.0) strict)
     ∙ (lacks-nothing m h (Delegate t u ops) allowed).1)
 
+-- nor permit
+pub no-permit : {A : Type 0} (m : Parts A) (h : List (Kept A)) (t u : TxnId) (ob : ObjId) → has_class is_strict_class m h t.0 ≡ true → not_allowed m h (Permit t u ob) ≡ [] → ⊥
+no-permit m h t u ob strict allowed =
+    true≢false
+    (sym (of-strict (λ k. not (can_do permit_kind k)) true (λ k s. ap not s.permits) (class_of m h t.0) strict)
+    ∙ (lacks-nothing m h (Permit t u ob) allowed).1)
+
 -- one that ends has begun, and not ended
 pub ends-begun : {A : Type 0} (h : List (Kept A)) (t : ℕ) → filter (λ u. not (has_begun h u)) (t ∷ []) ≡ [] → has_begun h t ≡ true
 ends-begun h t none = not-false (has_begun h t) (first-none (λ u. not (has_begun h u)) t [] none)
@@ -178,9 +189,9 @@ ends-begun h t none = not-false (has_begun h t) (first-none (λ u. not (has_begu
 pub ends-open : {A : Type 0} (h : List (Kept A)) (t : ℕ) → filter (has_ended h) (t ∷ []) ≡ [] → has_ended h t ≡ false
 ends-open h t none = first-none (has_ended h) t [] none
 
--- one that delegates is in progress
-pub delegates-begun : {A : Type 0} (h : List (Kept A)) (t u : TxnId) (ops : List OpNo) → idle_party h (Delegate t u ops) ≡ [] → has_begun h t.0 ≡ true
-delegates-begun h t u ops none =
+-- one that delegates or permits is in progress
+pub parties-begun : {A : Type 0} (h : List (Kept A)) (t u : TxnId) → filter (λ v. not (is_in_progress h v)) (if t.0 == u.0 then t.0 ∷ [] else t.0 ∷ u.0 ∷ []) ≡ [] → has_begun h t.0 ≡ true
+parties-begun h t u none =
     (and_parts (has_begun h t.0) (not (has_ended h t.0)) (not-false (is_in_progress h t.0) (of (t.0 == u.0) none))).0
   where
     of : (b : Bool) → filter (λ v. not (is_in_progress h v)) (if b then t.0 ∷ [] else t.0 ∷ u.0 ∷ []) ≡ [] → not (is_in_progress h t.0) ≡ false

@@ -7,6 +7,7 @@ use Rattle.acta_table.specs.Fates.{is_open}
 use Rattle.acta_table.specs.Numbered.{first_number, ascending}
 use Rattle.acta_sets.specs.declared.held_op.HeldOp.{HeldOp}
 use Rattle.acta_sets.specs.Operations.{is_against, ops_conflict}
+use Rattle.acta_axioms.specs.inside.Against.{is_against_but}
 
 fewer-by : (a s o c : Bool) → (a && not false && o && c) ≡ false → (a && not s && o && c) ≡ false
 fewer-by true true o c none = refl
@@ -19,12 +20,15 @@ any-fewer p q fewer (i ∷ items) none =
     let parts = or_parts (p i) (list_any p items) none in
     λ x. fewer i parts.0 x || any-fewer p q fewer items parts.1 x
 
--- who spares nobody has all against it that another has who spares some
-pub unspared : (w : Bool) (t : ℕ) (spares : List ℕ) (ob : ℕ) (op : Op) (items : List HeldOp) → (w && list_any (is_against t [] ob op) items) ≡ false → (w && list_any (is_against t spares ob op) items) ≡ false
-unspared true t spares ob op items none =
-    any-fewer (is_against t [] ob op) (is_against t spares ob op)
-    (λ i. fewer-by (is_open i.fate && not (i.holder.0 == t)) (list_any (λ k. k == i.holder.0) spares) (i.ob.0 == ob) (ops_conflict i.op op)) items none
-unspared false t spares ob op items none = refl
+any-fewer-but : (t : ℕ) (spared : ℕ → Bool) (ob : ℕ) (op : Op) (items : List HeldOp) → list_any (is_against t [] ob op) items ≡ false → list_any (is_against_but t spared ob op) items ≡ false
+any-fewer-but t spared ob op =
+    any-fewer (is_against t [] ob op) (is_against_but t spared ob op)
+    (λ i. fewer-by (is_open i.fate && not (i.holder.0 == t)) (spared i.holder.0) (i.ob.0 == ob) (ops_conflict i.op op))
+
+-- who is spared nobody's operations has all against it that another has who is spared some
+pub unspared : (w : Bool) (t : ℕ) (spared : ℕ → Bool) (ob : ℕ) (op : Op) (items : List HeldOp) → (w && list_any (is_against t [] ob op) items) ≡ false → (w && list_any (is_against_but t spared ob op) items) ≡ false
+unspared true t spared ob op items none = any-fewer-but t spared ob op items none
+unspared false t spared ob op items none = refl
 
 no-first : (p : HeldOp → Bool) (n : ℕ) (items : List HeldOp) → list_any p items ≡ false → None ≡ position_from p n items
 no-first p n [] none = refl

@@ -1,5 +1,5 @@
 -- What a walk keeps, one item further.
-use Rattle.std.proofs.Common.{subst, ◌≡◌, ℕ, zero, suc, ◌+◌, ◌<◌, List, [], ◌∷◌, ◌++◌, length, take, drop, get_or, Option, Some, refl, sym, ap, ◌∙◌, arith}
+use Rattle.std.proofs.Common.{subst, ◌≡◌, ℕ, zero, suc, ◌+◌, ◌<◌, List, [], ◌∷◌, ◌++◌, length, take, drop, get_or, Option, Some, is_some, refl, sym, ap, ◌∙◌, arith}
 use Rattle.std.specs.Prelude.{slice_get, option_to_list}
 use Rattle.std.specs.List.{All}
 use Rattle.std.proofs.lemmas.List.{take_more, length-drop}
@@ -15,8 +15,11 @@ use Rattle.acta_axioms.specs.declared.lineage.Lineage.{Lineage}
 use Rattle.acta_axioms.specs.Edges.{formed_by, edges}
 use Rattle.acta_axioms.specs.Walks.{Walked, stepped, with_next, held_ops}
 use Rattle.acta_axioms.specs.inside.Holding.{brought_from, op_done}
-use Rattle.acta_axioms.specs.inside.Lineages.{unbegun, begun_in, further, heir_in}
-use Rattle.acta_axioms.specs.inside.Walking.{IsKept}
+use Rattle.acta_axioms.specs.inside.Lineages.{unbegun, begun_in, ended_in, is_late, further, heir_in}
+use Rattle.acta_axioms.specs.inside.Walking.{permits_behind, is_left, IsKept}
+use Rattle.acta_axioms.proofs.Permitting.{left-push}
+use Rattle.acta_sets.specs.Permits.{Permitted}
+use Rattle.acta_axioms.specs.History.{end}
 use Rattle.acta_axioms.proofs.Bringing.{held_ops-push}
 use Rattle.acta_axioms.proofs.EdgeGrowth.{edges-push}
 use Rattle.acta_axioms.proofs.Lineages.{lines-more, heir-tabled}
@@ -52,10 +55,10 @@ shown-more {A} m h n k w next is =
     ∙ ap stepped is
 
 -- what is kept
-pub kept-more : {A : Type 0} (m : Parts A) (h : List (Kept A)) (n : ℕ) (k : Kept A) (lines new_lines : List Lineage) (store new_store : Stored) (es new_es : List Edge) (left : Option TxnId) → IsNext h n k →
-    IsKept m h n lines store es → new_es ≡ formed es (formed_by m (take n h) k.event) → left ≡ heir_in m lines k.event → new_store ≡ record store { items = brought_from left k.event 1 store.items ++ option_to_list (op_done k.event) } →
-    length new_lines ≡ length lines → ((t : ℕ) → get_or new_lines t unbegun ≡ further (n + 1) (begun_in lines) k.event t (get_or lines t unbegun)) → IsKept m h (n + 1) new_lines new_store new_es
-kept-more m h n k lines new_lines store new_store es new_es left next kept formed_are left_is brought_are long noted =
+pub kept-more : {A : Type 0} (m : Parts A) (h : List (Kept A)) (n : ℕ) (k : Kept A) (lines new_lines : List Lineage) (store new_store : Stored) (es new_es : List Edge) (ps new_ps : Permitted) (left : Option TxnId) → IsNext h n k →
+    IsKept m h n lines store es ps → new_es ≡ formed es (formed_by m (take n h) k.event) → left ≡ heir_in m lines k.event → new_store ≡ record store { items = brought_from left k.event 1 store.items ++ option_to_list (op_done k.event) } → new_ps ≡ permits_behind (is_late (ended_in lines) k.event) k.event ps →
+    length new_lines ≡ length lines → ((t : ℕ) → get_or new_lines t unbegun ≡ further (n + 1) (begun_in lines) k.event t (get_or lines t unbegun)) → IsKept m h (n + 1) new_lines new_store new_es new_ps
+kept-more m h n k lines new_lines store new_store es new_es ps new_ps left next kept formed_are left_is brought_are permitted_are long noted =
     let within : n < length h = next.within in
     let front = front-more h n k next in
     record {
@@ -69,6 +72,10 @@ kept-more m h n k lines new_lines store new_store es new_es left next kept forme
           ∙ (λ i. brought_from ((left_is ∙ heir-tabled m (take n h) lines k.event kept.lines_are) i) k.event 1 (kept.items_are i) ++ option_to_list (op_done k.event))
           ∙ held_ops-push m (take n h) k
           ∙ ap (held_ops m) front;
+      permits_are = λ s t object.
+          ap (λ (p : Permitted). p s t object) (permitted_are ∙ (λ i. permits_behind (is_late (λ u. is_some (end (kept.lines_are u i).course)) k.event) k.event (λ u v o. kept.permits_are u v o i)))
+          ∙ sym (left-push (take n h) k s t object)
+          ∙ ap (λ g. is_left g s t object) front;
       edges_are = formed_are ∙ ap (λ fs. formed fs (formed_by m (take n h) k.event)) kept.edges_are ∙ sym (edges-push m (take n h) k) ∙ ap (edges m) front;
     }
 

@@ -9,7 +9,7 @@ use Rattle.acta_table.specs.declared.event.Ret.TheVariants.{Done, Value, Flag}
 use Rattle.acta_table.specs.declared.event.EventKind.{EventKind}
 use Rattle.acta_table.specs.declared.event.EventKind.TheVariants.{Form as form_kind}
 use Rattle.acta_table.specs.declared.event.Event.{Event}
-use Rattle.acta_table.specs.declared.event.Event.TheVariants.{Spawn, Split, Join, Delegate, Form, Operate, Commit, Abort}
+use Rattle.acta_table.specs.declared.event.Event.TheVariants.{Spawn, Split, Join, Delegate, Form, Operate, Commit, Abort, Permit}
 use Rattle.acta_table.specs.declared.event.Kept.{Kept}
 use Rattle.acta_table.specs.declared.model.Parts.{Parts}
 use Rattle.acta_table.specs.Events.{kind_of, named, acting, started, class_named, operations_named, hands_over}
@@ -95,10 +95,11 @@ party (Spawn t c class) = t.0 ∷ []
 party (Split t u class ops) = t.0 ∷ []
 party (Join t u) = u.0 ∷ []
 party (Delegate t u ops) = if t.0 == u.0 then t.0 ∷ [] else t.0 ∷ u.0 ∷ []
+party (Permit t u ob) = if t.0 == u.0 then t.0 ∷ [] else t.0 ∷ u.0 ∷ []
 party _ = []
 
--- parties in progress: one that spawns, splits or delegates, or is joined or handed something, is not in
--- progress
+-- parties in progress: one that spawns, splits, delegates or permits, or is joined, handed or permitted something, is
+-- not in progress
 abbrev pub idle_party : {A : Type 0} → List (Kept A) → Event A → List ℕ
 idle_party before e = filter (λ t. not (is_in_progress before t)) (party e)
 

@@ -1,4 +1,5 @@
 pub mod History
+pub mod Permits
 pub mod Operations
 pub mod Values
 pub mod Edges

@@ -1,5 +1,5 @@
 -- The operations of a history: who holds each, what became of it, and the sets of them.
-use Rattle.std.specs.Prelude.{ℕ, ◌+◌, Bool, true, false, ◌&&◌, not, ◌==◌, List, drop, take, filter, filter_map, fold, find, count_by, if◌then◌else◌, Option, Some, None, option_map}
+use Rattle.std.specs.Prelude.{ℕ, ◌+◌, Bool, true, false, ◌&&◌, ◌||◌, not, ◌==◌, List, drop, take, filter, filter_map, fold, find, count_by, if◌then◌else◌, Option, Some, None, option_map}
 use Rattle.std.specs.List.{list_any}
 use Rattle.std.specs.Option.{option_map_or}
 use Rattle.acta_table.specs.declared.event.Op.{Op}
@@ -15,6 +15,7 @@ use Rattle.acta_table.specs.Classes.{spares, has_heir}
 use Rattle.acta_table.specs.Sets.{is_named}
 use Rattle.acta_table.specs.Fates.{is_open, is_aborted}
 use Rattle.acta_axioms.specs.History.{Place, number, places, has_class, parent_of, ancestors}
+use Rattle.acta_axioms.specs.Permits.{is_permitted}
 
 -- an operation of a history: its number, its place, and what was asked and returned there
 pub record Operation : Type 0 where
@@ -112,18 +113,20 @@ is_held_by t s = (s.holder == t) && is_open s.fate
 abbrev pub access_set : {A : Type 0} → Parts A → List (Kept A) → ℕ → List Operation
 access_set m h t = filter (λ o. is_held_by t (standing m h o)) (operations h)
 
--- whether u is an ancestor of t, and t's class leaves out of its conflict set what ancestors hold
-abbrev pub is_spared : {A : Type 0} → Parts A → List (Kept A) → ℕ → ℕ → Bool
-is_spared m h t u = has_class (λ k. spares k.scope) m h t && list_any (λ a. a.0 == u) (ancestors h t)
+-- whether t is spared what u holds on the object: u is an ancestor of t, and t's class leaves out of its conflict set
+-- what ancestors hold, or u has permitted t to work on the object
+abbrev pub is_spared : {A : Type 0} → Parts A → List (Kept A) → ℕ → ℕ → ℕ → Bool
+is_spared m h t object u =
+    (has_class (λ k. spares k.scope) m h t && list_any (λ a. a.0 == u) (ancestors h t)) || is_permitted h u t object
 
--- whether an operation that stands so is in progress and held by another than t, who is not spared
-abbrev pub is_of_others : {A : Type 0} → Parts A → List (Kept A) → ℕ → Standing → Bool
-is_of_others m h t s = is_open s.fate && not (s.holder == t) && not (is_spared m h t s.holder)
+-- whether an operation on the object that stands so is in progress and held by another than t, who does not spare t
+abbrev pub is_of_others : {A : Type 0} → Parts A → List (Kept A) → ℕ → ℕ → Standing → Bool
+is_of_others m h t object s = is_open s.fate && not (s.holder == t) && not (is_spared m h t object s.holder)
 
--- the conflict set of t: the operations in progress that others hold, where its class can leave out its
--- ancestors
+-- the conflict set of t: the operations in progress that others hold, where its class can leave out its ancestors, and
+-- those who permit it leave out what they hold on the object
 abbrev pub conflict_set : {A : Type 0} → Parts A → List (Kept A) → ℕ → List Operation
-conflict_set m h t = filter (λ o. is_of_others m h t (standing m h o)) (operations h)
+conflict_set m h t = filter (λ o. is_of_others m h t o.object (standing m h o)) (operations h)
 
 -- whether an operation that stands so is seen
 abbrev pub is_in_view : Standing → Bool

@@ -1,7 +1,7 @@
 -- Strict models, the serial order of a history, and what operations return where they are replayed in an order.
 use Rattle.std.specs.Prelude.{ℕ, Bool, ◌&&◌, not, ◌==◌, List, filter, filter_map, flat_map, scan, if◌then◌else◌, Option, Some, None, option_map}
 use Rattle.std.specs.List.{list_all}
-use Rattle.acta_table.specs.declared.event.EventKind.TheVariants.{Spawn as spawn_kind, Split as split_kind, Join as join_kind, Delegate as delegate_kind}
+use Rattle.acta_table.specs.declared.event.EventKind.TheVariants.{Spawn as spawn_kind, Split as split_kind, Join as join_kind, Delegate as delegate_kind, Permit as permit_kind}
 use Rattle.acta_table.specs.declared.event.Event.{Event}
 use Rattle.acta_table.specs.declared.event.Event.TheVariants.{Commit}
 use Rattle.acta_table.specs.declared.event.Kept.{Kept}
@@ -16,11 +16,12 @@ use Rattle.acta_objects.specs.Objects.{first_state, step, returned}
 use Rattle.acta_axioms.specs.Operations.{Operation, Standing, operations, standing}
 
 -- whether a class is strict: it starts by begin at most, conflicts with all others, refuses where it conflicts, and may
--- not spawn, split, join or delegate
+-- not spawn, split, join, delegate or permit
 abbrev pub is_strict_class : {A : Type 0} → Class A → Bool
 is_strict_class k =
     not k.starts.spawned && not k.starts.split && not (spares k.scope) && refuses k.policy
     && not (can_do spawn_kind k) && not (can_do split_kind k) && not (can_do join_kind k) && not (can_do delegate_kind k)
+    && not (can_do permit_kind k)
 
 -- whether a model is strict: whether each of its classes is
 abbrev pub is_strict : {A : Type 0} → Parts A → Bool

@@ -1,12 +1,12 @@
 //! What stands against an operation on an object of a model, and which edges an event forms: one search for whoever walks
 //! through a history and for whoever admits events.
 
-ghost use Rattle.std.specs.Prelude.{◌≡◌, ℕ, List, false, ◌&&◌, [], None, IfOk, if◌then◌else◌};
+ghost use Rattle.std.specs.Prelude.{◌≡◌, ℕ, Bool, false, ◌&&◌, ◌||◌, ◌==◌, [], None, IfOk, if◌then◌else◌};
 ghost use Rattle.std.specs.List.{list_any};
 ghost use Rattle.acta_table.specs.Numbered.{first_number};
 ghost use Rattle.acta_sets.specs.Operations.{is_against, holders_against};
 ghost use Rattle.acta_axioms.specs.Values.{is_well_formed};
-ghost use Rattle.acta_axioms.specs.inside.Against.{edges_wanted};
+ghost use Rattle.acta_axioms.specs.inside.Against.{edges_wanted, is_against_but};
 
 use acta_objects::is_of_kind;
 use acta_sets::{Handle, OpTable};
@@ -49,7 +49,7 @@ pub fn is_opposed<A: Handle>(
     object: ObjId,
     op: &Op,
 ) -> bool
-    ensures { (spares : List ℕ) → result ≡ false → (is_well_formed model.now object.0 op.now && list_any (is_against t.0 spares object.0 op.now) operations.now) ≡ false }
+    ensures { (spared : ℕ → Bool) → result ≡ false → (is_well_formed model.now object.0 op.now && list_any (is_against_but t.0 spared object.0 op.now) operations.now) ≡ false }
 {
     has_against(model, operations, t, &BTreeSet::new(alloc), object, op)
 }
@@ -89,6 +89,20 @@ pub fn holders_against<A: Handle>(
     } else {
         Ok(BTreeSet::new(alloc))
     }
+}
+
+/// The set, with these transactions too. `Err` where there is no memory.
+pub fn with_txns<A: Allocator + Copy>(
+    numbers: BTreeSet<u16, A>,
+    txns: &[TxnId],
+) -> Result<BTreeSet<u16, A>, AllocError>
+    ensures { IfOk result (λ all. (u : ℕ) → list_any (λ k. k == u) all.keys ≡ (list_any (λ k. k == u) numbers.keys || list_any (λ t. t.0 == u) txns.now)) }
+{
+    let mut all = numbers;
+    for t in txns {
+        all.insert(t.0)?;
+    }
+    Ok(all)
 }
 
 /// The edges that an event wants that is no operation, in order: those that the class named wants of a spawn or a split,

@@ -21,7 +21,9 @@ mod trail;
 mod walk;
 
 pub use acta_sets::Handle;
-pub use against::{edges_wanted, first_against, holders_against, is_opposed, is_well_formed};
+pub use against::{
+    edges_wanted, first_against, holders_against, is_opposed, is_well_formed, with_txns,
+};
 pub use course::Course;
 pub use fault::{Axiom, Fault};
 pub use places::Places;

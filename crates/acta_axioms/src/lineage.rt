@@ -3,7 +3,7 @@ ghost use Rattle.std.specs.List.{All};
 ghost use Rattle.std.specs.Option.{option_map_or};
 ghost use Rattle.acta_table.specs.Classes.{class_at, has_heir};
 ghost use Rattle.acta_table.specs.Events.{named};
-ghost use Rattle.acta_axioms.specs.inside.Lineages.{unbegun, begun_in, or_at, started, further, heir_of_line, heir_in, before_place, heir_before};
+ghost use Rattle.acta_axioms.specs.inside.Lineages.{unbegun, begun_in, or_at, started, further, ended_in, is_late, heir_of_line, heir_in, before_place, heir_before};
 
 use crate::course::Course;
 use acta_table::{AtCommit, ClassId, Event, Kept, Model, TxnId};
@@ -43,6 +43,7 @@ fn largest_in<A: Allocator>(event: &Event<A>) -> u16
         Event::Operate(t, _, _) => t.0,
         Event::Commit(t) => t.0,
         Event::Abort(t) => t.0,
+        Event::Permit(t, u, _) => t.0.max(u.0),
     }
 }
 
@@ -142,7 +143,27 @@ pub fn note<A: Allocator>(lines: &mut [Lineage], place: u32, event: &Event<A>)
             let first = lines[t.0 as usize].course.abort;
             lines[t.0 as usize].course.abort = or_at(place, first);
         }
-        Event::Delegate(_, _, _) | Event::Form(_, _, _) | Event::Operate(_, _, _) => {}
+        Event::Delegate(_, _, _)
+        | Event::Form(_, _, _)
+        | Event::Operate(_, _, _)
+        | Event::Permit(_, _, _) => {}
+    }
+}
+
+// Whether the transaction has ended, by the table.
+fn has_ended(lines: &[Lineage], t: TxnId) -> bool
+    ensures { result ≡ ended_in lines.now t.0 }
+{
+    lineage_of(lines, t).course.has_ended()
+}
+
+/// Whether by the event one that has ended permits something, or is permitted something: such a permit never counts.
+pub fn is_late<A: Allocator>(lines: &[Lineage], event: &Event<A>) -> bool
+    ensures { result ≡ is_late (ended_in lines.now) event.now }
+{
+    match event {
+        Event::Permit(t, u, _) => has_ended(lines, *t) || has_ended(lines, *u),
+        _ => false,
     }
 }
 

@@ -1,15 +1,17 @@
-ghost use Rattle.std.specs.Prelude.{◌≡◌, false, map, IfOk};
+ghost use Rattle.std.specs.Prelude.{◌≡◌, ◌==◌, ℕ, false, map, IfOk};
 ghost use Rattle.std.specs.List.{list_any};
 ghost use Rattle.acta_table.specs.Numbered.{ascending};
 ghost use Rattle.acta_table.specs.Classes.{spares};
 ghost use Rattle.acta_objects.specs.Conflicts.{conflict_on};
-ghost use Rattle.acta_axioms.specs.History.{has_class, ancestors};
+ghost use Rattle.acta_axioms.specs.History.{has_begun, has_class, ancestors};
 ghost use Rattle.acta_axioms.specs.Edges.{holders_against};
 ghost use Rattle.acta_axioms.specs.Walks.{held_ops};
 ghost use Rattle.acta_axioms.specs.Operations.{is_spared, is_of_others};
-ghost use Rattle.acta_axioms.specs.inside.Walking.{standing_in, spared_numbers, is_against, is_sought, numbers_of};
+ghost use Rattle.acta_axioms.specs.Permits.{is_permitted};
+ghost use Rattle.acta_axioms.specs.inside.Walking.{standing_in, spared_numbers, AreSpared, is_against, is_sought, numbers_of};
 
 use crate::against;
+use crate::against::with_txns;
 use crate::walk::Walk;
 use acta_objects::ObjectState;
 use acta_sets::{Handle, HeldOp};
@@ -60,7 +62,7 @@ impl<'a, A: Handle> Walk<'a, A> {
 
     // The ancestors of the transaction that its class leaves out of its conflict set. `Err` where there is no
     // memory.
-    pub(crate) fn spared_numbers(&self, t: TxnId) -> Result<BTreeSet<u16, A>, AllocError>
+    fn spared_numbers(&self, t: TxnId) -> Result<BTreeSet<u16, A>, AllocError>
         ensures { IfOk result (λ numbers. numbers.keys ≡ spared_numbers self.now.model self.now.front t.0) }
     {
         if self.spares_ancestors(t) {
@@ -70,22 +72,66 @@ impl<'a, A: Handle> Walk<'a, A> {
         }
     }
 
-    // Whether u is among those whom t spares.
-    fn is_spared(&self, t: TxnId, spared: &BTreeSet<u16, A>, u: TxnId) -> bool
-        requires { spared.now.keys ≡ spared_numbers self.now.model self.now.front t.0 }
-        ensures { result ≡ is_spared self.now.model self.now.front t.0 u.0 }
+    // Whether the transaction has started.
+    fn has_begun(&self, t: TxnId) -> bool
+        ensures { result ≡ has_begun self.now.front t.0 }
     {
-        spared.contains(&u.0)
+        self.course(t).has_begun()
     }
 
-    // Whether the operation is in the transaction's conflict set, which spares these.
+    // Whether s has permitted t to work on the object, and both are in progress.
+    #[tactic(auto, unfolding(crate::specs::Permits::is_permitted))]
+    fn is_permitted(&self, s: TxnId, t: TxnId, object: ObjId) -> bool
+        ensures { result ≡ is_permitted self.now.front s.0 t.0 object.0 }
+    {
+        if !self.has_begun(s) {
+            return false;
+        }
+        if !self.has_begun(t) {
+            return false;
+        }
+        self.permits.has(s, t, object)
+    }
+
+    // Those who permit the transaction to work on the object. `Err` where there is no memory.
+    fn permitters(&self, t: TxnId, object: ObjId) -> Result<Vec<TxnId, A>, AllocError>
+        ensures { IfOk result (λ found. (u : ℕ) → list_any (λ s. s.0 == u) found.items ≡ is_permitted self.now.front u t.0 object.0) }
+    {
+        let mut found = Vec::new(self.allocator());
+        let left = self.permits.permitters(t, object)?;
+        for s in &left {
+            if self.is_permitted(*s, t, object) {
+                found.push(*s)?;
+            }
+        }
+        Ok(found)
+    }
+
+    /// Those whose operations on the object the transaction is spared: ancestors that its class leaves out of its
+    /// conflict set, and those who permit it to work there. `Err` where there is no memory.
+    pub(crate) fn spared_on(&self, t: TxnId, object: ObjId) -> Result<BTreeSet<u16, A>, AllocError>
+        ensures { IfOk result (λ numbers. AreSpared self.now.model self.now.front t.0 object.0 numbers.keys) }
+    {
+        let permitters = self.permitters(t, object)?;
+        with_txns(self.spared_numbers(t)?, &permitters)
+    }
+
+    // Whether t, who spares these ancestors, is spared what u holds on the object.
+    fn is_spared(&self, t: TxnId, spared: &BTreeSet<u16, A>, object: ObjId, u: TxnId) -> bool
+        requires { spared.now.keys ≡ spared_numbers self.now.model self.now.front t.0 }
+        ensures { result ≡ is_spared self.now.model self.now.front t.0 object.0 u.0 }
+    {
+        spared.contains(&u.0) || self.is_permitted(u, t, object)
+    }
+
+    // Whether the operation is in the conflict set of the transaction, which spares these ancestors.
     fn is_of_others(&self, t: TxnId, spared: &BTreeSet<u16, A>, item: &HeldOp) -> bool
         requires { spared.now.keys ≡ spared_numbers self.now.model self.now.front t.0 }
-        ensures { result ≡ is_of_others self.now.model self.now.front t.0 (standing_in item.now) }
+        ensures { result ≡ is_of_others self.now.model self.now.front t.0 item.now.ob.0 (standing_in item.now) }
     {
         matches!(item.fate, Fate::InProgress)
             && item.holder.0 != t.0
-            && !self.is_spared(t, spared, item.holder)
+            && !self.is_spared(t, spared, item.ob, item.holder)
     }
 
     // Whether two operations on the object conflict.
@@ -133,7 +179,7 @@ impl<'a, A: Handle> Walk<'a, A> {
         object: ObjId,
         op: &Op,
     ) -> bool
-        requires { spared.now.keys ≡ spared_numbers self.now.model self.now.front t.0 }
+        requires { AreSpared self.now.model self.now.front t.0 object.0 spared.now.keys }
         ensures { result ≡ list_any (is_against self.now.model self.now.front t.0 object.0 op.now) (held_ops self.now.model self.now.front) }
     {
         against::has_against(self.model, self.table(), t, spared, object, op)
@@ -179,7 +225,7 @@ impl<'a, A: Handle> Walk<'a, A> {
         if !self.is_opposed(t, object, op) {
             return Ok(BTreeSet::new(self.allocator()));
         }
-        let spared = self.spared_numbers(t)?;
+        let spared = self.spared_on(t, object)?;
         against::holders_against(
             self.allocator(),
             self.model,

@@ -5,7 +5,7 @@ use acta_table::{Class, EventKind, Model, Scope};
 use std::alloc::Allocator;
 
 // Whether the class starts by begin at most, conflicts with all others, refuses where it conflicts, and may not spawn,
-// split, join or delegate.
+// split, join, delegate or permit.
 fn is_strict_class<A: Allocator>(class: &Class<A>) -> bool
     ensures { result ≡ is_strict_class class.now }
 {
@@ -17,10 +17,11 @@ fn is_strict_class<A: Allocator>(class: &Class<A>) -> bool
         && !class.may.has(EventKind::Split)
         && !class.may.has(EventKind::Join)
         && !class.may.has(EventKind::Delegate)
+        && !class.may.has(EventKind::Permit)
 }
 
 /// Whether the model is strict (ours): each class starts by begin at most, conflicts with all others, refuses where it
-/// conflicts, and may not spawn, split, join or delegate.
+/// conflicts, and may not spawn, split, join, delegate or permit.
 pub fn is_strict<A: Allocator>(model: &Model<A>) -> bool
     ensures { result ≡ is_strict model.now }
 {

@@ -1,9 +1,11 @@
 ghost use Rattle.std.specs.Prelude.{◌≡◌, ◌<◌, ◌++◌, length, option_to_list, OnOk, OnErr};
+ghost use Rattle.acta_sets.specs.Permits.{permitted};
+ghost use Rattle.acta_axioms.specs.inside.Walking.{permits_left, permits_behind};
 ghost use Rattle.acta_table.specs.Edges.{formed};
 ghost use Rattle.acta_axioms.specs.inside.Holding.{brought_from, op_done};
 
 use crate::forming::{Formed, form_all};
-use acta_sets::Handle;
+use acta_sets::{Handle, Permits};
 use acta_table::{Edge, Event, Fate, MOST_EVENTS, TxnId};
 use acta_values::Store;
 use std::alloc::AllocError;
@@ -39,24 +41,70 @@ fn follow<A: Handle>(
     }
 }
 
-/// Brings the operations one event further, as `follow`, and puts the edges that are due behind the others, each once.
-/// `Err` where there is no memory, and then both stay as they were.
+// Drops the permits that name the one that the event ends.
+fn drop_ended<A: Handle>(event: &Event<A>, permits: &mut Permits<A>)
+    ensures { permitted permits.new ≡ permits_left event.now (permitted permits.old) }
+{
+    match event {
+        Event::Join(t, _) | Event::Commit(t) | Event::Abort(t) => permits.ended(*t),
+        _ => {}
+    }
+}
+
+// Brings operations and permits one event further. `Err` where there is no memory, and then both stay as they were.
+fn follow_all<A: Handle>(
+    before: Before,
+    event: &Event<A>,
+    store: &mut Store<A>,
+    permits: &mut Permits<A>,
+) -> Result<(), AllocError>
+    requires { length store.old.items < MOST_EVENTS }
+    ensures brought { OnOk result (store.new ≡ record store.old { items = brought_from before.heir event.now 1 store.old.items ++ option_to_list (op_done event.now) }) }
+    ensures permitted { OnOk result (permitted permits.new ≡ permits_behind before.is_late event.now (permitted permits.old)) }
+    ensures store_err { OnErr result (store.new ≡ store.old) }
+    ensures permits_err { OnErr result (permitted permits.new ≡ permitted permits.old) }
+{
+    if let Event::Permit(t, u, ob) = event {
+        return if before.is_late {
+            Ok(())
+        } else {
+            permits.give(*t, *u, *ob)
+        };
+    }
+    follow(before.heir, event, store)?;
+    drop_ended(event, permits);
+    Ok(())
+}
+
+/// What has to be known of what stands before an event: the heir of the one that commits by it, and whether it permits
+/// something to one that has ended, or by one.
+#[derive(Clone, Copy)]
+pub struct Before {
+    pub heir: Option<TxnId>,
+    pub is_late: bool,
+}
+
+/// Brings operations and permits one event further, as `follow`, and puts the edges that are due behind the others, each
+/// once. `Err` where there is no memory, and then all stay as they were.
 pub(crate) fn go_on<A: Handle>(
-    heir: Option<TxnId>,
+    before: Before,
     event: &Event<A>,
     due: &[Edge],
     edges: &mut Formed<A>,
     store: &mut Store<A>,
+    permits: &mut Permits<A>,
 ) -> Result<(), AllocError>
     requires { length store.old.items < MOST_EVENTS }
     ensures formed { OnOk result (edges.new.keys ≡ formed edges.old.keys due.now) }
-    ensures brought { OnOk result (store.new ≡ record store.old { items = brought_from heir event.now 1 store.old.items ++ option_to_list (op_done event.now) }) }
+    ensures brought { OnOk result (store.new ≡ record store.old { items = brought_from before.heir event.now 1 store.old.items ++ option_to_list (op_done event.now) }) }
+    ensures permitted { OnOk result (permitted permits.new ≡ permits_behind before.is_late event.now (permitted permits.old)) }
     ensures edges_err { OnErr result (edges.new.keys ≡ edges.old.keys) }
     ensures store_err { OnErr result (store.new ≡ store.old) }
+    ensures permits_err { OnErr result (permitted permits.new ≡ permitted permits.old) }
 {
     let count = edges.len();
     form_all(edges, due)?;
-    match follow(heir, event, store) {
+    match follow_all(before, event, store, permits) {
         Ok(()) => Ok(()),
         Err(error) => {
             edges.truncate(count);

@@ -13,11 +13,11 @@ ghost use Rattle.acta_axioms.specs.inside.Lineages.{lineage};
 
 use crate::course::Course;
 use crate::forming::Formed;
-use crate::lineage::{Lineage, UNBEGUN, heir_of, largest_named, lineage_of, note};
+use crate::lineage::{Lineage, UNBEGUN, heir_of, is_late, largest_named, lineage_of, note};
 use crate::seeking::Sought;
-use crate::taking::go_on;
+use crate::taking::{Before, go_on};
 use acta_objects::ObjectState;
-use acta_sets::{Handle, HeldOp, OpTable};
+use acta_sets::{Handle, HeldOp, OpTable, Permits};
 use acta_table::{Class, Edge, Kept, MOST_EVENTS, Model, ObjId, Op, OpNo, Ret, TxnId};
 use acta_values::Store;
 use indexmap::IndexSet;
@@ -34,18 +34,21 @@ pub struct Walk<'a, A: Handle> {
     pub(crate) lines: Vec<Lineage, A>,
     pub(crate) store: Store<A>,
     edges: Formed<A>,
+    // The permits of which neither transaction has ended.
+    pub(crate) permits: Permits<A>,
 }
 
 impl<'a, A: Handle> std::marker::Model for Walk<'a, A> {
     ghost use Rattle.std.specs.Prelude.{take, drop};
     ghost use Rattle.acta_axioms.specs.Walks.{Walked};
     ghost use Rattle.acta_axioms.specs.inside.Walking.{IsKept};
+    ghost use Rattle.acta_sets.specs.Permits.{permitted};
 
     ghost Value = { Walked A };
 
     ghost view = { λ w. record { model = w.model.now; front = take w.taken w.kept.now; ahead = drop w.taken w.kept.now } };
 
-    ghost invariant = { λ w. IsKept w.model.now w.kept.now w.taken w.lines.items w.store w.edges.keys };
+    ghost invariant = { λ w. IsKept w.model.now w.kept.now w.taken w.lines.items w.store w.edges.keys (permitted w.permits) };
 }
 
 impl<'a, A: Handle> Walk<'a, A> {
@@ -64,6 +67,7 @@ impl<'a, A: Handle> Walk<'a, A> {
             lines,
             store: Store::new(alloc, model.objects())?,
             edges: IndexSet::new(alloc),
+            permits: Permits::new(alloc),
         })
     }
 
@@ -76,13 +80,17 @@ impl<'a, A: Handle> Walk<'a, A> {
             return Ok(());
         };
         let due = self.edges_due(&item.event)?;
-        let heir = heir_of(self.model, self.lines.as_slice(), &item.event);
+        let before = Before {
+            heir: heir_of(self.model, self.lines.as_slice(), &item.event),
+            is_late: is_late(self.lines.as_slice(), &item.event),
+        };
         go_on(
-            heir,
+            before,
             &item.event,
             due.as_slice(),
             &mut self.edges,
             &mut self.store,
+            &mut self.permits,
         )?;
         self.taken += 1;
         note(self.lines.as_mut_slice(), self.taken as u32, &item.event);
@@ -100,6 +108,7 @@ impl<'a, A: Handle> Walk<'a, A> {
             lines: Vec::from_slice(self.allocator(), self.lines.as_slice())?,
             store: self.store.copy()?,
             edges: self.edges.clone()?,
+            permits: self.permits.copy()?,
         })
     }
 
@@ -111,8 +120,9 @@ impl<'a, A: Handle> Walk<'a, A> {
         self.table().access_set(t)
     }
 
-    /// The operations in progress that others hold, but for ancestors that the transaction's class leaves out
-    /// (ACTA's conflict set), by number, ascending. `Err` where there is no memory.
+    /// The operations in progress that others hold, but for ancestors that the transaction's class leaves out, and for
+    /// what is on an object on which their holder permits the transaction to work (ACTA's conflict set), by number,
+    /// ascending. `Err` where there is no memory.
     pub fn conflict_set(&self, t: TxnId) -> Result<Vec<OpNo, A>, AllocError>
         ensures { IfOk result (λ ops. ops.items ≡ op_numbers (conflict_set self.now.model self.now.front t.0)) }
     {
@@ -127,7 +137,7 @@ impl<'a, A: Handle> Walk<'a, A> {
         if !self.is_opposed(t, object, op) {
             return Ok(Vec::new(self.allocator()));
         }
-        let spared = self.spared_numbers(t)?;
+        let spared = self.spared_on(t, object)?;
         if self.has_against(t, &spared, object, op) {
             self.seek(t, &Sought::Against(object, *op))
         } else {

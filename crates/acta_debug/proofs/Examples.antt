@@ -21,7 +21,7 @@ use Rattle.acta_objects.specs.WellFormed.{bad_operation}
 use Rattle.acta_objects.specs.declared.state.ObjectState.TheVariants.{Counter}
 use Rattle.acta_deps.specs.Dependencies.{begin_dep, serial_dep, begin_on_commit, begin_on_abort, termination_dep, owing_abort, owing_commit, commit_order, weak_begin, unpayable_commit, unpayable_abort, clash, start_refusal, commit_refusal, abort_refusal, join_refusal}
 use Rattle.acta_machine.specs.Changes.{summary_of}
-use Rattle.acta_machine.specs.Summary.{stood, entered, linked, operated, fated, counted}
+use Rattle.acta_machine.specs.Summary.{stood, entered, linked, operated, fated, counted, terminated}
 use Rattle.acta_machine.specs.Rules.{full, not_in_progress, already_begun, not_in_model, partner_not_in_progress, not_responsible, partial_delegation, bad_set, conflict, form_too_late, edges_full, no_heir}
 use Rattle.acta_machine.specs.Table.{State, after, value_in}
 use Rattle.acta_debug.specs.declared.breaks.Break.TheVariants.{Kind, Touches, Object, OwedAtLeast, Ended}
@@ -68,7 +68,7 @@ other_length : (s t : State (Unit {0})) (k : Kept (Unit {0})) → s.kept ≡ [] 
 other_length s t k none one same = let kept = ap (λ (x : State (Unit {0})). x.kept) same in cc
 
 commit_is_other : IsFirstOther model committed_first 1
-unfolding after summary_of full bad_number bad_class bad_object bad_operation same_transaction not_in_progress already_begun
+unfolding after summary_of full bad_number bad_class bad_object bad_operation same_transaction not_in_progress already_begun terminated
 commit_is_other = record {
   within = omega arith;
   before = refl;
@@ -85,7 +85,7 @@ number_read (Some (Value (pos n))) = n
 number_read _ = 0
 
 misread_is_other : IsFirstOther model misread 2
-unfolding after summary_of full bad_number bad_class bad_object bad_operation same_transaction not_in_progress already_begun not_in_model partner_not_in_progress not_responsible partial_delegation bad_set conflict form_too_late edges_full no_heir begin_dep serial_dep begin_on_commit begin_on_abort termination_dep owing_abort owing_commit commit_order weak_begin unpayable_commit unpayable_abort clash start_refusal commit_refusal abort_refusal join_refusal stood entered linked operated fated counted
+unfolding after summary_of full bad_number bad_class bad_object bad_operation same_transaction not_in_progress already_begun not_in_model partner_not_in_progress not_responsible partial_delegation bad_set conflict form_too_late edges_full no_heir begin_dep serial_dep begin_on_commit begin_on_abort termination_dep owing_abort owing_commit commit_order weak_begin unpayable_commit unpayable_abort clash start_refusal commit_refusal abort_refusal join_refusal stood entered linked operated fated counted terminated
 misread_is_other = record {
   within = omega arith;
   before = refl;
@@ -94,7 +94,7 @@ misread_is_other = record {
 
 -- histories, and values along the way
 histories : IsHistory model paid × (map (λ n. value_in (state_at model paid n) 0) (0 ∷ 6 ∷ 7 ∷ 8 ∷ []) ≡ Some (Counter (pos 0)) ∷ Some (Counter (pos 0)) ∷ Some (Counter (pos 1)) ∷ Some (Counter (pos 2)) ∷ [])
-unfolding after summary_of full bad_number bad_class bad_object bad_operation same_transaction not_in_progress already_begun not_in_model partner_not_in_progress not_responsible partial_delegation bad_set conflict form_too_late edges_full no_heir begin_dep serial_dep begin_on_commit begin_on_abort termination_dep owing_abort owing_commit commit_order weak_begin unpayable_commit unpayable_abort clash start_refusal commit_refusal abort_refusal join_refusal stood entered linked operated fated counted
+unfolding after summary_of full bad_number bad_class bad_object bad_operation same_transaction not_in_progress already_begun not_in_model partner_not_in_progress not_responsible partial_delegation bad_set conflict form_too_late edges_full no_heir begin_dep serial_dep begin_on_commit begin_on_abort termination_dep owing_abort owing_commit commit_order weak_begin unpayable_commit unpayable_abort clash start_refusal commit_refusal abort_refusal join_refusal stood entered linked operated fated counted terminated
 histories = (refl, refl)
 
 abbrev start : Session (Unit {0})
@@ -111,7 +111,7 @@ goes = refl
 
 -- a run to where something is owed, and on to the end
 owed_at : map (λ n. stop_of (moved_to (with_break start (OwedAtLeast 1)) n)) (0 ∷ 3 ∷ 4 ∷ 8 ∷ []) ≡ Broke 1 4 ∷ Broke 1 4 ∷ Finished ∷ Finished ∷ []
-unfolding after summary_of full bad_number bad_class bad_object bad_operation same_transaction not_in_progress already_begun not_in_model partner_not_in_progress not_responsible partial_delegation bad_set conflict form_too_late edges_full no_heir begin_dep serial_dep begin_on_commit begin_on_abort termination_dep owing_abort owing_commit commit_order weak_begin unpayable_commit unpayable_abort clash start_refusal commit_refusal abort_refusal join_refusal stood entered linked operated fated counted
+unfolding after summary_of full bad_number bad_class bad_object bad_operation same_transaction not_in_progress already_begun not_in_model partner_not_in_progress not_responsible partial_delegation bad_set conflict form_too_late edges_full no_heir begin_dep serial_dep begin_on_commit begin_on_abort termination_dep owing_abort owing_commit commit_order weak_begin unpayable_commit unpayable_abort clash start_refusal commit_refusal abort_refusal join_refusal stood entered linked operated fated counted terminated
 owed_at = refl
 
 -- a run by four breaks, of which the lowest number is told, and by none

@@ -3,10 +3,11 @@ use Rattle.std.specs.Prelude.{ℕ, ◌-◌, Bool, true, false, ◌||◌, ◌==�
 use Rattle.std.specs.List.{list_any}
 use Rattle.std.specs.Option.{option_map_or}
 use Rattle.acta_table.specs.declared.event.Event.{Event}
+use Rattle.acta_table.specs.declared.event.Event.TheVariants as does
 use Rattle.acta_table.specs.declared.event.EventKind.{EventKind}
 use Rattle.acta_table.specs.declared.event.EventKind.TheVariants.{Begin, Spawn, Split, Join, Delegate}
-use Rattle.acta_table.specs.declared.event.EventKind.TheVariants.{Form, Operate, Commit, Abort}
-use Rattle.acta_table.specs.Events.{kind_of, named, object_named}
+use Rattle.acta_table.specs.declared.event.EventKind.TheVariants.{Form, Operate, Commit, Abort, Permit}
+use Rattle.acta_table.specs.Events.{kind_of, named}
 use Rattle.acta_table.specs.Numbered.{first_number}
 use Rattle.acta_axioms.specs.History.{commits, aborts, joins}
 use Rattle.acta_machine.specs.Table.{State, debts_in}
@@ -26,6 +27,7 @@ is_same_kind Form Form = true
 is_same_kind Operate Operate = true
 is_same_kind Commit Commit = true
 is_same_kind Abort Abort = true
+is_same_kind Permit Permit = true
 is_same_kind _ _ = false
 
 -- whether the event names t
@@ -34,7 +36,8 @@ names t e = list_any (λ u. u == t) (named e)
 
 -- whether the event is an operation on the object
 abbrev pub is_on : {A : Type 0} → ℕ → Event A → Bool
-is_on ob e = option_map_or (λ o. o == ob) (object_named e) false
+is_on ob (does.Operate t o op) = o.0 == ob
+is_on ob _ = false
 
 -- whether by the event t commits, aborts or joins another
 abbrev pub ends : {A : Type 0} → ℕ → Event A → Bool

@@ -52,7 +52,8 @@ fn touches<A: Allocator>(event: &Event<A>, t: TxnId) -> bool
         | Event::Split(u, v, _, _)
         | Event::Join(u, v)
         | Event::Delegate(u, v, _)
-        | Event::Form(_, u, v) => *u == t || *v == t,
+        | Event::Form(_, u, v)
+        | Event::Permit(u, v, _) => *u == t || *v == t,
     }
 }
 

@@ -1,4 +1,4 @@
--- Examples: a model's image, and what comes of images that are not good.
+-- Examples: a model's image in both versions, and what comes of images that are not good.
 use Rattle.std.specs.Prelude.{ℕ, pos, true, false, List, [], ◌∷◌, ◌++◌, map, take, slice_set, Result, Ok, Err, codes, ◌≡◌, refl}
 use Rattle.acta_table.specs.declared.model.AtCommit.TheVariants.{Keeps}
 use Rattle.acta_table.specs.declared.model.Class.{Class}
@@ -10,8 +10,9 @@ use Rattle.acta_table.specs.declared.model.Scope.TheVariants.{Others}
 use Rattle.acta_table.specs.declared.policy.Policy.TheVariants.{Refuse}
 use Rattle.acta_image.specs.declared.fault.ImageFault.{ImageFault}
 use Rattle.acta_image.specs.declared.fault.ImageFault.TheVariants.{Magic, Version, Truncated, BadField, Trailing, Model}
-use Rattle.acta_image.specs.Spelling.{image}
-use Rattle.acta_image.specs.Reading.{read_magic, read_header, read_edges, read_object, read_class, read_parts, loaded}
+use Rattle.acta_image.specs.declared.version.ImageVersion.TheVariants.{One}
+use Rattle.acta_image.specs.Spelling.{image, image_in}
+use Rattle.acta_image.specs.Reading.{read_magic, read_header, read_edges, read_object, read_class, read_parts, loaded, upgraded}
 
 -- a class that starts by begin, by the bits of what it may do
 abbrev class : List ℕ → ℕ → Class (Unit {0})
@@ -23,12 +24,20 @@ flat = record { objects = record { name = codes "x"; kind = Register (pos 0) } �
 
 abbrev flat_image : List ℕ
 flat_image =
-    65 ∷ 67 ∷ 84 ∷ 65 ∷ 1 ∷ 1 ∷ 0 ∷ 1 ∷ 1 ∷ 120 ∷ 0 ∷ 0 ∷ 0 ∷ 0 ∷ 0 ∷ 4 ∷ 102 ∷ 108 ∷ 97 ∷ 116 ∷ 1 ∷ 0 ∷ 224 ∷ 0 ∷ 0
+    65 ∷ 67 ∷ 84 ∷ 65 ∷ 2 ∷ 1 ∷ 0 ∷ 1 ∷ 1 ∷ 120 ∷ 0 ∷ 0 ∷ 0 ∷ 0 ∷ 0 ∷ 4 ∷ 102 ∷ 108 ∷ 97 ∷ 116 ∷ 1 ∷ 0 ∷ 224 ∷ 0 ∷ 0
     ∷ 0 ∷ 0 ∷ 0 ∷ 0 ∷ 0 ∷ 0 ∷ []
 
 flat_spelled : image flat ≡ flat_image
-unfolding image
+unfolding image_in
 flat_spelled = refl
+
+-- in version 1 another byte behind the magic, and nothing else
+abbrev old_image : List ℕ
+old_image = slice_set flat_image 4 1
+
+old_spelled : image_in One flat ≡ old_image
+unfolding image_in
+old_spelled = refl
 
 abbrev read : List ℕ → Result (Parts (Unit {0})) ImageFault
 read bytes = loaded bytes
@@ -36,6 +45,21 @@ read bytes = loaded bytes
 flat_read : read flat_image ≡ Ok flat
 unfolding read_magic read_header read_edges read_object read_class read_parts loaded
 flat_read = refl
+
+old_read : read old_image ≡ Ok flat
+unfolding read_magic read_header read_edges read_object read_class read_parts loaded
+old_read = refl
+
+-- an image of version 1 is upgraded to that of version 2, which stays as it is
+flat_upgraded : map (λ bytes. upgraded (Unit {0}) bytes) (old_image ∷ flat_image ∷ []) ≡ Ok flat_image ∷ Ok flat_image ∷ []
+unfolding read_magic read_header read_edges read_object read_class read_parts loaded image_in
+flat_upgraded = refl
+
+-- 256 in what they may do is a permit, which version 1 has not; version 2 has nothing above it
+permits : map (λ (p : ℕ × ℕ). read (slice_set (slice_set flat_image 4 p.0) 21 p.1)) ((2, 1) ∷ (1, 1) ∷ (2, 2) ∷ [])
+    ≡ Ok (record flat { classes = class (codes "flat") 480 ∷ [] }) ∷ Err (BadField 21) ∷ Err (BadField 21) ∷ []
+unfolding read_magic read_header read_edges read_object read_class read_parts loaded
+permits = refl
 
 -- shorter by any number of bytes
 abbrev lengths : List ℕ
@@ -54,7 +78,7 @@ magic_first : map (λ bytes. read bytes) ((65 ∷ 88 ∷ []) ∷ (65 ∷ 67 ∷ 
 unfolding read_magic read_header read_edges read_object read_class read_parts loaded
 magic_first = refl
 
-turned : map (λ (p : ℕ × ℕ). read (slice_set flat_image p.0 p.1)) ((4, 2) ∷ (5, 0) ∷ (5, 17) ∷ (7, 0) ∷ (8, 33) ∷ (9, 48) ∷ (10, 3) ∷ (20, 8) ∷ (21, 1) ∷ (23, 2) ∷ (24, 2) ∷ (26, 1) ∷ (27, 1) ∷ (27, 2) ∷ (28, 2) ∷ (29, 25) ∷ [])
-    ≡ Err Version ∷ Err (BadField 5) ∷ Err (BadField 5) ∷ Err (BadField 15) ∷ Err (BadField 8) ∷ Err (BadField 9) ∷ Err (BadField 10) ∷ Err (BadField 20) ∷ Err (BadField 21) ∷ Err (BadField 23) ∷ Err (BadField 24) ∷ Err (BadField 25) ∷ Err (Model HeirWithoutSpawn) ∷ Err (BadField 27) ∷ Err (BadField 28) ∷ Err (BadField 29) ∷ []
+turned : map (λ (p : ℕ × ℕ). read (slice_set flat_image p.0 p.1)) ((4, 0) ∷ (4, 3) ∷ (5, 0) ∷ (5, 17) ∷ (7, 0) ∷ (8, 33) ∷ (9, 48) ∷ (10, 3) ∷ (20, 8) ∷ (21, 2) ∷ (23, 2) ∷ (24, 2) ∷ (26, 1) ∷ (27, 1) ∷ (27, 2) ∷ (28, 2) ∷ (29, 25) ∷ [])
+    ≡ Err Version ∷ Err Version ∷ Err (BadField 5) ∷ Err (BadField 5) ∷ Err (BadField 15) ∷ Err (BadField 8) ∷ Err (BadField 9) ∷ Err (BadField 10) ∷ Err (BadField 20) ∷ Err (BadField 21) ∷ Err (BadField 23) ∷ Err (BadField 24) ∷ Err (BadField 25) ∷ Err (Model HeirWithoutSpawn) ∷ Err (BadField 27) ∷ Err (BadField 28) ∷ Err (BadField 29) ∷ []
 unfolding read_magic read_header read_edges read_object read_class read_parts loaded
 turned = refl

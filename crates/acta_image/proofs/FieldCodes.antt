@@ -23,9 +23,11 @@ use Rattle.acta_table.specs.Faults.{is_name}
 use Rattle.acta_table.specs.Typed.{HasDeps, HasFirst}
 use Rattle.acta_image.specs.declared.fault.ImageFault.{ImageFault}
 use Rattle.acta_image.specs.declared.fault.ImageFault.TheVariants.{BadField, Magic, Truncated}
-use Rattle.acta_image.specs.Codes.{magic, object_code, first_bits, starts_bits, scope_code, policy_code, policy_bits, commit_code, extent_code}
+use Rattle.acta_image.specs.declared.version.ImageVersion.{ImageVersion}
+use Rattle.acta_image.specs.declared.version.ImageVersion.TheVariants.{One, Two}
+use Rattle.acta_image.specs.Codes.{magic, version_number, object_code, first_bits, starts_bits, scope_code, policy_code, policy_bits, commit_code, extent_code}
 use Rattle.acta_image.specs.Spelling.{byte}
-use Rattle.acta_image.specs.Reading.{found_or, field_or, field, some_if, byte_in, number_to, name_by, kind_in, starts_by, starts_in, choice_in, scope_in, commit_in, extent_in, policy_in, read_magic}
+use Rattle.acta_image.specs.Reading.{found_or, field_or, field, some_if, byte_in, number_to, name_by, kind_in, starts_by, starts_in, choice_in, scope_in, commit_in, extent_in, policy_in, read_magic, version_in}
 use Rattle.acta_image.specs.inside.Gives.{AreBytes}
 use Rattle.acta_image.proofs.Formats.{bytes-drop, bytes-take, done, done-is, Takes, IsFormat}
 
@@ -144,6 +146,27 @@ kind-code code le = record {
   len = λ k ok. refl;
   again = λ k ok. kind-again code k ok;
   back = λ bs fits four k e. kind-back code le bs fits four k e;
+}
+
+-- the version, by its number
+version-back : (bs : List ℕ) → length bs ≡ 1 → (v : ImageVersion) → version_in bs ≡ Some v → byte (version_number v) ≡ bs
+version-back [] one v e = absurd (omega (arith, one))
+version-back (x ∷ y ∷ more) one v e = absurd (omega (arith, one))
+version-back (x ∷ []) one v e = of_test (x == 1) refl e
+  where
+    of_test : (t : Bool) → (x == 1) ≡ t → (if t then Some One else some_if (x == 2) Two) ≡ Some v → byte (version_number v) ≡ x ∷ []
+    of_test true is f = ap (λ (w : ImageVersion). byte (version_number w)) (sym (some-is One v f)) ∙ ap byte (sym (eqb-true _ _ is))
+    of_test false is f = let s = some-ok (x == 2) Two v f in ap (λ (w : ImageVersion). byte (version_number w)) (sym s.1) ∙ ap byte (sym (eqb-true _ _ s.0))
+
+version-again : (v : ImageVersion) → version_in (byte (version_number v)) ≡ Some v
+version-again One = refl
+version-again Two = refl
+
+pub version-code : IsCode 1 version_in (λ v. byte (version_number v)) (λ v. ⊤)
+version-code = record {
+  len = λ v ok. refl;
+  again = λ v ok. version-again v;
+  back = λ bs fits one v e. (version-back bs one v e, tt);
 }
 
 -- one byte that is read by a function of its number

@@ -1,4 +1,4 @@
--- The numbers that stand for the choices of a model in its image.
+-- The numbers that stand for the choices of a model in its image, and for the version.
 use Rattle.std.specs.Prelude.{ℕ, ◌+◌, Bool, if◌then◌else◌, List, codes}
 use Rattle.std.specs.Int.{w32, cast_unsigned}
 use Rattle.acta_table.specs.declared.model.AtCommit.{AtCommit}
@@ -12,10 +12,22 @@ use Rattle.acta_table.specs.declared.model.Scope.TheVariants.{Others, NonAncesto
 use Rattle.acta_table.specs.declared.model.Starts.{Starts}
 use Rattle.acta_table.specs.declared.policy.Policy.{Policy}
 use Rattle.acta_table.specs.declared.policy.Policy.TheVariants.{Refuse, Depend}
+use Rattle.acta_image.specs.declared.version.ImageVersion.{ImageVersion}
+use Rattle.acta_image.specs.declared.version.ImageVersion.TheVariants.{One, Two}
 
 -- the bytes that an image begins with
 abbrev pub magic : List ℕ
 magic = codes "ACTA"
+
+-- the number of the version, behind the magic
+abbrev pub version_number : ImageVersion → ℕ
+version_number One = 1
+version_number Two = 2
+
+-- the highest number of what a class may do: that of all kinds of event, and in version 1 of all but a permit
+abbrev pub most_may : ImageVersion → ℕ
+most_may One = 255
+most_may Two = 511
 
 -- the kind of an object
 abbrev pub object_code : Kind → ℕ

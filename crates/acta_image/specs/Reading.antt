@@ -27,7 +27,11 @@ use Rattle.acta_table.specs.Kinds.{has_bit}
 use Rattle.acta_table.specs.Starts.{rank_of}
 use Rattle.acta_image.specs.declared.fault.ImageFault.{ImageFault}
 use Rattle.acta_image.specs.declared.fault.ImageFault.TheVariants.{Magic, Version, Truncated, BadField, Trailing, Model}
-use Rattle.acta_image.specs.Codes.{magic}
+use Rattle.acta_image.specs.declared.loading.Head.{Head}
+use Rattle.acta_image.specs.declared.version.ImageVersion.{ImageVersion}
+use Rattle.acta_image.specs.declared.version.ImageVersion.TheVariants.{One, Two}
+use Rattle.acta_image.specs.Codes.{magic, most_may}
+use Rattle.acta_image.specs.Spelling.{image}
 
 -- a reader: what the first bytes give, and the bytes behind them, or the first fault
 abbrev pub Reader : Type 0 → Type 0
@@ -155,13 +159,13 @@ read_object size = do
   kind ← field size 4 (kind_in code)
   give (record { name = name; kind = kind })
 
--- a class
-unfoldable pub read_class : {A : Type 0} → ℕ → Reader (Class A)
-read_class size = do
+-- a class, in a version
+unfoldable pub read_class : {A : Type 0} → ImageVersion → ℕ → Reader (Class A)
+read_class version size = do
   len ← field size 1 (byte_in 1 LONGEST_NAME)
   name ← field size len name_by
   starts ← field size 1 starts_in
-  may ← field size 2 (number_to 255)
+  may ← field size 2 (number_to (most_may version))
   scope ← field size 1 scope_in
   code ← field size 1 (byte_in 0 1)
   policy ← field size 2 (policy_in code)
@@ -196,21 +200,31 @@ read_magic bytes =
     then (if nat_lt (length bytes) 4 then Err Truncated else Ok (magic, drop 4 bytes))
     else Err Magic
 
--- how many classes and how many objects, behind the magic and the version
-unfoldable pub read_header : ℕ → Reader (ℕ × ℕ)
+-- the version, by its number
+abbrev pub version_in : List ℕ → Option ImageVersion
+version_in bytes =
+    let n = slice_index bytes 0 in
+    if n == 1 then Some One else some_if (n == 2) Two
+
+-- the version that an image names, behind the magic: the second, where it is not the first
+abbrev pub version_of : List ℕ → ImageVersion
+version_of bytes = if slice_index bytes 4 == 1 then One else Two
+
+-- the version, how many classes and how many objects, behind the magic
+unfoldable pub read_header : ℕ → Reader Head
 read_header size = do
   start ← read_magic
-  version ← field_or Version 1 (byte_in 1 1)
+  version ← field_or Version 1 version_in
   classes ← field size 1 (byte_in 1 MOST_CLASSES)
   objects ← field size 2 (number_to MOST_OBJECTS)
-  give (classes, objects)
+  give (record { version = version; classes = classes; objects = objects })
 
 -- the objects and the classes
 unfoldable pub read_parts : {A : Type 0} → ℕ → Reader (Parts A)
 read_parts size = do
-  counts ← read_header size
-  objects ← read_items (read_object size) counts.1
-  classes ← read_items (read_class size) counts.0
+  head ← read_header size
+  objects ← read_items (read_object size) head.objects
+  classes ← read_items (read_class head.version size) head.classes
   give (record { objects = objects; classes = classes })
 
 -- the parts, where they have no fault
@@ -226,3 +240,7 @@ finished size x =
 -- what the bytes give: a model, or their first fault
 unfoldable pub loaded : {A : Type 0} → List ℕ → Result (Parts A) ImageFault
 loaded bytes = and_then (read_parts (length bytes) bytes) (finished (length bytes))
+
+-- the image that is written of the model that the bytes give, or their first fault
+abbrev pub upgraded : (A : Type 0) → List ℕ → Result (List ℕ) ImageFault
+upgraded A bytes = and_then (loaded {A = A} bytes) (λ m. Ok (image m))

@@ -1,6 +1,6 @@
--- The one spelling of a model: its fields in order, each as its bytes, numbers big endian.
-use Rattle.std.specs.Prelude.{ℕ, List, [], ◌∷◌, ◌++◌, length}
-use Rattle.std.specs.List.{flat_map}
+-- The one spelling of a model in a version: its fields in order, each as its bytes, numbers big endian.
+use Rattle.std.specs.Prelude.{ℕ, ◌≤◌, List, [], ◌∷◌, ◌++◌, length}
+use Rattle.std.specs.List.{All, flat_map}
 use Rattle.std.specs.Int.{w16, w32, to_be_bytes}
 use Rattle.acta_table.specs.declared.model.Class.{Class}
 use Rattle.acta_table.specs.declared.model.Object.{Object}
@@ -8,7 +8,9 @@ use Rattle.acta_table.specs.declared.model.Parts.{Parts}
 use Rattle.acta_table.specs.declared.start_edges.StartEdge.{StartEdge}
 use Rattle.acta_table.specs.Dependencies.{code_of}
 use Rattle.acta_table.specs.Starts.{rank_of}
-use Rattle.acta_image.specs.Codes.{magic, object_code, first_bits, starts_bits, scope_code, policy_code, policy_bits, commit_code, extent_code}
+use Rattle.acta_image.specs.declared.version.ImageVersion.{ImageVersion}
+use Rattle.acta_image.specs.declared.version.ImageVersion.TheVariants.{Two}
+use Rattle.acta_image.specs.Codes.{magic, version_number, most_may, object_code, first_bits, starts_bits, scope_code, policy_code, policy_bits, commit_code, extent_code}
 
 -- a field of one byte
 abbrev pub byte : ℕ → List ℕ
@@ -43,11 +45,20 @@ abbrev pub class_bytes : {A : Type 0} → Class A → List ℕ
 class_bytes c =
     byte (length c.name) ++ (c.name ++ (choices c ++ (rows_bytes c.spawn_edges ++ rows_bytes c.split_edges)))
 
--- what an image begins with: the magic, the version 1, how many classes and how many objects
-abbrev pub head : ℕ → ℕ → List ℕ
-head classes objects = magic ++ (byte 1 ++ (byte classes ++ to_be_bytes w16 objects))
+-- what an image begins with: the magic, the version, how many classes and how many objects
+abbrev pub head : ImageVersion → ℕ → ℕ → List ℕ
+head version classes objects = magic ++ (byte (version_number version) ++ (byte classes ++ to_be_bytes w16 objects))
 
--- the image: what it begins with, the objects, the classes
-unfoldable pub image : {A : Type 0} → Parts A → List ℕ
-image m =
-    head (length m.classes) (length m.objects) ++ (flat_map object_bytes m.objects ++ flat_map class_bytes m.classes)
+-- whether the model has an image in the version: no class may do what the version has no bit for
+abbrev pub HasImageIn : {A : Type 0} → ImageVersion → Parts A → Type 0
+HasImageIn version m = All (λ c. c.may ≤ most_may version) m.classes
+
+-- the image in a version: what it begins with, the objects, the classes
+unfoldable pub image_in : {A : Type 0} → ImageVersion → Parts A → List ℕ
+image_in version m =
+    head version (length m.classes) (length m.objects)
+    ++ (flat_map object_bytes m.objects ++ flat_map class_bytes m.classes)
+
+-- the image that is written, which each model has
+abbrev pub image : {A : Type 0} → Parts A → List ℕ
+image m = image_in Two m

@@ -13,7 +13,7 @@ use std::alloc::{AllocError, AllocFailed};
 pub enum ImageFault {
     /// One of the first four bytes is another than in `ACTA`.
     Magic,
-    /// The version isn't 1.
+    /// The version is neither 1 nor 2.
     Version,
     /// The bytes end inside a field, or before one.
     Truncated,

@@ -1,7 +1,7 @@
 //! The fields of fixed length: each is read from the front of what is left of an image of a known size, and gives its
 //! value with the bytes behind it.
 
-ghost use Rattle.std.specs.Prelude.{◌≡◌, ◌-◌, ◌≤◌, length, true, IfErr, IfOk};
+ghost use Rattle.std.specs.Prelude.{◌≡◌, ◌-◌, ◌≤◌, ◌<◌, ◌^◌, length, true, IfErr, IfOk};
 ghost use Rattle.acta_image.specs.declared.fault.ImageFault.TheVariants.{BadField};
 ghost use Rattle.acta_image.specs.declared.fault.LoadError.TheVariants as error;
 ghost use Rattle.acta_image.specs.Reading.{byte_in, commit_in, extent_in, field, kind_in, name_by, number_to, policy_in, scope_in, starts_in};
@@ -102,7 +102,7 @@ pub fn starts(size: usize, bytes: &[u8]) -> Result<(Starts, &[u8]), LoadError>
 
 /// The set of kinds of event that has these bits.
 pub fn kinds_of(bits: u16) -> Kinds
-    requires { bits ≤ 255 }
+    requires { bits < 2 ^ 9 }
     ensures { result ≡ bits }
 {
     match Kinds::from_bits(bits) {

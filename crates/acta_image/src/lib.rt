@@ -1,5 +1,6 @@
-//! The image of a model: its one spelling as bytes. `write_image` gives it; `load` reads it back field by field, or
-//! answers the first fault, with the offset of the field where it is.
+//! The image of a model: its spelling as bytes, one in each version of the format. `write_image` gives that of the
+//! version that is written; `load` reads one of any version back field by field, or answers the first fault, with the
+//! offset of the field where it is; `upgrade` makes of one of any version the one that is written.
 #![tactic(auto)]
 
 mod codes;
@@ -7,8 +8,12 @@ mod fault;
 mod fields;
 mod loading;
 mod rows;
+mod upgrading;
+mod version;
 mod writing;
 
 pub use fault::{ImageFault, LoadError};
 pub use loading::load;
+pub use upgrading::upgrade;
+pub use version::ImageVersion;
 pub use writing::write_image;

@@ -7,8 +7,9 @@ ghost use Rattle.acta_image.specs.Claims.{IsWhy};
 ghost use Rattle.acta_image.specs.declared.fault.ImageFault.{ImageFault};
 ghost use Rattle.acta_image.specs.declared.fault.ImageFault.TheVariants.{Version};
 ghost use Rattle.acta_image.specs.declared.fault.LoadError.TheVariants as error;
-ghost use Rattle.acta_image.specs.Reading.{byte_in, field_or, finished, loaded, read_class, read_header, read_items, read_magic, read_object, read_parts};
-ghost use Rattle.acta_image.specs.Spelling.{image};
+ghost use Rattle.acta_image.specs.declared.version.ImageVersion.{ImageVersion};
+ghost use Rattle.acta_image.specs.Reading.{field_or, finished, loaded, read_class, read_header, read_items, read_magic, read_object, read_parts, version_in, version_of};
+ghost use Rattle.acta_image.specs.Spelling.{HasImageIn, image_in};
 ghost use Rattle.acta_image.specs.inside.Gives.{Gives, is_fault};
 
 use crate::fault::{ImageFault, LoadError};
@@ -17,6 +18,7 @@ use crate::fields::{
     starts,
 };
 use crate::rows::edges;
+use crate::version::ImageVersion;
 use acta_table::{Class, Items, LONGEST_NAME, MOST_CLASSES, MOST_OBJECTS, Model, Object, Parts};
 use std::alloc::Allocator;
 
@@ -37,19 +39,28 @@ fn object<A: Allocator>(
     Ok((Object { name, kind }, rest))
 }
 
-// A class.
+// What an image begins with, behind the magic: the version, how many classes there are, and how many objects.
+#[derive(Clone, Copy)]
+pub(crate) struct Head {
+    pub(crate) version: ImageVersion,
+    pub(crate) classes: u8,
+    pub(crate) objects: u16,
+}
+
+// A class, of an image of this version.
 #[tactic(auto, unfolding(crate::specs::Reading::read_class))]
 fn class<A: Allocator + Copy>(
     alloc: A,
+    version: ImageVersion,
     size: usize,
     bytes: &[u8],
 ) -> Result<(Class<A>, &[u8]), LoadError>
-    ensures { Gives (λ x. (x.0, x.1.now)) result (read_class size bytes.now) }
+    ensures { Gives (λ x. (x.0, x.1.now)) result (read_class version size bytes.now) }
 {
     let (len, rest) = byte(size, 1, LONGEST_NAME as u8, bytes)?;
     let (name, rest) = name(size, len, rest)?;
     let (starts, rest) = starts(size, rest)?;
-    let (may, rest) = number(size, 255, rest)?;
+    let (may, rest) = number(size, version.most_may(), rest)?;
     let (scope, rest) = scope(size, rest)?;
     let (code, rest) = byte(size, 0, 1, rest)?;
     let (kinds, rest) = policy_bits(size, code, rest)?;
@@ -91,19 +102,20 @@ fn objects<A: Allocator + Copy>(
     Ok((Items::of(objects), rest))
 }
 
-// So many classes.
+// So many classes, of an image of this version.
 fn classes<A: Allocator + Copy>(
     alloc: A,
+    version: ImageVersion,
     size: usize,
     count: u8,
     bytes: &[u8],
 ) -> Result<(Items<Class<A>, A>, &[u8]), LoadError>
-    ensures { Gives (λ x. (x.0, x.1.now)) result (read_items (read_class size) count bytes.now) }
+    ensures { Gives (λ x. (x.0, x.1.now)) result (read_items (read_class version size) count bytes.now) }
 {
     let mut classes = Vec::new(alloc);
     let mut rest = bytes;
     for _ in 0..count {
-        let (class, behind) = class(alloc, size, rest)?;
+        let (class, behind) = class(alloc, version, size, rest)?;
         classes.push(class)?;
         rest = behind;
     }
@@ -127,29 +139,34 @@ fn magic(bytes: &[u8]) -> Result<(&[u8], &[u8]), LoadError>
 }
 
 // The version.
-fn version(bytes: &[u8]) -> Result<(u8, &[u8]), LoadError>
-    ensures field { Gives (λ x. (x.0, x.1.now)) result (field_or Version 1 (byte_in 1 1) bytes.now) }
+fn version(bytes: &[u8]) -> Result<(ImageVersion, &[u8]), LoadError>
+    ensures field { Gives (λ x. (x.0, x.1.now)) result (field_or Version 1 version_in bytes.now) }
     ensures sure { IfErr result (λ e. is_fault e ≡ true) }
 {
     let (found, rest) = part(bytes, 1)?;
-    if found[0] == 1 {
-        Ok((1, rest))
-    } else {
-        Err(LoadError::Fault(ImageFault::Version))
+    match found[0] {
+        1 => Ok((ImageVersion::One, rest)),
+        2 => Ok((ImageVersion::Two, rest)),
+        _ => Err(LoadError::Fault(ImageFault::Version)),
     }
 }
 
-// How many classes there are and how many objects, behind the magic and the version.
+// The magic, and what stands behind it.
 #[tactic(auto, unfolding(crate::specs::Reading::read_header))]
-fn header(size: usize, bytes: &[u8]) -> Result<((u8, u16), &[u8]), LoadError>
+fn header(size: usize, bytes: &[u8]) -> Result<(Head, &[u8]), LoadError>
     ensures field { Gives (λ x. (x.0, x.1.now)) result (read_header size bytes.now) }
     ensures sure { IfErr result (λ e. is_fault e ≡ true) }
 {
     let (_, rest) = magic(bytes)?;
-    let (_, rest) = version(rest)?;
+    let (version, rest) = version(rest)?;
     let (classes, rest) = byte(size, 1, MOST_CLASSES as u8, rest)?;
     let (objects, rest) = number(size, MOST_OBJECTS as u16, rest)?;
-    Ok(((classes, objects), rest))
+    let head = Head {
+        version,
+        classes,
+        objects,
+    };
+    Ok((head, rest))
 }
 
 // The objects and the classes.
@@ -159,9 +176,9 @@ fn parts<A: Allocator + Copy>(alloc: A, bytes: &[u8]) -> Result<(Parts<A>, &[u8]
     ensures early { (e : ImageFault) → read_header (length bytes.now) bytes.now ≡ Err e → result ≡ Err (error.Fault e) }
 {
     let size = bytes.len();
-    let (counts, rest) = header(size, bytes)?;
-    let (objects, rest) = objects(alloc, size, counts.1, rest)?;
-    let (classes, rest) = classes(alloc, size, counts.0, rest)?;
+    let (head, rest) = header(size, bytes)?;
+    let (objects, rest) = objects(alloc, size, head.objects, rest)?;
+    let (classes, rest) = classes(alloc, head.version, size, head.classes, rest)?;
     Ok((Parts { objects, classes }, rest))
 }
 
@@ -189,20 +206,24 @@ fn read<A: Allocator + Copy>(alloc: A, bytes: &[u8]) -> Result<Model<A>, LoadErr
     finish(bytes.len(), parts, rest)
 }
 
-// Bytes that are read as a model are its image, and the image of a model is read as the model.
+// Bytes that are read as a model are its image in the version that they name, and the image of a model in a version is
+// read as the model.
 fn read_alike<A: Allocator>(alloc: &A, bytes: &[u8])
-    ensures spelled { (m : Parts A) → loaded bytes.now ≡ Ok m → image m ≡ bytes.now }
-    ensures only { (m : Parts A) → AreOfModel m → image m ≡ bytes.now → loaded bytes.now ≡ Ok m }
+    ensures had { (m : Parts A) → loaded bytes.now ≡ Ok m → HasImageIn (version_of bytes.now) m }
+    ensures spelled { (m : Parts A) → loaded bytes.now ≡ Ok m → image_in (version_of bytes.now) m ≡ bytes.now }
+    ensures only { (version : ImageVersion) (m : Parts A) → AreOfModel m → HasImageIn version m → image_in version m ≡ bytes.now → loaded bytes.now ≡ Ok m }
 {}
 
-/// The model whose image the bytes are (the format is ours). `Fault` with the first fault of bytes that are no image;
-/// `Memory` where there is none, which is found out only behind the magic, the version and the counts.
+/// The model whose image, in the version that they name, the bytes are (the format is ours). `Fault` with the first
+/// fault of bytes that are no image; `Memory` where there is none, which is found out only behind the magic, the version
+/// and the counts.
 pub fn load<A: Allocator + Copy>(alloc: A, bytes: &[u8]) -> Result<Model<A>, LoadError>
     ensures ok { IfOk result (λ model. loaded bytes.now ≡ Ok model) }
     ensures fault { IfErr result (IsWhy (loaded {A = A} bytes.now)) }
     ensures early { (e : ImageFault) → read_header (length bytes.now) bytes.now ≡ Err e → result ≡ Err (error.Fault e) }
-    ensures spelled { IfOk result (λ model. image model ≡ bytes.now) }
-    ensures only { (m : Parts A) → AreOfModel m → image m ≡ bytes.now → loaded bytes.now ≡ Ok m }
+    ensures had { IfOk result (λ model. HasImageIn (version_of bytes.now) model) }
+    ensures spelled { IfOk result (λ model. image_in (version_of bytes.now) model ≡ bytes.now) }
+    ensures only { (version : ImageVersion) (m : Parts A) → AreOfModel m → HasImageIn version m → image_in version m ≡ bytes.now → loaded bytes.now ≡ Ok m }
 {
     read_alike(&alloc, bytes);
     read(alloc, bytes)

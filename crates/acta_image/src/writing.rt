@@ -4,12 +4,14 @@ ghost use Rattle.std.specs.Prelude.{◌≡◌, ◌++◌, ◌∷◌, ◌≤◌, l
 ghost use Rattle.std.specs.List.{All, flat_map};
 ghost use Rattle.acta_table.specs.declared.limits.TheConstants.{MOST_CLASSES, MOST_OBJECTS};
 ghost use Rattle.acta_image.specs.Reading.{loaded};
+ghost use Rattle.acta_image.specs.declared.version.ImageVersion.TheVariants.{Two};
 ghost use Rattle.acta_image.specs.Spelling.{choices, class_bytes, head, image, object_bytes, row_bytes, rows_bytes};
 
 use crate::codes::{
     commit_code, dependent_code, extent_code, first_bits, object_code, policy_bits, policy_code,
     scope_code, starts_bits,
 };
+use crate::version::ImageVersion;
 use acta_table::{Class, LONGEST_NAME, Model, Object, StartEdge, StartEdges};
 use std::alloc::{AllocError, Allocator};
 
@@ -107,20 +109,21 @@ fn push_classes<A: Allocator>(
     Ok(())
 }
 
-// Appends the magic, the version, and how many classes and how many objects there are.
+// Appends the magic, the version that is written, and how many classes and how many objects there are.
 fn push_head<A: Allocator>(
     image: &mut Vec<u8, A>,
     classes: u8,
     objects: u16,
 ) -> Result<(), AllocError>
-    ensures { OnOk result (image.new.items ≡ image.old.items ++ head classes objects) }
+    ensures { OnOk result (image.new.items ≡ image.old.items ++ head Two classes objects) }
 {
     let [high, low] = objects.to_be_bytes();
-    image.extend_from_slice(&[b'A', b'C', b'T', b'A', 1, classes, high, low])
+    let version = ImageVersion::Two.number();
+    image.extend_from_slice(&[b'A', b'C', b'T', b'A', version, classes, high, low])
 }
 
 // Appends the image of a model with names that are short and few.
-#[tactic(auto, unfolding(crate::specs::Spelling::image))]
+#[tactic(auto, unfolding(crate::specs::Spelling::image_in))]
 fn push_model<A: Allocator>(bytes: &mut Vec<u8, A>, model: &Model<A>) -> Result<(), AllocError>
     requires objects { All (λ object. length object.name ≤ LONGEST_NAME) model.now.objects }
     requires classes { All (λ class. length class.name ≤ LONGEST_NAME) model.now.classes }
@@ -143,8 +146,8 @@ fn known<A: Allocator>(model: &Model<A>)
     model.known();
 }
 
-/// The image of the model (the format is ours): the one list of bytes that `load` reads as this model. `Err` where
-/// there is no memory.
+/// The image of the model in version 2 (the format is ours): the one list of bytes of that version which `load` reads
+/// as this model. `Err` where there is no memory.
 pub fn write_image<A: Allocator + Copy>(
     alloc: A,
     model: &Model<A>,

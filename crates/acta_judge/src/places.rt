@@ -37,7 +37,8 @@ fn first_named<A: Allocator>(event: &Event<A>) -> TxnId
         | Event::Form(_, t, _)
         | Event::Operate(t, _, _)
         | Event::Commit(t)
-        | Event::Abort(t) => *t,
+        | Event::Abort(t)
+        | Event::Permit(t, _, _) => *t,
     }
 }
 
@@ -166,7 +167,7 @@ pub(crate) fn party<A: Allocator>(event: &Event<A>) -> (Option<TxnId>, Option<Tx
 {
     match event {
         Event::Spawn(t, _, _) | Event::Split(t, _, _, _) | Event::Join(_, t) => (Some(*t), None),
-        Event::Delegate(t, u, _) => {
+        Event::Delegate(t, u, _) | Event::Permit(t, u, _) => {
             if t.0 == u.0 {
                 (Some(*t), None)
             } else {

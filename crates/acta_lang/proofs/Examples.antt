@@ -20,7 +20,7 @@ use Rattle.acta_words.specs.Text.{text_of}
 use Rattle.acta_lang.specs.declared.fault.AsmFault.{AsmFault}
 use Rattle.acta_lang.specs.declared.fault.Code.{Code}
 use Rattle.acta_lang.specs.declared.fault.Code.TheVariants.{NotAscii, BadWord, BadName, DuplicateName, WrongPlace, BadNumber, TooMany, MissingEnd, MissingPart, BeginKindAtStart, HeirWithoutSpawn, BadPolicyKind}
-use Rattle.acta_lang.specs.Canonical.{canonical}
+use Rattle.acta_lang.specs.Canonical.{canonical, may_words}
 use Rattle.acta_lang.specs.Drafts.{Draft, extended}
 use Rattle.acta_lang.specs.Faults.{not_ascii, bad_word, bad_name, duplicate_name, wrong_place, bad_number, too_many, missing_end, missing_part, begin_kind_at_start, heir_without_spawn, bad_policy_kind, code_at}
 use Rattle.acta_lang.specs.Meaning.{meaning, meaning_behind}
@@ -123,6 +123,15 @@ reserved = refl
 lists_of_none : meant (text_of (codes "class a" ∷ codes "starts" ∷ codes "may" ∷ codes "scope others" ∷ codes "policy refuse" ∷ codes "commit keeps" ∷ codes "delegation whole" ∷ codes "end" ∷ [])) ≡ Ok (only (record (plain (codes "a")) { starts = record { begin = false; spawned = false; split = false }; may = 0 }))
 unfolding meaning_behind extended not_ascii bad_word bad_name duplicate_name wrong_place bad_number too_many missing_end missing_part begin_kind_at_start heir_without_spawn bad_policy_kind
 lists_of_none = refl
+
+-- a permit is the bit 256, wherever it stands
+permits : meant (text_of (codes "class a" ∷ codes "starts begin" ∷ codes "may permit operate commit" ∷ codes "scope others" ∷ codes "policy refuse" ∷ codes "commit keeps" ∷ codes "delegation whole" ∷ codes "end" ∷ [])) ≡ Ok (only (record (plain (codes "a")) { may = 352 }))
+unfolding meaning_behind extended not_ascii bad_word bad_name duplicate_name wrong_place bad_number too_many missing_end missing_part begin_kind_at_start heir_without_spawn bad_policy_kind
+permits = refl
+
+-- and is written last
+permits_last : may_words 352 ≡ codes "operate" ∷ codes "commit" ∷ codes "permit" ∷ []
+permits_last = refl
 
 -- edges stand by their kind, the starter first, each once
 edges_once : meant (text_of (codes "class a" ∷ codes "split started WD starter" ∷ codes "split starter WD started" ∷ codes "split starter CD started" ∷ codes "split started WD starter" ∷ codes "starts begin" ∷ codes "may operate commit" ∷ codes "scope others" ∷ codes "policy refuse" ∷ codes "commit keeps" ∷ codes "delegation whole" ∷ codes "end" ∷ [])) ≡ Ok (only (record (plain (codes "a")) { split_edges = edge Cd Starter ∷ edge Wd Starter ∷ edge Wd Started ∷ [] }))

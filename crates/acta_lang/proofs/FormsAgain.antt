@@ -78,8 +78,8 @@ depend_is bits form.End h = absurd (true≢false (sym h))
 depend_is bits form.Unknown h = absurd (true≢false (sym h))
 
 -- each set of kinds, written and read again, is the same set
-pub may_again : (kinds : ℕ) → kinds < 2 ^ 8 → may_form (may_words kinds) ≡ form.May kinds
-may_again kinds small = may_is kinds _ (agree_below_at (λ bits. is_may bits (may_form (may_words bits))) (λ _. true) 256 kinds refl small)
+pub may_again : (kinds : ℕ) → kinds < 2 ^ 9 → may_form (may_words kinds) ≡ form.May kinds
+may_again kinds small = may_is kinds _ (agree_below_at (λ bits. is_may bits (may_form (may_words bits))) (λ _. true) 512 kinds refl small)
 
 pub deps_again : (kinds : ℕ) → kinds < 2 ^ 12 → depend_form (dep_words kinds) ≡ form.Policy (Depend kinds)
 deps_again kinds small = depend_is kinds _ (agree_below_at (λ bits. is_depend bits (depend_form (dep_words bits))) (λ _. true) 4096 kinds refl small)

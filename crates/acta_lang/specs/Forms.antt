@@ -41,7 +41,7 @@ class_form _ = form.Unknown
 abbrev pub starts_form : List (List ℕ) → Form
 starts_form words = if list_all (is_word_among start_words) words then form.Starts (starts_of words) else form.Unknown
 
--- [spawn|split|join|delegate|form|operate|commit|abort]...
+-- [spawn|split|join|delegate|form|operate|commit|abort|permit]...
 abbrev pub may_form : List (List ℕ) → Form
 may_form words = known (option_map (λ kinds. form.May (kinds_of kinds)) (each_read may_named words))
 

@@ -3,7 +3,7 @@ use Rattle.std.specs.Prelude.{ℕ, List, [], ◌∷◌, fold, find, bit_or, code
 use Rattle.std.specs.Str.{bytes_eq}
 use Rattle.acta_table.specs.declared.dep.Dep.{Dep}
 use Rattle.acta_table.specs.declared.event.EventKind.{EventKind}
-use Rattle.acta_table.specs.declared.event.EventKind.TheVariants.{Begin, Spawn, Split, Join, Delegate, Form, Operate, Commit, Abort}
+use Rattle.acta_table.specs.declared.event.EventKind.TheVariants.{Begin, Spawn, Split, Join, Delegate, Form, Operate, Commit, Abort, Permit}
 use Rattle.acta_table.specs.declared.model.AtCommit.{AtCommit}
 use Rattle.acta_table.specs.declared.model.AtCommit.TheVariants.{Keeps, ToParent}
 use Rattle.acta_table.specs.declared.model.Extent.{Extent}
@@ -29,7 +29,7 @@ starts_of words = record {
 
 -- the kinds of event that a class may do, by code
 abbrev pub may_kinds : List EventKind
-may_kinds = Spawn ∷ Split ∷ Join ∷ Delegate ∷ Form ∷ Operate ∷ Commit ∷ Abort ∷ []
+may_kinds = Spawn ∷ Split ∷ Join ∷ Delegate ∷ Form ∷ Operate ∷ Commit ∷ Abort ∷ Permit ∷ []
 
 -- the word of a kind of event
 abbrev pub may_word : EventKind → List ℕ
@@ -42,6 +42,7 @@ may_word Form = codes "form"
 may_word Operate = codes "operate"
 may_word Commit = codes "commit"
 may_word Abort = codes "abort"
+may_word Permit = codes "permit"
 
 -- the kind of event that a word of a `may` line names
 abbrev pub may_named : List ℕ → Option EventKind

@@ -33,7 +33,7 @@ pub(crate) fn starts_form(words: &[&[u8]]) -> Form
     })
 }
 
-/// `[spawn|split|join|delegate|form|operate|commit|abort]...`, behind `may`
+/// `[spawn|split|join|delegate|form|operate|commit|abort|permit]...`, behind `may`
 pub(crate) fn may_form(words: &[&[u8]]) -> Form
     ensures { result ≡ may_form (map (λ word. word.now) words.now) }
 {

@@ -20,7 +20,7 @@ pub(crate) enum Form {
     Class,
     /// `starts [begin|spawned|split]...`
     Starts(Starts),
-    /// `may [spawn|split|join|delegate|form|operate|commit|abort]...`
+    /// `may [spawn|split|join|delegate|form|operate|commit|abort|permit]...`
     May(Kinds),
     /// `scope others|nonancestors`
     Scope(Scope),

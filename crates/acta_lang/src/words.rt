@@ -7,7 +7,7 @@ ghost use Rattle.acta_lang.specs.Words.{start_words, may_word, may_named, dep_na
 use acta_table::{AtCommit, Dep, EventKind, Extent, Scope};
 
 /// The kinds of event that a class may do, by code.
-pub(crate) const MAY: [EventKind; 8] = [
+pub(crate) const MAY: [EventKind; 9] = [
     EventKind::Spawn,
     EventKind::Split,
     EventKind::Join,
@@ -16,6 +16,7 @@ pub(crate) const MAY: [EventKind; 8] = [
     EventKind::Operate,
     EventKind::Commit,
     EventKind::Abort,
+    EventKind::Permit,
 ];
 
 /// Whether the word is one of these.
@@ -46,6 +47,7 @@ pub(crate) fn may_word(kind: EventKind) -> &'static str
         EventKind::Operate => "operate",
         EventKind::Commit => "commit",
         EventKind::Abort => "abort",
+        EventKind::Permit => "permit",
     }
 }
 

@@ -33,7 +33,7 @@ use Rattle.acta_axioms.proofs.Conflicts.{do_conflict-on}
 use Rattle.acta_axioms.proofs.Holders.{all-ascending, all-upon}
 use Rattle.acta_deps.specs.Statuses.{is_in_progress}
 use Rattle.acta_sets.specs.declared.held_op.HeldOp.{HeldOp}
-use Rattle.acta_sets.specs.Operations.{is_of_others}
+use Rattle.acta_sets.specs.Operations.{is_among, is_of_others}
 use Rattle.acta_machine.specs.Summary.{Summary}
 use Rattle.acta_machine.specs.Changes.{summary_of}
 use Rattle.acta_machine.specs.Conflicts.{stands_against, opponents, conflict_edges}
@@ -51,10 +51,10 @@ and_assoc false b c = refl
 
 -- what stands against an operation by the table conflicts with it by places
 pub against-places : {A : Type 0} (m : Parts A) (h : List (Kept A)) → ShowsPlaces m h (summary_of m h) → (t : ℕ) (ob : ObjId) (op : Op) (o : Operation) →
-    stands_against m (summary_of m h) t ob op (held_op o (standing m h o)) ≡ (Rattle.acta_axioms.specs.Operations.is_of_others m h t (standing m h o) && ((o.object == ob.0) && do_conflict m ob.0 o.op op))
+    stands_against m (summary_of m h) t ob op (held_op o (standing m h o)) ≡ (Rattle.acta_axioms.specs.Operations.is_of_others m h t o.object (standing m h o) && ((o.object == ob.0) && do_conflict m ob.0 o.op op))
 against-places m h shows t ob op o =
     (λ i. others-places m h shows t o i && (o.object == ob.0) && sym (do_conflict-on m ob.0 o.op op) i)
-    ∙ and_assoc (Rattle.acta_axioms.specs.Operations.is_of_others m h t (standing m h o)) (o.object == ob.0) (do_conflict m ob.0 o.op op)
+    ∙ and_assoc (Rattle.acta_axioms.specs.Operations.is_of_others m h t o.object (standing m h o)) (o.object == ob.0) (do_conflict m ob.0 o.op op)
 
 -- those who hold it are the same
 pub opponents-places : {A : Type 0} (m : Parts A) (h : List (Kept A)) → ShowsPlaces m h (summary_of m h) → (t : ℕ) (ob : ObjId) (op : Op) → opponents m (summary_of m h) t ob op ≡ holders_against m h t ob.0 op
@@ -138,7 +138,7 @@ first_true false b e = cc
 pub opponents-on : {A : Type 0} (m : Parts A) (s : Summary) → AreHeldWell s → (t : ℕ) (ob : ObjId) (op : Op) → list_all (λ u. is_in_progress (s.status u)) (opponents m s t ob op) ≡ true
 opponents-on m s well t ob op =
     all-ascending (λ u. is_in_progress (s.status u)) (map (λ (i : HeldOp). i.holder.0) (filter (stands_against m s t ob op) s.operations))
-    (all-opponents s.status (stands_against m s t ob op) (λ i against. first_true (is_open i.fate) _ (first_true (is_open i.fate && not (i.holder.0 == t)) _ (first_true (is_of_others t (spared m s t) i) _ (first_true (is_of_others t (spared m s t) i && (i.ob.0 == ob.0)) _ against)))) s.operations well)
+    (all-opponents s.status (stands_against m s t ob op) (λ i against. first_true (is_open i.fate) _ (first_true (is_open i.fate && not (i.holder.0 == t)) _ (first_true (is_open i.fate && not (i.holder.0 == t) && not (is_among (spared m s t) i.holder)) _ (first_true (is_of_others t (spared m s t) s.permits i) _ (first_true (is_of_others t (spared m s t) s.permits i && (i.ob.0 == ob.0)) _ against))))) s.operations well)
 
 -- the formulas of the edges hold where their transactions have not ended
 pub holding-conflicts : {A : Type 0} (m : Parts A) (s : Summary) (courses : ℕ → Course) → lowest_fault m ≡ None → AreHeldWell s → (t : TxnId) (ob : ObjId) (op : Op) → is_some (end (courses t.0)) ≡ false

@@ -15,7 +15,7 @@ use Rattle.acta_table.specs.declared.event.Op.{Op}
 use Rattle.acta_table.specs.declared.event.OpNo.{OpNo}
 use Rattle.acta_table.specs.declared.answer.Status.{Status}
 use Rattle.acta_table.specs.declared.event.Event.{Event}
-use Rattle.acta_table.specs.declared.event.Event.TheVariants.{Begin, Spawn, Split, Join, Delegate, Form, Operate, Commit, Abort}
+use Rattle.acta_table.specs.declared.event.Event.TheVariants.{Begin, Spawn, Split, Join, Delegate, Form, Operate, Commit, Abort, Permit}
 use Rattle.acta_table.specs.declared.event.Kept.{Kept}
 use Rattle.acta_table.specs.declared.event.Ret.{Ret}
 use Rattle.acta_table.specs.declared.event.TxnId.{TxnId}
@@ -67,6 +67,7 @@ dependency-rule s (Form kind j i) = tt
 dependency-rule s (Operate t ob op) = tt
 dependency-rule s (Commit t) = if_some (commit_refusal s.status s.edges t.0) (commit-rule s.status s.edges t.0)
 dependency-rule s (Abort t) = if_some (abort_refusal s.status s.edges t.0) (abort-rule s.status s.edges t.0)
+dependency-rule s (Permit t u ob) = tt
 
 -- what is legal is legal by the courses
 legal-by : {A : Type 0} (m : Parts A) (h : List (Kept A)) → is_legal m h ≡ is_legal_by (course h) (edges m h)
@@ -306,6 +307,12 @@ module _ {A : Type 0} (m : Parts A) (h : List (Kept A)) (shows : ShowsPlaces m h
       let k : Kept A = record { event = Delegate t v ops; ret = ret } in
       legal-by m (h ++ k ∷ []) ∙ (λ n. is_legal_by (λ w. course-other h k w refl refl refl refl n) (edges-push m h k n)) ∙ sym (legal-by m h) ∙ meets.legal
 
+  -- a permit leaves it as it was
+  legal-permit : (t v : TxnId) (ob : ObjId) (ret : Option Ret) → is_legal m (with_event (Permit t v ob) ret) ≡ true
+  legal-permit t v ob ret =
+      let k : Kept A = record { event = Permit t v ob; ret = ret } in
+      legal-by m (h ++ k ∷ []) ∙ (λ n. is_legal_by (λ w. course-other h k w refl refl refl refl n) (edges-push m h k n)) ∙ sym (legal-by m h) ∙ meets.legal
+
   exact-of : IsChecked m s → AreHeldWell s → (e : Event A) (ret : Option Ret) → Unbroken m s e → IsOrderly m (with_event e ret) → IsExact m (with_event e ret) s e
   exact-of checked well (Begin t class) ret u later = exact-begin t class ret u later
   exact-of checked well (Spawn t v class) ret u later = exact-spawn checked t v class ret u later
@@ -316,6 +323,7 @@ module _ {A : Type 0} (m : Parts A) (h : List (Kept A)) (shows : ShowsPlaces m h
   exact-of checked well (Operate t ob op) ret u later = legal-exact m _ (legal-operate checked well t ob op ret u)
   exact-of checked well (Commit t) ret u later = exact-commit t ret u later
   exact-of checked well (Abort t) ret u later = exact-abort t ret u later
+  exact-of checked well (Permit t v ob) ret u later = legal-exact m _ (legal-permit t v ob ret)
 
 pub exact-on : {A : Type 0} (m : Parts A) (h : List (Kept A)) (k : Kept A) → IsChecked m (summary_of m h) → AreHeldWell (summary_of m h) → ShowsPlaces m h (summary_of m h) → MeetsAxioms m h → IsOrderly m h → Unbroken m (summary_of m h) k.event → IsOrderly m (h ++ k ∷ [])
     → IsExact m (h ++ k ∷ []) (summary_of m h) k.event

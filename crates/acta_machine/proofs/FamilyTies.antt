@@ -1,12 +1,12 @@
 -- Classes, ancestors and heirs by the table are those by places.
-use Rattle.std.proofs.Common.{◌≡◌, ℕ, suc, ◌+◌, Bool, true, false, ◌&&◌, ◌==◌, List, [], ◌∷◌, length, Option, Some, None, refl, sym, ap, ◌∙◌, arith}
+use Rattle.std.proofs.Common.{◌≡◌, ℕ, suc, ◌+◌, Bool, true, false, ◌&&◌, ◌==◌, List, [], ◌∷◌, length, Option, Some, None, refl, sym, ap, ◌∙◌, arith, ◌||◌}
 use Rattle.std.specs.Prelude.{option_map, option_and_then, if◌then◌else◌}
 use Rattle.std.specs.List.{list_any}
 use Rattle.std.specs.Option.{option_map_or}
 use Rattle.acta_table.specs.declared.event.TxnId.{TxnId}
 use Rattle.acta_table.specs.declared.event.Kept.{Kept}
 use Rattle.acta_table.specs.declared.event.Event.{Event}
-use Rattle.acta_table.specs.declared.event.Event.TheVariants.{Begin, Spawn, Split, Join, Delegate, Form, Operate, Commit, Abort}
+use Rattle.acta_table.specs.declared.event.Event.TheVariants.{Begin, Spawn, Split, Join, Delegate, Form, Operate, Commit, Abort, Permit}
 use Rattle.acta_table.specs.declared.answer.Status.TheVariants.{Committed}
 use Rattle.acta_table.specs.declared.model.Class.{Class}
 use Rattle.acta_table.specs.declared.model.Parts.{Parts}
@@ -16,7 +16,7 @@ use Rattle.acta_axioms.specs.History.{ancestors}
 use Rattle.acta_axioms.specs.History as by_places
 use Rattle.acta_axioms.specs.Operations.{heir, is_spared}
 use Rattle.acta_sets.specs.Operations.{is_among}
-use Rattle.acta_machine.specs.Summary.{Summary, nothing_yet, stood, entered, linked, given, inherited, operated, fated, counted}
+use Rattle.acta_machine.specs.Summary.{Summary, nothing_yet, stood, terminated, permit_given, entered, linked, given, inherited, operated, fated, counted}
 use Rattle.acta_machine.specs.Changes.{settled, effect, summary_from, summary_of}
 use Rattle.acta_machine.specs.Families.{class_of, has_class, ancestors_of, spared, heir_of}
 use Rattle.acta_machine.specs.Places.{ShowsPlaces}
@@ -48,7 +48,7 @@ settled_kept s t None = refl
 settled_kept s t (Some u) = refl
 
 effect_kept : {A : Type 0} (m : Parts A) (s : Summary) (e : Event A) → (effect m s e).kept ≡ suc s.kept
-unfolding stood entered linked given inherited operated fated counted
+unfolding stood terminated permit_given entered linked given inherited operated fated counted
 effect_kept m s (Begin t class) = omega arith
 effect_kept m s (Spawn t c class) = omega arith
 effect_kept m s (Split t u class ops) = omega arith
@@ -56,8 +56,9 @@ effect_kept m s (Join t u) = omega arith
 effect_kept m s (Delegate t u ops) = omega arith
 effect_kept m s (Form kind j i) = omega arith
 effect_kept m s (Operate t ob op) = omega arith
-effect_kept m s (Commit t) = let same = settled_kept (stood s t Committed) t (heir_of m s t.0) in omega (arith, same)
+effect_kept m s (Commit t) = let same = settled_kept (terminated s t Committed) t (heir_of m s t.0) in omega (arith, same)
 effect_kept m s (Abort t) = omega arith
+effect_kept m s (Permit t u ob) = omega arith
 
 kept_from : {A : Type 0} (m : Parts A) (s : Summary) (h : List (Kept A)) → (summary_from m s h).kept ≡ s.kept + length h
 kept_from m s [] = omega arith
@@ -75,8 +76,9 @@ among_if : (b : Bool) (line : List TxnId) (u : TxnId) → (b && list_any (λ a. 
 among_if true line u = refl
 among_if false line u = refl
 
--- those that are left out of a conflict set
-pub spared-places : {A : Type 0} (m : Parts A) (h : List (Kept A)) → ShowsPlaces m h (summary_of m h) → (t : ℕ) (u : TxnId) → is_spared m h t u.0 ≡ is_among (spared m (summary_of m h) t) u
-spared-places m h shows t u =
-    (λ i. has_class-places (λ k. spares k.scope) m h (summary_of m h) shows t i && list_any (λ a. a.0 == u.0) (sym (ancestors-places m h shows t) i))
-    ∙ among_if (has_class (λ k. spares k.scope) m (summary_of m h) t) (ancestors_of (summary_of m h) t) u
+-- those whose operations on an object are left out of a conflict set
+pub spared-places : {A : Type 0} (m : Parts A) (h : List (Kept A)) → ShowsPlaces m h (summary_of m h) → (t object : ℕ) (u : TxnId) → is_spared m h t object u.0 ≡ (is_among (spared m (summary_of m h) t) u || (summary_of m h).permits u.0 t object)
+spared-places m h shows t object u =
+    λ n. ((λ i. has_class-places (λ k. spares k.scope) m h (summary_of m h) shows t i && list_any (λ a. a.0 == u.0) (sym (ancestors-places m h shows t) i))
+    ∙ among_if (has_class (λ k. spares k.scope) m (summary_of m h) t) (ancestors_of (summary_of m h) t) u) n
+    || sym (shows.permits u.0 t object) n

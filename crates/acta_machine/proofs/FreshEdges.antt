@@ -13,7 +13,7 @@ use Rattle.acta_table.specs.declared.dep.Edge.{Edge}
 use Rattle.acta_table.specs.declared.dep.Missing.{Missing}
 use Rattle.acta_table.specs.declared.event.ClassId.{ClassId}
 use Rattle.acta_table.specs.declared.event.Event.{Event}
-use Rattle.acta_table.specs.declared.event.Event.TheVariants.{Begin, Spawn, Split, Join, Delegate, Form, Operate, Commit, Abort}
+use Rattle.acta_table.specs.declared.event.Event.TheVariants.{Begin, Spawn, Split, Join, Delegate, Form, Operate, Commit, Abort, Permit}
 use Rattle.acta_table.specs.declared.event.ObjId.{ObjId}
 use Rattle.acta_table.specs.declared.event.Op.{Op}
 use Rattle.acta_table.specs.declared.event.TxnId.{TxnId}
@@ -128,3 +128,4 @@ fresh-due m s (Operate t ob op) faultless well nobody u =
     fresh-conflicts m s well nobody t ob op (in_progress s NotInProgress t.0 u.progress)
 fresh-due m s (Commit t) faultless well nobody u = refl
 fresh-due m s (Abort t) faultless well nobody u = refl
+fresh-due m s (Permit t v ob) faultless well nobody u = refl

@@ -6,7 +6,7 @@ use Rattle.std.specs.Option.{option_map_or}
 use Rattle.std.proofs.lemmas.Bool.{true≢false, eqb-true}
 use Rattle.acta_table.specs.declared.answer.Rule.TheVariants.{NotResponsible, BadSet}
 use Rattle.acta_table.specs.declared.event.Event.{Event}
-use Rattle.acta_table.specs.declared.event.Event.TheVariants.{Begin, Spawn, Split, Join, Delegate, Form, Operate, Commit, Abort}
+use Rattle.acta_table.specs.declared.event.Event.TheVariants.{Begin, Spawn, Split, Join, Delegate, Form, Operate, Commit, Abort, Permit}
 use Rattle.acta_table.specs.declared.event.OpNo.{OpNo}
 use Rattle.acta_table.specs.declared.model.Parts.{Parts}
 use Rattle.acta_table.specs.Events.{acting, operations_named}
@@ -100,3 +100,4 @@ event-held m s (Form kind j i) u = refl
 event-held m s (Operate t ob op) u = refl
 event-held m s (Commit t) u = refl
 event-held m s (Abort t) u = refl
+event-held m s (Permit t v ob) u = refl

@@ -7,13 +7,14 @@ use Rattle.acta_table.specs.declared.event.OpNo.{OpNo}
 use Rattle.acta_table.specs.declared.event.TxnId.{TxnId}
 use Rattle.acta_sets.specs.Operations.{moved_from}
 use Rattle.acta_table.specs.declared.model.Parts.{Parts}
-use Rattle.acta_table.specs.declared.event.Event.TheVariants.{Begin, Spawn, Split, Join, Delegate, Form, Operate, Commit, Abort}
+use Rattle.acta_table.specs.declared.event.Event.TheVariants.{Begin, Spawn, Split, Join, Delegate, Form, Operate, Commit, Abort, Permit}
 use Rattle.acta_table.specs.declared.event.Kept.{Kept}
 use Rattle.acta_table.specs.declared.answer.Status.TheVariants.{NotBegun, Committed}
 use Rattle.acta_table.specs.declared.limits.TheConstants.{TABLE_SIZE}
 use Rattle.acta_deps.specs.Deps.{DepState}
 use Rattle.acta_sets.specs.declared.held_op.HeldOp.{HeldOp}
-use Rattle.acta_machine.specs.Summary.{Summary, nothing_yet, stood, entered, linked, given, inherited, operated, fated, counted}
+use Rattle.acta_sets.specs.Permits.{Permitted, none_permitted}
+use Rattle.acta_machine.specs.Summary.{Summary, nothing_yet, stood, terminated, permit_given, entered, linked, given, inherited, operated, fated, counted}
 use Rattle.acta_machine.specs.Changes.{edges_due, settled, effect, summary_from, summary_of}
 use Rattle.acta_machine.specs.Families.{heir_of}
 use Rattle.acta_machine.specs.inside.Shown.{unbegun, origin_in, summary_in}
@@ -36,13 +37,13 @@ fresh_table {X} x table is_fresh u =
     ∙ unwrap_or-slice_get (replicate TABLE_SIZE x) u x ∙ fresh_entry x TABLE_SIZE u
 
 -- fresh tables with nothing kept show the summary before any event
-pub fresh_summary : {A : Type 0} (m : Parts A) (deps : DepState) (origins : List Origin) (operations : List HeldOp) (kept : List (Kept A)) → deps ≡ record { statuses = replicate TABLE_SIZE NotBegun; edges = [] } → origins ≡ replicate TABLE_SIZE unbegun → operations ≡ [] → kept ≡ [] → summary_in deps origins operations kept ≡ summary_of m kept
+pub fresh_summary : {A : Type 0} (m : Parts A) (deps : DepState) (origins : List Origin) (operations : List HeldOp) (permits : Permitted) (kept : List (Kept A)) → deps ≡ record { statuses = replicate TABLE_SIZE NotBegun; edges = [] } → origins ≡ replicate TABLE_SIZE unbegun → operations ≡ [] → permits ≡ none_permitted → kept ≡ [] → summary_in deps origins operations permits kept ≡ summary_of m kept
 unfolding summary_of
-fresh_summary m deps origins operations kept new none no_operation empty =
+fresh_summary m deps origins operations permits kept new none no_operation no_permit empty =
     let statuses = ap (λ (d : DepState). d.statuses) new in
     let edges = ap (λ (d : DepState). d.edges) new in
     let origin : (u : ℕ) → origin_in origins u ≡ unbegun = fresh_table unbegun origins none in
-    let shows : summary_in deps origins operations kept ≡ nothing_yet =
+    let shows : summary_in deps origins operations permits kept ≡ nothing_yet =
     λ i. record {
       kept = length (empty i);
       status = λ u. fresh_table NotBegun deps.statuses statuses u i;
@@ -50,6 +51,7 @@ fresh_summary m deps origins operations kept new none no_operation empty =
       parent = λ u. (origin u i).parent;
       operations = no_operation i;
       edges = edges i;
+      permits = no_permit i;
     } in
     shows ∙ sym (ap (summary_from m nothing_yet) empty)
 
@@ -61,13 +63,13 @@ length-moved n ops u [] = refl
 length-moved n ops u (i ∷ items) = ap suc (length-moved (n + 1) ops u items)
 
 -- what becomes of operations at a commit leaves their number
-settled_few : (s : Summary) (t : TxnId) (heir : Option TxnId) → length (counted (settled (stood s t Committed) t heir)).operations ≤ length s.operations + 1
-unfolding stood inherited fated counted
+settled_few : (s : Summary) (t : TxnId) (heir : Option TxnId) → length (counted (settled (terminated s t Committed) t heir)).operations ≤ length s.operations + 1
+unfolding terminated inherited fated counted
 settled_few s t None = simp length-map (omega arith)
 settled_few s t (Some heir) = simp length-map (omega arith)
 
 changed_few : {A : Type 0} (m : Parts A) (s : Summary) (k : Kept A) → length (effect m s k.event).operations ≤ length s.operations + 1
-unfolding stood entered linked given inherited operated fated counted
+unfolding stood terminated permit_given entered linked given inherited operated fated counted
 changed_few m s k =
     elim k.event as (λ e. length (effect m s e).operations ≤ length s.operations + 1) [
       | Begin t class ↦ omega arith
@@ -79,6 +81,7 @@ changed_few m s k =
       | Operate t ob op ↦ simp length-append (omega arith)
       | Commit t ↦ settled_few (linked s (edges_due m s (Commit t))) t (heir_of m s t.0)
       | Abort t ↦ simp length-map (omega arith)
+      | Permit t u ob ↦ omega arith
     ]
 
 few_from : {A : Type 0} (m : Parts A) (s : Summary) (history : List (Kept A)) → length (summary_from m s history).operations ≤ length s.operations + length history

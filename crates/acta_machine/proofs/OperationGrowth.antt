@@ -12,7 +12,7 @@ use Rattle.acta_table.specs.declared.event.ClassId.{ClassId}
 use Rattle.acta_table.specs.declared.event.ObjId.{ObjId}
 use Rattle.acta_table.specs.declared.event.Op.{Op}
 use Rattle.acta_table.specs.declared.event.Ret.{Ret}
-use Rattle.acta_table.specs.declared.event.Event.TheVariants.{Begin, Spawn, Split, Join, Delegate, Form, Operate, Commit, Abort}
+use Rattle.acta_table.specs.declared.event.Event.TheVariants.{Begin, Spawn, Split, Join, Delegate, Form, Operate, Commit, Abort, Permit}
 use Rattle.acta_table.specs.declared.event.Kept.{Kept}
 use Rattle.acta_table.specs.declared.answer.Fate.{Fate}
 use Rattle.acta_table.specs.declared.answer.Fate.TheVariants.{InProgress, Committed, Aborted}
@@ -58,6 +58,13 @@ operations-spawn {A} m h ret t c class =
 pub operations-form : {A : Type 0} (m : Parts A) (h : List (Kept A)) (ret : Option Ret) (kind : Dep) (j i : TxnId) → held_ops m (h ++ (record { event = Form kind j i; ret = ret }) ∷ []) ≡ held_ops m h
 operations-form {A} m h ret kind j i =
     let k : Kept A = record { event = Form kind j i; ret = ret } in
+    shown-push held_op m h k
+    ∙ append-nil (map (λ o. held_op o (carried m o.number (standing m h o) (at_end h k))) (operations h))
+    ∙ map-same _ _ (λ o. ap (held_op o) (idle (standing m h o).fate (standing m h o).holder)) (operations h)
+
+pub operations-permit : {A : Type 0} (m : Parts A) (h : List (Kept A)) (ret : Option Ret) (t u : TxnId) (ob : ObjId) → held_ops m (h ++ (record { event = Permit t u ob; ret = ret }) ∷ []) ≡ held_ops m h
+operations-permit {A} m h ret t u ob =
+    let k : Kept A = record { event = Permit t u ob; ret = ret } in
     shown-push held_op m h k
     ∙ append-nil (map (λ o. held_op o (carried m o.number (standing m h o) (at_end h k))) (operations h))
     ∙ map-same _ _ (λ o. ap (held_op o) (idle (standing m h o).fate (standing m h o).holder)) (operations h)

@@ -47,7 +47,7 @@ access-places state t follows =
 
 pub conflict-places : {A : Type 0} (state : State A) (t : ℕ) → FollowsPlaces state → conflict_set_in state t ≡ op_numbers (by_places.conflict_set state.model state.kept t)
 conflict-places state t follows =
-    where-places state.model state.kept _ (is_of_others t (spared state.model (summary_of state.model state.kept) t)) (λ o. by_places.is_of_others state.model state.kept t (standing state.model state.kept o)) follows.shows.operations
+    where-places state.model state.kept _ (is_of_others t (spared state.model (summary_of state.model state.kept) t) (summary_of state.model state.kept).permits) (λ o. by_places.is_of_others state.model state.kept t o.object (standing state.model state.kept o)) follows.shows.operations
     (others-places state.model state.kept follows.shows t)
 
 pub view-places : {A : Type 0} (state : State A) → FollowsPlaces state → view_set_in state ≡ op_numbers (by_places.view_set state.model state.kept)

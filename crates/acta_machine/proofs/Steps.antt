@@ -4,7 +4,7 @@ use Rattle.std.specs.Prelude.{option_map, option_and_then, option_to_list, is_so
 use Rattle.std.specs.List.{list_any, list_all}
 use Rattle.std.specs.Option.{option_map_or, option_or}
 use Rattle.std.specs.Ordering.{int_eq}
-use Rattle.std.proofs.lemmas.Bool.{true≢false, ne_eqb}
+use Rattle.std.proofs.lemmas.Bool.{true≢false, ne_eqb, eqb-true}
 use Rattle.std.proofs.lemmas.Option.{same_Some, none-some}
 use Rattle.std.proofs.lemmas.Cmp.{int_eq_equiv}
 use Rattle.acta_table.specs.declared.dep.Dep.{Dep}
@@ -15,9 +15,9 @@ use Rattle.acta_table.specs.declared.event.Op.{Op}
 use Rattle.acta_table.specs.declared.event.Ret.{Ret}
 use Rattle.acta_table.specs.declared.event.Ret.TheVariants.{Done, Value, Flag}
 use Rattle.acta_table.specs.declared.event.EventKind.{EventKind}
-use Rattle.acta_table.specs.declared.event.EventKind.TheVariants.{Begin as begin_kind, Spawn as spawn_kind, Split as split_kind, Join as join_kind, Delegate as delegate_kind, Form as form_kind, Operate as operate_kind, Commit as commit_kind, Abort as abort_kind}
+use Rattle.acta_table.specs.declared.event.EventKind.TheVariants.{Begin as begin_kind, Spawn as spawn_kind, Split as split_kind, Join as join_kind, Delegate as delegate_kind, Form as form_kind, Operate as operate_kind, Commit as commit_kind, Abort as abort_kind, Permit as permit_kind}
 use Rattle.acta_table.specs.declared.event.Event.{Event}
-use Rattle.acta_table.specs.declared.event.Event.TheVariants.{Begin, Spawn, Split, Join, Delegate, Form, Operate, Commit, Abort}
+use Rattle.acta_table.specs.declared.event.Event.TheVariants.{Begin, Spawn, Split, Join, Delegate, Form, Operate, Commit, Abort, Permit}
 use Rattle.acta_table.specs.declared.event.Kept.{Kept}
 use Rattle.acta_table.specs.declared.answer.Status.{Status}
 use Rattle.acta_table.specs.declared.answer.Status.TheVariants.{NotBegun, InProgress, Committed as has_committed, Aborted as has_aborted, Joined as has_joined}
@@ -45,12 +45,18 @@ use Rattle.acta_axioms.specs.Claims.{MeetsAxioms, IsOrderly, status_at}
 use Rattle.acta_axioms.specs.Values as by_places
 use Rattle.acta_axioms.proofs.EdgeGrowth.{EndsInProgress, edges-push, apart-push, course-orderly-push, orderly-none}
 use Rattle.acta_axioms.proofs.Growth.{class_in, class_of-push, parent_of-push, started_within, parent_earlier}
+use Rattle.acta_axioms.proofs.Permitting.{permitted-push, permits_begun-push, none-permitted}
+use Rattle.acta_axioms.specs.Permits.{is_permitted}
+use Rattle.acta_axioms.specs.inside.Lineages.{is_late}
+use Rattle.acta_axioms.specs.inside.Walking.{permits_behind}
+use Rattle.acta_table.specs.Events.{permits}
+use Rattle.acta_sets.specs.Permits.{Permitted}
 use Rattle.acta_axioms.proofs.Statuses.{is_under_way, is_ended_status, in_progress-status, has_begun-status, status_at-push}
-use Rattle.acta_axioms.proofs.Faultless.{IsFaultless, meets-none, meets-push, well_formed, faultless-begin, faultless-spawn, faultless-split, faultless-join, faultless-delegate, faultless-form, faultless-commit, faultless-abort}
+use Rattle.acta_axioms.proofs.Faultless.{IsFaultless, meets-none, meets-push, well_formed, faultless-begin, faultless-spawn, faultless-split, faultless-join, faultless-delegate, faultless-form, faultless-commit, faultless-abort, faultless-permit}
 use Rattle.acta_table.specs.declared.answer.Fate.TheVariants.{Committed, Aborted}
 use Rattle.acta_deps.specs.Statuses as by_status
 use Rattle.acta_sets.specs.Operations.{added, moved, handed, ended}
-use Rattle.acta_machine.specs.Summary.{Summary, stood, entered, linked, given, inherited, operated, fated, counted}
+use Rattle.acta_machine.specs.Summary.{Summary, stood, terminated, permit_given, entered, linked, given, inherited, operated, fated, counted}
 use Rattle.acta_machine.specs.Changes.{settled, effect, summary_of}
 use Rattle.acta_machine.specs.Conflicts.{stands_against}
 use Rattle.acta_machine.specs.Families.{heir_of}
@@ -59,7 +65,7 @@ use Rattle.acta_machine.specs.Values.{return_due}
 use Rattle.acta_machine.specs.Rules.{not_in_progress, already_begun, not_in_model, partner_not_in_progress, not_responsible, wants_whole, partial_delegation, bad_set, refuses_conflicts, first_against, conflict, form_too_late, fails, too_late, lost_heir, no_heir, lowest_broken, earlier_broken, dependency, txn_may, class_may, forms_none}
 use Rattle.acta_machine.specs.Table.{State, kept_as, answered, answer_to}
 use Rattle.acta_machine.specs.Exactness.{RefusesIllegal, is_dependency_rule, is_refused_by_dependency}
-use Rattle.acta_machine.specs.Places.{held_ops, HasParent, is_held_well, AreHeldWell, ShowsPlaces, FollowsPlaces}
+use Rattle.acta_machine.specs.Places.{held_ops, HasParent, is_held_well, AreHeldWell, ArePermitsBegun, ShowsPlaces, FollowsPlaces}
 use Rattle.acta_machine.proofs.Broken.{by_none, not_broken, in_progress, not_begun}
 use Rattle.acta_machine.proofs.Unbroken.{Unbroken, unbroken, none-earlier, none-dependency, none-heirless}
 use Rattle.acta_machine.proofs.ConflictTies.{conflict_edges-places}
@@ -67,7 +73,7 @@ use Rattle.acta_machine.proofs.FamilyTies.{has_class-places, heir-places}
 use Rattle.acta_machine.proofs.Exactness.{IsChecked, IsExact, exact-on, dependency-rule}
 use Rattle.acta_machine.proofs.Histories.{summary_more}
 use Rattle.acta_machine.proofs.StatusGrowth.{statuses-begin, statuses-spawn, statuses-split, statuses-commit, statuses-abort, statuses-join, ended-places, begun-places, no_class, class-stays, classes-begin, classes-spawn, classes-split, parent-stays, parents-start}
-use Rattle.acta_machine.proofs.OperationGrowth.{operations-begin, operations-spawn, operations-split, operations-join, operations-delegate, operations-form, operations-operate, operations-commit, operations-inherited, operations-abort}
+use Rattle.acta_machine.proofs.OperationGrowth.{operations-begin, operations-spawn, operations-split, operations-join, operations-delegate, operations-form, operations-operate, operations-commit, operations-inherited, operations-abort, operations-permit}
 use Rattle.acta_machine.proofs.Starting.{spawn_due, split_due, rooted-class}
 use Rattle.acta_machine.proofs.HolderGrowth.{well-started, well-given, well-handed, well-ended, well-added}
 use Rattle.acta_axioms.proofs.Numbers.{holds}
@@ -149,7 +155,7 @@ no_heir_where true false true e which = cc
 no_heir_where true false false e (inl is) = absurd (true≢false (sym is))
 no_heir_where true false false e (inr is) = absurd (true≢false (sym is))
 
-module _ {A : Type 0} (m : Parts A) (h : List (Kept A)) (shows : ShowsPlaces m h (summary_of m h)) where
+module _ {A : Type 0} (m : Parts A) (h : List (Kept A)) (shows : ShowsPlaces m h (summary_of m h)) (begun : ArePermitsBegun h) where
   abbrev s : Summary
   s = summary_of m h
 
@@ -296,6 +302,12 @@ module _ {A : Type 0} (m : Parts A) (h : List (Kept A)) (shows : ShowsPlaces m h
   faultless-of parents (Abort t) u ready =
       faultless-abort m h t (on_places t.0 (in_progress s NotInProgress t.0 u.progress)) (well-formed m s (Abort t) u)
       (may_do abort_kind t (not_broken (txn_may m s t.0 abort_kind) NotInModel u.model))
+  faultless-of parents (Permit t v ob) u ready =
+      faultless-permit m h t v ob
+      (on_places t.0 (in_progress s NotInProgress t.0 u.progress))
+      (on_places v.0 (in_progress s PartnerNotInProgress v.0 u.partner))
+      (well-formed m s (Permit t v ob) u)
+      (may_do permit_kind t (not_broken (txn_may m s t.0 permit_kind) NotInModel u.model))
 
   -- one that is new has not begun by places
   unborn : (t : ℕ) → s.status t ≡ NotBegun → has_begun h t ≡ false
@@ -303,6 +315,32 @@ module _ {A : Type 0} (m : Parts A) (h : List (Kept A)) (shows : ShowsPlaces m h
 
   born : (t : ℕ) → s.status t ≡ InProgress → has_begun h t ≡ true
   born t on = has_begun-status h t (ap is_ended_status (on_places t on)) ∙ ap is_under_way (on_places t on)
+
+  -- who is named by a permit that breaks no rule has begun, and has not ended
+  permit-begun : (e : Event A) → Unbroken m s e → (w v object : ℕ) → permits w v object e ≡ true → (has_begun h w ≡ true) × (has_begun h v ≡ true)
+  unfolding not_in_progress partner_not_in_progress
+  permit-begun (Permit t u ob) unbroken_by w v object is =
+      let two = both_true ((t.0 == w) && (u.0 == v)) (ob.0 == object) is in
+      let one = both_true (t.0 == w) (u.0 == v) two.0 in (
+        ap (has_begun h) (sym (eqb-true t.0 w one.0)) ∙ born t.0 (in_progress s NotInProgress t.0 unbroken_by.progress),
+        ap (has_begun h) (sym (eqb-true u.0 v one.1)) ∙ born u.0 (in_progress s PartnerNotInProgress u.0 unbroken_by.partner),
+      )
+  permit-begun e unbroken_by w v object is = absurd (true≢false (sym is))
+
+  not-late : (e : Event A) → Unbroken m s e → is_late (has_ended h) e ≡ false
+  unfolding not_in_progress partner_not_in_progress
+  not-late (Permit t u ob) unbroken_by =
+      λ i. not_ended t.0 (on_places_test t.0 (in_progress s NotInProgress t.0 unbroken_by.progress)) i || not_ended u.0 (on_places_test u.0 (in_progress s PartnerNotInProgress u.0 unbroken_by.partner)) i
+    where
+      not_ended : (w : ℕ) → is_in_progress h w ≡ true → has_ended h w ≡ false
+      not_ended w is = sym (not_twice (has_ended h w)) ∙ ap not (both_true (has_begun h w) (not (has_ended h w)) is).1
+  not-late e unbroken_by = refl
+
+  pub permits-begun : (e : Event A) (ret : Option Ret) → Unbroken m s e → ArePermitsBegun (h ++ (record { event = e; ret = ret }) ∷ [])
+  permits-begun e ret u = permits_begun-push h (record { event = e; ret = ret }) (permit-begun e u) begun
+
+  permits-on : (e : Event A) (ret : Option Ret) → Unbroken m s e → (w v object : ℕ) → permits_behind false e s.permits w v object ≡ is_permitted (h ++ (record { event = e; ret = ret }) ∷ []) w v object
+  permits-on e ret u = permitted-push h (record { event = e; ret = ret }) s.permits shows.permits begun (permits-begun e ret u) (not-late e u)
 
   shows-begin : (t : TxnId) (class : ClassId) (ret : Option Ret) → Unbroken m s (Begin t class) → ShowsPlaces m (h ++ (record { event = Begin t class; ret = ret }) ∷ []) (effect {A = A} m s (Begin t class))
   unfolding already_begun stood entered linked counted
@@ -315,6 +353,7 @@ module _ {A : Type 0} (m : Parts A) (h : List (Kept A)) (shows : ShowsPlaces m h
         parent = parents-start s.parent h k t None (λ w. refl) refl shows.parent (unborn t.0 new);
         operations = shows.operations ∙ sym (operations-begin m h ret t class);
         edges = shows.edges ∙ sym (edges-push m h (record { event = Begin t class; ret = ret }));
+        permits = permits-on (Begin t class) ret u;
       }
 
   shows-spawn : (t v : TxnId) (class : ClassId) (ret : Option Ret) → Unbroken m s (Spawn t v class) → ShowsPlaces m (h ++ (record { event = Spawn t v class; ret = ret }) ∷ []) (effect {A = A} m s (Spawn t v class))
@@ -329,6 +368,7 @@ module _ {A : Type 0} (m : Parts A) (h : List (Kept A)) (shows : ShowsPlaces m h
         parent = parents-start s.parent h k v (Some t) (λ w. refl) (ap (λ b. if b then Some t else None) (born t.0 on)) shows.parent (unborn v.0 new);
         operations = shows.operations ∙ sym (operations-spawn m h ret t v class);
         edges = ap (λ es. formed es (spawn_due m t v class)) shows.edges ∙ sym (edges-push m h k);
+        permits = permits-on (Spawn t v class) ret u;
       }
 
   shows-split : (t v : TxnId) (class : ClassId) (ops : List OpNo) (ret : Option Ret) → Unbroken m s (Split t v class ops) → ShowsPlaces m (h ++ (record { event = Split t v class ops; ret = ret }) ∷ []) (effect {A = A} m s (Split t v class ops))
@@ -343,10 +383,11 @@ module _ {A : Type 0} (m : Parts A) (h : List (Kept A)) (shows : ShowsPlaces m h
         parent = parents-start s.parent h k v None (λ w. refl) refl shows.parent (unborn v.0 new);
         operations = ap (moved ops v) shows.operations ∙ sym (operations-split m h ret t v class ops (λ n named. ap (λ items. holds items t.0 n) (sym shows.operations) ∙ held-named s.operations t.0 ops all n named));
         edges = ap (λ es. formed es (split_due m t v class)) shows.edges ∙ sym (edges-push m h k);
+        permits = permits-on (Split t v class ops) ret u;
       }
 
   shows-join : (t v : TxnId) (ret : Option Ret) → Unbroken m s (Join t v) → ShowsPlaces m (h ++ (record { event = Join t v; ret = ret }) ∷ []) (effect {A = A} m s (Join t v))
-  unfolding not_in_progress stood inherited linked counted
+  unfolding not_in_progress terminated inherited linked counted
   shows-join t v ret u =
       let k : Kept A = record { event = Join t v; ret = ret } in
       record {
@@ -355,6 +396,7 @@ module _ {A : Type 0} (m : Parts A) (h : List (Kept A)) (shows : ShowsPlaces m h
         parent = λ w. shows.parent w ∙ sym (parent-stays h k w refl);
         operations = ap (handed t.0 v) shows.operations ∙ sym (operations-join m h ret t v);
         edges = shows.edges ∙ sym (edges-push m h k);
+        permits = permits-on (Join t v) ret u;
       }
 
   shows-delegate : (t v : TxnId) (ops : List OpNo) (ret : Option Ret) → Unbroken m s (Delegate t v ops) → ShowsPlaces m (h ++ (record { event = Delegate t v ops; ret = ret }) ∷ []) (effect {A = A} m s (Delegate t v ops))
@@ -368,11 +410,12 @@ module _ {A : Type 0} (m : Parts A) (h : List (Kept A)) (shows : ShowsPlaces m h
         parent = λ w. shows.parent w ∙ sym (parent-stays h k w refl);
         operations = ap (moved ops v) shows.operations ∙ sym (operations-delegate m h ret t v ops (λ n named. ap (λ items. holds items t.0 n) (sym shows.operations) ∙ held-named s.operations t.0 ops all n named));
         edges = shows.edges ∙ sym (edges-push m h k);
+        permits = permits-on (Delegate t v ops) ret u;
       }
 
-  shows-form : (kind : Dep) (j i : TxnId) (ret : Option Ret) → ShowsPlaces m (h ++ (record { event = Form kind j i; ret = ret }) ∷ []) (effect {A = A} m s (Form kind j i))
+  shows-form : (kind : Dep) (j i : TxnId) (ret : Option Ret) → Unbroken m s (Form kind j i) → ShowsPlaces m (h ++ (record { event = Form kind j i; ret = ret }) ∷ []) (effect {A = A} m s (Form kind j i))
   unfolding linked counted
-  shows-form kind j i ret =
+  shows-form kind j i ret u =
       let k : Kept A = record { event = Form kind j i; ret = ret } in
       record {
         status = λ v. shows.status v ∙ sym (status_at-push h k v);
@@ -380,11 +423,12 @@ module _ {A : Type 0} (m : Parts A) (h : List (Kept A)) (shows : ShowsPlaces m h
         parent = λ v. shows.parent v ∙ sym (parent-stays h k v refl);
         operations = shows.operations ∙ sym (operations-form m h ret kind j i);
         edges = ap (λ es. formed es ((record { kind = kind; j = j; i = i }) ∷ [])) shows.edges ∙ sym (edges-push m h k);
+        permits = permits-on (Form kind j i) ret u;
       }
 
-  shows-operate : (t : TxnId) (ob : ObjId) (op : Op) (ret : Option Ret) → ShowsPlaces m (h ++ (record { event = Operate t ob op; ret = ret }) ∷ []) (effect {A = A} m s (Operate t ob op))
+  shows-operate : (t : TxnId) (ob : ObjId) (op : Op) (ret : Option Ret) → Unbroken m s (Operate t ob op) → ShowsPlaces m (h ++ (record { event = Operate t ob op; ret = ret }) ∷ []) (effect {A = A} m s (Operate t ob op))
   unfolding operated linked counted
-  shows-operate t ob op ret =
+  shows-operate t ob op ret u =
       let k : Kept A = record { event = Operate t ob op; ret = ret } in
       record {
         status = λ v. shows.status v ∙ sym (status_at-push h k v);
@@ -392,6 +436,7 @@ module _ {A : Type 0} (m : Parts A) (h : List (Kept A)) (shows : ShowsPlaces m h
         parent = λ v. shows.parent v ∙ sym (parent-stays h k v refl);
         operations = ap (λ items. added items t ob op) shows.operations ∙ sym (operations-operate m h ret t ob op);
         edges = (λ i. formed (shows.edges i) (conflict_edges-places m h shows t ob op i)) ∙ sym (edges-push m h k);
+        permits = permits-on (Operate t ob op) ret u;
       }
 
   -- what becomes of operations at a commit
@@ -401,9 +446,9 @@ module _ {A : Type 0} (m : Parts A) (h : List (Kept A)) (shows : ShowsPlaces m h
   settled-operations t ret (Some v) is = ap (handed t.0 v) shows.operations ∙ sym (operations-inherited m h ret t v is)
 
   -- all else that a commit leaves
-  shows-settled : (t : TxnId) (ret : Option Ret) (o : Option TxnId) → heir m h t.0 ≡ o → ShowsPlaces m (h ++ (record { event = Commit t; ret = ret }) ∷ []) (counted (settled (stood s t has_committed) t o))
-  unfolding stood inherited fated counted
-  shows-settled t ret None none =
+  shows-settled : (t : TxnId) (ret : Option Ret) (o : Option TxnId) → heir m h t.0 ≡ o → Unbroken m s (Commit t) → ShowsPlaces m (h ++ (record { event = Commit t; ret = ret }) ∷ []) (counted (settled (terminated s t has_committed) t o))
+  unfolding terminated inherited fated counted
+  shows-settled t ret None none u =
       let k : Kept A = record { event = Commit t; ret = ret } in
       record {
         status = statuses-commit s.status h ret t shows.status;
@@ -411,8 +456,9 @@ module _ {A : Type 0} (m : Parts A) (h : List (Kept A)) (shows : ShowsPlaces m h
         parent = λ v. shows.parent v ∙ sym (parent-stays h k v refl);
         operations = settled-operations t ret None none;
         edges = shows.edges ∙ sym (edges-push m h k);
+        permits = permits-on (Commit t) ret u;
       }
-  shows-settled t ret (Some w) is =
+  shows-settled t ret (Some w) is u =
       let k : Kept A = record { event = Commit t; ret = ret } in
       record {
         status = statuses-commit s.status h ret t shows.status;
@@ -420,14 +466,15 @@ module _ {A : Type 0} (m : Parts A) (h : List (Kept A)) (shows : ShowsPlaces m h
         parent = λ v. shows.parent v ∙ sym (parent-stays h k v refl);
         operations = settled-operations t ret (Some w) is;
         edges = shows.edges ∙ sym (edges-push m h k);
+        permits = permits-on (Commit t) ret u;
       }
 
-  shows-commit : (t : TxnId) (ret : Option Ret) → ShowsPlaces m (h ++ (record { event = Commit t; ret = ret }) ∷ []) (effect {A = A} m s (Commit t))
+  shows-commit : (t : TxnId) (ret : Option Ret) → Unbroken m s (Commit t) → ShowsPlaces m (h ++ (record { event = Commit t; ret = ret }) ∷ []) (effect {A = A} m s (Commit t))
   unfolding linked
-  shows-commit t ret = shows-settled t ret (heir_of m s t.0) (sym (heir-places m h s shows t.0))
+  shows-commit t ret u = shows-settled t ret (heir_of m s t.0) (sym (heir-places m h s shows t.0)) u
 
   shows-abort : (t : TxnId) (ret : Option Ret) → Unbroken m s (Abort t) → ShowsPlaces m (h ++ (record { event = Abort t; ret = ret }) ∷ []) (effect {A = A} m s (Abort t))
-  unfolding not_in_progress stood fated linked counted
+  unfolding not_in_progress terminated fated linked counted
   shows-abort t ret u =
       let k : Kept A = record { event = Abort t; ret = ret } in
       record {
@@ -436,6 +483,20 @@ module _ {A : Type 0} (m : Parts A) (h : List (Kept A)) (shows : ShowsPlaces m h
         parent = λ v. shows.parent v ∙ sym (parent-stays h k v refl);
         operations = ap (ended t.0 Aborted) shows.operations ∙ sym (operations-abort m h ret t);
         edges = shows.edges ∙ sym (edges-push m h k);
+        permits = permits-on (Abort t) ret u;
+      }
+
+  shows-permit : (t v : TxnId) (ob : ObjId) (ret : Option Ret) → Unbroken m s (Permit t v ob) → ShowsPlaces m (h ++ (record { event = Permit t v ob; ret = ret }) ∷ []) (effect {A = A} m s (Permit t v ob))
+  unfolding permit_given linked counted
+  shows-permit t v ob ret u =
+      let k : Kept A = record { event = Permit t v ob; ret = ret } in
+      record {
+        status = λ w. shows.status w ∙ sym (status_at-push h k w);
+        class = λ w. shows.class w ∙ sym (class-stays h k w refl);
+        parent = λ w. shows.parent w ∙ sym (parent-stays h k w refl);
+        operations = shows.operations ∙ sym (operations-permit m h ret t v ob);
+        edges = shows.edges ∙ sym (edges-push m h k);
+        permits = permits-on (Permit t v ob) ret u;
       }
 
   pub shows_on : (e : Event A) (ret : Option Ret) → Unbroken m s e → ShowsPlaces m (h ++ (record { event = e; ret = ret }) ∷ []) (effect m s e)
@@ -444,10 +505,11 @@ module _ {A : Type 0} (m : Parts A) (h : List (Kept A)) (shows : ShowsPlaces m h
   shows_on (Split t v class ops) ret u = shows-split t v class ops ret u
   shows_on (Join t v) ret u = shows-join t v ret u
   shows_on (Delegate t v ops) ret u = shows-delegate t v ops ret u
-  shows_on (Form kind j i) ret u = shows-form kind j i ret
-  shows_on (Operate t ob op) ret u = shows-operate t ob op ret
-  shows_on (Commit t) ret u = shows-commit t ret
+  shows_on (Form kind j i) ret u = shows-form kind j i ret u
+  shows_on (Operate t ob op) ret u = shows-operate t ob op ret u
+  shows_on (Commit t) ret u = shows-commit t ret u
   shows_on (Abort t) ret u = shows-abort t ret u
+  shows_on (Permit t v ob) ret u = shows-permit t v ob ret u
 
   -- a class that may start by a begin or a split commits to no parent
   no-heir-class : (class : ℕ) (kind : EventKind) → lowest_fault m ≡ None → class_may m class kind ≡ true → (kind ≡ begin_kind) ⊎ (kind ≡ split_kind) → option_map_or (λ k. has_heir k.at_commit) (class_at m class) false ≡ false
@@ -503,14 +565,14 @@ module _ {A : Type 0} (m : Parts A) (h : List (Kept A)) (shows : ShowsPlaces m h
 
   -- who holds an operation in progress still is in progress
   well-settled : (t : TxnId) (o : Option TxnId) → s.status t.0 ≡ InProgress → ((p : TxnId) → o ≡ Some p → parent_of h t.0 ≡ Some p) → option_and_then (λ p. fails s by_status.is_in_progress p.0) o ≡ None → AreHeldWell s
-      → AreHeldWell (counted (settled (stood s t has_committed) t o))
-  unfolding stood inherited fated counted
+      → AreHeldWell (counted (settled (terminated s t has_committed) t o))
+  unfolding terminated inherited fated counted
   well-settled t None on at none well = well-ended s.status t.0 has_committed Committed refl s.operations well
   well-settled t (Some p) on at none well =
       well-handed s.status t.0 has_committed p (still_on t.0 has_committed p.0 (other-parent t.0 p on (at p refl)) (in_progress s NoHeir p.0 (ap (broken_by NoHeir) none))) s.operations well
 
   well-after : (e : Event A) → Unbroken m s e → no_heir m s e ≡ None → AreHeldWell s → AreHeldWell (effect m s e)
-  unfolding not_in_progress partner_not_in_progress same_transaction no_heir stood entered linked given inherited operated fated counted
+  unfolding not_in_progress partner_not_in_progress same_transaction no_heir stood terminated permit_given entered linked given inherited operated fated counted
   well-after (Begin t class) u ready well = well-started s.status t.0 s.operations well
   well-after (Spawn t v class) u ready well = well-started s.status v.0 s.operations well
   well-after (Split t v class ops) u ready well =
@@ -527,6 +589,7 @@ module _ {A : Type 0} (m : Parts A) (h : List (Kept A)) (shows : ShowsPlaces m h
   well-after (Commit t) u ready well =
       well-settled t (heir_of m s t.0) (in_progress s NotInProgress t.0 u.progress) (heir-parent t) (by_none NoHeir _ ready) well
   well-after (Abort t) u ready well = well-ended s.status t.0 has_aborted Aborted refl s.operations well
+  well-after (Permit t v ob) u ready well = well
 
   holders-push : (e : Event A) (ret : Option Ret) → Unbroken m s e → no_heir m s e ≡ None → AreHeldWell s → AreHeldWell (summary_of m (h ++ (record { event = e; ret = ret }) ∷ []))
   holders-push e ret u ready well = ap (λ (x : Summary). list_all (is_held_well x.status) x.operations) (summary_more m h (record { event = e; ret = ret })) ∙ well-after e u ready well
@@ -543,6 +606,7 @@ ends-in-progress m h shows (Form kind j i) u = tt
 ends-in-progress m h shows (Operate t ob op) u = tt
 ends-in-progress m h shows (Commit t) u = sym (shows.status t.0) ∙ in_progress (summary_of m h) NotInProgress t.0 u.progress
 ends-in-progress m h shows (Abort t) u = sym (shows.status t.0) ∙ in_progress (summary_of m h) NotInProgress t.0 u.progress
+ends-in-progress m h shows (Permit t v ob) u = tt
 
 orderly-push : {A : Type 0} (m : Parts A) (h : List (Kept A)) (k : Kept A) (shows : ShowsPlaces m h (summary_of m h)) → IsOrderly m h → Unbroken m (summary_of m h) k.event → IsOrderly m (h ++ k ∷ [])
 orderly-push m h k shows orderly u = record {
@@ -551,9 +615,9 @@ orderly-push m h k shows orderly u = record {
 }
 
 -- the summary of the history with an event that breaks none of the earlier rules is that by places
-pub shows-push : {A : Type 0} (m : Parts A) (h : List (Kept A)) (k : Kept A) → ShowsPlaces m h (summary_of m h) → Unbroken m (summary_of m h) k.event → ShowsPlaces m (h ++ k ∷ []) (summary_of m (h ++ k ∷ []))
-shows-push m h k shows u =
-    subst (λ (x : Summary). ShowsPlaces m (h ++ k ∷ []) x) (sym (summary_more m h k)) (shows_on m h shows k.event k.ret u)
+pub shows-push : {A : Type 0} (m : Parts A) (h : List (Kept A)) (k : Kept A) → ShowsPlaces m h (summary_of m h) → ArePermitsBegun h → Unbroken m (summary_of m h) k.event → ShowsPlaces m (h ++ k ∷ []) (summary_of m (h ++ k ∷ []))
+shows-push m h k shows begun u =
+    subst (λ (x : Summary). ShowsPlaces m (h ++ k ∷ []) x) (sym (summary_more m h k)) (shows_on m h shows begun k.event k.ret u)
 
 -- the rules on dependencies refuse exactly what would be illegal
 pub exact-push : {A : Type 0} (m : Parts A) (h : List (Kept A)) (k : Kept A) → IsChecked m (summary_of m h) → AreHeldWell (summary_of m h) → ShowsPlaces m h (summary_of m h) → MeetsAxioms m h → IsOrderly m h → earlier_broken m (summary_of m h) k.event ≡ None → IsExact m (h ++ k ∷ []) (summary_of m h) k.event
@@ -580,14 +644,15 @@ refuses-illegal : {A : Type 0} (m : Parts A) (h : List (Kept A)) → IsChecked m
 refuses-illegal m h checked well shows meets orderly e none =
     refused-by (record { model = m; kept = h }) e none ∙ (exact-push m h (kept_as (record { model = m; kept = h }) e) checked well shows meets orderly none).refuses
 
-follows-of : {A : Type 0} (m : Parts A) (h : List (Kept A)) → IsChecked m (summary_of m h) → AreHeldWell (summary_of m h) → ShowsPlaces m h (summary_of m h) → MeetsAxioms m h → IsOrderly m h → ((t : ℕ) → HasParent m h t) → FollowsPlaces (record { model = m; kept = h })
-follows-of m h checked well shows meets orderly parents =
+follows-of : {A : Type 0} (m : Parts A) (h : List (Kept A)) → IsChecked m (summary_of m h) → AreHeldWell (summary_of m h) → ShowsPlaces m h (summary_of m h) → MeetsAxioms m h → IsOrderly m h → ((t : ℕ) → HasParent m h t) → ArePermitsBegun h → FollowsPlaces (record { model = m; kept = h })
+follows-of m h checked well shows meets orderly parents begun =
     record {
       shows = shows;
       meets = meets;
       orderly = orderly;
       parents = parents;
       holders = well;
+      permits = begun;
       exact = refuses-illegal m h checked well shows meets orderly;
       edges_exact = λ e none. (exact-push m h (kept_as (record { model = m; kept = h }) e) checked well shows meets orderly none).alike;
       clashes_exact = λ e none. (exact-push m h (kept_as (record { model = m; kept = h }) e) checked well shows meets orderly none).clashes;
@@ -601,13 +666,14 @@ follows-push m h e faultless follows none =
     let u = unbroken m (summary_of m h) e earlier in
     let k = kept_as (record { model = m; kept = h }) e in
     let legal = not_not _ (sym (exact-push m h k (λ t on. faultless) follows.holders follows.shows follows.meets follows.orderly earlier).refuses ∙ ap is_some (none-dependency m (summary_of m h) e none)) in
-    follows-of m (h ++ k ∷ []) (λ t on. faultless) (holders-push m h follows.shows e k.ret u (none-heirless m (summary_of m h) e none) follows.holders) (shows-push m h k follows.shows u)
-    (meets-push m h k follows.meets (faultless-of m h follows.shows follows.parents e u (none-heirless m (summary_of m h) e none)) legal)
+    follows-of m (h ++ k ∷ []) (λ t on. faultless) (holders-push m h follows.shows follows.permits e k.ret u (none-heirless m (summary_of m h) e none) follows.holders) (shows-push m h k follows.shows follows.permits u)
+    (meets-push m h k follows.meets (faultless-of m h follows.shows follows.permits follows.parents e u (none-heirless m (summary_of m h) e none)) legal)
     (orderly-push m h k follows.shows follows.orderly u)
-    (parents-push m h follows.shows faultless e k.ret u follows.parents)
+    (parents-push m h follows.shows follows.permits faultless e k.ret u follows.parents)
+    (permits-begun m h follows.shows follows.permits e k.ret u)
 
 -- a history of nothing follows the places
 pub follows-fresh : {A : Type 0} (m : Parts A) → FollowsPlaces (record { model = m; kept = [] })
 unfolding summary_of
-follows-fresh m =
-    follows-of m [] (λ t on. cc) refl (record { status = λ t. refl; class = λ t. refl; parent = λ t. refl; operations = refl; edges = refl }) (meets-none m) (orderly-none m) (λ t has. absurd (true≢false (sym has)))
+follows-fresh {A} m =
+    follows-of m [] (λ t on. cc) refl (record { status = λ t. refl; class = λ t. refl; parent = λ t. refl; operations = refl; edges = refl; permits = λ t u object. none-permitted A t u object }) (meets-none m) (orderly-none m) (λ t has. absurd (true≢false (sym has))) (λ t u object is. absurd (true≢false (sym is)))

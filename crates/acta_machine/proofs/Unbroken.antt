@@ -5,7 +5,7 @@ use Rattle.std.specs.Option.{option_or}
 use Rattle.std.proofs.lemmas.Bool.{true≢false, lt-ltb}
 use Rattle.acta_table.specs.declared.dep.Edge.{Edge}
 use Rattle.acta_table.specs.declared.event.Event.{Event}
-use Rattle.acta_table.specs.declared.event.Event.TheVariants.{Begin, Spawn, Split, Join, Delegate, Form, Operate, Commit, Abort}
+use Rattle.acta_table.specs.declared.event.Event.TheVariants.{Begin, Spawn, Split, Join, Delegate, Form, Operate, Commit, Abort, Permit}
 use Rattle.acta_table.specs.declared.model.Parts.{Parts}
 use Rattle.acta_table.specs.declared.answer.Refusal.{Refusal}
 use Rattle.acta_table.specs.declared.answer.Rule.TheVariants.{NotInProgress, EdgesFull}
@@ -132,6 +132,7 @@ linked-dependency m s (Form kind j i) faultless on none = refl
 linked-dependency m s (Operate t ob op) faultless on none = refl
 linked-dependency m s (Commit t) faultless on none = none
 linked-dependency m s (Abort t) faultless on none = none
+linked-dependency m s (Permit t u ob) faultless on none = refl
 
 linked-progress : {A : Type 0} (m : Parts A) (s : Summary) (e : Event A) → not_in_progress (linked s (edges_due m s e)) e ≡ not_in_progress s e
 unfolding linked not_in_progress

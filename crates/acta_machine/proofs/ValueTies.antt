@@ -1,5 +1,5 @@
 -- Values and conflicts by the table are those by places.
-use Rattle.std.proofs.Common.{◌≡◌, ℕ, ◌+◌, Bool, true, false, ◌&&◌, not, ◌==◌, List, [], ◌∷◌, map, filter, Option, Some, None, refl, sym, ap, ◌∙◌}
+use Rattle.std.proofs.Common.{◌≡◌, ℕ, ◌+◌, Bool, true, false, ◌&&◌, not, ◌==◌, List, [], ◌∷◌, map, filter, Option, Some, None, refl, sym, ap, ◌∙◌, ◌||◌}
 use Rattle.std.specs.Prelude.{if◌then◌else◌, option_map}
 use Rattle.std.specs.List.{position_from}
 use Rattle.std.proofs.lemmas.Bool.{true≢false}
@@ -19,7 +19,7 @@ use Rattle.acta_axioms.specs.Values.{asked_of, is_well_formed, do_conflict, conf
 use Rattle.acta_axioms.specs.Values as by_places_value
 use Rattle.acta_axioms.proofs.Searches.{value-found}
 use Rattle.acta_sets.specs.declared.held_op.HeldOp.{HeldOp}
-use Rattle.acta_sets.specs.Operations.{is_of_others}
+use Rattle.acta_sets.specs.Operations.{is_of_others, is_among}
 use Rattle.acta_machine.specs.Values.{live_ops}
 use Rattle.acta_machine.specs.Conflicts.{stands_against}
 use Rattle.acta_machine.specs.Changes.{summary_of}
@@ -57,15 +57,26 @@ both true b e = (refl, e)
 both false b e = absurd (true≢false (sym e))
 
 -- the operations of others by the table are those by places
-pub others-places : {A : Type 0} (m : Parts A) (h : List (Kept A)) → ShowsPlaces m h (summary_of m h) → (t : ℕ) (o : Operation) → is_of_others t (spared m (summary_of m h) t) (held_op o (standing m h o)) ≡ by_places.is_of_others m h t (standing m h o)
+apart : (a b c : Bool) → (a && not b && not c) ≡ (a && not (b || c))
+apart a true c = of a
+  where
+    of : (a : Bool) → (a && false && not c) ≡ (a && false)
+    of true = refl
+    of false = refl
+apart true false c = refl
+apart false false c = refl
+
+pub others-places : {A : Type 0} (m : Parts A) (h : List (Kept A)) → ShowsPlaces m h (summary_of m h) → (t : ℕ) (o : Operation) →
+    is_of_others t (spared m (summary_of m h) t) (summary_of m h).permits (held_op o (standing m h o)) ≡ by_places.is_of_others m h t o.object (standing m h o)
 others-places m h shows t o =
     let s = standing m h o in
-    ap (λ b. is_open s.fate && not (s.holder == t) && not b) (sym (spared-places m h shows t (record { 0 = s.holder })))
+    apart (is_open s.fate && not (s.holder == t)) (is_among (spared m (summary_of m h) t) (record { 0 = s.holder })) ((summary_of m h).permits s.holder t o.object)
+    ∙ ap (λ b. is_open s.fate && not (s.holder == t) && not b) (sym (spared-places m h shows t o.object (record { 0 = s.holder })))
 
 -- where nothing in the table stands against an operation, nothing conflicts by places
 pub conflicting-none : {A : Type 0} (m : Parts A) (h : List (Kept A)) (t : ℕ) (ob : ObjId) (op : Op) → ShowsPlaces m h (summary_of m h) → first_number (stands_against m (summary_of m h) t ob op) (summary_of m h).operations ≡ None → conflicting m h t ob.0 op ≡ []
 conflicting-none m h t ob op shows none =
-    none_passes (stands_against m (summary_of m h) t ob op) (λ o. held_op o (standing m h o)) (λ o. by_places.is_of_others m h t (standing m h o)) (λ o. (o.object == ob.0) && do_conflict m ob.0 o.op op)
+    none_passes (stands_against m (summary_of m h) t ob op) (λ o. held_op o (standing m h o)) (λ o. by_places.is_of_others m h t o.object (standing m h o)) (λ o. (o.object == ob.0) && do_conflict m ob.0 o.op op)
     (λ o others conflicts.
     let on = both (o.object == ob.0) (do_conflict m ob.0 o.op op) conflicts in
     let formed = both (is_well_formed m ob.0 o.op) (is_well_formed m ob.0 op && conflict_on m ob.0 o.op op) on.1 in

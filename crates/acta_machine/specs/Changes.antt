@@ -4,7 +4,7 @@ use Rattle.std.specs.Option.{option_map_or}
 use Rattle.acta_table.specs.declared.event.TxnId.{TxnId}
 use Rattle.acta_table.specs.declared.event.ClassId.{ClassId}
 use Rattle.acta_table.specs.declared.event.Event.{Event}
-use Rattle.acta_table.specs.declared.event.Event.TheVariants.{Begin, Spawn, Split, Join, Delegate, Form, Operate, Commit, Abort}
+use Rattle.acta_table.specs.declared.event.Event.TheVariants.{Begin, Spawn, Split, Join, Delegate, Form, Operate, Commit, Abort, Permit}
 use Rattle.acta_table.specs.declared.event.Kept.{Kept}
 use Rattle.acta_table.specs.declared.dep.Edge.{Edge}
 use Rattle.acta_table.specs.declared.model.Parts.{Parts}
@@ -12,7 +12,7 @@ use Rattle.acta_table.specs.declared.answer.Status.TheVariants.{InProgress, Comm
 use Rattle.acta_table.specs.declared.answer.Fate.TheVariants.{Committed, Aborted}
 use Rattle.acta_table.specs.Classes.{class_at}
 use Rattle.acta_table.specs.Starts.{edges_between}
-use Rattle.acta_machine.specs.Summary.{Summary, nothing_yet, stood, entered, linked, given, inherited, operated, fated, counted}
+use Rattle.acta_machine.specs.Summary.{Summary, nothing_yet, stood, terminated, permit_given, entered, linked, given, inherited, operated, fated, counted}
 use Rattle.acta_machine.specs.Families.{heir_of}
 use Rattle.acta_machine.specs.Conflicts.{conflict_edges}
 
@@ -35,17 +35,18 @@ edges_due m s (Form kind j i) = (record { kind = kind; j = j; i = i }) ∷ []
 edges_due m s (Operate t ob op) = conflict_edges m s t ob op
 edges_due m s _ = []
 
--- what the event does to transactions and operations
+-- what the event does to transactions, permits and operations
 abbrev pub changed : {A : Type 0} → Parts A → Summary → Event A → Summary
 changed m s (Begin t class) = begun s t class None
 changed m s (Spawn t c class) = begun s c class (Some t)
 changed m s (Split t u class ops) = given (begun s u class None) ops u
-changed m s (Join t u) = inherited (stood s t has_joined) t u
+changed m s (Join t u) = inherited (terminated s t has_joined) t u
 changed m s (Delegate t u ops) = given s ops u
 changed m s (Form kind j i) = s
 changed m s (Operate t ob op) = operated s t ob op
-changed m s (Commit t) = settled (stood s t has_committed) t (heir_of m s t.0)
-changed m s (Abort t) = fated (stood s t has_aborted) t Aborted
+changed m s (Commit t) = settled (terminated s t has_committed) t (heir_of m s t.0)
+changed m s (Abort t) = fated (terminated s t has_aborted) t Aborted
+changed m s (Permit t u ob) = permit_given s t u ob
 
 -- the edges, the change, and one more event
 abbrev pub effect : {A : Type 0} → Parts A → Summary → Event A → Summary

@@ -17,7 +17,7 @@ use Rattle.acta_machine.specs.Families.{class_of, spared}
 -- whether the operation is in t's conflict set, on the same object, and conflicts
 abbrev pub stands_against : {A : Type 0} → Parts A → Summary → ℕ → ObjId → Op → HeldOp → Bool
 stands_against m s t ob op i =
-    is_of_others t (spared m s t) i && (i.ob.0 == ob.0) && conflict_on m ob.0 i.op op
+    is_of_others t (spared m s t) s.permits i && (i.ob.0 == ob.0) && conflict_on m ob.0 i.op op
 
 -- who holds the operations that stand against this one, ascending, each once
 abbrev pub opponents : {A : Type 0} → Parts A → Summary → ℕ → ObjId → Op → List ℕ

@@ -31,9 +31,9 @@ spared m s t = if has_class (λ k. spares k.scope) m s t then ancestors_of s t e
 abbrev pub spared_numbers : {A : Type 0} → Parts A → Summary → ℕ → List ℕ
 spared_numbers m s t = ascending (map (λ u. u.0) (spared m s t))
 
--- the operations in progress that others hold
+-- the operations in progress that others hold, but for ancestors whom the class spares, and for those who permit it
 abbrev pub conflict_set_of : {A : Type 0} → Parts A → Summary → ℕ → List OpNo
-conflict_set_of m s t = conflict_set t (spared m s t) s.operations
+conflict_set_of m s t = conflict_set t (spared m s t) s.permits s.operations
 
 -- to whom what t holds goes when it commits: its parent, where its class says so
 abbrev pub heir_of : {A : Type 0} → Parts A → Summary → ℕ → Option TxnId

@@ -8,7 +8,8 @@ use Rattle.acta_table.specs.declared.answer.Status.{Status}
 use Rattle.acta_table.specs.Classes.{kind_at, has_heir}
 use Rattle.acta_table.specs.Fates.{is_open}
 use Rattle.acta_objects.specs.declared.state.ObjectState.{ObjectState}
-use Rattle.acta_axioms.specs.History.{class_number, has_class, parent_of}
+use Rattle.acta_axioms.specs.History.{class_number, has_class, has_begun, parent_of}
+use Rattle.acta_axioms.specs.Permits.{has_permitted, is_permitted}
 use Rattle.acta_axioms.specs.Values.{value}
 pub use Rattle.acta_axioms.specs.Walks.{held_op, held_ops, op_numbers}
 use Rattle.acta_axioms.specs.Edges.{edges}
@@ -20,18 +21,23 @@ use Rattle.acta_machine.specs.Changes.{summary_of}
 use Rattle.acta_machine.specs.Exactness.{RefusesIllegal, RefusesByEdge, RefusesByDebts}
 use Rattle.acta_machine.specs.Table.{State}
 
--- the statuses, classes, parents, holders, fates and edges of a summary are those by places
+-- the statuses, classes, parents, holders, fates, edges and permits of a summary are those by places
 pub record ShowsPlaces {A : Type 0} (m : Parts A) (h : List (Kept A)) (s : Summary) : Type 0 where
   pub status : (t : ℕ) → s.status t ≡ status_at h t
   pub class : (t : ℕ) → option_map (λ c. c.0) (s.class t) ≡ class_number h t
   pub parent : (t : ℕ) → s.parent t ≡ parent_of h t
   pub operations : s.operations ≡ held_ops m h
   pub edges : s.edges ≡ edges m h
+  pub permits : (t u object : ℕ) → s.permits t u object ≡ is_permitted h t u object
 
 -- one whose class commits to its parent has a parent
 abbrev pub HasParent : {A : Type 0} → Parts A → List (Kept A) → ℕ → Type 0
 HasParent m h t =
     has_class (λ k. has_heir k.at_commit) m h t ≡ true → is_some (parent_of h t) ≡ true
+
+-- who permits another something at some place has begun, and so has the other
+abbrev pub ArePermitsBegun : {A : Type 0} → List (Kept A) → Type 0
+ArePermitsBegun h = (t u object : ℕ) → has_permitted h t u object ≡ true → (has_begun h t ≡ true) × (has_begun h u ≡ true)
 
 -- whether the holder of the operation is in progress, or the operation is not
 abbrev pub is_held_well : (ℕ → Status) → HeldOp → Bool
@@ -42,15 +48,16 @@ abbrev pub AreHeldWell : Summary → Type 0
 AreHeldWell s = list_all (is_held_well s.status) s.operations ≡ true
 
 -- the summary of the history is that by places; the history meets the axioms, and is orderly; each that
--- commits to its parent has one; who holds an operation in progress is in progress; and of each event that
--- may come next the rules on dependencies refuse exactly what would be illegal, as a whole, edge by edge, and
--- by debts that would meet
+-- commits to its parent has one; who holds an operation in progress is in progress; who permits something, or is
+-- permitted it, has begun; and of each event that may come next the rules on dependencies refuse exactly what would
+-- be illegal, as a whole, edge by edge, and by debts that would meet
 pub record FollowsPlaces {A : Type 0} (state : State A) : Type 0 where
   pub shows : ShowsPlaces state.model state.kept (summary_of state.model state.kept)
   pub meets : MeetsAxioms state.model state.kept
   pub orderly : IsOrderly state.model state.kept
   pub parents : (t : ℕ) → HasParent state.model state.kept t
   pub holders : AreHeldWell (summary_of state.model state.kept)
+  pub permits : ArePermitsBegun state.kept
   pub exact : (event : Event A) → RefusesIllegal state event
   pub edges_exact : (event : Event A) → RefusesByEdge state event
   pub clashes_exact : (event : Event A) → RefusesByDebts state event

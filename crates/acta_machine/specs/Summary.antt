@@ -13,8 +13,10 @@ use Rattle.acta_table.specs.Edges.{formed}
 use Rattle.acta_deps.specs.Statuses.{with_status}
 use Rattle.acta_sets.specs.declared.held_op.HeldOp.{HeldOp}
 use Rattle.acta_sets.specs.Operations.{added, moved, handed, ended}
+use Rattle.acta_sets.specs.Permits.{Permitted, none_permitted, with_permit, without_permits}
 
--- kept: how many events; status, class and parent: of each transaction; operations and edges: by number
+-- kept: how many events; status, class and parent: of each transaction; operations and edges: by number; permits: those
+-- in force
 pub record Summary : Type 0 where
   pub kept : ℕ
   pub status : ℕ → Status
@@ -22,6 +24,7 @@ pub record Summary : Type 0 where
   pub parent : ℕ → Option TxnId
   pub operations : List HeldOp
   pub edges : List Edge
+  pub permits : Permitted
 
 -- before any event
 abbrev pub nothing_yet : Summary
@@ -32,6 +35,7 @@ nothing_yet = record {
   parent = λ _. None;
   operations = [];
   edges = [];
+  permits = none_permitted;
 }
 
 -- what each transaction has, with t's changed
@@ -41,6 +45,15 @@ with_entry f t x u = if u == t then x else f u
 -- t's status is this
 unfoldable pub stood : Summary → TxnId → Status → Summary
 stood s t status = record s { status = with_status s.status t.0 status }
+
+-- t has ended, and stands so: no permit that names it is left
+unfoldable pub terminated : Summary → TxnId → Status → Summary
+terminated s t status =
+    record s { status = with_status s.status t.0 status; permits = without_permits s.permits t.0 }
+
+-- t permits u to work on the object
+unfoldable pub permit_given : Summary → TxnId → TxnId → ObjId → Summary
+permit_given s t u ob = record s { permits = with_permit s.permits t.0 u.0 ob.0 }
 
 -- t's class and parent are these
 unfoldable pub entered : Summary → TxnId → Option ClassId → Option TxnId → Summary

@@ -2,3 +2,4 @@
 pub mod FreshEdges
 pub mod Refused
 pub mod Shown
+pub mod Spared

@@ -6,6 +6,7 @@ ghost use Rattle.acta_table.specs.WellFormed.{is_bad_number};
 ghost use Rattle.acta_deps.specs.Debts.{owed_in};
 ghost use Rattle.acta_deps.specs.Statuses.{is_in_progress};
 ghost use Rattle.acta_sets.specs.Operations.{access_set};
+ghost use Rattle.acta_sets.specs.Permits.{permitted};
 ghost use Rattle.acta_values.specs.KeptValues.{kinds_of};
 ghost use Rattle.acta_machine.specs.Places.{AreHeldWell};
 ghost use Rattle.acta_table.specs.Numbered.{ascending};
@@ -13,11 +14,13 @@ ghost use Rattle.acta_table.specs.Classes.{spares};
 ghost use Rattle.acta_machine.specs.Families.{class_of, has_class, spared, spared_numbers, conflict_set_of, heir_of};
 ghost use Rattle.acta_machine.specs.Values.{value_of, return_due};
 ghost use Rattle.acta_machine.specs.inside.Shown.{shown, origin_in};
+ghost use Rattle.acta_machine.specs.inside.Spared.{AreSpared};
 ghost use Rattle.acta_machine.specs.Rules.{lowest_broken};
 
+use acta_axioms::with_txns;
 use acta_deps::Deps;
 use acta_objects::ObjectState;
-use acta_sets::{Handle, OpTable};
+use acta_sets::{Handle, OpTable, Permits};
 use acta_table::{
     AtCommit, Class, ClassId, Event, Kept, MOST_EVENTS, Model, ObjId, OpNo, Owed, Ret, Scope,
     Status, TxnId,
@@ -48,6 +51,7 @@ pub(crate) struct Board<A: Handle> {
     pub(crate) deps: Deps<A>,
     pub(crate) origins: Vec<Origin, A>,
     pub(crate) store: Store<A>,
+    pub(crate) permits: Permits<A>,
     pub(crate) kept: Vec<Kept<A>, A>,
 }
 
@@ -111,7 +115,8 @@ impl<A: Handle> Board<A> {
             | Event::Delegate(_, _, _)
             | Event::Form(_, _, _)
             | Event::Commit(_)
-            | Event::Abort(_) => None,
+            | Event::Abort(_)
+            | Event::Permit(_, _, _) => None,
         }
     }
 
@@ -132,17 +137,20 @@ impl<A: Handle> Board<A> {
         ensures deps { IfOk result (λ board. board.deps ≡ self.now.deps) }
         ensures origins { IfOk result (λ board. board.origins.items ≡ self.now.origins.items) }
         ensures store { IfOk result (λ board. board.store ≡ self.now.store) }
+        ensures permits { IfOk result (λ board. permitted board.permits ≡ permitted self.now.permits) }
     {
         let alloc = self.allocator();
         let origins = Vec::from_slice(alloc, &self.origins)?;
         let store = self.store.copy()?;
         let deps = self.deps.copy()?;
+        let permits = self.permits.copy()?;
         let kept = copy_all(alloc, &self.kept)?;
         Ok(Board {
             model: self.model.copy()?,
             deps,
             origins,
             store,
+            permits,
             kept,
         })
     }
@@ -170,12 +178,13 @@ impl<A: Handle> Board<A> {
         Ok(ops)
     }
 
-    /// The operations in progress that others hold. `Err` where there is no memory.
+    /// The operations in progress that others hold, but for those whom the transaction is spared. `Err` where there is
+    /// no memory.
     pub(crate) fn conflict_set(&self, t: TxnId) -> Result<Vec<OpNo, A>, AllocError>
         ensures { IfOk result (λ ops. ops.items ≡ conflict_set_of self.now.model (shown self.now) t.0) }
     {
         let spared = self.spared(t)?;
-        self.operations().conflict_set(t, &spared)
+        self.operations().conflict_set(t, &spared, &self.permits)
     }
 
     // The ancestors of the transaction, where its class leaves them out of its conflict set. `Err` where
@@ -198,12 +207,21 @@ impl<A: Handle> Board<A> {
         Ok(spared)
     }
 
-    /// The same by number, as a set. `Err` where there is no memory.
-    pub(crate) fn spared_numbers(&self, t: TxnId) -> Result<BTreeSet<u16, A>, AllocError>
+    // The same by number, as a set. `Err` where there is no memory.
+    fn spared_numbers(&self, t: TxnId) -> Result<BTreeSet<u16, A>, AllocError>
         ensures { IfOk result (λ numbers. numbers.keys ≡ spared_numbers self.now.model (shown self.now) t.0) }
     {
         let spared = self.spared(t)?;
         txn_numbers(self.allocator(), &spared)
+    }
+
+    /// Those whose operations on the object the transaction is spared: ancestors that its class leaves out of its
+    /// conflict set, and those who permit it to work there. `Err` where there is no memory.
+    pub(crate) fn spared_on(&self, t: TxnId, ob: ObjId) -> Result<BTreeSet<u16, A>, AllocError>
+        ensures { IfOk result (λ numbers. AreSpared self.now.model (shown self.now) t.0 ob.0 numbers.keys) }
+    {
+        let permitters = self.permits.permitters(t, ob)?;
+        with_txns(self.spared_numbers(t)?, &permitters)
     }
 }
 

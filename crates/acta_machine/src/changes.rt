@@ -9,10 +9,11 @@ ghost use Rattle.acta_table.specs.Fates.{is_open};
 ghost use Rattle.std.specs.List.{list_all};
 ghost use Rattle.std.specs.Option.{option_map_or};
 ghost use Rattle.acta_sets.specs.Operations.{are_held};
+ghost use Rattle.acta_sets.specs.Permits.{without_permits};
 ghost use Rattle.acta_table.specs.Edges.{formed};
 ghost use Rattle.acta_deps.specs.Dependencies.{start_refusal, join_refusal};
 ghost use Rattle.acta_machine.specs.Families.{heir_of};
-ghost use Rattle.acta_machine.specs.Summary.{stood, entered, linked, given, inherited, operated, fated, counted};
+ghost use Rattle.acta_machine.specs.Summary.{stood, terminated, permit_given, entered, linked, given, inherited, operated, fated, counted};
 ghost use Rattle.acta_machine.specs.Changes.{begun, settled, changed};
 ghost use Rattle.acta_machine.specs.Rules.{not_in_progress, already_begun, dependency};
 ghost use Rattle.acta_machine.specs.inside.FreshEdges.{is_fresh_edge};
@@ -99,18 +100,37 @@ impl<A: Handle> Board<A> {
         self.enter(t, Some(class), parent);
     }
 
-    #[tactic(auto, unfolding(crate::specs::Summary::stood, crate::specs::Summary::inherited))]
+    // No permit that names the transaction is left.
+    fn drop_permits(&mut self, t: TxnId)
+        ensures shows { shown self.new ≡ record (shown self.old) { permits = without_permits (shown self.old).permits t.0 } }
+        ensures others { self.new ≡ record self.old { permits = self.new.permits } }
+    {
+        self.permits.ended(t);
+    }
+
+    // `t` permits `u` to work on the object. `Err` where there is no memory, and then nothing is changed.
+    #[tactic(auto, unfolding(crate::specs::Summary::permit_given))]
+    fn permit(&mut self, t: TxnId, u: TxnId, ob: ObjId) -> Result<(), AllocError>
+        ensures shows { OnOk result (shown self.new ≡ permit_given (shown self.old) t u ob) }
+        ensures err { OnErr result (shown self.new ≡ shown self.old) }
+        ensures others { self.new ≡ record self.old { permits = self.new.permits } }
+    {
+        self.permits.give(t, u, ob)
+    }
+
+    #[tactic(auto, unfolding(crate::specs::Summary::terminated, crate::specs::Summary::inherited))]
     fn join(&mut self, t: TxnId, u: TxnId) -> Result<(), AllocError>
         requires low { 0 < t.0 }
         requires high { t.0 ≤ LAST_TXN }
         requires stands { (shown self.old).status t.0 ≡ Status.InProgress }
         requires allowed { join_refusal (shown self.old).status (shown self.old).edges t.0 ≡ None }
-        ensures shows { OnOk result (shown self.new ≡ inherited (stood (shown self.old) t Status.Joined) t u) }
+        ensures shows { OnOk result (shown self.new ≡ inherited (terminated (shown self.old) t Status.Joined) t u) }
         ensures err { OnErr result (shown self.new ≡ shown self.old) }
-        ensures others { self.new ≡ record self.old { deps = self.new.deps; store = record self.old.store { items = self.new.store.items } } }
+        ensures others { self.new ≡ record self.old { deps = self.new.deps; permits = self.new.permits; store = record self.old.store { items = self.new.store.items } } }
     {
         self.hand_all(t, u)?;
         self.deps.joined(t);
+        self.drop_permits(t);
         Ok(())
     }
 
@@ -128,29 +148,31 @@ impl<A: Handle> Board<A> {
         Ok(())
     }
 
-    #[tactic(auto, unfolding(crate::specs::Summary::stood))]
+    #[tactic(auto, unfolding(crate::specs::Summary::terminated))]
     fn commit(&mut self, t: TxnId) -> Result<(), AllocError>
         requires number { bad_number {A = A} (Event.Commit t) ≡ None }
         requires stands { not_in_progress {A = A} (shown self.old) (Event.Commit t) ≡ None }
         requires allowed { dependency {A = A} (shown self.old) (Event.Commit t) ≡ None }
-        ensures shows { OnOk result (shown self.new ≡ settled (stood (shown self.old) t Status.Committed) t (heir_of self.old.model (shown self.old) t.0)) }
+        ensures shows { OnOk result (shown self.new ≡ settled (terminated (shown self.old) t Status.Committed) t (heir_of self.old.model (shown self.old) t.0)) }
         ensures err { OnErr result (shown self.new ≡ shown self.old) }
-        ensures others { self.new ≡ record self.old { deps = self.new.deps; store = record self.old.store { items = self.new.store.items } } }
+        ensures others { self.new ≡ record self.old { deps = self.new.deps; permits = self.new.permits; store = record self.old.store { items = self.new.store.items } } }
     {
         self.settle(t)?;
         self.deps.committed(t);
+        self.drop_permits(t);
         Ok(())
     }
 
-    #[tactic(auto, unfolding(crate::specs::Summary::stood))]
+    #[tactic(auto, unfolding(crate::specs::Summary::terminated))]
     fn abort(&mut self, t: TxnId)
         requires number { bad_number {A = A} (Event.Abort t) ≡ None }
         requires stands { not_in_progress {A = A} (shown self.old) (Event.Abort t) ≡ None }
         requires allowed { dependency {A = A} (shown self.old) (Event.Abort t) ≡ None }
-        ensures shows { shown self.new ≡ fated (stood (shown self.old) t Status.Aborted) t Fate.Aborted }
-        ensures others { self.new ≡ record self.old { deps = self.new.deps; store = record self.old.store { items = self.new.store.items } } }
+        ensures shows { shown self.new ≡ fated (terminated (shown self.old) t Status.Aborted) t Fate.Aborted }
+        ensures others { self.new ≡ record self.old { deps = self.new.deps; permits = self.new.permits; store = record self.old.store { items = self.new.store.items } } }
     {
         self.deps.aborted(t);
+        self.drop_permits(t);
         self.end(t, Fate::Aborted);
     }
 
@@ -164,7 +186,7 @@ impl<A: Handle> Board<A> {
         self.store.add(t, ob, op)
     }
 
-    // Changes how transactions and operations stand. `Err` where there is no memory, and then nothing is changed.
+    // Changes how transactions, permits and operations stand. `Err` where there is no memory, and then nothing is changed.
     #[tactic(auto, unfolding(acta_table::specs::WellFormed::bad_number))]
     fn change(&mut self, event: &Event<A>) -> Result<(), AllocError>
         requires origins { length self.old.origins.items ≡ TABLE_SIZE }
@@ -177,7 +199,7 @@ impl<A: Handle> Board<A> {
         ensures shows { OnOk result (shown self.new ≡ changed self.old.model (shown self.old) event.now) }
         ensures err { OnErr result (shown self.new ≡ shown self.old) }
         ensures origins { length self.new.origins.items ≡ TABLE_SIZE }
-        ensures others { self.new ≡ record self.old { deps = self.new.deps; origins = self.new.origins; store = record self.old.store { items = self.new.store.items } } }
+        ensures others { self.new ≡ record self.old { deps = self.new.deps; origins = self.new.origins; permits = self.new.permits; store = record self.old.store { items = self.new.store.items } } }
     {
         match event {
             Event::Begin(t, class) => self.begin(*t, *class, None),
@@ -192,6 +214,7 @@ impl<A: Handle> Board<A> {
             Event::Operate(t, ob, op) => return self.operate(*t, *ob, *op),
             Event::Commit(t) => return self.commit(*t),
             Event::Abort(t) => self.abort(*t),
+            Event::Permit(t, u, ob) => return self.permit(*t, *u, *ob),
         }
         Ok(())
     }

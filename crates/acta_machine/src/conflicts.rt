@@ -28,7 +28,7 @@ impl<A: Handle> Board<A> {
         if !is_opposed(alloc, &self.model, self.operations(), t, ob, op) {
             return Ok(None);
         }
-        let spares = self.spared_numbers(t)?;
+        let spares = self.spared_on(t, ob)?;
         let number = first_against(&self.model, self.operations(), t, &spares, ob, op);
         Ok(number)
     }
@@ -41,7 +41,7 @@ impl<A: Handle> Board<A> {
         if !is_opposed(alloc, &self.model, self.operations(), t, ob, op) {
             return Ok(BTreeSet::new(alloc));
         }
-        let spares = self.spared_numbers(t)?;
+        let spares = self.spared_on(t, ob)?;
         holders_against(alloc, &self.model, self.operations(), t, &spares, ob, op)
     }
 

@@ -19,7 +19,7 @@ use crate::serial::SerialError;
 use acta_axioms::{SerialItem, is_strict, serial_items};
 use acta_deps::Deps;
 use acta_objects::ObjectState;
-use acta_sets::Handle;
+use acta_sets::{Handle, Permits};
 use acta_table::{
     Answer, Edge, Event, Items, Kept, MOST_EVENTS, Model, ObjId, OpNo, Owed, Refusal, Status,
     TABLE_SIZE, TxnId,
@@ -84,6 +84,7 @@ impl<A: Handle> Machine<A> {
             deps,
             origins,
             store,
+            permits: Permits::new(alloc),
             kept: Vec::new(alloc),
         };
         Ok(Machine { board, refused })

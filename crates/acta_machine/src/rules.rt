@@ -26,7 +26,7 @@ fn partner_of<A: Allocator>(event: &Event<A>) -> Option<TxnId>
     ensures { partner event.now ≡ option_map (λ t. t.0) result }
 {
     match event {
-        Event::Join(_, u) | Event::Delegate(_, u, _) => Some(*u),
+        Event::Join(_, u) | Event::Delegate(_, u, _) | Event::Permit(_, u, _) => Some(*u),
         _ => None,
     }
 }
@@ -150,6 +150,7 @@ impl<A: Handle> Board<A> {
             Event::Operate(t, _, _) => self.may(*t, EventKind::Operate),
             Event::Commit(t) => self.may(*t, EventKind::Commit),
             Event::Abort(t) => self.may(*t, EventKind::Abort),
+            Event::Permit(t, _, _) => self.may(*t, EventKind::Permit),
         };
         if is_allowed {
             None
@@ -362,7 +363,10 @@ impl<A: Handle> Board<A> {
             Event::Join(t, _) => self.deps.may_join(*t),
             Event::Commit(t) => self.deps.may_commit(*t),
             Event::Abort(t) => self.deps.may_abort(*t),
-            Event::Delegate(_, _, _) | Event::Form(_, _, _) | Event::Operate(_, _, _) => None,
+            Event::Delegate(_, _, _)
+            | Event::Form(_, _, _)
+            | Event::Operate(_, _, _)
+            | Event::Permit(_, _, _) => None,
         }
     }
 

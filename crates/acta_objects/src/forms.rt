@@ -26,7 +26,8 @@ fn smallest_bad<A: Allocator>(event: &Event<A>) -> Option<u32>
         | Event::Split(j, i, _, _)
         | Event::Join(j, i)
         | Event::Delegate(j, i, _)
-        | Event::Form(_, j, i) => { smallest_of(*j, is_bad_number(*j), *i, is_bad_number(*i)) }
+        | Event::Form(_, j, i)
+        | Event::Permit(j, i, _) => { smallest_of(*j, is_bad_number(*j), *i, is_bad_number(*i)) }
         Event::Begin(t, _) | Event::Operate(t, _, _) | Event::Commit(t) | Event::Abort(t) => {
             smallest_of(*t, is_bad_number(*t), *t, false)
         }
@@ -58,9 +59,8 @@ fn bad_object<A: Allocator>(model: &Model<A>, event: &Event<A>) -> Option<Refusa
     ensures { result ≡ bad_object model.now event.now }
 {
     match event {
-        Event::Operate(_, ob, _) if ob.0 as usize >= model.objects().len() => {
-            Some(Refusal::of(Rule::BadObject))
-        }
+        Event::Operate(_, ob, _) | Event::Permit(_, _, ob)
+            if ob.0 as usize >= model.objects().len() => { Some(Refusal::of(Rule::BadObject)) }
         _ => None,
     }
 }
@@ -98,7 +98,8 @@ fn same_transaction<A: Allocator>(event: &Event<A>) -> Option<Refusal>
         | Event::Split(j, i, _, _)
         | Event::Join(j, i)
         | Event::Delegate(j, i, _)
-        | Event::Form(_, j, i) => one_twice(*j, *i),
+        | Event::Form(_, j, i)
+        | Event::Permit(j, i, _) => one_twice(*j, *i),
         _ => None,
     }
 }

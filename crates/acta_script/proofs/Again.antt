@@ -18,7 +18,7 @@ use Rattle.acta_table.specs.declared.dep.Dep.{Dep}
 use Rattle.acta_table.specs.declared.dep.Dep.TheVariants.{Cd, Scd, Ad, Wd, Td, Ed, Cmd, Bd, Sd, Bcd, Bad, Wcd}
 use Rattle.acta_table.specs.declared.event.ClassId.{ClassId}
 use Rattle.acta_table.specs.declared.event.Event.{Event}
-use Rattle.acta_table.specs.declared.event.Event.TheVariants.{Begin, Spawn, Split, Join, Delegate, Form, Operate, Commit, Abort}
+use Rattle.acta_table.specs.declared.event.Event.TheVariants.{Begin, Spawn, Split, Join, Delegate, Form, Operate, Commit, Abort, Permit}
 use Rattle.acta_table.specs.declared.event.Kept.{Kept}
 use Rattle.acta_table.specs.declared.event.ObjId.{ObjId}
 use Rattle.acta_table.specs.declared.event.Op.{Op}
@@ -33,7 +33,7 @@ use Rattle.acta_script.specs.declared.fault.LineFault.{LineFault}
 use Rattle.acta_script.specs.declared.fault.LineFault.TheVariants.{Number, Name}
 use Rattle.acta_script.specs.Laws.{IsInModel, IsReadAgain, IsKeptAgain}
 use Rattle.acta_script.specs.Ranges.{IsWithin, HasRanges, HasRange, integer_of}
-use Rattle.acta_script.specs.Reading.{◌>>=◌, txn_said, integer_said, class_said, object_said, kind_said, begin_said, spawn_said, split_said, join_said, delegate_said, form_said, do_said, commit_said, abort_said, event_said, return_named, return_said, is_equals, both, with_return, plain, kept_said, kept_of}
+use Rattle.acta_script.specs.Reading.{◌>>=◌, txn_said, integer_said, class_said, object_said, kind_said, begin_said, spawn_said, split_said, join_said, delegate_said, form_said, do_said, commit_said, abort_said, permit_said, event_said, return_named, return_said, is_equals, both, with_return, plain, kept_said, kept_of}
 use Rattle.acta_script.specs.Writing.{txn_word, class_word, object_word, operation_words, event_words, event_line, return_word, kept_line}
 use Rattle.acta_script.proofs.Checked.{IsChecked, checked}
 use Rattle.acta_script.proofs.Named.{place, at-name}
@@ -122,7 +122,7 @@ module _ {A : Type 0} (m : Parts A) (good : IsChecked m) where
   do_again t ob (Has v) small within number = operated t ob (Has v) _ (with_number (λ v. Has v) v number) small within
 
   event_again : (e : Event A) → IsInModel m e → HasRanges e → event_said m (event_words m e) ≡ Ok e
-  unfolding event_said begin_said spawn_said split_said join_said delegate_said form_said commit_said abort_said
+  unfolding event_said begin_said spawn_said split_said join_said delegate_said form_said commit_said abort_said permit_said
   event_again (Begin t class) inside ranges =
       λ i. (txn_again t ranges.txns.0 i) >>= (λ t. (class_again class inside.class i) >>= (λ class. Ok (Begin t class)))
   event_again (Spawn t c class) inside ranges =
@@ -138,6 +138,8 @@ module _ {A : Type 0} (m : Parts A) (good : IsChecked m) where
   event_again (Operate t ob op) inside ranges = do_again t ob op ranges.txns.0 inside.object ranges.integer
   event_again (Commit t) inside ranges = λ i. (txn_again t ranges.txns.0 i) >>= (λ t. Ok (Commit t))
   event_again (Abort t) inside ranges = λ i. (txn_again t ranges.txns.0 i) >>= (λ t. Ok (Abort t))
+  event_again (Permit t u ob) inside ranges =
+      λ i. (txn_again t ranges.txns.0 i) >>= (λ t. (txn_again u ranges.txns.1.0 i) >>= (λ u. (object_again ob inside.object i) >>= (λ object. Ok (Permit t u object))))
 
   operation-spelled : (op : Op) → IfSome (integer_of op) (IsWithin 0x8000_0000) → list_all is_spelled (operation_words op) ≡ true
   operation-spelled Read number = refl
@@ -159,6 +161,7 @@ module _ {A : Type 0} (m : Parts A) (good : IsChecked m) where
   event-spelled (Operate t ob op) inside ranges = λ i. (txn-spelled t ranges.txns.0 i) && ((object-spelled ob inside.object i) && (operation-spelled op ranges.integer i))
   event-spelled (Commit t) inside ranges = λ i. (txn-spelled t ranges.txns.0 i) && true
   event-spelled (Abort t) inside ranges = λ i. (txn-spelled t ranges.txns.0 i) && true
+  event-spelled (Permit t u ob) inside ranges = λ i. (txn-spelled t ranges.txns.0 i) && ((txn-spelled u ranges.txns.1.0 i) && ((object-spelled ob inside.object i) && true))
 
 -- the line of an event says the event
 pub event_line_again : {A : Type 0} (m : Parts A) (e : Event A) → lowest_fault m ≡ None → IsInModel m e → HasRanges e → IsReadAgain m e

@@ -4,7 +4,7 @@ use Rattle.std.specs.Option.{option_map_or}
 use Rattle.std.proofs.lemmas.List.{append_assoc, append-nil}
 use Rattle.acta_words.specs.Text.{line_of}
 use Rattle.acta_table.specs.declared.event.Event.{Event}
-use Rattle.acta_table.specs.declared.event.Event.TheVariants.{Begin, Spawn, Split, Join, Delegate, Form, Operate, Commit, Abort}
+use Rattle.acta_table.specs.declared.event.Event.TheVariants.{Begin, Spawn, Split, Join, Delegate, Form, Operate, Commit, Abort, Permit}
 use Rattle.acta_table.specs.declared.event.Kept.{Kept}
 use Rattle.acta_table.specs.declared.event.Ret.{Ret}
 use Rattle.acta_table.specs.declared.model.Parts.{Parts}
@@ -26,6 +26,7 @@ some_words m (Form kind j i) = omega arith
 some_words m (Operate t ob op) = omega arith
 some_words m (Commit t) = omega arith
 some_words m (Abort t) = omega arith
+some_words m (Permit t u ob) = omega arith
 
 pub kept_line_plain : {A : Type 0} (m : Parts A) (kept : Kept A) → kept.ret ≡ None → kept_line m kept ≡ event_line m kept.event
 unfolding kept_line event_line

@@ -6,9 +6,9 @@ use Rattle.std.specs.Str.{bytes_eq}
 use Rattle.acta_table.specs.declared.dep.Dep.{Dep}
 use Rattle.acta_table.specs.declared.event.ClassId.{ClassId}
 use Rattle.acta_table.specs.declared.event.Event.{Event}
-use Rattle.acta_table.specs.declared.event.Event.TheVariants.{Begin, Spawn, Split, Join, Delegate, Form, Operate, Commit, Abort}
+use Rattle.acta_table.specs.declared.event.Event.TheVariants.{Begin, Spawn, Split, Join, Delegate, Form, Operate, Commit, Abort, Permit}
 use Rattle.acta_table.specs.declared.event.EventKind.{EventKind}
-use Rattle.acta_table.specs.declared.event.EventKind.TheVariants.{Begin as begin_kind, Spawn as spawn_kind, Split as split_kind, Join as join_kind, Delegate as delegate_kind, Form as form_kind, Operate as operate_kind, Commit as commit_kind, Abort as abort_kind}
+use Rattle.acta_table.specs.declared.event.EventKind.TheVariants.{Begin as begin_kind, Spawn as spawn_kind, Split as split_kind, Join as join_kind, Delegate as delegate_kind, Form as form_kind, Operate as operate_kind, Commit as commit_kind, Abort as abort_kind, Permit as permit_kind}
 use Rattle.acta_table.specs.declared.event.Kept.{Kept}
 use Rattle.acta_table.specs.declared.event.ObjId.{ObjId}
 use Rattle.acta_table.specs.declared.event.Op.{Op}
@@ -184,6 +184,15 @@ abort_said (t ∷ []) = do
   Ok (Abort t)
 abort_said _ = Err Arity
 
+-- permit T U OBJECT
+unfoldable pub permit_said : {A : Type 0} → Parts A → List (List ℕ) → Result (Event A) LineFault
+permit_said m (t ∷ u ∷ object ∷ []) = do
+  t ← txn_said t
+  u ← txn_said u
+  object ← object_said m object
+  Ok (Permit t u object)
+permit_said m _ = Err Arity
+
 -- the kind of event that a line with this first word says
 abbrev pub event_kind_said : List ℕ → Result EventKind LineFault
 event_kind_said word =
@@ -196,6 +205,7 @@ event_kind_said word =
     else if bytes_eq word (codes "do") then Ok operate_kind
     else if bytes_eq word (codes "commit") then Ok commit_kind
     else if bytes_eq word (codes "abort") then Ok abort_kind
+    else if bytes_eq word (codes "permit") then Ok permit_kind
     else Err Word
 
 -- the event of this kind that the words behind the first say
@@ -209,6 +219,7 @@ event_of_kind m form_kind words = form_said words
 event_of_kind m operate_kind words = do_said m words
 event_of_kind m commit_kind words = commit_said words
 event_of_kind m abort_kind words = abort_said words
+event_of_kind m permit_kind words = permit_said m words
 
 -- the event that words say
 unfoldable pub event_said : {A : Type 0} → Parts A → List (List ℕ) → Result (Event A) LineFault

@@ -5,7 +5,7 @@ use Rattle.std.specs.List.{join_with_byte}
 use Rattle.std.specs.Option.{option_map_or}
 use Rattle.acta_table.specs.declared.event.ClassId.{ClassId}
 use Rattle.acta_table.specs.declared.event.Event.{Event}
-use Rattle.acta_table.specs.declared.event.Event.TheVariants.{Begin, Spawn, Split, Join, Delegate, Form, Operate, Commit, Abort}
+use Rattle.acta_table.specs.declared.event.Event.TheVariants.{Begin, Spawn, Split, Join, Delegate, Form, Operate, Commit, Abort, Permit}
 use Rattle.acta_table.specs.declared.event.Kept.{Kept}
 use Rattle.acta_table.specs.declared.event.ObjId.{ObjId}
 use Rattle.acta_table.specs.declared.event.Op.{Op}
@@ -59,6 +59,7 @@ event_words m (Form kind j i) = codes "form" ∷ word_of kind ∷ txn_word j ∷
 event_words m (Operate t ob op) = codes "do" ∷ txn_word t ∷ object_word m ob ∷ operation_words op
 event_words m (Commit t) = codes "commit" ∷ txn_word t ∷ []
 event_words m (Abort t) = codes "abort" ∷ txn_word t ∷ []
+event_words m (Permit t u ob) = codes "permit" ∷ txn_word t ∷ txn_word u ∷ object_word m ob ∷ []
 
 -- the word of a return
 abbrev pub return_word : Ret → List ℕ

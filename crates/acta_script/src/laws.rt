@@ -81,6 +81,10 @@ fn event_ranges<A: Allocator>(event: &Event<A>)
         }
         Event::Commit(t) => txn_range(*t),
         Event::Abort(t) => txn_range(*t),
+        Event::Permit(t, u, _) => {
+            txn_range(*t);
+            txn_range(*u);
+        }
     }
 }
 

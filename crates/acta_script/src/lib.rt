@@ -6,6 +6,7 @@
 //! begin T CLASS     spawn T C CLASS     split T U CLASS OPS
 //! join T U          delegate T U OPS    form KIND J I
 //! do T OBJECT OP    commit T            abort T
+//! permit T U OBJECT
 //! ```
 //!
 //! where `OP` is `read`, `get`, `size`, or `write`, `add`, `insert`, `remove`, `has` with an `INT` behind it, and `OPS`

@@ -3,7 +3,7 @@
 
 ghost use Rattle.std.specs.Prelude.{◌≡◌, map, Ok, IfOk, IfErr};
 ghost use Rattle.acta_script.specs.Laws.{IsInModel, NamesNothing};
-ghost use Rattle.acta_script.specs.Reading.{IsWhy, begin_said, spawn_said, split_said, join_said, delegate_said, form_said, form_of_kind, do_said, commit_said, abort_said, event_kind_said, event_of_kind, event_said, event_of};
+ghost use Rattle.acta_script.specs.Reading.{IsWhy, begin_said, spawn_said, split_said, join_said, delegate_said, form_said, form_of_kind, do_said, commit_said, abort_said, permit_said, event_kind_said, event_of_kind, event_said, event_of};
 
 use crate::fault::{LineError, LineFault};
 use crate::names::{class_said, kind_said, object_said};
@@ -158,6 +158,21 @@ fn abort_said<A: Allocator>(words: &[&[u8]]) -> Result<Event<A>, LineFault>
     Ok(Event::Abort(txn_said(t)?))
 }
 
+// permit T U OBJECT
+#[tactic(auto, unfolding(crate::specs::Reading::permit_said))]
+fn permit_said<A: Allocator>(model: &Model<A>, words: &[&[u8]]) -> Result<Event<A>, LineFault>
+    ensures said { result ≡ permit_said model.now (map (λ word. word.now) words.now) }
+    ensures in_model { IfOk result (λ event. IsInModel model.now event) }
+{
+    let [t, u, object] = words else {
+        return Err(LineFault::Arity);
+    };
+    let t = txn_said(t)?;
+    let u = txn_said(u)?;
+    let object = object_said(model, object)?;
+    Ok(Event::Permit(t, u, object))
+}
+
 /// The kind of event that a line with this first word says.
 pub(crate) fn event_kind_said(word: &[u8]) -> Result<EventKind, LineFault>
     ensures { result ≡ event_kind_said word.now }
@@ -180,6 +195,8 @@ pub(crate) fn event_kind_said(word: &[u8]) -> Result<EventKind, LineFault>
         Ok(EventKind::Commit)
     } else if word == b"abort".as_slice() {
         Ok(EventKind::Abort)
+    } else if word == b"permit".as_slice() {
+        Ok(EventKind::Permit)
     } else {
         Err(LineFault::Word)
     }
@@ -206,6 +223,7 @@ fn event_of_kind<A: Allocator + Copy>(
         EventKind::Operate => Ok(do_said(model, words)?),
         EventKind::Commit => Ok(commit_said(words)?),
         EventKind::Abort => Ok(abort_said(words)?),
+        EventKind::Permit => Ok(permit_said(model, words)?),
     }
 }
 

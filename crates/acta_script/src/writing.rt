@@ -106,6 +106,22 @@ fn push_do<A: Allocator>(
     push_operation(line, op)
 }
 
+// permit T U OBJECT
+fn push_permit<A: Allocator>(
+    line: &mut Vec<u8, A>,
+    model: &Model<A>,
+    t: TxnId,
+    u: TxnId,
+    object: ObjId,
+) -> Result<(), AllocError>
+    requires { object.0 < length model.now.objects }
+    ensures { OnOk result (line.new.items ≡ line.old.items
+        ++ codes "permit" ++ 32 ∷ txn_word t ++ 32 ∷ txn_word u ++ 32 ∷ object_word model.now object) }
+{
+    push_two(line, b"permit", t, u)?;
+    push_word(line, object_name(model, object))
+}
+
 /// Writes the line of the event behind what the line has. `Err` where there is no memory.
 #[tactic(auto, unfolding(crate::specs::Writing::event_line))]
 pub(crate) fn push_event<A: Allocator>(
@@ -132,6 +148,7 @@ pub(crate) fn push_event<A: Allocator>(
         Event::Operate(t, object, op) => push_do(line, model, *t, *object, *op),
         Event::Commit(t) => push_start(line, b"commit", *t),
         Event::Abort(t) => push_start(line, b"abort", *t),
+        Event::Permit(t, u, object) => push_permit(line, model, *t, *u, *object),
     }
 }
 

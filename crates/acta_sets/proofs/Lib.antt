@@ -8,3 +8,5 @@ mod Searching
 mod Access
 mod Among
 mod Unnamed
+mod Grants
+mod Permitting

@@ -13,6 +13,7 @@ use Rattle.acta_table.specs.Sets.{is_named}
 use Rattle.acta_table.specs.Fates.{is_open, is_aborted}
 use Rattle.acta_objects.specs.Conflicts.{register_conflicts, counter_conflicts, set_conflicts}
 use Rattle.acta_sets.specs.declared.held_op.HeldOp.{HeldOp}
+use Rattle.acta_sets.specs.Permits.{Permitted}
 
 -- whether t holds the operation in progress
 abbrev pub is_held : ℕ → HeldOp → Bool
@@ -22,10 +23,11 @@ is_held t i = (i.holder.0 == t) && is_open i.fate
 abbrev pub is_among : List TxnId → TxnId → Bool
 is_among ts t = list_any (λ u. u.0 == t.0) ts
 
--- whether the operation is in progress, and held by none of t and these ancestors of t
-abbrev pub is_of_others : ℕ → List TxnId → HeldOp → Bool
-is_of_others t ancestors i =
-    is_open i.fate && not (i.holder.0 == t) && not (is_among ancestors i.holder)
+-- whether the operation is in progress, held neither by t nor by one of these ancestors of t, nor by one who has
+-- permitted t to work on its object
+abbrev pub is_of_others : ℕ → List TxnId → Permitted → HeldOp → Bool
+is_of_others t ancestors permitted i =
+    is_open i.fate && not (i.holder.0 == t) && not (is_among ancestors i.holder) && not (permitted i.holder.0 t i.ob.0)
 
 -- whether the operation counts: whether it is not aborted
 abbrev pub is_live : HeldOp → Bool
@@ -39,10 +41,10 @@ operations_where test items = map (λ n. record { 0 = n }) (numbers_where test i
 abbrev pub access_set : ℕ → List HeldOp → List OpNo
 access_set t items = operations_where (is_held t) items
 
--- the conflict set: the operations in progress that others hold, where these ancestors of t are no
--- others
-abbrev pub conflict_set : ℕ → List TxnId → List HeldOp → List OpNo
-conflict_set t ancestors items = operations_where (is_of_others t ancestors) items
+-- the conflict set: the operations in progress that others hold, where these ancestors of t are no others, and one who
+-- has permitted t to work on an object is none there
+abbrev pub conflict_set : ℕ → List TxnId → Permitted → List HeldOp → List OpNo
+conflict_set t ancestors permitted items = operations_where (is_of_others t ancestors permitted) items
 
 -- the view: the operations that are not aborted
 abbrev pub view_set : List HeldOp → List OpNo
@@ -109,14 +111,14 @@ ops_conflict p q = register_conflicts p q || counter_conflicts p q || set_confli
 abbrev pub is_held_against : ℕ → ℕ → Op → HeldOp → Bool
 is_held_against t ob op i = is_held t i && (i.ob.0 == ob) && ops_conflict i.op op
 
--- whether the operation is in progress, on this object, held neither by t nor by one of these, and conflicts with the
--- other
+-- whether the operation is in progress, on this object, held neither by t nor by one of these, whom t spares there, and
+-- conflicts with the other
 abbrev pub is_against : ℕ → List ℕ → ℕ → Op → HeldOp → Bool
 is_against t spared ob op i =
     is_open i.fate && not (i.holder.0 == t) && not (list_any (λ k. k == i.holder.0) spared) && (i.ob.0 == ob) && ops_conflict i.op op
 
--- whether u is another than t, none of these, and holds an operation in progress, on this object, that conflicts with
--- the other
+-- whether u is another than t, none of these, whom t spares on this object, and holds an operation in progress there
+-- that conflicts with the other
 abbrev pub is_opponent : ℕ → List ℕ → ℕ → Op → List HeldOp → ℕ → Bool
 is_opponent t spared ob op items u =
     (not (u == t) && not (list_any (λ k. k == u) spared)) && list_any (is_held_against u ob op) items

@@ -4,6 +4,7 @@ ghost use Rattle.acta_sets.specs.Operations.{is_held, operation_at, are_held, ac
 ghost use Rattle.std.specs.List.{list_any};
 ghost use Rattle.acta_table.specs.Numbered.{first_number, numbers_where};
 ghost use Rattle.acta_table.specs.Sets.{is_named};
+ghost use Rattle.acta_sets.specs.Permits.{permitted};
 
 use crate::changing::{advance_each, end_each, hand_each};
 use crate::counts::Counts;
@@ -15,6 +16,7 @@ use crate::held::{
 use crate::held_op::HeldOp;
 use crate::listing::ModeLists;
 use crate::mode::{Holder, coarse, listed_fine};
+use crate::permits::Permits;
 use crate::selection::{Selection, selected};
 use crate::{counts, held, listing};
 use acta_table::{Fate, MOST_EVENTS, ObjId, Op, OpNo, OpSet, TxnId};
@@ -197,7 +199,8 @@ impl<A: Handle> OpTable<A> {
     }
 
     /// Whether an operation in progress, on the object, held neither by the transaction nor by one of those that it
-    /// spares, conflicts with the operation.
+    /// spares on that object, conflicts with the operation. It spares its ancestors, and those who have permitted it to
+    /// work on the object.
     pub fn has_against(&self, t: TxnId, spares: &BTreeSet<u16, A>, ob: ObjId, op: &Op) -> bool
         ensures { result ≡ list_any (is_against t.0 spares.now.keys ob.0 op.now) self.now }
     {
@@ -205,7 +208,8 @@ impl<A: Handle> OpTable<A> {
     }
 
     /// The number of the first operation in progress, on the object, held neither by the transaction nor by one of
-    /// those that it spares, that conflicts with the operation.
+    /// those that it spares on that object, that conflicts with the operation. It spares its ancestors, and those who
+    /// have permitted it to work on the object.
     pub fn first_against(
         &self,
         t: TxnId,
@@ -233,8 +237,8 @@ impl<A: Handle> OpTable<A> {
 
 // Who stands against an operation.
 impl<A: Handle> OpTable<A> {
-    // Whether the one of this number is another than the transaction and than those that it spares, and holds an
-    // operation in progress, on the object, that conflicts with the operation.
+    // Whether the one of this number is another than the transaction and than those that it spares on the object, and
+    // holds an operation in progress there that conflicts with the operation.
     fn is_opponent(
         &self,
         t: TxnId,
@@ -268,7 +272,8 @@ impl<A: Handle> OpTable<A> {
     }
 
     /// Who holds the operations in progress, on the object, that conflict with the operation, but for the transaction
-    /// and those that it spares. `Err` where there is no memory.
+    /// and those that it spares on that object: its ancestors, and those who have permitted it to work on the object.
+    /// `Err` where there is no memory.
     pub fn holders_against(
         &self,
         t: TxnId,
@@ -307,15 +312,21 @@ impl<A: Handle> OpTable<A> {
         first_unnamed(list_of(&self.held, t.0), ops)
     }
 
-    /// The operations in progress that are held neither by `t` nor by one of these ancestors of it,
-    /// by number, ascending (ACTA's conflict set; that it has only operations in progress is ours).
-    /// With no ancestor all others count. `Err` where there is no memory.
-    pub fn conflict_set(&self, t: TxnId, ancestors: &[TxnId]) -> Result<Vec<OpNo, A>, AllocError>
-        ensures { IfOk result (λ ops. ops.items ≡ conflict_set t.0 ancestors.now self.now) }
+    /// The operations in progress that are held neither by `t` nor by one of these ancestors of it, nor by one who has
+    /// permitted `t` to work on the operation's object, by number, ascending (ACTA's conflict set; that it has only
+    /// operations in progress, and the permits, are ours). With no ancestor and no permit all others count. `Err` where
+    /// there is no memory.
+    pub fn conflict_set(
+        &self,
+        t: TxnId,
+        ancestors: &[TxnId],
+        permits: &Permits<A>,
+    ) -> Result<Vec<OpNo, A>, AllocError>
+        ensures { IfOk result (λ ops. ops.items ≡ conflict_set t.0 ancestors.now (permitted permits.now) self.now) }
     {
         selected(
             self.allocator(),
-            Selection::Conflict(t, ancestors),
+            Selection::Conflict(t, ancestors, permits),
             self.operations(),
         )
     }

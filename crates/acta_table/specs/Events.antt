@@ -1,10 +1,10 @@
 -- What an event is and names.
-use Rattle.std.specs.Prelude.{ℕ, Bool, true, false, List, [], ◌∷◌, Option, Some, None}
+use Rattle.std.specs.Prelude.{ℕ, Bool, true, false, ◌&&◌, ◌==◌, List, [], ◌∷◌, Option, Some, None}
 use Rattle.acta_table.specs.declared.event.OpNo.{OpNo}
 use Rattle.acta_table.specs.declared.event.EventKind.{EventKind}
-use Rattle.acta_table.specs.declared.event.EventKind.TheVariants.{Begin as begin_kind, Spawn as spawn_kind, Split as split_kind, Join as join_kind, Delegate as delegate_kind, Form as form_kind, Operate as operate_kind, Commit as commit_kind, Abort as abort_kind}
+use Rattle.acta_table.specs.declared.event.EventKind.TheVariants.{Begin as begin_kind, Spawn as spawn_kind, Split as split_kind, Join as join_kind, Delegate as delegate_kind, Form as form_kind, Operate as operate_kind, Commit as commit_kind, Abort as abort_kind, Permit as permit_kind}
 use Rattle.acta_table.specs.declared.event.Event.{Event}
-use Rattle.acta_table.specs.declared.event.Event.TheVariants.{Begin, Spawn, Split, Join, Delegate, Form, Operate, Commit, Abort}
+use Rattle.acta_table.specs.declared.event.Event.TheVariants.{Begin, Spawn, Split, Join, Delegate, Form, Operate, Commit, Abort, Permit}
 
 -- the kind of the event
 abbrev pub kind_of : {A : Type 0} → Event A → EventKind
@@ -17,6 +17,7 @@ kind_of (Form kind j i) = form_kind
 kind_of (Operate t ob op) = operate_kind
 kind_of (Commit t) = commit_kind
 kind_of (Abort t) = abort_kind
+kind_of (Permit t u ob) = permit_kind
 
 -- the transactions named, in order
 abbrev pub named : {A : Type 0} → Event A → List ℕ
@@ -29,6 +30,7 @@ named (Form kind j i) = j.0 ∷ i.0 ∷ []
 named (Operate t ob op) = t.0 ∷ []
 named (Commit t) = t.0 ∷ []
 named (Abort t) = t.0 ∷ []
+named (Permit t u ob) = t.0 ∷ u.0 ∷ []
 
 -- the transaction that acts: one that has to be in progress
 abbrev pub acting : {A : Type 0} → Event A → Option ℕ
@@ -41,6 +43,7 @@ acting (Form kind j i) = None
 acting (Operate t ob op) = Some t.0
 acting (Commit t) = Some t.0
 acting (Abort t) = Some t.0
+acting (Permit t u ob) = Some t.0
 
 -- the transaction that is started
 abbrev pub started : {A : Type 0} → Event A → Option ℕ
@@ -59,12 +62,14 @@ class_named _ = None
 -- the object named
 abbrev pub object_named : {A : Type 0} → Event A → Option ℕ
 object_named (Operate t ob op) = Some ob.0
+object_named (Permit t u ob) = Some ob.0
 object_named _ = None
 
--- the transaction that is handed something: one that has to be in progress too
+-- the transaction that is handed or permitted something: one that has to be in progress too
 abbrev pub partner : {A : Type 0} → Event A → Option ℕ
 partner (Join t u) = Some u.0
 partner (Delegate t u ops) = Some u.0
+partner (Permit t u ob) = Some u.0
 partner _ = None
 
 -- the operations named
@@ -78,3 +83,8 @@ abbrev pub hands_over : {A : Type 0} → Event A → Bool
 hands_over (Split t u class ops) = true
 hands_over (Delegate t u ops) = true
 hands_over _ = false
+
+-- whether by the event s permits t to work on the object
+abbrev pub permits : {A : Type 0} → ℕ → ℕ → ℕ → Event A → Bool
+permits s t object (Permit u v ob) = (u.0 == s) && (v.0 == t) && (ob.0 == object)
+permits s t object _ = false

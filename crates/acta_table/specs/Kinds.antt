@@ -3,7 +3,7 @@ use Rattle.std.specs.Prelude.{ℕ, ◌^◌, Bool, false, ◌==◌, Option, Some,
 use Rattle.std.specs.Int.{bit_at}
 use Rattle.std.specs.Option.{option_map_or}
 use Rattle.acta_table.specs.declared.event.EventKind.{EventKind}
-use Rattle.acta_table.specs.declared.event.EventKind.TheVariants.{Begin, Spawn, Split, Join, Delegate, Form, Operate, Commit, Abort}
+use Rattle.acta_table.specs.declared.event.EventKind.TheVariants.{Begin, Spawn, Split, Join, Delegate, Form, Operate, Commit, Abort, Permit}
 
 -- which bit stands for the kind, the lowest having the code 0; none does for Begin
 abbrev pub kind_code : EventKind → Option ℕ
@@ -16,6 +16,7 @@ kind_code Form = Some 4
 kind_code Operate = Some 5
 kind_code Commit = Some 6
 kind_code Abort = Some 7
+kind_code Permit = Some 8
 
 -- whether the bit of this code is set
 abbrev pub has_bit : ℕ → ℕ → Bool

@@ -25,7 +25,7 @@ HasDeps (Depend kinds) = kinds < 2 ^ 12
 
 -- no set of a class has a bit that no kind has, and its start edges stand in order, each once
 pub record HasSets {A : Type 0} (class : Class A) : Type 0 where
-  pub may : class.may < 2 ^ 8
+  pub may : class.may < 2 ^ 9
   pub policy : HasDeps class.policy
   pub spawn_edges : IsStrictlySortedBy start_edge_cmp class.spawn_edges
   pub split_edges : IsStrictlySortedBy start_edge_cmp class.split_edges

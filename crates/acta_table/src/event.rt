@@ -65,6 +65,7 @@ pub enum EventKind {
     Operate,
     Commit,
     Abort,
+    Permit,
 }
 
 /// What happens in a history (ACTA's event).
@@ -92,6 +93,9 @@ pub enum Event<A: Allocator> {
     Commit(TxnId),
     /// The transaction aborts.
     Abort(TxnId),
+    /// The first transaction permits the second to work on the object beside it: while both are in progress, what the
+    /// first holds on the object conflicts with nothing that the second does there (ASSET's permit, of one object).
+    Permit(TxnId, TxnId, ObjId),
 }
 
 impl<A: Allocator> Event<A> {
@@ -109,6 +113,7 @@ impl<A: Allocator> Event<A> {
             Event::Operate(_, _, _) => EventKind::Operate,
             Event::Commit(_) => EventKind::Commit,
             Event::Abort(_) => EventKind::Abort,
+            Event::Permit(_, _, _) => EventKind::Permit,
         }
     }
 
@@ -135,7 +140,8 @@ impl<A: Allocator> Event<A> {
             | Event::Delegate(t, _, _)
             | Event::Operate(t, _, _)
             | Event::Commit(t)
-            | Event::Abort(t) => Some(*t),
+            | Event::Abort(t)
+            | Event::Permit(t, _, _) => Some(*t),
         }
     }
 
@@ -237,6 +243,15 @@ impl<A: Allocator> Event<A> {
         }
     }
 
+    fn is_permit(&self, t: TxnId, v: TxnId, ob: ObjId) -> bool
+        ensures { Decides result (Event.Permit t v ob ≡ self.now) }
+    {
+        match self {
+            Event::Permit(u, w, on) => t.0 == u.0 && v.0 == w.0 && ob.0 == on.0,
+            _ => false,
+        }
+    }
+
     /// Whether the two are the same event (ours).
     pub fn is_same(&self, other: &Event<A>) -> bool
         ensures { Decides result (self.now ≡ other.now) }
@@ -251,6 +266,7 @@ impl<A: Allocator> Event<A> {
             Event::Operate(t, ob, op) => other.is_operate(*t, *ob, *op),
             Event::Commit(t) => other.is_commit(*t),
             Event::Abort(t) => other.is_abort(*t),
+            Event::Permit(t, u, ob) => other.is_permit(*t, *u, *ob),
         }
     }
 }
@@ -270,6 +286,7 @@ impl<A: Allocator + Copy> Event<A> {
             Event::Operate(t, ob, op) => Event::Operate(*t, *ob, *op),
             Event::Commit(t) => Event::Commit(*t),
             Event::Abort(t) => Event::Abort(*t),
+            Event::Permit(t, u, ob) => Event::Permit(*t, *u, *ob),
         })
     }
 }

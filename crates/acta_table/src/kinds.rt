@@ -26,6 +26,8 @@ impl KindBits {
 
     const ABORT: KindBits = KindBits(128);
 
+    const PERMIT: KindBits = KindBits(256);
+
     #[rattlefmt::skip]
     const FLAGS: &'static [Flag<KindBits>] = &[
         Flag { name: "SPAWN", value: KindBits::SPAWN },
@@ -36,6 +38,7 @@ impl KindBits {
         Flag { name: "OPERATE", value: KindBits::OPERATE },
         Flag { name: "COMMIT", value: KindBits::COMMIT },
         Flag { name: "ABORT", value: KindBits::ABORT },
+        Flag { name: "PERMIT", value: KindBits::PERMIT },
     ];
 }
 
@@ -46,7 +49,7 @@ impl Flags for KindBits {
 
     ghost exact = { ⊤ };
 
-    ghost table = { (codes "SPAWN", 1) ∷ (codes "SPLIT", 2) ∷ (codes "JOIN", 4) ∷ (codes "DELEGATE", 8) ∷ (codes "FORM", 16) ∷ (codes "OPERATE", 32) ∷ (codes "COMMIT", 64) ∷ (codes "ABORT", 128) ∷ [] };
+    ghost table = { (codes "SPAWN", 1) ∷ (codes "SPLIT", 2) ∷ (codes "JOIN", 4) ∷ (codes "DELEGATE", 8) ∷ (codes "FORM", 16) ∷ (codes "OPERATE", 32) ∷ (codes "COMMIT", 64) ∷ (codes "ABORT", 128) ∷ (codes "PERMIT", 256) ∷ [] };
 
     ghost set_of = { λ kinds. kinds.0 };
 
@@ -77,11 +80,12 @@ fn bit_of(kind: EventKind) -> Option<KindBits>
         EventKind::Operate => Some(KindBits::OPERATE),
         EventKind::Commit => Some(KindBits::COMMIT),
         EventKind::Abort => Some(KindBits::ABORT),
+        EventKind::Permit => Some(KindBits::PERMIT),
     }
 }
 
 /// A set of the kinds of event that a class may do: of all kinds but Begin, which `Starts` speaks of.
-/// Contracts see the number whose bits name the kinds, `Spawn` the lowest and `Abort` the eighth.
+/// Contracts see the number whose bits name the kinds, `Spawn` the lowest and `Permit` the ninth.
 #[derive(Clone, Copy, PartialEq, Eq, Debug)]
 pub struct Kinds {
     bits: KindBits,
@@ -94,7 +98,7 @@ impl std::marker::Model for Kinds {
 
     ghost view = { λ kinds. kinds.bits.0 };
 
-    ghost invariant = { λ kinds. kinds.bits.0 < 2 ^ 8 };
+    ghost invariant = { λ kinds. kinds.bits.0 < 2 ^ 9 };
 
     ghost inverse = { λ bits. record { bits = record { 0 = bits } } };
 }
@@ -142,23 +146,23 @@ impl Kinds {
 
     // No other bit is set: a fact of the type.
     pub(crate) fn known(self)
-        ensures { self < 2 ^ 8 }
+        ensures { self < 2 ^ 9 }
     {}
 
-    /// The number whose bits name the kinds, below 256.
+    /// The number whose bits name the kinds, below 512.
     pub fn bits(self) -> u16
         ensures bits { result ≡ self }
-        ensures known { result < 2 ^ 8 }
+        ensures known { result < 2 ^ 9 }
     {
         self.bits.bits()
     }
 
     /// The set that has this number, or `None` where a bit is set that no kind has.
     pub fn from_bits(bits: u16) -> Option<Kinds>
-        ensures known { IsSome result ↔ (bits < 2 ^ 8) }
+        ensures known { IsSome result ↔ (bits < 2 ^ 9) }
         ensures same { IfSome result (λ kinds. kinds ≡ bits) }
     {
-        if bits < 256 {
+        if bits < 512 {
             Some(Kinds {
                 bits: KindBits(bits),
             })

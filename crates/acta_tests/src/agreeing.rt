@@ -8,7 +8,8 @@ use crate::walking::follows_machine;
 use acta_axioms::{Course, Places};
 use acta_machine::{Handle, Machine};
 use acta_table::{
-    ClassId, Edge, EdgeNo, Event, Fate, Kept, Missing, Model, OpNo, Owed, Scope, Status, TxnId,
+    ClassId, Edge, EdgeNo, Event, Fate, Kept, Missing, Model, ObjId, OpNo, Owed, Scope, Status,
+    TxnId,
 };
 use std::alloc::Allocator;
 use std::process::Abort;
@@ -69,8 +70,39 @@ fn up_to<A: Allocator + Copy>(history: &[Kept<A>], u: TxnId, t: TxnId) -> TxnId 
     above
 }
 
-// Whether what u holds in progress is in t's conflict set: not what t holds, and not what its parent holds, or that
-// one's parent, and so on, where t's class leaves its ancestors out.
+// The object of an operation.
+fn object_in<A: Allocator + Copy>(history: &[Kept<A>], op: OpNo) -> Option<ObjId> {
+    let mut number = OpNo(0);
+    for kept in history {
+        if let Event::Operate(_, object, _) = &kept.event {
+            number = OpNo(number.0.wrapping_add(1));
+            if number == op {
+                return Some(*object);
+            }
+        }
+    }
+    None
+}
+
+// Whether u has permitted t to work on the object.
+fn has_permitted<A: Allocator + Copy>(
+    history: &[Kept<A>],
+    u: TxnId,
+    t: TxnId,
+    object: Option<ObjId>,
+) -> bool {
+    for kept in history {
+        if let Event::Permit(giver, taker, on) = &kept.event {
+            if *giver == u && *taker == t && Some(*on) == object {
+                return true;
+            }
+        }
+    }
+    false
+}
+
+// Whether what u holds in progress is in t's conflict set, where u has not permitted t to work on its object: not what t
+// holds, and not what its parent holds, or that one's parent, and so on, where t's class leaves its ancestors out.
 fn is_against<A: Allocator + Copy>(
     model: &Model<A>,
     history: &[Kept<A>],
@@ -95,6 +127,22 @@ pub fn status_by(course: Course) -> Status {
     }
 }
 
+// Whether the transaction is in progress, by its first places.
+fn is_open<A: Handle>(places: &Places<'_, A>, t: TxnId) -> bool {
+    status_by(course_of(places, t)) == Status::InProgress
+}
+
+// Whether u has permitted t to work on the object of an operation, and both are in progress.
+fn is_permitted<A: Handle>(
+    history: &[Kept<A>],
+    places: &Places<'_, A>,
+    u: TxnId,
+    t: TxnId,
+    op: OpNo,
+) -> bool {
+    is_open(places, u) && is_open(places, t) && has_permitted(history, u, t, object_in(history, op))
+}
+
 // Whether t holds the operation in progress, and whether another does whose operations are in t's conflict set.
 fn standing<A: Handle>(
     model: &Model<A>,
@@ -104,7 +152,10 @@ fn standing<A: Handle>(
     op: OpNo,
 ) -> (bool, bool) {
     match (places.holder(op, END), places.fate(op, END)) {
-        (Some(u), Some(Fate::InProgress)) => (u == t, is_against(model, history, u, t)),
+        (Some(u), Some(Fate::InProgress)) => {
+            let is_spared = is_permitted(history, places, u, t, op);
+            (u == t, is_against(model, history, u, t) && !is_spared)
+        }
         _ => (false, false),
     }
 }

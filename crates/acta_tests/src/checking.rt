@@ -244,11 +244,12 @@ fn bits_of_kinds(rt: HostRuntime) {
         EventKind::Operate,
         EventKind::Commit,
         EventKind::Abort,
+        EventKind::Permit,
     ] {
         assert!(rt; has_bits(kind, bits), "{kind:?}");
         bits = if bits == 0 { 1 } else { bits.wrapping_mul(2) };
     }
-    same(&rt, &Kinds::from_bits(256), &None, "no kind");
+    same(&rt, &Kinds::from_bits(512), &None, "no kind");
 }
 
 // Numbers of rules and of faults, and the kind of an event.
@@ -334,7 +335,11 @@ do 1 x read
 do 1 x write 5
 do 1 n read
 commit 1
-abort 1";
+abort 1
+permit 1 2 x
+permit 1 2 n
+permit 2 1 x
+permit 1 3 x";
 
 // Whether the line says the event.
 fn is_said(

@@ -2,7 +2,7 @@
 
 use crate::calls::{copy_of, new_machine, owed_by, places_of, run_on, take};
 use crate::expecting::{holds, made, number_of, parted, same, tells};
-use crate::models::{PARTING, event_of, model_of};
+use crate::models::{PARTING, PERMITTING, event_of, model_of};
 use acta_machine::{Handle, Machine};
 use acta_models::Standard;
 use acta_objects::{ObjectState, replay};
@@ -20,11 +20,14 @@ const ONE: TxnId = TxnId(1);
 // More allocations than any of these calls makes.
 const MOST: u64 = 99;
 
-// How many events and edges the machine has, and how the first transaction stands.
-fn shape<A: Handle>(machine: &Machine<A>) -> (usize, usize, Status) {
+// How many events and edges the machine has, how many operations are in the conflict set of the second transaction, and
+// how the first one stands.
+fn shape<A: Handle>(rt: &impl Abort, machine: &Machine<A>) -> (usize, usize, usize, Status) {
+    let others = made(rt, machine.conflict_set(TxnId(2)), "a conflict set");
     (
         machine.history().len(),
         machine.edges().len(),
+        others.len(),
         machine.status(ONE),
     )
 }
@@ -40,7 +43,7 @@ fn take_last<A: Handle, B: Allocator>(
     nth: u64,
 ) -> Option<Answer> {
     let mut run = made(rt, run_on(alloc, model, before), "a run");
-    let shown = shape(&run.machine);
+    let shown = shape(rt, &run.machine);
     heap.refuse(nth);
     let answer = take(&mut run.machine, last).ok();
     let was_refused = !heap.is_waiting();
@@ -48,7 +51,7 @@ fn take_last<A: Handle, B: Allocator>(
     holds(rt, answer.is_none() == was_refused, "an answer");
     holds(
         rt,
-        answer.is_some() || shape(&run.machine) == shown,
+        answer.is_some() || shape(rt, &run.machine) == shown,
         "a growth",
     );
     drop(run);
@@ -176,6 +179,25 @@ do 1 x write 5 : ok 5 done : 1
 do 1 x write 5 : ok 6 done : 0
 do 2 x read : ok 7 5 : 12";
 
+// Of a first permit: of the two lists, by who gave it and by who was given it, and of a set in each. One that is given
+// again has none, nor has one on another object between the same two; one the other way round has the two sets; one
+// whose number is behind the end of a list has that list too. An operation beside one that permits has the list of those
+// and their set, and the list of a mode. The first event, the fifth and the ninth have the history's.
+const OF_PERMITS: &str = "\
+begin 1 flat : ok 1 : 1
+begin 2 flat : ok 2 : 0
+do 1 x write 5 : ok 3 done : 13
+permit 1 2 x : ok 4 : 4
+do 2 x read : ok 5 5 : 4
+permit 1 2 x : ok 6 : 0
+permit 1 2 n : ok 7 : 0
+permit 2 1 x : ok 8 : 2
+begin 4 flat : ok 9 : 1
+permit 4 2 x : ok 10 : 2
+permit 2 4 x : ok 11 : 2
+abort 2 : ok 12 : 0
+commit 1 : ok 13 : 0";
+
 #[test]
 fn of_events(rt: HostRuntime) {
     let heap = Refusing::new(rt.alloc());
@@ -185,6 +207,7 @@ fn of_events(rt: HostRuntime) {
         (PARTING, OF_LISTS),
         (Standard::Nested.text(), OF_SPAWNS),
         (Standard::Recoverable.text(), OF_DEPENDING),
+        (PERMITTING, OF_PERMITS),
     ] {
         grow_each(&rt, &heap, &heap, model, text);
     }
@@ -440,10 +463,15 @@ fn grow<A: Handle, B: Allocator>(
     panic!(rt; "too many allocations at {line}")
 }
 
-// The events that are read.
-fn read<A: Allocator + Copy>(rt: &impl Abort, alloc: A, model: &Model<A>) -> Vec<Event<A>, A> {
+// The events of the lines.
+fn read<A: Allocator + Copy>(
+    rt: &impl Abort,
+    alloc: A,
+    model: &Model<A>,
+    lines: &str,
+) -> Vec<Event<A>, A> {
     let mut events = Vec::new(alloc);
-    for line in READ.lines() {
+    for line in lines.lines() {
         let event = event_of(rt, alloc, model, line);
         made(rt, events.push(event), line);
     }
@@ -466,11 +494,62 @@ fn grow_all<A: Handle, B: Allocator>(
 // The growths of each call on the model of nested transactions, after the events that are read.
 fn grow_calls<A: Handle, B: Allocator>(rt: &impl Abort, heap: &Refusing<B>, alloc: A) {
     let model = model_of(rt, alloc, Standard::Nested.text());
-    let events = read(rt, alloc, &model);
+    let events = read(rt, alloc, &model, READ);
     let run = made(rt, run_on(alloc, &model, &events), "a run");
     grow_all(rt, heap, alloc, &run.machine, &events);
     drop(run);
     drop(model);
+}
+
+// Events of which the last permits something, and the same with another in its place.
+const PERMITS: &str = "\
+begin 1 flat
+begin 2 flat
+do 1 x write 5
+permit 1 2 x";
+
+const NO_PERMIT: &str = "\
+begin 1 flat
+begin 2 flat
+do 1 x write 5
+begin 3 flat";
+
+// How many growths a copy of a machine has that has taken the events of the lines.
+fn growths_of_copy<A: Handle, B: Allocator>(
+    rt: &impl Abort,
+    heap: &Refusing<B>,
+    alloc: A,
+    lines: &str,
+) -> u64 {
+    let model = model_of(rt, alloc, PERMITTING);
+    let events = read(rt, alloc, &model, lines);
+    let run = made(rt, run_on(alloc, &model, &events), "a run");
+    let mut growths = 0u64;
+    for nth in 1..MOST {
+        let (answer, was_refused) = refused(
+            heap,
+            alloc,
+            &run.machine,
+            &events,
+            ("machine copy", nth),
+        );
+        holds(rt, answer.is_none() == was_refused, lines);
+        if was_refused {
+            growths = growths.wrapping_add(1);
+        }
+    }
+    drop(run);
+    drop(model);
+    growths
+}
+
+// A copy of a machine with a permit copies its two lists, and the set in each.
+#[test]
+fn of_permits_in_copies(rt: HostRuntime) {
+    let heap = Refusing::new(rt.alloc());
+    let without = growths_of_copy(&rt, &heap, &heap, NO_PERMIT);
+    let with = growths_of_copy(&rt, &heap, &heap, PERMITS);
+    same(&rt, &with, &without.wrapping_add(4), "a permit");
 }
 
 #[test]

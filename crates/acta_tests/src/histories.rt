@@ -70,12 +70,14 @@ join 1 2 : no 9
 delegate 1 2 - : no 9
 form CD 1 2 : no 9
 form CD 3 2 : no 9
+permit 1 2 x : no 9
 commit 1 : ok 2
 begin 2 flat : ok 3
 begin 3 flat : ok 4
 split 2 4 flat - : no 9
 join 2 3 : no 9
 delegate 2 3 - : no 9
+permit 2 3 x : no 9
 ? edges :
 # A read waits for a write to be committed
 begin 1 flat : ok 1
@@ -1026,8 +1028,276 @@ do 2 x write 7 : ok 5 done
 commit 1 : ok 6
 commit 2 : ok 7";
 
+/// Transactions that permit: the class `flat` begins, operates, commits, aborts and permits.
+pub const PERMITTING: &str = "\
+# A permit is of one object, and works one way
+begin 1 flat : ok 1
+begin 2 flat : ok 2
+do 1 x write 5 : ok 3 done
+do 2 x read : no 14 by 1
+? conflict 2 : 1
+permit 1 2 x : ok 4
+? conflict 2 :
+do 2 x read : ok 5 5
+? conflict 1 : 2
+do 1 n add 1 : ok 6 done
+do 2 n get : no 14 by 3
+do 1 x write 6 : no 14 by 2
+? conflict 2 : 3
+abort 1 : ok 7
+? value x : 0
+permit 1 2 x : no 7 by 1
+permit 2 3 x : no 10 by 3
+permit 2 2 x : no 6 by 2
+# Each rule on what is named
+begin 1 flat : ok 1
+begin 2 flat : ok 2
+permit 0 1 nowhere : no 2 by 0
+permit 1 4096 nowhere : no 2 by 4096
+permit 5000 4096 x : no 2 by 4096
+permit 1 2 nowhere : no 4
+permit 1 1 nowhere : no 4
+permit 3 3 x : no 6 by 3
+permit 3 4 x : no 7 by 3
+permit 1 3 x : no 10 by 3
+permit 1 2 x : ok 3
+commit 2 : ok 4
+permit 2 1 x : no 7 by 2
+permit 1 2 x : no 10 by 2
+# A permit covers what its giver does later
+begin 1 flat : ok 1
+begin 2 flat : ok 2
+begin 3 flat : ok 3
+permit 1 2 s : ok 4
+do 1 s insert 3 : ok 5 yes
+do 2 s has 3 : ok 6 yes
+do 3 s has 3 : no 14 by 1
+do 2 s size : ok 7 1
+do 1 s insert 4 : no 14 by 3
+? conflict 2 :
+? conflict 3 : 1 2 3
+# A permit that is given again changes nothing
+begin 1 flat : ok 1
+begin 2 flat : ok 2
+do 1 x write 5 : ok 3 done
+permit 1 2 x : ok 4
+permit 1 2 x : ok 5
+do 2 x write 6 : ok 6 done
+? value x : 6
+do 1 x read : no 14 by 2
+abort 2 : ok 7
+do 1 x read : ok 8 5
+# A permit is not passed on by another permit
+begin 1 flat : ok 1
+begin 2 flat : ok 2
+begin 3 flat : ok 3
+do 1 x write 5 : ok 4 done
+permit 1 2 x : ok 5
+permit 2 3 x : ok 6
+do 2 x read : ok 7 5
+do 3 x write 6 : no 14 by 1
+do 3 x read : no 14 by 1
+? conflict 2 :
+? conflict 3 : 1
+commit 1 : ok 8
+do 3 x write 6 : ok 9 done
+# Of two who hold, each permits for itself
+begin 1 flat : ok 1
+begin 2 flat : ok 2
+begin 3 flat : ok 3
+do 1 n add 1 : ok 4 done
+do 2 n add 2 : ok 5 done
+do 3 n get : no 14 by 1
+permit 1 3 n : ok 6
+do 3 n get : no 14 by 2
+permit 2 3 n : ok 7
+do 3 n get : ok 8 3
+do 1 n add 1 : no 14 by 3
+permit 3 1 n : ok 9
+do 1 n add 1 : ok 10 done
+# A permit ends with the one that was given it
+begin 1 flat : ok 1
+begin 2 flat : ok 2
+do 1 x write 5 : ok 3 done
+permit 1 2 x : ok 4
+do 2 x read : ok 5 5
+do 1 x write 6 : no 14 by 2
+commit 2 : ok 6
+? conflict 2 : 1
+do 1 x write 6 : ok 7 done
+begin 3 flat : ok 8
+do 3 x read : no 14 by 1
+? conflict 2 : 1 3
+commit 1 : ok 9
+? conflict 2 :
+? conflict 3 :
+# A permit ends with the one that gave it
+begin 1 flat : ok 1
+begin 2 flat : ok 2
+begin 3 flat : ok 3
+permit 1 2 x : ok 4
+permit 3 2 x : ok 5
+do 3 x write 7 : ok 6 done
+commit 1 : ok 7
+do 2 x write 8 : ok 8 done
+abort 3 : ok 9
+? value x : 8
+permit 3 2 x : no 7 by 3";
+
+/// Transactions that share: the class `part` begins, splits, joins, delegates any part and permits; the class `quiet`
+/// is flat.
+pub const SHARING: &str = "\
+# A permit is not passed on by a delegation
+begin 1 part : ok 1
+begin 2 part : ok 2
+begin 3 part : ok 3
+do 1 x write 5 : ok 4 done
+permit 1 2 x : ok 5
+delegate 1 3 1 : ok 6
+do 2 x read : no 14 by 1
+? conflict 2 : 1
+permit 3 2 x : ok 7
+? conflict 2 :
+do 2 x read : ok 8 5
+# A permit covers what its giver is handed later
+begin 1 part : ok 1
+begin 2 part : ok 2
+begin 3 part : ok 3
+permit 1 2 x : ok 4
+do 3 x write 5 : ok 5 done
+do 2 x read : no 14 by 1
+delegate 3 1 1 : ok 6
+do 2 x read : ok 7 5
+delegate 1 3 1 : ok 8
+do 2 x read : no 14 by 1
+join 3 1 : ok 9
+do 2 x read : ok 10 5
+# What is split off is covered no more
+begin 1 part : ok 1
+begin 2 part : ok 2
+do 1 x write 5 : ok 3 done
+permit 1 2 x : ok 4
+split 1 3 part 1 : ok 5
+do 2 x read : no 14 by 1
+do 1 x read : no 14 by 1
+join 3 1 : ok 6
+do 2 x read : ok 7 5
+# A permit ends with one that joins another
+begin 1 part : ok 1
+begin 2 part : ok 2
+begin 3 part : ok 3
+permit 1 2 x : ok 4
+permit 3 1 x : ok 5
+do 1 x write 5 : ok 6 done
+do 3 x write 5 : ok 7 done
+? conflict 1 :
+? conflict 2 : 2
+join 1 3 : ok 8
+? conflict 1 : 1 2
+? conflict 2 : 1 2
+do 2 x read : no 14 by 1
+permit 1 2 x : no 7 by 1
+permit 3 1 x : no 10 by 1
+# One whose class may not permit can be permitted something
+begin 1 part : ok 1
+begin 2 quiet : ok 2
+do 1 x write 5 : ok 3 done
+permit 2 1 x : no 9
+permit 2 3 x : no 9
+permit 1 2 x : ok 4
+do 2 x read : ok 5 5";
+
+/// Transactions that trust: the class `loose` depends by AD and TD on those who hold what conflicts, and permits.
+pub const TRUSTING: &str = "\
+# One depends on nobody who permits it
+begin 1 loose : ok 1
+begin 2 loose : ok 2
+begin 3 loose : ok 3
+do 1 x write 5 : ok 4 done
+permit 1 2 x : ok 5
+do 2 x read : ok 6 5
+? edges :
+do 3 x read : ok 7 5
+? edges : AD 3 1 TD 3 1
+commit 2 : ok 8
+abort 1 : ok 9
+? owed : owed 1 3 abort
+# Of two who hold, one permits
+begin 1 loose : ok 1
+begin 2 loose : ok 2
+begin 3 loose : ok 3
+do 1 n add 1 : ok 4 done
+do 2 n add 2 : ok 5 done
+permit 1 3 n : ok 6
+do 3 n get : ok 7 3
+? edges : AD 3 2 TD 3 2
+do 1 n add 1 : ok 8 done
+? edges : AD 3 2 TD 3 2 AD 1 3 TD 1 3
+# A permit that comes later takes no edge away
+begin 1 loose : ok 1
+begin 2 loose : ok 2
+do 1 x write 5 : ok 3 done
+do 2 x read : ok 4 5
+permit 1 2 x : ok 5
+? edges : AD 2 1 TD 2 1
+commit 2 : no 21 by 2
+commit 1 : ok 6
+commit 2 : ok 7";
+
+/// Nested transactions that permit: the class `top` begins and spawns; the class `sub` is spawned, spawns, and commits
+/// to its parent; neither conflicts with its ancestors, and both permit.
+pub const KINDRED: &str = "\
+# An ancestor is spared, and so is one that permits
+begin 1 top : ok 1
+spawn 1 2 sub : ok 2
+begin 3 top : ok 3
+do 1 n add 1 : ok 4 done
+do 3 n add 2 : ok 5 done
+? conflict 2 : 2
+do 2 n get : no 14 by 2
+permit 3 2 n : ok 6
+? conflict 2 :
+do 2 n get : ok 7 3
+# A child is not permitted what its parent is, and what it permits ends with its commit
+begin 1 top : ok 1
+spawn 1 2 sub : ok 2
+begin 3 top : ok 3
+do 3 x write 5 : ok 4 done
+permit 3 1 x : ok 5
+do 2 x read : no 14 by 1
+do 1 x read : ok 6 5
+permit 3 2 x : ok 7
+do 2 x write 6 : ok 8 done
+permit 2 3 x : ok 9
+do 3 x read : ok 10 6
+commit 2 : ok 11
+? access 1 : 2 3
+do 3 x read : no 14 by 3
+# A child permits its parent
+begin 1 top : ok 1
+spawn 1 2 sub : ok 2
+do 2 x write 5 : ok 3 done
+do 1 x read : no 14 by 1
+permit 2 1 x : ok 4
+do 1 x read : ok 5 5
+do 1 x write 6 : ok 6 done
+do 2 x read : ok 7 6
+# One sibling permits another, and then the parent holds what it held
+begin 1 top : ok 1
+spawn 1 2 sub : ok 2
+spawn 1 3 sub : ok 3
+do 2 x write 5 : ok 4 done
+do 3 x read : no 14 by 1
+permit 2 3 x : ok 5
+do 3 x read : ok 6 5
+commit 2 : ok 7
+do 3 x write 6 : ok 8 done
+do 1 x read : no 14 by 3
+permit 3 1 x : ok 9
+do 1 x read : ok 10 6";
+
 /// The text of each model, with the histories of it.
-pub fn by_model() -> [(&'static str, &'static str); 11] {
+pub fn by_model() -> [(&'static str, &'static str); 15] {
     [
         (Standard::Atomic.text(), FLAT),
         (Standard::Contingent.text(), CONTINGENT),
@@ -1040,5 +1310,9 @@ pub fn by_model() -> [(&'static str, &'static str); 11] {
         (models::FAMILIES, FAMILIES),
         (Standard::Recoverable.text(), RECOVERABLE),
         (models::LENDING, LENDING),
+        (models::PERMITTING, PERMITTING),
+        (models::SHARING, SHARING),
+        (models::TRUSTING, TRUSTING),
+        (models::KINDRED, KINDRED),
     ]
 }

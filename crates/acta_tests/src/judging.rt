@@ -6,6 +6,7 @@ mod asking;
 mod breaking;
 mod limits;
 mod machines;
+mod mixing;
 mod parts;
 mod places;
 mod reading;

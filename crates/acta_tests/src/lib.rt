@@ -39,6 +39,8 @@ mod objects;
 #[cfg(test)]
 mod orders;
 #[cfg(test)]
+mod permitting;
+#[cfg(test)]
 mod placing;
 #[cfg(test)]
 mod playing;

@@ -1,16 +1,17 @@
 //! Lists of events, which no machine need have kept, each under its title, and what their places say of them; by model.
 
-use crate::models::{FOLLOWING, LENDING, ORDERED};
+use crate::models::{FOLLOWING, LENDING, ORDERED, TRUSTING};
 use acta_models::Standard;
 
 /// The text of each model, with the lists of it.
-pub fn by_model() -> [(&'static str, &'static str); 6] {
+pub fn by_model() -> [(&'static str, &'static str); 7] {
     [
         (Standard::Atomic.text(), FLAT),
         (FOLLOWING, PARTS),
         (Standard::SplitJoin.text(), PLAIN_PARTS),
         (Standard::Recoverable.text(), LOOSE),
         (LENDING, LENT),
+        (TRUSTING, TRUSTED),
         (ORDERED, NESTED),
     ]
 }
@@ -317,6 +318,44 @@ spawn 2 3 loose
 do 1 x write 5
 do 3 x read
 ? edges :";
+
+// Transactions that depend on those who hold what conflicts, and permit.
+const TRUSTED: &str = "\
+# No edge on one who permits, from wherever the permit stands, once both are in progress
+permit 1 2 x
+begin 1 loose
+begin 2 loose
+do 1 x write 5
+do 2 x read
+? edges :
+# None by a permit the other way round, on another object, or of another
+begin 1 loose
+begin 2 loose
+begin 3 loose
+permit 2 1 x
+permit 1 2 n
+permit 1 3 x
+permit 3 2 x
+do 1 x write 5
+do 2 x read
+? edges : AD 2 1 TD 2 1
+# One that has not begun permits, and one that has ended works on
+begin 1 loose
+begin 2 loose
+permit 1 2 x
+do 1 x write 5
+permit 3 2 x
+do 3 x write 5
+do 2 x read
+? edges : AD 2 3 TD 2 3
+begin 3 loose
+do 2 x read
+? edges : AD 2 3 TD 2 3
+commit 1
+do 1 x write 6
+? edges : AD 2 3 TD 2 3 AD 1 2 TD 1 2 AD 1 3 TD 1 3
+do 2 x read
+? edges : AD 2 3 TD 2 3 AD 1 2 TD 1 2 AD 1 3 TD 1 3 AD 2 1 TD 2 1";
 
 // Nested transactions.
 const NESTED: &str = "\

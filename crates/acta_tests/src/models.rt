@@ -185,6 +185,86 @@ delegation any
 end
 ";
 
+/// Flat transactions that permit.
+pub const PERMITTING: &str = "\
+object x register 0
+object n counter 0
+object m counter 0
+object s set
+class flat
+starts begin
+may operate commit abort permit
+scope others
+policy refuse
+commit keeps
+delegation whole
+end
+";
+
+/// Transactions that permit, and hand over as much as they like. And the class `quiet`, of those that are flat.
+pub const SHARING: &str = "\
+object x register 0
+object n counter 0
+object m counter 0
+object s set
+class part
+starts begin split
+may split join delegate operate commit abort permit
+scope others
+policy refuse
+commit keeps
+delegation any
+end
+class quiet
+starts begin
+may operate commit abort
+scope others
+policy refuse
+commit keeps
+delegation whole
+end
+";
+
+/// Transactions that depend by AD and TD on holders, and permit.
+pub const TRUSTING: &str = "\
+object x register 0
+object n counter 0
+object m counter 0
+object s set
+class loose
+starts begin
+may operate commit abort permit
+scope others
+policy depend AD TD
+commit keeps
+delegation whole
+end
+";
+
+/// Nested transactions with no edges at a spawn, which permit.
+pub const KINDRED: &str = "\
+object x register 0
+object n counter 0
+object m counter 0
+object s set
+class top
+starts begin
+may spawn operate commit abort permit
+scope nonancestors
+policy refuse
+commit keeps
+delegation whole
+end
+class sub
+starts spawned
+may spawn operate commit abort permit
+scope nonancestors
+policy refuse
+commit toparent
+delegation whole
+end
+";
+
 // What is read of a model with this behind it has one object and one class more than the model.
 const MORE: &str = "\
 object nowhere register 0

@@ -5,7 +5,7 @@ mod random;
 
 use crate::calls::{new_machine, serial_of, take};
 use crate::expecting::{holds, made, number, parted, same, tells};
-use crate::models::{DELEGATING, event_of, model_of};
+use crate::models::{DELEGATING, PERMITTING, event_of, model_of};
 use acta_axioms::SerialItem;
 use acta_machine::{Handle, Machine, SerialError};
 use acta_models::Standard;
@@ -145,6 +145,7 @@ fn asks_for_strictness(rt: HostRuntime) {
         (Standard::Recoverable.text(), false),
         (Standard::Contingent.text(), true),
         (DELEGATING, false),
+        (PERMITTING, false),
     ] {
         same(&rt, &is_strict(&rt, rt.alloc(), text), &due, text);
     }

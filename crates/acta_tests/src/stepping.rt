@@ -2,10 +2,10 @@
 
 use crate::calls::walk_of;
 use crate::expecting::{holds, made, number_of, parted, same};
-use crate::models::{FOLLOWING, LENDING, event_of, model_of};
+use crate::models::{FOLLOWING, LENDING, TRUSTING, event_of, model_of};
 use acta_axioms::Walk;
 use acta_machine::Handle;
-use acta_table::{Kept, Model};
+use acta_table::{Kept, Model, TxnId};
 use refusing::Refusing;
 use std::alloc::Allocator;
 use std::process::Abort;
@@ -13,12 +13,15 @@ use std::process::Abort;
 // More growths than any of these calls has.
 const MOST: u64 = 20;
 
-// How many items the walk has taken, and how many operations and edges it shows.
-fn counts<A: Handle>(walk: &Walk<'_, A>) -> (usize, usize, usize) {
+// How many items the walk has taken, how many operations and edges it shows, and how many operations are in the conflict
+// set of the second transaction.
+fn counts<A: Handle>(rt: &impl Abort, walk: &Walk<'_, A>) -> (usize, usize, usize, usize) {
+    let others = made(rt, walk.conflict_set(TxnId(2)), "a conflict set");
     (
         walk.front().len(),
         walk.operations().len(),
         walk.edges().len(),
+        others.len(),
     )
 }
 
@@ -36,13 +39,17 @@ fn is_refused<A: Handle, B: Allocator>(
     for _ in 1..kept.len() {
         made(rt, walk.step(), "a step before");
     }
-    let before = counts(&walk);
+    let before = counts(rt, &walk);
     heap.refuse(nth);
     let stepped = walk.step();
     let was_refused = !heap.is_waiting();
     heap.refuse(0);
     holds(rt, stepped.is_err() == was_refused, "a step");
-    holds(rt, stepped.is_ok() || counts(&walk) == before, "a growth");
+    holds(
+        rt,
+        stepped.is_ok() || counts(rt, &walk) == before,
+        "a growth",
+    );
     drop(walk);
     was_refused
 }
@@ -133,6 +140,24 @@ do 1 s insert 4 : 2
 do 1 s has 4 : 1
 abort 1 : 0";
 
+// Of a permit, also before its parties begin: of the two lists, by who gave it and by who was given it, and of a set in
+// each; of the sets alone where the lists reach so far; of nothing where it is there already, or one of the two has ended.
+// Of an operation beside one that permits: of the list of those who do, of the list of those in progress among them, of
+// their set, and of the list of a mode.
+const OF_PERMITS: &str = "\
+permit 1 2 x : 4
+begin 1 loose : 0
+begin 2 loose : 0
+do 1 x write 5 : 13
+do 2 x read : 4
+permit 1 2 x : 0
+permit 2 1 n : 2
+permit 3 1 n : 1
+permit 3 2 n : 0
+commit 1 : 0
+permit 1 2 m : 0
+permit 4 2 m : 2";
+
 #[test]
 fn refuses_each_growth(rt: HostRuntime) {
     let heap = Refusing::new(rt.alloc());
@@ -140,6 +165,7 @@ fn refuses_each_growth(rt: HostRuntime) {
         (LENDING, OF_DEPENDING),
         (LENDING, OF_KINDS),
         (FOLLOWING, OF_PARTS),
+        (TRUSTING, OF_PERMITS),
     ] {
         steps(&rt, &heap, &heap, model, text);
     }

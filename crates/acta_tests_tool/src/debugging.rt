@@ -43,6 +43,7 @@ break kind form -> Break(Kind(Form))
 break kind do -> Break(Kind(Operate))
 break kind commit -> Break(Kind(Commit))
 break kind abort -> Break(Kind(Abort))
+break kind permit -> Break(Kind(Permit))
 break txn 5 -> Break(Txn(TxnId(5)))
 break object m -> Break(Object(ObjId(2)))
 break owed 4294967295 -> Break(Owed(4294967295))
@@ -57,6 +58,8 @@ Step -> 2
 begin 1 part -> 2
 break jump -> 2
 break kind jump -> 2
+break permit -> 2
+break kind permits -> 2
 step 1 -> 3
 back 1 -> 3
 goto -> 3

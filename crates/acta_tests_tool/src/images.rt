@@ -1,10 +1,12 @@
-//! Images: worked bytes, as cases of `running`, each proper prefix of an image, and each byte set to each other value.
+//! Images: worked bytes, as cases of `running`; and of an image in either version, each proper prefix, and each byte set
+//! to each other value.
 
-use crate::expecting::made;
-use acta_image::{ImageFault, LoadError, load, write_image};
+use crate::expecting::{made, tells};
+use acta_image::{ImageFault, LoadError, load, upgrade, write_image};
 use acta_lang::assemble;
 use acta_models::Standard;
-use acta_tool::images_run_as_their_texts;
+use acta_table::{EventKind, Model};
+use acta_tool::{images_are_upgraded, images_run_as_their_texts};
 use std::alloc::Allocator;
 use std::process::Abort;
 
@@ -12,7 +14,7 @@ use std::process::Abort;
 pub const IMAGES: &str = "\
 $ assemble @atomic
 | jump
-= 41435441 01 01 0004
+= 41435441 02 01 0004
 = 01 78 00 00000000
 = 01 6e 01 00000000
 = 01 6d 01 00000000
@@ -21,7 +23,7 @@ $ assemble @atomic
 status 0
 
 $ assemble @nested
-= 41435441 01 02 0004
+= 41435441 02 02 0004
 = 01 78 00 00000000
 = 01 6e 01 00000000
 = 01 6d 01 00000000
@@ -31,7 +33,7 @@ $ assemble @nested
 status 0
 
 $ assemble @recoverable
-= 41435441 01 01 0004
+= 41435441 02 01 0004
 = 01 78 00 00000000
 = 01 6e 01 00000000
 = 01 6d 01 00000000
@@ -52,7 +54,7 @@ $ assemble a.model
 % split started CMD starter
 % split starter CMD started
 % end
-= 41435441 01 01 0002
+= 41435441 02 01 0002
 = 01 78 00 fffffffe
 = 01 79 01 7fffffff
 = 03 616c6c 07 00ff 00 01 001d 00 01 00 02 0600 0601
@@ -92,13 +94,121 @@ ok 2 done
 ok 3
 status 0
 
+$ check-image a.image
+& 41435441 02 01 0001 01 78 00 00000000 04 666c6174 01 00e0 00 00 0000 00 00 00 00
+object x register 0
+class flat
+starts begin
+may operate commit abort
+scope others
+policy refuse
+commit keeps
+delegation whole
+end
+status 0
+
+$ assemble a.model
+% object x register 0
+% class flat
+% starts begin
+% may operate commit abort
+% scope others
+% policy refuse
+% commit keeps
+% delegation whole
+% end
+= 41435441 02 01 0001 01 78 00 00000000 04 666c6174 01 00e0 00 00 0000 00 00 00 00
+status 0
+
+$ upgrade a.image
+| jump
+& 41435441 01 01 0001 01 78 00 00000000 04 666c6174 01 00e0 00 00 0000 00 00 00 00
+= 41435441 02 01 0001 01 78 00 00000000 04 666c6174 01 00e0 00 00 0000 00 00 00 00
+status 0
+
+$ upgrade a.image
+& 41435441 02 01 0001 01 78 00 00000000 04 666c6174 01 00e0 00 00 0000 00 00 00 00
+= 41435441 02 01 0001 01 78 00 00000000 04 666c6174 01 00e0 00 00 0000 00 00 00 00
+status 0
+
+$ check-image a.image
+& 41435441 03 01 0001 01 78 00 00000000 04 666c6174 01 00e0 00 00 0000 00 00 00 00
+image fault 2
+status 1
+
+$ upgrade a.image
+& 41435441 03 01 0001 01 78 00 00000000 04 666c6174 01 00e0 00 00 0000 00 00 00 00
+image fault 2
+status 1
+
+$ check-image a.image
+& 41435441 01 01 0001 01 78 00 00000000 04 666c6174 01 01e0 00 00 0000 00 00 00 00
+image fault 4 at 21
+status 1
+
+$ upgrade a.image
+& 41435441 01 01 0001 01 78 00 00000000 04 666c6174 01 01e0 00 00 0000 00 00 00 00
+image fault 4 at 21
+status 1
+
+$ check-image a.image
+& 41435441 02 01 0001 01 78 00 00000000 04 666c6174 01 01e0 00 00 0000 00 00 00 00
+object x register 0
+class flat
+starts begin
+may operate commit abort permit
+scope others
+policy refuse
+commit keeps
+delegation whole
+end
+status 0
+
+$ upgrade a.image
+& 41435441 02 01 0001 01 78 00 00000000 04 666c6174 01 01e0 00 00 0000 00 00 00 00
+= 41435441 02 01 0001 01 78 00 00000000 04 666c6174 01 01e0 00 00 0000 00 00 00 00
+status 0
+
+$ upgrade @atomic
+image fault 1
+status 1
+
 $ check-image @atomic
 image fault 1
 status 1
 
+$ upgrade a.model
+% class a
+image fault 1
+status 1
+
+$ upgrade a.image
+image fault 3
+status 1
+
+$ upgrade a.image
+& 41435441 01 01 0001 01 78 00 00000000 04 666c6174 01 00e0 00 00 0000 00 00 00 00 00
+image fault 5 at 31
+status 1
+
+$ upgrade a.image
+& 41435441 01 01 0001 01 78 00 00000000 04 666c6174 01 00e0 00 00 0000 01 00 00 00
+image fault 6 model 7
+status 1
+
+$ run a.image
+& 41435441 00
+image fault 2
+status 1
+
+$ run a.image
+& 41435441 03
+image fault 2
+status 1
+
 $ run a.image
 & 41435441 02
-image fault 2
+image fault 3
 status 1
 
 $ check-image a.image
@@ -163,6 +273,16 @@ status 1
 $ check-image a.image
 & 41435441 01 01 0000 04 666c6174 01 0100
 image fault 4 at 14
+status 1
+
+$ check-image a.image
+& 41435441 02 01 0000 04 666c6174 01 0200
+image fault 4 at 14
+status 1
+
+$ check-image a.image
+& 41435441 02 01 0000 04 666c6174 01 01ff
+image fault 3
 status 1
 
 $ check-image a.image
@@ -267,6 +387,15 @@ status 2
 
 $ check-image
 status 2
+
+$ upgrade
+status 2
+
+$ upgrade @nosuch
+status 2
+
+$ upgrade --kept @atomic
+status 2
 ";
 
 // The image of a standard model.
@@ -274,18 +403,47 @@ fn image_of<A: Allocator + Copy>(rt: &impl Abort, alloc: A, name: Standard) -> V
     let text = name.text().as_bytes();
     let model = assemble(alloc, text).expect(rt, "a model");
     images_run_as_their_texts(text, &model);
+    images_are_upgraded(&model);
     let image = made(rt, write_image(alloc, &model), "an image");
     drop(model);
     image
+}
+
+// Sets the version of an image.
+fn set_version(rt: &impl Abort, image: &mut [u8], number: u8) {
+    *image.get_mut(4).expect(rt, "a version") = number;
+}
+
+// Whether a class of the model may permit.
+fn may_permit<A: Allocator>(model: &Model<A>) -> bool {
+    let mut may = false;
+    for class in model.classes() {
+        may = may || class.may.has(EventKind::Permit);
+    }
+    may
+}
+
+// Whether a version of this number has an image of the model: the first where no class may permit.
+fn has_image_in<A: Allocator>(number: u8, model: &Model<A>) -> bool {
+    number == 2 || number == 1 && !may_permit(model)
+}
+
+// Whether the bytes are the image of the model in the version that they name, which is the one that is written but for
+// its number.
+fn spells<A: Allocator + Copy>(rt: &impl Abort, alloc: A, model: &Model<A>, bytes: &[u8]) -> bool {
+    let number = *bytes.get(4).expect(rt, "a version");
+    let mut image = made(rt, write_image(alloc, model), "an image");
+    set_version(rt, image.as_mut_slice(), number);
+    has_image_in(number, model) && image.as_slice() == bytes
 }
 
 // Whether the bytes are refused, or are the image of what they are loaded as.
 fn is_spelled_so<A: Allocator + Copy>(rt: &impl Abort, alloc: A, bytes: &[u8]) -> bool {
     match load(alloc, bytes) {
         Ok(model) => {
-            let image = made(rt, write_image(alloc, &model), "an image");
+            let is_so = spells(rt, alloc, &model, bytes);
             drop(model);
-            image.as_slice() == bytes
+            is_so
         }
         Err(LoadError::Fault(_)) => true,
         Err(LoadError::Memory) => rt.panic("a model"),
@@ -322,10 +480,34 @@ fn turn_all<A: Allocator + Copy>(rt: &impl Abort, alloc: A, image: &mut [u8]) {
     }
 }
 
+// An image is upgraded to this one, the one that is written.
+fn upgrades<A: Allocator + Copy>(rt: &impl Abort, alloc: A, image: &[u8], written: &[u8]) {
+    let upgraded = made(rt, upgrade(alloc, image), "an image");
+    tells(rt, upgraded.as_slice(), written, "an image");
+}
+
+// An image that is written, and the one in the first version of the same model, are both upgraded to it.
+fn upgrade_both<A: Allocator + Copy>(rt: &impl Abort, alloc: A, written: &[u8]) {
+    let mut image = made(rt, Vec::from_slice(alloc, written), "an image");
+    upgrades(rt, alloc, image.as_slice(), written);
+    set_version(rt, image.as_mut_slice(), 1);
+    upgrades(rt, alloc, image.as_slice(), written);
+}
+
+#[test]
+fn upgraded(rt: HostRuntime) {
+    for name in Standard::ALL {
+        let image = image_of(&rt, rt.alloc(), name);
+        upgrade_both(&rt, rt.alloc(), image.as_slice());
+    }
+}
+
 #[test]
 fn prefixes_and_bytes(rt: HostRuntime) {
     for name in Standard::ALL {
         let mut image = image_of(&rt, rt.alloc(), name);
+        turn_all(&rt, rt.alloc(), image.as_mut_slice());
+        set_version(&rt, image.as_mut_slice(), 1);
         turn_all(&rt, rt.alloc(), image.as_mut_slice());
     }
 }

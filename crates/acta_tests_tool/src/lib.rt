@@ -20,6 +20,8 @@ mod judging;
 #[cfg(test)]
 mod lines;
 #[cfg(test)]
+mod permits;
+#[cfg(test)]
 mod refusals;
 #[cfg(test)]
 mod running;

@@ -88,7 +88,10 @@ do 1 s has 5 -> do 1 s has 5
 do 1 s size -> do 1 s size
 do 1 s read -> do 1 s read
 commit 7 -> commit 7
-abort 7 -> abort 7";
+abort 7 -> abort 7
+permit 1 2 x -> permit 1 2 x
+permit 0 065535\t m # of a comment -> permit 0 65535 m
+permit 1 1 s -> permit 1 1 s";
 
 // Each code alone, and each two that can hold of one line.
 const FAULTY: &str = "\
@@ -100,6 +103,7 @@ Begin 1 part -> 2
 be#gin 1 part -> 2
 form XX 1 1 -> 2
 do 1 x jump -> 2
+Permit 1 2 x -> 2
 commit -> 3
 commit 1 1 -> 3
 begin 1 -> 3
@@ -113,6 +117,10 @@ do 1 x -> 3
 do 1 x read 5 -> 3
 do 1 x write -> 3
 do 1 x write 5 5 -> 3
+permit -> 3
+permit 1 2 -> 3
+permit 1 2 x n -> 3
+permit 1 2 x read -> 3
 commit x -> 4
 commit +1 -> 4
 commit -1 -> 4
@@ -129,11 +137,22 @@ do 1 x write -2147483649 -> 4
 do 1 x write +5 -> 4
 do 1 x write --5 -> 4
 do 1 x write - -> 4
+permit x 2 x -> 4
+permit 1 x x -> 4
+permit 1 65536 x -> 4
+permit -1 2 x -> 4
 begin 1 nosuch -> 5
 begin 1 x -> 5
 begin 1 part\r -> 5
 do 1 part read -> 5
 do 1 X read -> 5
+permit 1 2 part -> 5
+permit 1 2 X -> 5
+permit 1 2 1 -> 5
+permits x -> 2
+permit x -> 3
+permit 1 2 nosuch 1 -> 3
+permit 1 x nosuch -> 4
 form XX -> 2
 do 1 x jump 1 2 3 -> 2
 form XX y 1 -> 2
@@ -161,6 +180,8 @@ do 1 s has 5 = yes -> do 1 s has 5 = yes
 do 1 s has 5 = no -> do 1 s has 5 = no
 do 1 x read -> do 1 x read
 commit 1 = done -> commit 1 = done
+permit 1 2 x -> permit 1 2 x
+permit 1 2 x = 5 -> permit 1 2 x = 5
  -> 1
 = -> 1
 = 5 -> 1
@@ -184,7 +205,10 @@ do 1 x read = -9223372036854775809 -> 4
 do 1 x read = Done -> 4
 commit x = 5 -> 4
 begin 1 nosuch = x -> 4
-begin 1 nosuch = 5 -> 5";
+begin 1 nosuch = 5 -> 5
+permit 1 2 = x -> 3
+permit 1 2 nosuch = x -> 4
+permit 1 2 nosuch = 5 -> 5";
 
 // The rows of a text, each a line, with what is wanted behind an arrow.
 fn say<A: Allocator + Copy>(

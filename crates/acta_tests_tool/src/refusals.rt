@@ -3,7 +3,7 @@
 
 use crate::expecting::{holds, made, number, parted, tells};
 use crate::lines::{again, model_of};
-use acta_image::{LoadError, load, write_image};
+use acta_image::{LoadError, load, upgrade, write_image};
 use acta_lang::{AsmError, assemble, print_model};
 use acta_models::{Standard, load_all};
 use acta_script::{answer_line, fault_line, owed_line};
@@ -63,6 +63,15 @@ fn image_again<A: Allocator + Copy>(alloc: A, image: &[u8]) -> Told<A> {
     }
 }
 
+// What is upgraded of an image.
+fn upgraded<A: Allocator + Copy>(alloc: A, image: &[u8]) -> Told<A> {
+    match upgrade(alloc, image) {
+        Ok(image) => Ok(image),
+        Err(LoadError::Memory) => Err(AllocError),
+        Err(LoadError::Fault(_)) => Vec::from_slice(alloc, b"a fault"),
+    }
+}
+
 // The line of an answer, of a refusal, of a debt or of a fault.
 fn line_of<A: Allocator + Copy>(alloc: A, call: &str) -> Told<A> {
     match call {
@@ -88,6 +97,7 @@ fn told<A: Allocator + Copy>(alloc: A, model: &Model<A>, call: &str, bytes: &[u8
         "text" => text_again(alloc, bytes),
         "texts" => all_printed(alloc),
         "image" => image_again(alloc, bytes),
+        "upgrade" => upgraded(alloc, bytes),
         "event" => again(alloc, model, bytes, false),
         "kept" => again(alloc, model, bytes, true),
         _ => line_of(alloc, call),
@@ -150,7 +160,9 @@ fn refuse_each<A: Allocator + Copy>(
 // Calls, each with the number of allocations that it makes more of, and with its line.
 const LINES: &str = "\
 event 2 : delegate 1 2 1,2,9
+event 1 : permit 1 2 x
 kept 2 : delegate 1 2 1,2,9
+kept 1 : permit 1 2 x
 kept 2 : split 1 2 part 4,7
 kept 2 : do 1 x write 5 = done
 kept 2 : begin 1 part
@@ -218,6 +230,7 @@ fn refuse_all<A: Allocator + Copy>(
     let (texts, image) = (all_texts(rt, other), nested_image(rt, other));
     refuse_each(rt, heap, alloc, &model, ("texts", 50), texts.as_slice());
     refuse_each(rt, heap, alloc, &model, ("image", 10), image.as_slice());
+    refuse_each(rt, heap, alloc, &model, ("upgrade", 10), image.as_slice());
     drop(model);
 }
 
@@ -295,7 +308,7 @@ $ assemble @atomic
 | begin 1 flat
 | do 1 x write 5
 | commit x
-= 41435441 01 01 0004
+= 41435441 02 01 0004
 = 01 78 00 00000000
 = 01 6e 01 00000000
 = 01 6d 01 00000000
@@ -331,6 +344,27 @@ $ check-image @atomic
 | begin 1 flat
 | do 1 x write 5
 | commit x
+image fault 1
+status 1 over 0
+
+$ upgrade atomic.image
+& 41435441 01 01 0004
+& 01 78 00 00000000
+& 01 6e 01 00000000
+& 01 6d 01 00000000
+& 01 73 02 00000000
+& 04 666c6174 01 00e0 00 00 0000 00 00 00 00
+| begin 1 flat
+= 41435441 02 01 0004
+= 01 78 00 00000000
+= 01 6e 01 00000000
+= 01 6d 01 00000000
+= 01 73 02 00000000
+= 04 666c6174 01 00e0 00 00 0000 00 00 00 00
+status 0 over 10
+
+$ upgrade @atomic
+| begin 1 flat
 image fault 1
 status 1 over 0
 

@@ -146,6 +146,11 @@ const FAULTY: &str = "\
 2 2
 
 %class a
+%may commit permits
+%end
+2 2
+
+%class a
 %policy depend XX
 %end
 2 2
@@ -478,6 +483,16 @@ good
 %delegation whole
 %end
 %object y register -0
+good
+
+%class a
+%starts begin
+%may permit abort permit commit
+%scope others
+%policy refuse
+%commit keeps
+%delegation whole
+%end
 good
 
 *256 object o# set

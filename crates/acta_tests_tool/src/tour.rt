@@ -136,4 +136,42 @@ ok 3
 ok 4
 ok 5
 status 0
+
+$ run examples/permitting.model
+% # Flat transactions, which may permit another to work on an object beside them.
+% object x register 0
+% object n counter 0
+% class flat
+% starts begin
+% may operate commit abort permit
+% scope others
+% policy refuse
+% commit keeps
+% delegation whole
+% end
+| begin 1 flat
+| begin 2 flat
+| do 1 x write 5
+| do 2 x read
+| permit 1 2 x
+| do 2 x read
+| do 1 n add 1
+| do 2 n get
+| do 1 x write 6
+| abort 1
+| do 2 x read
+| permit 1 2 x
+ok 1
+ok 2
+ok 3 done
+no 14 by 1
+ok 4
+ok 5 5
+ok 6 done
+no 14 by 3
+no 14 by 2
+ok 7
+ok 8 0
+no 7 by 1
+status 0
 ";

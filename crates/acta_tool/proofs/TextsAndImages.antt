@@ -1,4 +1,4 @@
--- A text that means a model doesn't begin as an image does, and an image is read as its model.
+-- A text that means a model doesn't begin as an image does, and an image in any version is read as its model.
 use Rattle.std.proofs.Common.{◌≡◌, ℕ, Bool, true, false, List, ◌++◌, take, drop, Ok, refl, sym, ap, ◌∙◌, true≢false, arith}
 use Rattle.std.specs.Str.{bytes_eq}
 use Rattle.std.proofs.lemmas.List.{take-append-drop}
@@ -7,11 +7,13 @@ use Rattle.acta_table.specs.declared.model.Parts.{Parts}
 use Rattle.acta_table.specs.Typed.{AreOfModel}
 use Rattle.acta_image.specs.Codes.{magic}
 use Rattle.acta_image.specs.Reading.{loaded}
-use Rattle.acta_image.specs.Spelling.{image}
-use Rattle.acta_image.proofs.Images.{image-again}
+use Rattle.acta_image.specs.declared.version.ImageVersion.{ImageVersion}
+use Rattle.acta_image.specs.declared.version.ImageVersion.TheVariants.{Two}
+use Rattle.acta_image.specs.Spelling.{HasImageIn, image, image_in}
+use Rattle.acta_image.proofs.Images.{image-again, written-again}
 use Rattle.acta_lang.specs.Meaning.{meaning}
 use Rattle.acta_lang.proofs.OtherWords.{no_meaning}
-use Rattle.acta_tool.specs.Models.{is_image, of_either}
+use Rattle.acta_tool.specs.Models.{is_image, of_either, of_image}
 
 same-true : (xs ys : List ℕ) → bytes_eq xs ys ≡ true → xs ≡ ys
 same-true xs ys e = grind (arith, bytes_eq-Decides xs ys)
@@ -25,15 +27,23 @@ text_is_no_image {A} text m means = of_test (is_image text) refl
         let parts : text ≡ magic ++ drop 4 text = sym (take-append-drop 4 text) ∙ ap (λ (front : List ℕ). front ++ drop 4 text) (same-true (take 4 text) magic is) in
         absurd (true≢false (no_meaning (drop 4 text) m (sym (ap (λ (bytes : List ℕ). meaning {A = A} bytes) parts) ∙ means)))
 
-image_is_image : {A : Type 0} (m : Parts A) → is_image (image m) ≡ true
-unfolding image
-image_is_image m = refl
+image_is_image : {A : Type 0} (version : ImageVersion) (m : Parts A) → is_image (image_in version m) ≡ true
+unfolding image_in
+image_is_image version m = refl
 
 -- the model that is loaded from an image is the one that it is of
 pub loaded_is : {A : Type 0} (m n : Parts A) → AreOfModel m → loaded (image m) ≡ Ok n → n ≡ m
-loaded_is m n known is = let again : loaded (image m) ≡ Ok m = image-again m known in cc
+loaded_is m n known is = let again : loaded (image m) ≡ Ok m = written-again m known in cc
 
 -- `run` finds the same model in an image as in a text of its model
 pub found_alike : {A : Type 0} (text : List ℕ) (m : Parts A) → meaning text ≡ Ok m → AreOfModel m → of_either {A = A} (image m) ≡ of_either text
 found_alike {A} text m means known =
-    rw (image_is_image m, text_is_no_image text m means, image-again m known, means) refl
+    rw (image_is_image Two m, text_is_no_image text m means, written-again m known, means) refl
+
+-- the model of an image in any version, by a command that takes no text, and by one that does
+pub found_in : {A : Type 0} (version : ImageVersion) (m : Parts A) → AreOfModel m → HasImageIn version m → of_image (loaded (image_in version m)) ≡ Ok m
+found_in version m known has = rw (image-again version m known has) refl
+
+pub found_in_both : {A : Type 0} (version : ImageVersion) (m : Parts A) → AreOfModel m → HasImageIn version m → of_either {A = A} (image_in version m) ≡ of_either (image m)
+found_in_both {A} version m known has =
+    rw (image_is_image version m, image_is_image Two m, image-again version m known has, written-again m known) refl

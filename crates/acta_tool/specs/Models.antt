@@ -8,7 +8,7 @@ use Rattle.acta_image.specs.Reading.{loaded}
 use Rattle.acta_lang.specs.declared.fault.AsmFault.{AsmFault}
 use Rattle.acta_lang.specs.Meaning.{meaning}
 use Rattle.acta_tool.specs.declared.args.Command.{Command}
-use Rattle.acta_tool.specs.declared.args.Command.TheVariants.{Assemble, CheckImage, Run, Judge, Debug, Serial, Drive}
+use Rattle.acta_tool.specs.declared.args.Command.TheVariants.{Assemble, CheckImage, Upgrade, Run, Judge, Debug, Serial, Drive}
 use Rattle.acta_tool.specs.declared.models.NoModel.{NoModel}
 use Rattle.acta_tool.specs.declared.models.NoModel.TheVariants.{Text, Image}
 
@@ -32,6 +32,7 @@ of_either bytes = if is_image bytes then of_image (loaded bytes) else of_text (m
 abbrev pub model_by : {A : Type 0} → Command → List ℕ → Result (Parts A) NoModel
 model_by Assemble bytes = of_text (meaning bytes)
 model_by CheckImage bytes = of_image (loaded bytes)
+model_by Upgrade bytes = of_image (loaded bytes)
 model_by (Run kept) bytes = of_either bytes
 model_by Judge bytes = of_either bytes
 model_by Debug bytes = of_either bytes

@@ -30,7 +30,7 @@ use Rattle.acta_script.specs.Commands.{command_of}
 use Rattle.acta_script.specs.Reading.{fault_number, event_of, kept_of}
 use Rattle.acta_script.specs.Writing.{kept_line}
 use Rattle.acta_tool.specs.declared.args.Command.{Command}
-use Rattle.acta_tool.specs.declared.args.Command.TheVariants.{Assemble, CheckImage, Run, Judge, Debug, Serial, Drive}
+use Rattle.acta_tool.specs.declared.args.Command.TheVariants.{Assemble, CheckImage, Upgrade, Run, Judge, Debug, Serial, Drive}
 use Rattle.acta_tool.specs.declared.models.NoModel.{NoModel}
 use Rattle.acta_tool.specs.declared.models.NoModel.TheVariants.{Text, Image}
 use Rattle.acta_tool.specs.declared.input.BadLine.{BadLine}
@@ -176,12 +176,13 @@ debug_on m input =
     let first_command = position_or_len ends_events lines + 2 in
     debugged_unless events.stop m events.said (said_from (command_of m) first_command (after_first ends_events lines))
 
--- the output of a command on a model: its image, its canonical text, a run of the input's events, the verdict on its
--- kept items, a debugging run, or the serial order of what a run of the events keeps; what `drive` writes hangs on its
--- threads, and is told apart
+-- the output of a command on a model: its image in the version that is written, for the model of a text and for that
+-- of an image; its canonical text, a run of the input's events, the verdict on its kept items, a debugging run, or the
+-- serial order of what a run of the events keeps; what `drive` writes hangs on its threads, and is told apart
 abbrev pub output_on : {A : Type 0} → Command → Parts A → List ℕ → Output
 output_on Assemble m input = record { is_refused = false; text = image m }
 output_on CheckImage m input = record { is_refused = false; text = canonical m }
+output_on Upgrade m input = record { is_refused = false; text = image m }
 output_on (Run kept) m input = run_on kept m (said_in (event_of m) input)
 output_on Judge m input = judge_on m (said_in (kept_of m) input)
 output_on Debug m input = debug_on m input

@@ -24,6 +24,9 @@ pub enum Command {
     Assemble,
     /// Writes the canonical text of the model whose image the bytes are.
     CheckImage,
+    /// Writes the image, in the version of the format that is written, of the model whose image in any version the
+    /// bytes are.
+    Upgrade,
     /// Answers the event lines of the standard input; or, where `kept`, tells the events that were kept, with what
     /// they returned, and nothing else.
     Run { kept: bool },
@@ -99,6 +102,7 @@ fn command_named(spelled: &Spelled<'_>) -> Option<Command>
     match spelled.command {
         "assemble" => Some(Command::Assemble),
         "check-image" => Some(Command::CheckImage),
+        "upgrade" => Some(Command::Upgrade),
         "run" => Some(Command::Run {
             kept: spelled.is_kept,
         }),
@@ -270,6 +274,12 @@ fn plain_commands<'a>(alloc: Global) -> Result<clap::Command<'a>, AllocError>
         program,
         "check-image",
         "Writes the text of the model's image, or what is wrong with it",
+    )?;
+    let program = with_command(
+        alloc,
+        program,
+        "upgrade",
+        "Writes the model's image in version 2, of one in version 1 or 2, or what is wrong with it",
     )?;
     let program = with_command(
         alloc,

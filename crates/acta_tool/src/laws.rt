@@ -1,13 +1,14 @@
-//! What ties the image of a model to the text that means it.
+//! What ties the image of a model to the text that means it, and to its images in other versions.
 
 ghost use Rattle.std.specs.Prelude.{◌≡◌, ℕ, Bool, List, Ok, false};
 ghost use Rattle.acta_table.specs.declared.event.Event.{Event};
 ghost use Rattle.acta_table.specs.declared.model.Parts.{Parts};
 ghost use Rattle.acta_image.specs.Reading.{loaded};
-ghost use Rattle.acta_image.specs.Spelling.{image};
+ghost use Rattle.acta_image.specs.declared.version.ImageVersion.{ImageVersion};
+ghost use Rattle.acta_image.specs.Spelling.{HasImageIn, image, image_in};
 ghost use Rattle.acta_lang.specs.Meaning.{meaning};
 ghost use Rattle.acta_machine.specs.Table.{run_answers, run_state};
-ghost use Rattle.acta_tool.specs.declared.args.Command.TheVariants.{Run};
+ghost use Rattle.acta_tool.specs.declared.args.Command.TheVariants.{Run, Upgrade};
 ghost use Rattle.acta_tool.specs.Output.{tool_output};
 
 use acta_table::Model;
@@ -21,6 +22,15 @@ pub fn images_run_as_their_texts<A: Allocator>(text: &[u8], model: &Model<A>)
     ensures answers { (m : Parts A) (events : List (Event A)) → loaded (image model.now) ≡ Ok m → run_answers m events ≡ run_answers model.now events }
     ensures state { (m : Parts A) (events : List (Event A)) → loaded (image model.now) ≡ Ok m → run_state m events ≡ run_state model.now events }
     ensures output { (kept : Bool) (input : List ℕ) → tool_output A (Run kept) (image model.now) input ≡ tool_output A (Run kept) text.now input }
+{
+    model.known();
+}
+
+/// A law, for the image of a model in any version that has one: `upgrade` writes the image in the version that is
+/// written, and `run` writes for the one what it writes for the other. The call changes nothing.
+pub fn images_are_upgraded<A: Allocator>(model: &Model<A>)
+    ensures upgraded { (version : ImageVersion) (input : List ℕ) → HasImageIn version model.now → tool_output A Upgrade (image_in version model.now) input ≡ record { is_refused = false; text = image model.now } }
+    ensures run { (version : ImageVersion) (kept : Bool) (input : List ℕ) → HasImageIn version model.now → tool_output A (Run kept) (image_in version model.now) input ≡ tool_output A (Run kept) (image model.now) input }
 {
     model.known();
 }

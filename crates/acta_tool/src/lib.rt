@@ -25,7 +25,7 @@ mod telling;
 pub use args::{Args, Command, ModelName, parse};
 pub use drive::drive_tool;
 pub use fault::UsageFault;
-pub use laws::images_run_as_their_texts;
+pub use laws::{images_are_upgraded, images_run_as_their_texts};
 pub use models::NoModel;
 pub use outcome::{Outcome, exit_status};
 pub use run::run_tool;

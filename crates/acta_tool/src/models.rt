@@ -84,7 +84,7 @@ pub fn read_model<A: Allocator + Copy>(
 {
     match command {
         Command::Assemble => read_text(alloc, bytes),
-        Command::CheckImage => read_image(alloc, bytes),
+        Command::CheckImage | Command::Upgrade => read_image(alloc, bytes),
         Command::Run { .. }
         | Command::Judge
         | Command::Debug

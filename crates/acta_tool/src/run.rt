@@ -79,6 +79,7 @@ fn tell_model<A: Handle + Send + Sync, R: Threads + Sync>(
     let text = match command {
         Command::Assemble => write_image(alloc, &model)?,
         Command::CheckImage => print_model(alloc, &model)?,
+        Command::Upgrade => write_image(alloc, &model)?,
         Command::Run { kept } => return run_model(alloc, kept, model, input),
         Command::Judge => return judge_model(rt, alloc, &model, input),
         Command::Debug => return debug_model(alloc, model, input),
@@ -123,7 +124,7 @@ fn read_input<A: Allocator, S: Source>(
     ensures untouched { reads_input command ≡ false → input.new ≡ input.old }
 {
     match command {
-        Command::Assemble | Command::CheckImage => Ok(Vec::new(alloc)),
+        Command::Assemble | Command::CheckImage | Command::Upgrade => Ok(Vec::new(alloc)),
         Command::Run { .. }
         | Command::Judge
         | Command::Debug

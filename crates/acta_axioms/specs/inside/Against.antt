@@ -1,11 +1,15 @@
--- Which edges an event forms that is no operation.
-use Rattle.std.specs.Prelude.{List, [], ◌∷◌, slice_get}
+-- What stands against an operation, whomever its transaction spares, and which edges an event forms that is no operation.
+use Rattle.std.specs.Prelude.{ℕ, Bool, ◌&&◌, not, ◌==◌, List, [], ◌∷◌, slice_get}
 use Rattle.std.specs.Option.{option_map_or}
 use Rattle.acta_table.specs.declared.dep.Edge.{Edge}
 use Rattle.acta_table.specs.declared.event.Event.{Event}
 use Rattle.acta_table.specs.declared.event.Event.TheVariants.{Spawn, Split, Form}
+use Rattle.acta_table.specs.declared.event.Op.{Op}
 use Rattle.acta_table.specs.declared.model.Class.{Class}
+use Rattle.acta_table.specs.Fates.{is_open}
 use Rattle.acta_table.specs.Starts.{edges_between}
+use Rattle.acta_sets.specs.declared.held_op.HeldOp.{HeldOp}
+use Rattle.acta_sets.specs.Operations.{ops_conflict}
 
 -- the edges that the event wants, if it is no operation, where these are the classes of the model
 abbrev pub edges_wanted : {A : Type 0} → List (Class A) → Event A → List Edge
@@ -15,3 +19,9 @@ edges_wanted classes (Split t u class ops) =
     option_map_or (λ k. edges_between t u k.split_edges) (slice_get classes class.0) []
 edges_wanted classes (Form kind j i) = (record { kind = kind; j = j; i = i }) ∷ []
 edges_wanted classes _ = []
+
+-- whether the operation is in progress, on this object, held by another than t whom t does not spare, and conflicts with
+-- the other
+abbrev pub is_against_but : ℕ → (ℕ → Bool) → ℕ → Op → HeldOp → Bool
+is_against_but t spared object op i =
+    is_open i.fate && not (i.holder.0 == t) && not (spared i.holder.0) && (i.ob.0 == object) && ops_conflict i.op op

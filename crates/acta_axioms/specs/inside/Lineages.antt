@@ -1,16 +1,16 @@
 -- What a walk keeps of each transaction, in a table by number: the words of the code's own contracts.
-use Rattle.std.specs.Prelude.{ℕ, leb, Bool, ◌==◌, List, get_or, if◌then◌else◌, Option, Some, None, option_map, is_some, false}
+use Rattle.std.specs.Prelude.{ℕ, leb, Bool, ◌||◌, ◌==◌, List, get_or, if◌then◌else◌, Option, Some, None, option_map, is_some, false}
 use Rattle.std.specs.Option.{option_map_or, option_and_then}
 use Rattle.acta_table.specs.declared.event.ClassId.{ClassId}
 use Rattle.acta_table.specs.declared.event.Event.{Event}
-use Rattle.acta_table.specs.declared.event.Event.TheVariants.{Begin, Spawn, Split, Join, Commit, Abort}
+use Rattle.acta_table.specs.declared.event.Event.TheVariants.{Begin, Spawn, Split, Join, Commit, Abort, Permit}
 use Rattle.acta_table.specs.declared.event.Kept.{Kept}
 use Rattle.acta_table.specs.declared.event.TxnId.{TxnId}
 use Rattle.acta_table.specs.declared.model.Class.{Class}
 use Rattle.acta_table.specs.declared.model.Parts.{Parts}
 use Rattle.acta_table.specs.Classes.{class_at, has_heir}
 use Rattle.acta_axioms.specs.declared.lineage.Lineage.{Lineage}
-use Rattle.acta_axioms.specs.History.{course, class_number, parent_of}
+use Rattle.acta_axioms.specs.History.{course, end, class_number, parent_of}
 use Rattle.acta_axioms.specs.Operations.{heir}
 
 -- one that no item names
@@ -36,6 +36,15 @@ lineage h t = record {
 -- whether t has begun by a table of lineages, which has none for those behind its end
 abbrev pub begun_in : List Lineage → ℕ → Bool
 begun_in lines t = is_some (get_or lines t unbegun).course.start
+
+-- whether t has ended by such a table
+abbrev pub ended_in : List Lineage → ℕ → Bool
+ended_in lines t = is_some (end (get_or lines t unbegun).course)
+
+-- whether by the event one that has ended permits something, or is permitted something
+abbrev pub is_late : {A : Type 0} → (ℕ → Bool) → Event A → Bool
+is_late ended (Permit t u ob) = ended t.0 || ended u.0
+is_late ended _ = false
 
 -- the place that was there, or else this one
 abbrev pub or_at : ℕ → Option ℕ → Option ℕ

@@ -1,7 +1,9 @@
 -- What a walk keeps, and what it looks for in it: the words of the code's own contracts.
-use Rattle.std.specs.Prelude.{ℕ, ◌≡◌, ◌≤◌, ◌<◌, Bool, ◌&&◌, ◌==◌, List, length, map, take, get_or, if◌then◌else◌, []}
-use Rattle.std.specs.List.{All}
+use Rattle.std.specs.Prelude.{ℕ, ◌≡◌, ◌≤◌, ◌<◌, Bool, ◌&&◌, not, ◌==◌, List, length, map, take, get_or, if◌then◌else◌, []}
+use Rattle.std.specs.List.{All, list_any}
 use Rattle.acta_table.specs.declared.dep.Edge.{Edge}
+use Rattle.acta_table.specs.declared.event.Event.{Event}
+use Rattle.acta_table.specs.declared.event.Event.TheVariants.{Join, Commit, Abort, Permit}
 use Rattle.acta_table.specs.declared.event.Kept.{Kept}
 use Rattle.acta_table.specs.declared.event.Op.{Op}
 use Rattle.acta_table.specs.declared.event.OpNo.{OpNo}
@@ -13,21 +15,39 @@ use Rattle.acta_table.specs.Events.{named}
 use Rattle.acta_table.specs.Numbered.{numbers_where, ascending}
 use Rattle.acta_objects.specs.Conflicts.{conflict_on}
 use Rattle.acta_sets.specs.declared.held_op.HeldOp.{HeldOp}
+use Rattle.acta_sets.specs.Permits.{Permitted, with_permit, without_permits}
 use Rattle.acta_values.specs.KeptValues.{kinds_of}
 use Rattle.acta_values.specs.Stores.{Stored}
 use Rattle.acta_axioms.specs.declared.lineage.Lineage.{Lineage}
 use Rattle.acta_axioms.specs.declared.seeking.Sought.{Sought}
 use Rattle.acta_axioms.specs.declared.seeking.Sought.TheVariants.{Others, Against}
-use Rattle.acta_axioms.specs.History.{has_class, ancestors}
-use Rattle.acta_axioms.specs.Operations.{Standing, is_of_others}
+use Rattle.acta_axioms.specs.History.{has_class, has_ended, ancestors}
+use Rattle.acta_axioms.specs.Operations.{Standing, is_spared, is_of_others}
+use Rattle.acta_axioms.specs.Permits.{has_permitted}
 use Rattle.acta_axioms.specs.Edges.{edges}
 use Rattle.acta_axioms.specs.Walks.{held_ops}
 use Rattle.acta_axioms.specs.inside.Lineages.{unbegun, lineage}
 
+-- the permits that an event leaves: those that name the one that it ends are gone
+abbrev pub permits_left : {A : Type 0} → Event A → Permitted → Permitted
+permits_left (Join t u) p = without_permits p t.0
+permits_left (Commit t) p = without_permits p t.0
+permits_left (Abort t) p = without_permits p t.0
+permits_left _ p = p
+
+-- the permits, one event further: a permit is added, unless it is late
+abbrev pub permits_behind : {A : Type 0} → Bool → Event A → Permitted → Permitted
+permits_behind late (Permit t u ob) p = if late then p else with_permit p t.0 u.0 ob.0
+permits_behind late e p = permits_left e p
+
+-- whether s has permitted t to work on the object, and neither has ended
+unfoldable pub is_left : {A : Type 0} → List (Kept A) → ℕ → ℕ → ℕ → Bool
+is_left h s t object = has_permitted h s t object && not (has_ended h s) && not (has_ended h t)
+
 -- what is kept is what the definitions give behind the first n items: the lineage of each transaction, the
--- operations on the objects of the model, and the edges
+-- operations on the objects of the model, the edges, and the permits that can still count
 pub record IsKept {A : Type 0} (m : Parts A) (h : List (Kept A)) (n : ℕ)
-    (lines : List Lineage) (store : Stored) (formed : List Edge) : Type 0 where
+    (lines : List Lineage) (store : Stored) (formed : List Edge) (permitted : Permitted) : Type 0 where
   pub within : n ≤ length h
   pub few : length h ≤ MOST_EVENTS
   pub wide : All (λ k. All (λ t. t < length lines) (named k.event)) h
@@ -35,6 +55,7 @@ pub record IsKept {A : Type 0} (m : Parts A) (h : List (Kept A)) (n : ℕ)
   pub kinds_are : store.kinds ≡ kinds_of m.objects
   pub items_are : store.items ≡ held_ops m (take n h)
   pub edges_are : formed ≡ edges m (take n h)
+  pub permits_are : (s t object : ℕ) → permitted s t object ≡ is_left (take n h) s t object
 
 -- how the operation stands
 abbrev pub standing_in : HeldOp → Standing
@@ -48,14 +69,18 @@ spared m h t = if has_class (λ k. spares k.scope) m h t then ancestors h t else
 abbrev pub spared_numbers : {A : Type 0} → Parts A → List (Kept A) → ℕ → List ℕ
 spared_numbers m h t = ascending (map (λ u. u.0) (spared m h t))
 
+-- these are those whose operations on the object t is spared
+abbrev pub AreSpared : {A : Type 0} → Parts A → List (Kept A) → ℕ → ℕ → List ℕ → Type 0
+AreSpared m h t object us = (u : ℕ) → list_any (λ k. k == u) us ≡ is_spared m h t object u
+
 -- whether the operation is on this object and of t's conflict set, and conflicts with one of t
 abbrev pub is_against : {A : Type 0} → Parts A → List (Kept A) → ℕ → ℕ → Op → HeldOp → Bool
 is_against m h t object op x =
-    (x.ob.0 == object) && (is_of_others m h t (standing_in x) && conflict_on m object x.op op)
+    (x.ob.0 == object) && (is_of_others m h t object (standing_in x) && conflict_on m object x.op op)
 
 -- whether the operation is one of those that are looked for
 abbrev pub is_sought : {A : Type 0} → Parts A → List (Kept A) → ℕ → Sought → HeldOp → Bool
-is_sought m h t Others x = is_of_others m h t (standing_in x)
+is_sought m h t Others x = is_of_others m h t x.ob.0 (standing_in x)
 is_sought m h t (Against object op) x = is_against m h t object.0 op x
 
 -- the numbers of the operations that pass

@@ -11,6 +11,7 @@ use Rattle.acta_axioms.specs.Axioms.{axiom_number}
 use Rattle.acta_axioms.specs.Faults.{breaches}
 use Rattle.acta_axioms.specs.Formulas.{is_false}
 use Rattle.acta_axioms.specs.Legal.{owed}
+use Rattle.acta_axioms.specs.Permits.{is_permitted}
 use Rattle.acta_axioms.proofs.Histories.{begin, spawn, form, operate, commit, abort, owes, fault, model, nesting, loose}
 use Rattle.acta_judge.specs.Broken.{place_broken}
 use Rattle.acta_judge.specs.Verdicts.{all_faults, verdict}
@@ -60,7 +61,7 @@ again_and_again = refl
 -- one that has committed reads what was never there, where another has written: three faults at one place
 at_one_place : verdict model (begin 6 0 ∷ begin 7 0 ∷ operate 6 0 (Write (pos 5)) Done ∷ commit 7 ∷ operate 7 0 Read (Value (pos 9)) ∷ [])
     ≡ found (fault OperatesInProgress 5 7 ∷ fault Conflict 5 1 ∷ fault Return 5 2 ∷ [])
-unfolding verdict all_faults owed breaches bad_number bad_class bad_object bad_operation same_transaction is_false place_broken axiom_number
+unfolding verdict all_faults owed breaches bad_number bad_class bad_object bad_operation same_transaction is_false place_broken axiom_number is_permitted
 at_one_place = refl
 
 -- an edge of one on itself, whose formula its abort makes false
@@ -89,5 +90,5 @@ formed_twice = refl
 -- one reads what another has written, which aborts: it owes an abort by the first of two edges
 edges_by_behaviour : verdict loose (begin 6 0 ∷ begin 7 0 ∷ operate 6 0 (Write (pos 5)) Done ∷ operate 7 0 Read (Value (pos 5)) ∷ abort 6 ∷ [])
     ≡ owing (owes 1 7 Abort ∷ [])
-unfolding verdict all_faults owed breaches bad_number bad_class bad_object bad_operation same_transaction is_false place_broken
+unfolding verdict all_faults owed breaches bad_number bad_class bad_object bad_operation same_transaction is_false place_broken is_permitted
 edges_by_behaviour = refl

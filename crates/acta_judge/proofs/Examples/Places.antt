@@ -11,7 +11,8 @@ use Rattle.acta_axioms.specs.Axioms.{axiom_number}
 use Rattle.acta_axioms.specs.Faults.{breaches}
 use Rattle.acta_axioms.specs.Formulas.{is_false}
 use Rattle.acta_axioms.specs.Legal.{owed}
-use Rattle.acta_axioms.proofs.Histories.{begin, spawn, split, join, delegate, form, operate, commit, abort, fault, plain, model, edgeless, parting, nesting, loose}
+use Rattle.acta_axioms.specs.Permits.{is_permitted}
+use Rattle.acta_axioms.proofs.Histories.{begin, spawn, split, join, delegate, form, operate, commit, abort, fault, plain, model, edgeless, parting, nesting, loose, permit, granting}
 use Rattle.acta_judge.specs.Verdicts.{all_faults, verdict}
 use Rattle.acta_judge.proofs.Histories.{found, faultless, untied}
 
@@ -203,7 +204,7 @@ handed_among_those_in_progress = refl
 -- responsible: what another holds is handed over
 handed_what_another_holds : verdict model (begin 6 4 ∷ begin 7 4 ∷ operate 7 1 (Add (pos 5)) Done ∷ operate 6 1 (Add (pos 5)) Done ∷ delegate 7 6 (2 ∷ []) ∷ [])
     ≡ found (fault Responsible 5 2 ∷ [])
-unfolding verdict all_faults owed breaches bad_number bad_class bad_object bad_operation same_transaction
+unfolding verdict all_faults owed breaches bad_number bad_class bad_object bad_operation same_transaction is_permitted
 handed_what_another_holds = refl
 
 -- operations that are nowhere, that stand later, and that no operation is
@@ -221,7 +222,7 @@ split_what_is_over = refl
 -- one hands over what it holds
 handed_what_it_holds : verdict model (begin 6 4 ∷ begin 7 4 ∷ operate 7 1 (Add (pos 5)) Done ∷ operate 6 1 (Add (pos 5)) Done ∷ delegate 6 7 (2 ∷ []) ∷ [])
     ≡ faultless
-unfolding verdict all_faults owed breaches bad_number bad_class bad_object bad_operation same_transaction
+unfolding verdict all_faults owed breaches bad_number bad_class bad_object bad_operation same_transaction is_permitted
 handed_what_it_holds = refl
 
 -- hands over the whole: one that must do so keeps its second operation
@@ -251,19 +252,19 @@ handed_any = refl
 -- conflict: one writes over what another has written
 written_over : verdict model (begin 6 0 ∷ begin 7 0 ∷ operate 6 1 (Add (pos 5)) Done ∷ operate 6 0 (Write (pos 5)) Done ∷ operate 7 0 (Write (pos 6)) Done ∷ [])
     ≡ found (fault Conflict 5 2 ∷ [])
-unfolding verdict all_faults owed breaches bad_number bad_class bad_object bad_operation same_transaction
+unfolding verdict all_faults owed breaches bad_number bad_class bad_object bad_operation same_transaction is_permitted
 written_over = refl
 
 -- one reads what two others hold: a fault by each
 read_from_two : verdict model (begin 6 0 ∷ begin 7 0 ∷ begin 8 0 ∷ operate 6 1 (Add (pos 5)) Done ∷ operate 7 1 (Add (pos 7)) Done ∷ operate 8 1 Get (Value (pos 12)) ∷ [])
     ≡ found (fault Conflict 6 1 ∷ fault Conflict 6 2 ∷ [])
-unfolding verdict all_faults owed breaches bad_number bad_class bad_object bad_operation same_transaction axiom_number
+unfolding verdict all_faults owed breaches bad_number bad_class bad_object bad_operation same_transaction axiom_number is_permitted
 read_from_two = refl
 
 -- one writes what another has written
 written_the_same : verdict model (begin 6 0 ∷ begin 7 0 ∷ operate 6 1 (Add (pos 5)) Done ∷ operate 6 0 (Write (pos 5)) Done ∷ operate 7 0 (Write (pos 5)) Done ∷ [])
     ≡ faultless
-unfolding verdict all_faults owed breaches bad_number bad_class bad_object bad_operation same_transaction
+unfolding verdict all_faults owed breaches bad_number bad_class bad_object bad_operation same_transaction is_permitted
 written_the_same = refl
 
 -- one writes over what another has committed
@@ -281,14 +282,44 @@ written_over_an_ancestor = refl
 -- a parent writes over what its child has written
 written_over_a_child : verdict nesting (begin 6 0 ∷ operate 6 1 (Add (pos 5)) Done ∷ spawn 6 7 1 ∷ operate 7 0 (Write (pos 6)) Done ∷ operate 6 0 (Write (pos 5)) Done ∷ [])
     ≡ found (fault Conflict 5 2 ∷ [])
-unfolding verdict all_faults owed breaches bad_number bad_class bad_object bad_operation same_transaction is_false
+unfolding verdict all_faults owed breaches bad_number bad_class bad_object bad_operation same_transaction is_false is_permitted
 written_over_a_child = refl
 
 -- one of a class that depends writes over what another has written
 written_over_loosely : verdict loose (begin 6 0 ∷ begin 7 0 ∷ operate 6 0 (Write (pos 5)) Done ∷ operate 7 0 (Write (pos 6)) Done ∷ [])
     ≡ faultless
-unfolding verdict all_faults owed breaches bad_number bad_class bad_object bad_operation same_transaction is_false
+unfolding verdict all_faults owed breaches bad_number bad_class bad_object bad_operation same_transaction is_false is_permitted
 written_over_loosely = refl
+
+-- one writes over what another has written and permits it to
+written_over_by_a_permit : verdict granting (begin 6 0 ∷ begin 7 0 ∷ operate 6 0 (Write (pos 5)) Done ∷ permit 6 7 0 ∷ operate 7 0 (Write (pos 6)) Done ∷ [])
+    ≡ faultless
+unfolding verdict all_faults owed breaches bad_number bad_class bad_object bad_operation same_transaction is_permitted
+written_over_by_a_permit = refl
+
+-- one writes over what another has written, which it permits itself: a permit doesn't work both ways
+written_over_against_a_permit : verdict granting (begin 6 0 ∷ begin 7 0 ∷ operate 6 0 (Write (pos 5)) Done ∷ permit 7 6 0 ∷ operate 7 0 (Write (pos 6)) Done ∷ [])
+    ≡ found (fault Conflict 5 1 ∷ [])
+unfolding verdict all_faults owed breaches bad_number bad_class bad_object bad_operation same_transaction is_permitted
+written_over_against_a_permit = refl
+
+-- one writes over what another has written, which permits it on another object
+written_over_by_a_permit_elsewhere : verdict granting (begin 6 0 ∷ begin 7 0 ∷ operate 6 0 (Write (pos 5)) Done ∷ permit 6 7 1 ∷ operate 7 0 (Write (pos 6)) Done ∷ [])
+    ≡ found (fault Conflict 5 1 ∷ [])
+unfolding verdict all_faults owed breaches bad_number bad_class bad_object bad_operation same_transaction is_permitted
+written_over_by_a_permit_elsewhere = refl
+
+-- one writes over what a third has taken over from the one that permits it: a permit isn't handed over
+written_over_what_a_third_holds : verdict granting (begin 6 0 ∷ begin 7 0 ∷ begin 8 0 ∷ operate 6 0 (Write (pos 5)) Done ∷ permit 6 7 0 ∷ delegate 6 8 (1 ∷ []) ∷ operate 7 0 (Write (pos 6)) Done ∷ [])
+    ≡ found (fault Conflict 7 1 ∷ [])
+unfolding verdict all_faults owed breaches bad_number bad_class bad_object bad_operation same_transaction is_permitted
+written_over_what_a_third_holds = refl
+
+-- one permits another before that one begins: a permit counts once both are in progress
+permitted_before_it_began : verdict granting (begin 6 0 ∷ operate 6 0 (Write (pos 5)) Done ∷ permit 6 7 0 ∷ begin 7 0 ∷ operate 7 0 (Write (pos 6)) Done ∷ [])
+    ≡ found (fault PartiesInProgress 3 7 ∷ [])
+unfolding verdict all_faults owed breaches bad_number bad_class bad_object bad_operation same_transaction is_permitted
+permitted_before_it_began = refl
 
 -- return: one reads what was never there
 misread : verdict model (begin 7 0 ∷ operate 7 1 (Add (pos 5)) Done ∷ operate 7 1 Get (Value (pos 9)) ∷ [])

@@ -44,6 +44,7 @@ fn kind(rt: &impl Abort, event: &str) -> EventKind {
         "do" => EventKind::Operate,
         "commit" => EventKind::Commit,
         "abort" => EventKind::Abort,
+        "permit" => EventKind::Permit,
         _ => rt.panic("a word is no event"),
     }
 }

@@ -69,9 +69,9 @@ pub fn events_of<A: Allocator + Copy>(
     events
 }
 
-/// A debugger on the history that the lines say.
-pub fn debugger<A: Handle>(rt: &impl Abort, heap: A, name: Standard, text: &str) -> Debugger<A> {
-    let model = model_of(rt, heap, name.text());
+/// A debugger on the history that the lines say, of the model that the text means.
+pub fn debugger<A: Handle>(rt: &impl Abort, heap: A, model: &str, text: &str) -> Debugger<A> {
+    let model = model_of(rt, heap, model);
     let history = items(rt, heap, &model, text);
     made(rt, opened(heap, model, history), "a debugger")
 }
@@ -98,5 +98,5 @@ pub fn sums(rt: &impl Abort, alloc: Global, times: u32) -> String {
 /// A debugger on these.
 pub fn on_sums<A: Handle>(rt: &impl Abort, alloc: Global, heap: A, times: u32) -> Debugger<A> {
     let text = sums(rt, alloc, times);
-    debugger(rt, heap, Standard::Contingent, text.as_str())
+    debugger(rt, heap, Standard::Contingent.text(), text.as_str())
 }

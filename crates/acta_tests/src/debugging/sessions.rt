@@ -3,7 +3,7 @@
 use crate::debugging::commands::play;
 use crate::debugging::histories::{SAID, debugger, events_of, on_sums, ran};
 use crate::expecting::{made, parted, same};
-use crate::models::model_of;
+use crate::models::{SHARING, model_of};
 use acta_machine::Handle;
 use acta_models::Standard;
 use refusing::Refusing;
@@ -223,15 +223,61 @@ run : Broke { number: 1, place: 2 } at 2
 break like abort 1 : break 3
 run : Broke { number: 1, place: 3 } at 3
 run : Broke { number: 1, place: 4 } at 4
-run : Broke { number: 3, place: 6 } at 6";
+run : Broke { number: 3, place: 6 } at 6
+# sharing
+begin 1 part
+begin 2 part
+begin 3 part
+do 3 x write 5 = done
+permit 1 2 x
+delegate 3 1 1
+do 2 x read = 5
+permit 1 2 n
+commit 1
+--
+break like permit 1 2 x : break 1
+run : Broke { number: 1, place: 5 } at 5
+run : Broke { number: 1, place: 8 } at 8
+run : Finished at 9
+clear : cleared
+goto 2 : at 2
+break txn 1 : break 1
+run : Broke { number: 1, place: 5 } at 5
+run : Broke { number: 1, place: 6 } at 6
+run : Broke { number: 1, place: 8 } at 8
+run : Broke { number: 1, place: 9 } at 9
+clear : cleared
+goto 2 : at 2
+break txn 2 : break 1
+run : Broke { number: 1, place: 5 } at 5
+run : Broke { number: 1, place: 7 } at 7
+run : Broke { number: 1, place: 8 } at 8
+run : Finished at 9
+clear : cleared
+goto 0 : at 0
+break object x : break 1
+run : Broke { number: 1, place: 4 } at 4
+run : Broke { number: 1, place: 7 } at 7
+run : Finished at 9
+clear : cleared
+goto 4 : at 4
+break object n : break 1
+break ended 2 : break 2
+run : Finished at 9
+back : at 8
+value x : 5
+back : at 7
+goto 6 : at 6
+step : at 7";
 
-// The model of that name.
-fn named(rt: &impl Abort, name: &str) -> Standard {
+// The text of the model of that name.
+fn named(rt: &impl Abort, name: &str) -> &'static str {
     match name {
-        "atomic" => Standard::Atomic,
-        "contingent" => Standard::Contingent,
-        "nested" => Standard::Nested,
-        "splitjoin" => Standard::SplitJoin,
+        "atomic" => Standard::Atomic.text(),
+        "contingent" => Standard::Contingent.text(),
+        "nested" => Standard::Nested.text(),
+        "splitjoin" => Standard::SplitJoin.text(),
+        "sharing" => SHARING,
         _ => rt.panic("a session has no model"),
     }
 }

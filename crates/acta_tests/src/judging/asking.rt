@@ -35,6 +35,7 @@ pub struct Said<'a> {
     pub asked: Option<(ObjId, Op)>,
     pub edge: Option<Dep>,
     pub handed: Option<&'a [OpNo]>,
+    pub permitted: Option<ObjId>,
     pub ret: Option<Ret>,
 }
 
@@ -46,7 +47,9 @@ fn named<A: Allocator>(event: &Event<A>) -> ((TxnId, Part), Option<(TxnId, Part)
             ((*t, Part::TakesPart), Some((*u, Part::Starts)))
         }
         Event::Join(t, u) => ((*t, Part::Ends), Some((*u, Part::TakesPart))),
-        Event::Delegate(t, u, _) => ((*t, Part::TakesPart), Some((*u, Part::TakesPart))),
+        Event::Delegate(t, u, _) | Event::Permit(t, u, _) => {
+            ((*t, Part::TakesPart), Some((*u, Part::TakesPart)))
+        }
         Event::Form(_, j, i) => ((*j, Part::IsNamed), Some((*i, Part::IsNamed))),
         Event::Operate(t, _, _) => ((*t, Part::Operates), None),
         Event::Commit(t) | Event::Abort(t) => ((*t, Part::Ends), None),
@@ -58,10 +61,12 @@ impl<'a> Said<'a> {
     pub fn of<A: Allocator>(item: &'a Kept<A>) -> Said<'a> {
         let event = &item.event;
         let (first, second) = named(event);
-        let (mut asked, mut edge, mut handed) = (None, None, None);
+        let (mut asked, mut edge) = (None, None);
+        let (mut handed, mut permitted) = (None, None);
         match event {
             Event::Operate(_, object, op) => asked = Some((*object, *op)),
             Event::Form(kind, _, _) => edge = Some(*kind),
+            Event::Permit(_, _, object) => permitted = Some(*object),
             Event::Split(_, _, _, ops) | Event::Delegate(_, _, ops) => handed = Some(
                 ops.as_slice(),
             ),
@@ -75,6 +80,7 @@ impl<'a> Said<'a> {
             asked,
             edge,
             handed,
+            permitted,
             ret: item.ret,
         }
     }

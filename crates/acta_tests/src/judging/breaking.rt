@@ -3,7 +3,7 @@
 use crate::expecting::{made, tells};
 use crate::judging::reading::Judged;
 use crate::judging::verdicts::lines_of_all;
-use crate::models::{DELEGATING, Models, PARTING, UNTIED};
+use crate::models::{DELEGATING, KINDRED, Models, PARTING, PERMITTING, SHARING, TRUSTING, UNTIED};
 use acta_machine::Handle;
 use acta_models::Standard;
 use std::process::Abort;
@@ -74,6 +74,13 @@ join 6 7
 fault 6 3 7
 fault 6 4 7
 fault 6 5 6
+# A permit that no class allows counts all the same
+begin 6 flat
+begin 7 flat
+do 6 x write 5 = done
+permit 6 7 x
+do 7 x read = 5
+fault 6 4 6
 # One writes over what another has written
 begin 6 flat
 begin 7 flat
@@ -502,8 +509,224 @@ do 2 x read = 5
 fault 11 6 3
 owed 1 2 abort";
 
+// Flat transactions that permit.
+const PERMITTED: &str = "\
+# A permit is of one object, and works one way
+begin 1 flat
+begin 2 flat
+do 1 x write 5 = done
+permit 1 2 x
+do 2 x read = 5
+do 1 n add 1 = done
+abort 1
+# One reads what another has written, which permits nothing
+begin 1 flat
+begin 2 flat
+do 1 x write 5 = done
+do 2 x read = 5
+fault 10 4 1
+# A permit on another object, and one the other way round
+begin 1 flat
+begin 2 flat
+do 1 x write 5 = done
+permit 1 2 n
+permit 2 1 x
+do 2 x read = 5
+fault 10 6 1
+# Of two who hold, one permits
+begin 1 flat
+begin 2 flat
+begin 3 flat
+do 1 n add 1 = done
+do 2 n add 2 = done
+permit 2 3 n
+do 3 n get = 3
+fault 10 7 1
+# A permit before its parties begin counts once both are in progress
+permit 1 2 x
+begin 1 flat
+do 1 x write 5 = done
+begin 2 flat
+do 2 x read = 5
+fault 7 1 1
+fault 7 1 2
+# The same, of one that works before it begins, as in no class
+begin 1 flat
+do 1 x write 5 = done
+permit 1 2 x
+do 2 x read = 5
+begin 2 flat
+do 2 x read = 5
+fault 4 4 2
+fault 7 3 2
+# A permit by one that has ended never counts
+begin 1 flat
+begin 2 flat
+abort 1
+permit 1 2 x
+do 1 x write 5 = done
+do 2 x read = 5
+fault 4 5 1
+fault 7 4 1
+fault 10 6 1
+# A permit to one that has ended never counts
+begin 1 flat
+begin 2 flat
+do 1 x write 5 = done
+commit 2
+permit 1 2 x
+do 2 x read = 5
+fault 4 6 2
+fault 7 5 2
+fault 10 6 1
+# A permit ends with the one that gave it
+begin 2 flat
+begin 3 flat
+permit 3 2 x
+do 3 x write 5 = done
+commit 3
+do 3 x write 6 = done
+do 2 x read = 6
+fault 4 6 3
+fault 10 7 2
+# A permit ends with the one that was given it, and it begins once more
+begin 1 flat
+begin 2 flat
+permit 1 2 x
+commit 2
+begin 2 flat
+do 1 x write 5 = done
+do 2 x read = 5
+fault 1 5 2
+fault 4 7 2
+fault 10 7 1
+# One permits itself
+begin 1 flat
+permit 1 1 x
+fault 5 2 1
+# One permits itself that has not begun
+permit 7 7 x
+fault 5 1 7
+fault 7 1 7
+# One permits that has not begun
+begin 6 flat
+permit 7 6 x
+fault 7 2 7
+# One is permitted something that has ended
+begin 6 flat
+begin 7 flat
+commit 7
+permit 6 7 x
+fault 7 4 7
+# A permit on an object that the model lacks
+begin 6 flat
+begin 7 flat
+permit 6 7 nowhere
+fault 5 3 6
+# A permit by a number that no transaction has
+begin 6 flat
+permit 0 6 x
+fault 5 2 0
+fault 7 2 0
+# A permit that returns something
+begin 6 flat
+begin 7 flat
+permit 6 7 x = done
+fault 11 3 0";
+
+// Transactions that permit, delegate and join.
+const SHARED: &str = "\
+# A permit is not passed on by a delegation, and covers what is handed back
+begin 1 part
+begin 2 part
+begin 3 part
+do 1 x write 5 = done
+permit 1 2 x
+delegate 1 3 1
+do 2 x read = 5
+delegate 3 1 1
+do 2 x read = 5
+fault 10 7 1
+# A permit is not passed on by another permit
+begin 1 part
+begin 2 part
+begin 3 part
+do 1 x write 5 = done
+permit 1 2 x
+permit 2 3 x
+do 3 x read = 5
+fault 10 7 1
+# One permits whose class may not
+begin 1 quiet
+begin 2 part
+do 1 x write 5 = done
+permit 1 2 x
+do 2 x read = 5
+fault 6 4 1
+# A permit ends with one that joins another
+begin 1 part
+begin 2 part
+permit 1 2 x
+join 1 2
+do 1 x write 5 = done
+do 2 x read = 5
+fault 4 5 1
+fault 10 6 1";
+
+// Transactions that depend on those who hold what conflicts, and permit.
+const TRUSTED: &str = "\
+# One commits before the one that permits it
+begin 1 loose
+begin 2 loose
+do 1 x write 5 = done
+permit 1 2 x
+do 2 x read = 5
+commit 2
+commit 1
+# The same, by a permit before both begin
+permit 1 2 x
+begin 1 loose
+begin 2 loose
+do 1 x write 5 = done
+do 2 x read = 5
+commit 2
+commit 1
+fault 7 1 1
+fault 7 1 2
+# A permit of one that has ended keeps no edge away
+begin 1 loose
+begin 2 loose
+permit 1 2 x
+abort 1
+do 1 x write 5 = done
+do 2 x read = 5
+commit 2
+fault 4 5 1
+fault 23 7 1";
+
+// Nested transactions that permit.
+const AKIN: &str = "\
+# An ancestor is spared, and so is one that permits
+begin 1 top
+spawn 1 2 sub
+begin 3 top
+do 1 n add 1 = done
+do 3 n add 2 = done
+do 2 n get = 3
+permit 3 2 n
+do 2 n get = 3
+fault 10 6 2
+# A child permits its parent
+begin 6 top
+spawn 6 7 sub
+do 7 x write 5 = done
+permit 7 6 x
+do 6 x write 6 = done
+do 6 n add 1 = done
+do 7 n get = 1";
+
 // The lists of each model, by its text.
-fn by_model() -> [(&'static str, &'static str); 7] {
+fn by_model() -> [(&'static str, &'static str); 11] {
     [
         (Standard::Atomic.text(), FLAT),
         (Standard::Contingent.text(), CONTINGENT),
@@ -512,6 +735,10 @@ fn by_model() -> [(&'static str, &'static str); 7] {
         (Standard::Nested.text(), NESTED),
         (UNTIED, ORPHANED),
         (Standard::Recoverable.text(), LOOSE),
+        (PERMITTING, PERMITTED),
+        (SHARING, SHARED),
+        (TRUSTING, TRUSTED),
+        (KINDRED, AKIN),
     ]
 }
 

@@ -58,7 +58,8 @@ impl<'a, A: Handle> Before<'a, A> {
         if suits { Some(kind) } else { None }
     }
 
-    // Whether the item names a class that the model lacks, or an operation that is none of its object's.
+    // Whether the item names a class that the model lacks, an operation that is none of its object's, or an object on
+    // which something is permitted and that the model lacks.
     fn is_foreign(&self, said: &Said<'_>) -> bool {
         let lacks_class = match said.class {
             Some(class) => self.model.class(class).is_none(),
@@ -68,7 +69,11 @@ impl<'a, A: Handle> Before<'a, A> {
             Some((object, op)) => self.kind_for(object, op).is_none(),
             None => false,
         };
-        lacks_class || lacks_op
+        let lacks_object = match said.permitted {
+            Some(object) => self.model.object(object).is_none(),
+            None => false,
+        };
+        lacks_class || lacks_op || lacks_object
     }
 
     // Whether the transaction's class may do such events.
@@ -139,12 +144,26 @@ impl<'a, A: Handle> Before<'a, A> {
         false
     }
 
-    // Whether another holds the operation in progress, who is not spared by the transaction's class.
-    fn is_of_others(&self, t: TxnId, scope: Scope, op: OpNo) -> bool {
-        match self.holder(op) {
-            Some(u) => u != t && !(scope == Scope::NonAncestors && self.is_ancestor(u, t)),
-            None => false,
+    // Whether some item in front has the one permit the other to work on the object, legal or not, and both are in
+    // progress.
+    fn is_permitted(&self, u: TxnId, t: TxnId, object: ObjId) -> bool {
+        let mut has_permitted = false;
+        for said in self.front {
+            has_permitted |= said.permitted == Some(object)
+                && said.first.0 == u
+                && said.second == Some((t, Part::TakesPart));
         }
+        has_permitted && self.course(u).is_in_progress() && self.course(t).is_in_progress()
+    }
+
+    // Whether another holds the operation on the object in progress, who is not spared by the transaction's class, and
+    // has not permitted it to work beside it.
+    fn is_of_others(&self, t: TxnId, scope: Scope, object: ObjId, op: OpNo) -> bool {
+        let Some(u) = self.holder(op) else {
+            return false;
+        };
+        let is_spared = scope == Scope::NonAncestors && self.is_ancestor(u, t);
+        u != t && !is_spared && !self.is_permitted(u, t, object)
     }
 
     // Whether the operation on an object conflicts with another on it, where both are of its kind.
@@ -167,7 +186,8 @@ impl<'a, A: Handle> Before<'a, A> {
         for item in self.front {
             if let Some(other) = item.asked {
                 op = OpNo(op.0.wrapping_add(1));
-                let is_met = self.conflicts(asked, other) && self.is_of_others(t, class.scope, op);
+                let is_met = self.conflicts(asked, other)
+                    && self.is_of_others(t, class.scope, other.0, op);
                 faults.tell(rt, Axiom::Conflict, is_refused && is_met, u64::from(op.0));
             }
         }

@@ -7,8 +7,8 @@ use Rattle.acta_axioms.proofs.against.is_opposed.Goals as goal
 
 pub returns : goal.returns
 returns g c =
-    λ spares none.
+    λ spared none.
     let w = is_well_formed c.args.model.now c.args.object.0 c.args.op.now in
     let items = c.args.operations.now in
-    unspared w c.args.t.0 spares c.args.object.0 c.args.op.now items
+    unspared w c.args.t.0 spared c.args.object.0 c.args.op.now items
     (ap (λ (keys : List ℕ). w && list_any (is_against c.args.t.0 keys c.args.object.0 c.args.op.now) items) (sym c.new.ensures.empty) ∙ sym c.has_against.ensures ∙ none)

@@ -1,8 +1,8 @@
-use Rattle.acta_image.proofs.Images.{few-names, image-again, short-classes, short-objects}
+use Rattle.acta_image.proofs.Images.{few-names, written-again, short-classes, short-objects}
 use Rattle.acta_image.proofs.writing.known.Goals as goal
 
 pub returns-clause-again : goal.returns-clause-again
-returns-clause-again g c = image-again c.args.model.now c.known.ensures
+returns-clause-again g c = written-again c.args.model.now c.known.ensures
 
 pub returns-clause-objects : goal.returns-clause-objects
 returns-clause-objects g c = short-objects c.args.model.now c.known.ensures

@@ -3,7 +3,8 @@ use Rattle.std.proofs.lemmas.Grind.{common_steps}
 use Rattle.std.proofs.lemmas.List.{append_assoc}
 use Rattle.std.proofs.lemmas.Result.{IfOk-equal}
 use Rattle.std.specs.List.{flat_map}
-use Rattle.acta_image.specs.Spelling.{class_bytes, head, image, object_bytes}
+use Rattle.acta_image.specs.declared.version.ImageVersion.TheVariants.{Two}
+use Rattle.acta_image.specs.Spelling.{class_bytes, head, image, image_in, object_bytes}
 use Rattle.acta_image.proofs.writing.push_model.Goals as goal
 
 pub overflow_cast-classes : goal.overflow_cast-classes
@@ -19,10 +20,10 @@ pub push_classes-requires : goal.push_classes-requires
 push_classes-requires g c = rw c.classes-classes.ensures.classes c.requires.classes
 
 pub returns : goal.returns
-unfolding image
+unfolding image_in
 returns g c =
     let before = c.args.bytes.now.items in
-    let begun = head (length c.classes-classes.result.now) (length c.objects-objects.result.now) in
+    let begun = head Two (length c.classes-classes.result.now) (length c.objects-objects.result.now) in
     let objects = flat_map object_bytes c.objects-objects.result.now in
     let classes = flat_map class_bytes c.classes-classes.result.now in
     let pushed : c.push_objects.new.image.items ≡ (before ++ begun) ++ objects =

@@ -1,5 +1,7 @@
 use Rattle.std.proofs.Common.{◌<◌, length, get_or, sym, ap, subst, ◌∙◌, All, List}
 use Rattle.acta_table.specs.Events.{named}
+use Rattle.acta_sets.specs.Permits.{permitted}
+use Rattle.acta_sets.specs.declared.grant.Grant.{Grant}
 use Rattle.acta_values.specs.Stores.{Stored}
 use Rattle.acta_axioms.specs.declared.lineage.Lineage.{Lineage}
 use Rattle.acta_axioms.specs.inside.Lineages.{unbegun}
@@ -19,5 +21,6 @@ invariant_of-result g c =
       lines_are = λ t. ap (λ (ls : List Lineage). get_or ls t unbegun) lines ∙ walk.lines_are t;
       kinds_are = ap (λ (s : Stored). s.kinds) store ∙ walk.kinds_are;
       items_are = ap (λ (s : Stored). s.items) store ∙ walk.items_are;
+      permits_are = λ s t object. ap (λ (ps : List (List Grant)). permitted ps s t object) c.in_ok-copy-2.ensures ∙ walk.permits_are s t object;
       edges_are = same_from_all_zip _ _ _ c.in_ok-clone.ensures.cases (λ x y same. same) ∙ walk.edges_are;
     }

@@ -1,9 +1,11 @@
-use Rattle.std.proofs.Common.{◌&&◌, refl, sym, ap, ◌∙◌}
+use Rattle.std.proofs.Common.{◌≡◌, ◌&&◌, false, List, sym, ap, ◌∙◌, subst}
 use Rattle.std.specs.List.{list_any}
-use Rattle.acta_sets.specs.Operations.{is_against as is_against_in}
+use Rattle.acta_table.specs.declared.model.Parts.{Parts}
+use Rattle.acta_sets.specs.declared.held_op.HeldOp.{HeldOp}
+use Rattle.acta_axioms.specs.Operations.{is_spared}
 use Rattle.acta_axioms.specs.Values.{is_well_formed}
-use Rattle.acta_axioms.specs.inside.Walking.{is_against, spared_numbers}
-use Rattle.acta_axioms.proofs.Searches.{any-tells}
+use Rattle.acta_axioms.specs.inside.Against.{is_against_but}
+use Rattle.acta_axioms.proofs.Searches.{none-opposed}
 use Rattle.acta_axioms.proofs.walk.Walk.is_opposed.Goals as goal
 
 pub returns : goal.returns
@@ -12,9 +14,9 @@ returns g c =
     let m = c.args.self.now.model in
     let h = c.args.self.now.front in
     let t = c.args.t.0 in
-    let keys = spared_numbers m h t in
-    sym (
-    sym (c.is_opposed.ensures keys none)
-    ∙ ap (λ k. is_well_formed k c.args.object.0 c.args.op.now && list_any (is_against_in t keys c.args.object.0 c.args.op.now) c.table.result.now) (ap (λ w. w.model) c.self.view_is)
-    ∙ any-tells m h t c.args.object.0 c.args.op.now keys c.table.result.now refl
-    ∙ ap (list_any (is_against m h t c.args.object.0 c.args.op.now)) c.table.ensures)
+    let object = c.args.object.0 in
+    let op = c.args.op.now in
+    let against = is_against_but t (is_spared m h t object) object op in
+    none-opposed m h t object op _
+    (sym (ap (λ k. is_well_formed k object op && list_any against c.table.result.now) (ap (λ w. w.model) c.self.view_is) ∙ ap (λ (xs : List HeldOp). is_well_formed m object op && list_any against xs) c.table.ensures)
+    ∙ c.is_opposed.ensures (is_spared m h t object) none)

@@ -2,10 +2,12 @@ use Rattle.std.proofs.Common.{◌≡◌, ◌+◌, length, ap, arith, ◌∙◌}
 use Rattle.std.proofs.Math.ListN.{replicate}
 use Rattle.std.proofs.lemmas.List.{length-replicate}
 use Rattle.acta_values.specs.KeptValues.{kinds_of}
+use Rattle.acta_sets.specs.Permits.{Permitted}
 use Rattle.acta_values.specs.Stores.{Stored}
 use Rattle.acta_axioms.specs.inside.Lineages.{unbegun}
 use Rattle.acta_axioms.proofs.Lineages.{lines-blank}
 use Rattle.acta_axioms.proofs.Named.{named-below}
+use Rattle.acta_axioms.proofs.Permitting.{none-left}
 use Rattle.acta_axioms.proofs.walk.Walk.of.Goals as goal
 
 pub invariant_of-result : goal.invariant_of-result
@@ -21,5 +23,6 @@ invariant_of-result g c =
       lines_are = λ t. lines-blank h lines (c.largest_named.result + 1) t blank;
       kinds_are = ap (λ (s : Stored). s.kinds) c.in_ok-new.ensures ∙ ap kinds_of c.objects.ensures.objects;
       items_are = ap (λ (s : Stored). s.items) c.in_ok-new.ensures;
+      permits_are = λ s t object. ap (λ (p : Permitted). p s t object) c.new-3.ensures ∙ none-left g.row.A.Denot s t object;
       edges_are = c.new-2.ensures.empty;
     }

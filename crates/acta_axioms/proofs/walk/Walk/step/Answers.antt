@@ -5,7 +5,9 @@ use Rattle.std.specs.Option.{option_copied}
 use Rattle.acta_table.specs.Edges.{formed}
 use Rattle.acta_table.specs.Events.{named}
 use Rattle.acta_axioms.specs.Edges.{formed_by}
-use Rattle.acta_axioms.specs.inside.Lineages.{unbegun, begun_in, further, heir_in}
+use Rattle.acta_axioms.specs.inside.Lineages.{unbegun, begun_in, ended_in, is_late, further, heir_in}
+use Rattle.acta_axioms.specs.inside.Walking.{permits_behind}
+use Rattle.acta_sets.specs.Permits.{permitted}
 use Rattle.std.proofs.lemmas.List.{length-take}
 use Rattle.acta_axioms.proofs.Bringing.{few-operations}
 use Rattle.acta_axioms.proofs.Tables.{written_back}
@@ -31,15 +33,17 @@ invariant_of-self-2 g c =
     let lines = c.self.inside.lines.items in
     let store = c.self.inside.store in
     let es = c.self.inside.edges.keys in
+    let ps = permitted c.self.inside.permits in
     let next : IsNext h n k = next-item h n k (ap (λ w. slice_get w.ahead 0) c.self.view_is ∙ sym c.next.ensures ∙ ap option_copied c.in-Some.is) in
     let lent = c.as_mut_slice.ensures.value in
     let long : length c.note.new.lines ≡ length lines = c.note.ensures.long ∙ ap length lent in
     let back = written_back c.self.inside.lines.len c.note.new.lines lines long (omega (arith, c.self.inside.lines.ok.0)) in
     let due = c.in_ok-due.ensures ∙ sym (ap (λ w. formed_by w.model w.front k.event) c.self.view_is) in
-    kept-more m h n k lines _ store c.go_on.new.store es c.go_on.new.edges.keys c.heir_of-heir.result next c.self.invariant
-    (c.in_ok-go_on.ensures.formed ∙ ap (formed es) (c.as_slice-2.ensures.value ∙ due))
-    (c.heir_of-heir.ensures ∙ ap (λ rows. heir_in m rows k.event) c.as_slice.ensures.value)
+    kept-more m h n k lines _ store c.go_on.new.store es c.go_on.new.edges.keys ps (permitted c.go_on.new.permits) c.heir_of.result next c.self.invariant
+    (c.in_ok-go_on.ensures.formed ∙ ap (formed es) (c.as_slice-3.ensures.value ∙ due))
+    (c.heir_of.ensures ∙ ap (λ rows. heir_in m rows k.event) c.as_slice.ensures.value)
     c.in_ok-go_on.ensures.brought
+    (c.in_ok-go_on.ensures.permitted ∙ ap (λ b. permits_behind b k.event ps) (c.is_late.ensures ∙ ap (λ rows. is_late (ended_in rows) k.event) c.as_slice-2.ensures.value))
     (ap length back ∙ long)
     (λ t. ap (λ rows. get_or rows t unbegun) back ∙ c.note.ensures.further t ∙ ap (λ rows. further (n + 1) (begun_in rows) k.event t (get_or rows t unbegun)) lent)
 

@@ -5,7 +5,8 @@ use Rattle.acta_table.specs.declared.answer.Status.TheVariants.{Committed}
 use Rattle.acta_table.specs.declared.event.TxnId.{TxnId}
 use Rattle.acta_table.specs.WellFormed.{bad_number}
 use Rattle.acta_deps.specs.Deps.{status_of}
-use Rattle.acta_machine.specs.Summary.{Summary, stood, inherited, fated}
+use Rattle.acta_machine.specs.Summary.{Summary, terminated, inherited, fated}
+use Rattle.acta_sets.specs.Permits.{without_permits}
 use Rattle.acta_machine.specs.Changes.{settled}
 use Rattle.acta_machine.specs.Rules.{not_in_progress}
 use Rattle.acta_machine.specs.inside.Shown.{shown}
@@ -26,15 +27,16 @@ committed-requires-clause-stands g c =
     ap (λ b. status_of b.deps c.args.t.0) c.settle.ensures.others
     ∙ in_progress (shown c.args.self.now) NotInProgress c.args.t.0 c.requires.stands
 
--- what t holds goes on first, and then t stands so, or the other way round
-stood-settled : (s : Summary) (t : TxnId) (x : Status) (heir : Option TxnId) → stood (settled s t heir) t x ≡ settled (stood s t x) t heir
-unfolding stood inherited fated
-stood-settled s t x None = refl
-stood-settled s t x (Some heir) = refl
+-- what t holds goes on first, and then t has ended so, or the other way round
+terminated-settled : (s : Summary) (t : TxnId) (x : Status) (heir : Option TxnId) → terminated (settled s t heir) t x ≡ settled (terminated s t x) t heir
+unfolding terminated inherited fated
+terminated-settled s t x None = refl
+terminated-settled s t x (Some heir) = refl
 
 pub returns-clause-shows : goal.returns-clause-shows
-unfolding stood
+unfolding terminated
 returns-clause-shows g c =
-    (λ i. record (shown c.settle.new.self) { status = c.committed.ensures.status i; edges = c.committed.ensures.edges i })
-    ∙ ap (λ s. stood s c.args.t Committed) c.in_ok-settle.ensures.shows
-    ∙ stood-settled (shown c.args.self.now) c.args.t Committed _
+    c.drop_permits.ensures.shows
+    ∙ (λ i. record (shown c.settle.new.self) { status = c.committed.ensures.status i; edges = c.committed.ensures.edges i; permits = without_permits (shown c.settle.new.self).permits c.args.t.0 })
+    ∙ ap (λ s. terminated s c.args.t Committed) c.in_ok-settle.ensures.shows
+    ∙ terminated-settled (shown c.args.self.now) c.args.t Committed _

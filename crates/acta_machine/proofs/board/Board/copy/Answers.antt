@@ -6,3 +6,6 @@ returns-clause-origins g c = c.in_ok-origins.ensures.items ∙ c.deref.ensures.v
 
 pub returns-clause-store : goal.returns-clause-store
 returns-clause-store g c = c.in_ok-store.ensures
+
+pub returns-clause-deps : goal.returns-clause-deps
+returns-clause-deps g c = c.in_ok-deps.ensures

@@ -5,9 +5,10 @@ use Rattle.acta_sets.specs.declared.held_op.HeldOp.{HeldOp}
 use Rattle.acta_sets.specs.Operations.{is_against, holders_against}
 use Rattle.acta_axioms.specs.Values.{is_well_formed}
 use Rattle.acta_axioms.proofs.Unopposed.{holders-unopposed}
-use Rattle.acta_machine.specs.Families.{spared_numbers}
+use Rattle.acta_axioms.specs.inside.Against.{is_against_but}
+use Rattle.acta_machine.specs.inside.Spared.{is_spared}
 use Rattle.acta_machine.specs.inside.Shown.{shown}
-use Rattle.acta_machine.proofs.Opponents.{opponents-tell}
+use Rattle.acta_machine.proofs.Opponents.{opponents-but, opponents-tell}
 use Rattle.acta_machine.proofs.board.Board.opponents.Goals as goal
 
 pub returns-then-not-is_opposed : goal.returns-then-not-is_opposed
@@ -15,12 +16,12 @@ returns-then-not-is_opposed g c =
     let m = c.args.self.now.model in
     let s = shown c.args.self.now in
     let t = c.args.t.0 in
-    let keys = spared_numbers m s t in
+    let spared = is_spared m s t c.args.ob.0 in
     let w = is_well_formed m c.args.ob.0 c.args.op.now in
-    let against = is_against t keys c.args.ob.0 c.args.op.now in
+    let against = is_against_but t spared c.args.ob.0 c.args.op.now in
     c.new.ensures.empty
-    ∙ holders-unopposed w against s.operations (ap (λ (items : List HeldOp). w && list_any against items) (sym c.operations.ensures) ∙ c.is_opposed.ensures keys c.if-not-is_opposed.true)
-    ∙ opponents-tell m s t c.args.ob c.args.op.now keys refl
+    ∙ holders-unopposed w against s.operations (ap (λ (items : List HeldOp). w && list_any against items) (sym c.operations.ensures) ∙ c.is_opposed.ensures spared c.if-not-is_opposed.true)
+    ∙ opponents-but m s t c.args.ob c.args.op.now
 
 pub returns : goal.returns
 returns g c =

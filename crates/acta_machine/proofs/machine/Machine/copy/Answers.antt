@@ -15,10 +15,11 @@ invariant_of-result g c =
     let origins = c.in_ok-copy.ensures.origins in
     let store = c.in_ok-copy.ensures.store in
     let kept = c.in_ok-copy.ensures.kept in
+    let permits = c.in_ok-copy.ensures.permits in
     let model = c.in_ok-copy.ensures.model in
     let long = ap length kept in
     record {
-      agrees = (λ i. summary_in (deps i) (origins i) (store i).items (kept i)) ∙ c.self.invariant.agrees ∙ (λ i. summary_of (sym model i) (sym kept i));
+      agrees = (λ i. summary_in (deps i) (origins i) (store i).items (permits i) (kept i)) ∙ c.self.invariant.agrees ∙ (λ i. summary_of (sym model i) (sym kept i));
       origins = ap length origins ∙ c.self.invariant.origins;
       kinds = ap (λ (s : Stored). s.kinds) store ∙ c.self.invariant.kinds ∙ (λ i. kinds_of (sym model i).objects);
       within = omega (arith, long, c.self.invariant.within);

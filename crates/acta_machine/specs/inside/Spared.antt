@@ -1,0 +1,15 @@
+-- Whose operations on an object a transaction is spared.
+use Rattle.std.specs.Prelude.{ℕ, ◌≡◌, Bool, ◌||◌, ◌==◌, List}
+use Rattle.std.specs.List.{list_any}
+use Rattle.acta_table.specs.declared.model.Parts.{Parts}
+use Rattle.acta_machine.specs.Summary.{Summary}
+use Rattle.acta_machine.specs.Families.{spared}
+
+-- whether t is spared what u holds on the object: as an ancestor that its class leaves out of its conflict set, or by a
+-- permit
+abbrev pub is_spared : {A : Type 0} → Parts A → Summary → ℕ → ℕ → ℕ → Bool
+is_spared m s t object u = list_any (λ a. a.0 == u) (spared m s t) || s.permits u t object
+
+-- these are those whose operations on the object t is spared
+abbrev pub AreSpared : {A : Type 0} → Parts A → Summary → ℕ → ℕ → List ℕ → Type 0
+AreSpared m s t object us = (u : ℕ) → list_any (λ k. k == u) us ≡ is_spared m s t object u

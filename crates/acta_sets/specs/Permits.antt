@@ -1,0 +1,38 @@
+-- Who has permitted whom to work on an object beside it.
+use Rattle.std.specs.Prelude.{ℕ, Bool, false, ◌&&◌, ◌||◌, not, ◌==◌, List, [], get_or}
+use Rattle.std.specs.List.{list_any}
+use Rattle.std.specs.declared.cmp.Ordering.{Ordering}
+use Rattle.std.specs.Ordering.{nat_cmp, ordering_then}
+use Rattle.acta_sets.specs.declared.grant.Grant.{Grant}
+
+-- of h, t and an object, whether h has permitted t to work on the object too
+abbrev pub Permitted : Type 0
+Permitted = ℕ → ℕ → ℕ → Bool
+
+-- nobody has permitted anything
+abbrev pub none_permitted : Permitted
+none_permitted h t object = false
+
+-- h has permitted t to work on the object too
+abbrev pub with_permit : Permitted → ℕ → ℕ → ℕ → Permitted
+with_permit p h t object g u other = p g u other || ((h == g) && (t == u) && (object == other))
+
+-- no permit that names t is left
+abbrev pub without_permits : Permitted → ℕ → Permitted
+without_permits p t g u other = p g u other && not (g == t) && not (u == t)
+
+-- whether it is the grant of this object with this partner
+abbrev pub is_grant : ℕ → ℕ → Grant → Bool
+is_grant object partner g = (g.object.0 == object) && (g.partner.0 == partner)
+
+-- whether the grant of this object with this partner is among these
+abbrev pub has_grant : List Grant → ℕ → ℕ → Bool
+has_grant grants object partner = list_any (is_grant object partner) grants
+
+-- the order of grants: by object, and then by partner
+abbrev pub grant_cmp : Grant → Grant → Ordering
+grant_cmp g k = ordering_then (nat_cmp g.object.0 k.object.0) (nat_cmp g.partner.0 k.partner.0)
+
+-- whether h has permitted t to work on the object, where these are what each transaction was permitted, by number
+unfoldable pub permitted : List (List Grant) → Permitted
+permitted taken h t object = has_grant (get_or taken t []) object h
