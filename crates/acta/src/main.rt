@@ -7,6 +7,8 @@
 
 ghost use Rattle.std.specs.Prelude.{◌≤◌, IfOk, vec_len};
 
+use acta_draw::{Drawing, Screen, draw_tool};
+use acta_explain::{Asked, explain_tool, is_asked, write_words};
 use acta_models::Standard;
 use acta_tool::{
     Args, Command, Metered, ModelName, Outcome, ReadFault, UsageFault, Watched, drive_tool,
@@ -15,6 +17,7 @@ use acta_tool::{
 use std::alloc::AllocError;
 use std::env::Env;
 use std::fs::Files;
+use std::io::IsTerminal;
 use std::process::ExitCode;
 use std::sync::Wait;
 use std::thread::Threads;
@@ -55,11 +58,110 @@ fn run_on<R: Input + Print + AllocGlobal + Threads + Wait + Sync>(
     }
 }
 
-// Does what the words ask for.
+// Explains the lines of the standard input on a model of these bytes and this name.
+fn explain_on<R: Input + Print + AllocGlobal + Threads + Sync>(
+    rt: &R,
+    is_judged: bool,
+    name: ModelName<'_>,
+    model: &[u8],
+) -> Outcome {
+    let mut input = Metered::new(rt.reader());
+    let mut output = Watched::new(io::writer(rt));
+    explain_tool(
+        rt,
+        rt.alloc(),
+        is_judged,
+        name,
+        model,
+        &mut input,
+        &mut output,
+    )
+}
+
+// Explains the lines of the standard input on the model of this name.
+fn explain_by<R: Files + Input + Print + AllocGlobal + Threads + Sync>(
+    rt: &R,
+    is_judged: bool,
+    name: ModelName<'_>,
+) -> Outcome {
+    match name {
+        ModelName::Standard(standard) => {
+            explain_on(rt, is_judged, name, standard.text().as_bytes())
+        }
+        ModelName::Path(path) => match read_model(rt, path) {
+            Ok(model) => explain_on(rt, is_judged, name, model.as_slice()),
+            Err(reason) => Outcome::Unread(reason),
+        },
+    }
+}
+
+// Explains what the words ask for.
+fn serve_explain<R: Files + Input + Print + AllocGlobal + Threads + Sync>(
+    rt: &R,
+    words: &[String],
+) -> Result<Outcome, UsageFault> {
+    Ok(match acta_explain::parse(rt.alloc(), words)? {
+        Asked::Run(name) => explain_by(rt, false, name),
+        Asked::Judged(name) => explain_by(rt, true, name),
+        Asked::Words(told) => write_words(told, &mut Watched::new(io::writer(rt))),
+    })
+}
+
+// Draws the lines of the standard input on a model of these bytes.
+fn draw_on<R: Input + Print + AllocGlobal>(
+    rt: &R,
+    screen: Screen,
+    drawing: &Drawing,
+    model: &[u8],
+) -> Outcome {
+    let mut input = Metered::new(rt.reader());
+    let mut output = Watched::new(io::writer(rt));
+    draw_tool(rt.alloc(), drawing, screen, model, &mut input, &mut output)
+}
+
+// Draws the lines of the standard input on the model of this name.
+fn draw_by<R: Files + Input + Print + AllocGlobal>(
+    rt: &R,
+    screen: Screen,
+    drawing: &Drawing,
+    name: ModelName<'_>,
+) -> Outcome {
+    match name {
+        ModelName::Standard(standard) => {
+            draw_on(rt, screen, drawing, standard.text().as_bytes())
+        }
+        ModelName::Path(path) => match read_model(rt, path) {
+            Ok(model) => draw_on(rt, screen, drawing, model.as_slice()),
+            Err(reason) => Outcome::Unread(reason),
+        },
+    }
+}
+
+// Draws what the words ask for.
+fn serve_draw<R: Env + Files + Input + Print + AllocGlobal>(
+    rt: &R,
+    is_terminal: bool,
+    words: &[String],
+) -> Result<Outcome, UsageFault> {
+    let screen = Screen::of(rt, is_terminal);
+    Ok(match acta_draw::parse(rt.alloc(), words)? {
+        acta_draw::Asked::Help(told) => write_words(told, &mut Watched::new(io::writer(rt))),
+        acta_draw::Asked::Picture(drawing, name) => draw_by(rt, screen, &drawing, name),
+    })
+}
+
+// Does what the words ask for; the standard output may be a terminal.
 fn serve<R: Env + Files + Input + Print + AllocGlobal + Threads + Wait + Sync>(
     rt: &R,
+    is_terminal: bool,
 ) -> Result<Outcome, UsageFault> {
     let words = words(rt)?;
+    if acta_draw::is_asked(words.as_slice()) {
+        return serve_draw(rt, is_terminal, words.as_slice());
+    }
+    if is_asked(words.as_slice()) {
+        return serve_explain(rt, words.as_slice());
+    }
     let args = parse(rt.alloc(), words.as_slice())?;
     Ok(match args.model {
         ModelName::Standard(name) => run_on(rt, &args, name.text().as_bytes()),
@@ -80,7 +182,7 @@ fn tell_standards(rt: &HostRuntime) {
 }
 
 // Says why the words ask for nothing. Where there is no memory, nothing is said.
-fn explain(rt: &HostRuntime, fault: &UsageFault) {
+fn tell_usage(rt: &HostRuntime, fault: &UsageFault) {
     match fault {
         UsageFault::Memory(_) => {}
         UsageFault::Usage(e) => {
@@ -97,9 +199,9 @@ fn explain(rt: &HostRuntime, fault: &UsageFault) {
 }
 
 fn main(rt: HostRuntime) -> ExitCode {
-    let outcome = serve(&rt);
+    let outcome = serve(&rt, rt.stdout().is_terminal());
     if let Err(fault) = &outcome {
-        explain(&rt, fault);
+        tell_usage(&rt, fault);
     }
     ExitCode::from(exit_status(&outcome))
 }

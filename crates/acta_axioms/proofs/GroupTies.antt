@@ -6,10 +6,9 @@ use Rattle.std.proofs.lemmas.Bool.{true≢false, eqb-true}
 use Rattle.std.proofs.lemmas.List.Elements.{All-from_recursion, filter_map-append}
 use Rattle.acta_table.specs.declared.answer.Fate.{Fate}
 use Rattle.acta_table.specs.declared.event.Event.{Event}
-use Rattle.acta_table.specs.declared.event.Event.TheVariants.{Operate, Commit}
+use Rattle.acta_table.specs.declared.event.Event.TheVariants.{Operate}
 use Rattle.acta_table.specs.declared.event.Kept.{Kept}
 use Rattle.acta_table.specs.declared.event.Ret.{Ret}
-use Rattle.acta_table.specs.declared.limits.TheConstants.{TABLE_SIZE}
 use Rattle.acta_table.specs.declared.model.Parts.{Parts}
 use Rattle.acta_axioms.specs.History.{places_behind}
 use Rattle.acta_axioms.specs.Operations.{Operation, Standing, operation_at, operation_in, operations, standing}
@@ -17,24 +16,12 @@ use Rattle.acta_axioms.specs.Faults.{faults_at, faults_in_places}
 use Rattle.acta_axioms.proofs.Faultless.{IsFaultless, faultless-from, none-both}
 use Rattle.acta_axioms.proofs.Growth.{at_end}
 use Rattle.acta_axioms.specs.declared.serial.SerialItem.{SerialItem}
-use Rattle.acta_axioms.specs.Serial.{is_strict, committed_by, commit_order, group_of, serial_order, replayed}
+use Rattle.acta_axioms.specs.Serial.{is_strict, commit_order, group_of, serial_order, replayed}
 use Rattle.acta_axioms.specs.SerialItems.{item_of, serial_items, items_of}
 use Rattle.acta_axioms.proofs.SerialGrowth.{AllByRecursion-append, fates, stands_so, serial-history, order-places, strict-serial}
-use Rattle.acta_axioms.proofs.StrictItems.{numbered-well, returned-some, object-there}
+use Rattle.acta_axioms.proofs.StrictItems.{returned-some, object-there}
 
--- of a history without faults, what its items have
-
-commits-within : {A : Type 0} (m : Parts A) (front ks : List (Kept A)) → flat_map (faults_at m) (places_behind front ks) ≡ [] → AllByRecursion (λ t. t < TABLE_SIZE) (commit_order ks)
-commits-within m front [] none = tt
-commits-within {A} m front (k ∷ ks) none =
-    let both = none-both (faults_at m (at_end front k)) (flat_map (faults_at m) (places_behind (front ++ k ∷ []) ks)) none in
-    of k.event (faultless-from m front k both.0) (commits-within m (front ++ k ∷ []) ks both.1)
-  where
-    of : (e : Event A) → IsFaultless m front (record { event = e; ret = k.ret }) → AllByRecursion (λ t. t < TABLE_SIZE) (commit_order ks) → AllByRecursion (λ t. t < TABLE_SIZE) (cons_option (committed_by e) (commit_order ks))
-    of (Commit t) fine later = (numbered-well m t fine.form_of_event, later)
-    of _ fine later = later
-
--- an operation returned something, and its object is in the model
+-- what each operation of a history without faults has: it returned something, and its object is in the model
 record IsSound {A : Type 0} (m : Parts A) (o : Operation) : Type 0 where
   pub returned : is_some o.ret ≡ true
   pub object : o.object < length m.objects
@@ -55,10 +42,6 @@ all-sound {A} m front (k ∷ ks) none =
 filter_map-flat_map : {X Y Z : Type 0} (f : Y → Option Z) (g : X → List Y) (xs : List X) → filter_map f (flat_map g xs) ≡ flat_map (λ x. filter_map f (g x)) xs
 filter_map-flat_map f g [] = refl
 filter_map-flat_map f g (x ∷ xs) = filter_map-append f (g x) (flat_map g xs) ∙ ap (λ ys. filter_map f (g x) ++ ys) (filter_map-flat_map f g xs)
-
-flat_map-within : {X Y : Type 0} (P : X → Type 0) (f g : X → List Y) → ((x : X) → P x → f x ≡ g x) → (xs : List X) → AllByRecursion P xs → flat_map f xs ≡ flat_map g xs
-flat_map-within P f g same [] all = refl
-flat_map-within P f g same (x ∷ xs) all = λ i. same x all.0 i ++ flat_map-within P f g same xs all.1 i
 
 all-filter : {X : Type 0} (P : X → Type 0) (test : X → Bool) (xs : List X) → AllByRecursion P xs → AllByRecursion P (filter test xs)
 all-filter P test [] all = tt
@@ -85,11 +68,11 @@ group-listed m h f t (o ∷ os) all = of (o.invoker == t) refl (group-listed m h
     of false same later = later
 
 -- what is put together from the groups is the serial order
-pub listed-serial : {A : Type 0} (m : Parts A) (h : List (Kept A)) (groups : List (List SerialItem)) → is_strict m ≡ true → faults_in_places m h ≡ [] → ((t : ℕ) → t < TABLE_SIZE → get_or groups t [] ≡ items_of h t)
+pub listed-serial : {A : Type 0} (m : Parts A) (h : List (Kept A)) (groups : List (List SerialItem)) → is_strict m ≡ true → faults_in_places m h ≡ [] → ((t : ℕ) → get_or groups t [] ≡ items_of h t)
     → flat_map (λ t. get_or groups t []) (commit_order h) ≡ serial_items m h
 listed-serial m h groups strict none grouped =
     let so_far = serial-history m h strict none in
-    flat_map-within (λ t. t < TABLE_SIZE) (λ t. get_or groups t []) (items_of h) grouped (commit_order h) (commits-within m [] h none)
+    (λ i. flat_map (λ t. grouped t i) (commit_order h))
     ∙ (λ i. flat_map (λ t. sym (group-listed m h (fates h) t (operations h) so_far.stand) i) (commit_order h))
     ∙ sym (filter_map-flat_map (λ o. item_of (standing m h o).holder o) (λ t. filter (λ o. o.invoker == t) (operations h)) (commit_order h))
     ∙ ap (filter_map (λ o. item_of (standing m h o).holder o)) (sym (order-places m h strict none))

@@ -1,17 +1,15 @@
 -- What an item without fault is in a history of a strict model.
-use Rattle.std.proofs.Common.{arith, ◌≡◌, ℕ, zero, suc, ◌<◌, ◌≤◌, ◌==◌, Bool, true, false, ◌&&◌, ◌||◌, not, cond, List, [], ◌∷◌, length, map, filter, Option, Some, None, is_some, refl, sym, ap, ◌∙◌}
-use Rattle.std.specs.Prelude.{if◌then◌else◌, nat_le, nat_lt, slice_get, option_map}
+use Rattle.std.proofs.Common.{arith, ◌≡◌, ℕ, zero, suc, ◌<◌, ◌==◌, Bool, true, false, ◌&&◌, ◌||◌, not, cond, List, [], ◌∷◌, length, map, filter, Option, Some, None, is_some, refl, sym, ap, ◌∙◌}
+use Rattle.std.specs.Prelude.{if◌then◌else◌, nat_le, slice_get, option_map}
 use Rattle.std.specs.List.{list_all, list_any}
 use Rattle.std.specs.Option.{option_map_or, option_and_then}
-use Rattle.std.proofs.lemmas.Bool.{true≢false, and_parts, or_parts, leb-false, ltb-false, not-false, not-true}
+use Rattle.std.proofs.lemmas.Bool.{true≢false, and_parts, or_parts, leb-false, not-false, not-true}
 use Rattle.std.proofs.lemmas.Bool.Decides.{Decides-int_eq}
 use Rattle.acta_table.specs.declared.answer.Rule.{Rule}
-use Rattle.acta_table.specs.declared.answer.Rule.TheVariants.{BadNumber, BadClass, BadObject, BadOperation}
-use Rattle.acta_table.specs.declared.limits.TheConstants.{LAST_TXN, TABLE_SIZE}
-use Rattle.acta_table.specs.Numbered.{smallest}
+use Rattle.acta_table.specs.declared.answer.Rule.TheVariants.{BadClass, BadObject, BadOperation}
 use Rattle.acta_table.specs.declared.event.ClassId.{ClassId}
 use Rattle.acta_table.specs.declared.event.Event.{Event}
-use Rattle.acta_table.specs.declared.event.Event.TheVariants.{Spawn, Split, Join, Delegate, Operate, Commit, Permit}
+use Rattle.acta_table.specs.declared.event.Event.TheVariants.{Spawn, Split, Join, Delegate, Operate, Permit}
 use Rattle.acta_table.specs.declared.event.EventKind.TheVariants.{Spawn as spawn_kind, Split as split_kind, Join as join_kind, Delegate as delegate_kind, Permit as permit_kind}
 use Rattle.acta_table.specs.declared.event.Kept.{Kept}
 use Rattle.acta_table.specs.declared.event.ObjId.{ObjId}
@@ -26,8 +24,8 @@ use Rattle.acta_table.specs.declared.model.Parts.{Parts}
 use Rattle.acta_table.specs.Classes.{class_at, can_start, can_do, spares}
 use Rattle.acta_table.specs.Events.{kind_of, acting, class_named}
 use Rattle.acta_table.specs.Policies.{refuses}
-use Rattle.acta_table.specs.Refusals.{broken_if, broken_by}
-use Rattle.acta_table.specs.WellFormed.{is_bad_number, bad_number, bad_class, bad_object, same_transaction}
+use Rattle.acta_table.specs.Refusals.{broken_if}
+use Rattle.acta_table.specs.WellFormed.{bad_number, bad_class, bad_object, same_transaction}
 use Rattle.acta_objects.specs.Objects.{suits}
 use Rattle.acta_objects.specs.WellFormed.{bad_operation}
 use Rattle.acta_axioms.specs.History.{has_begun, has_ended, is_in_progress, has_class, class_of}
@@ -101,7 +99,6 @@ of-strict test b each (Some k) e = each k (strict-parts k e)
 
 -- the form of an event
 record IsFormed {A : Type 0} (m : Parts A) (e : Event A) : Type 0 where
-  pub number : is_some (bad_number e) ≡ false
   pub class : is_some (bad_class m e) ≡ false
   pub object : is_some (bad_object m e) ≡ false
   pub operation : is_some (bad_operation m e) ≡ false
@@ -113,20 +110,7 @@ formed-parts m e none =
     let p2 = or_parts (is_some (bad_class m e)) _ p1.1 in
     let p3 = or_parts (is_some (bad_object m e)) _ p2.1 in
     let p4 = or_parts (is_some (bad_operation m e)) _ p3.1 in
-    record { number = p1.0; class = p2.0; object = p3.0; operation = p4.0 }
-
--- the number of one that commits is none that no transaction can have
-pub numbered-well : {A : Type 0} (m : Parts A) (t : TxnId) → ill_formed m (Commit t) ≡ [] → t.0 < TABLE_SIZE
-unfolding bad_number
-numbered-well {A} m t none =
-    let e : Event A = Commit t in
-    let high = (or_parts (t.0 == 0) (nat_lt LAST_TXN t.0) (of (is_bad_number t.0) (formed-parts m e none).number)).1 in
-    let within : t.0 ≤ LAST_TXN = ltb-false LAST_TXN t.0 high in
-    omega arith
-  where
-    of : (b : Bool) → is_some (broken_by BadNumber (smallest (cond b (t.0 ∷ []) []))) ≡ false → b ≡ false
-    of true e = cc
-    of false e = refl
+    record { class = p2.0; object = p3.0; operation = p4.0 }
 
 -- one of a list that all pass, by number
 all-there : {X : Type 0} (test : X → Bool) (xs : List X) (n : ℕ) → list_all test xs ≡ true → n < length xs → option_map_or test (slice_get xs n) false ≡ true

@@ -1,10 +1,10 @@
-ghost use Rattle.std.specs.Prelude.{◌≡◌, [], ◌∷◌, ◌++◌, get_or, set, replicate, IfOk};
+ghost use Rattle.std.specs.Prelude.{◌≡◌, ◌<◌, ◌==◌, ℕ, [], ◌∷◌, ◌++◌, get_or, length, if◌then◌else◌, IfOk, OnOk};
 
 use crate::serial::SerialItem;
-use acta_table::{TABLE_SIZE, TxnId};
+use acta_table::TxnId;
 use std::alloc::{AllocError, Allocator};
 
-// Operations by the number of their transaction. Contracts see a list for each number.
+// Operations by the number of their transaction. Contracts see a list for each number up to the largest that was named.
 #[derive(Drop)]
 pub(crate) struct Groups<A: Allocator> {
     lists: Vec<Vec<SerialItem, A>, A>,
@@ -20,24 +20,34 @@ impl<A: Allocator> std::marker::Model for Groups<A> {
 }
 
 impl<A: Allocator + Copy> Groups<A> {
-    /// No operations, for each number of the table. `Err` where there is no memory.
-    pub(crate) fn new(alloc: A) -> Result<Groups<A>, AllocError>
-        ensures { IfOk result (λ groups. groups ≡ replicate TABLE_SIZE []) }
+    /// No operations.
+    pub(crate) fn new(alloc: A) -> Groups<A>
+        ensures { result ≡ [] }
     {
-        let mut lists = Vec::with_capacity(alloc, TABLE_SIZE)?;
-        for _ in 0..TABLE_SIZE {
-            lists.push(Vec::new(alloc))?;
+        Groups {
+            lists: Vec::new(alloc),
         }
-        Ok(Groups { lists })
     }
 
-    /// Puts the operation behind those of the transaction, if the table has its number. `Err` where there is no memory.
-    pub(crate) fn put(&mut self, t: TxnId, item: SerialItem) -> Result<(), AllocError>
-        ensures { IfOk result (λ _. self.new ≡ set self.old t.0 (get_or self.old t.0 [] ++ item ∷ [])) }
+    // Makes the list of the transaction, if there is none, with no other change. `Err` where there is no memory.
+    fn make_room(&mut self, t: TxnId) -> Result<(), AllocError>
+        ensures same { (u : ℕ) → get_or self.new u [] ≡ get_or self.old u [] }
+        ensures room { OnOk result (t.0 < length self.new) }
     {
-        if let Some(list) = self.lists.get_mut(usize::from(t.0)) {
-            list.push(item)?;
+        let alloc = *self.lists.allocator();
+        for _ in self.lists.len()..usize::from(t.0) + 1 {
+            self.lists.push(Vec::new(alloc))?;
         }
+        Ok(())
+    }
+
+    /// Puts the operation behind those of the transaction. `Err` where there is no memory.
+    pub(crate) fn put(&mut self, t: TxnId, item: SerialItem) -> Result<(), AllocError>
+        ensures { IfOk result (λ _. (u : ℕ) → get_or self.new u [] ≡ get_or self.old u [] ++ (if t.0 == u then item ∷ [] else [])) }
+    {
+        self.make_room(t)?;
+        let list = &mut self.lists[usize::from(t.0)];
+        list.push(item)?;
         Ok(())
     }
 

@@ -1,5 +1,4 @@
 ghost use Rattle.std.specs.Prelude.{◌≡◌, ◌<◌, ◌≤◌, ℕ, true, Some, [], length, map, get_or, flat_map, option_map, All, IfOk};
-ghost use Rattle.acta_table.specs.declared.limits.TheConstants.{TABLE_SIZE};
 ghost use Rattle.acta_axioms.specs.Faults.{faults_in_places};
 ghost use Rattle.acta_axioms.specs.Serial.{commit_order, committed_by, is_strict, serial_order, replayed};
 ghost use Rattle.acta_axioms.specs.SerialItems.{serial_items, items_of};
@@ -21,9 +20,9 @@ pub struct SerialItem {
 // The operations of the history, by who did them. `Err` where there is no memory.
 fn grouped<A: Allocator + Copy>(alloc: A, kept: &[Kept<A>]) -> Result<Groups<A>, AllocError>
     requires { length kept.now ≤ MOST_EVENTS }
-    ensures { IfOk result (λ groups. (t : ℕ) → t < TABLE_SIZE → get_or groups t [] ≡ items_of kept.now t) }
+    ensures { IfOk result (λ groups. (t : ℕ) → get_or groups t [] ≡ items_of kept.now t) }
 {
-    let mut groups = Groups::new(alloc)?;
+    let mut groups = Groups::new(alloc);
     let mut number = 1u32;
     for k in kept {
         if let Event::Operate(t, ob, op) = &k.event {

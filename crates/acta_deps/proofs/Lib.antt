@@ -1,5 +1,6 @@
 pub mod FormedEdges
 mod LastPlaces
+mod Obstacles
 mod StatusTables
 mod Walks
 mod SmallestSame

@@ -26,7 +26,7 @@ least-in-by n ns m (Some k) is before e =
     ]
 
 -- the smallest is one of them
-least-in : (ns : List ℕ) (m : ℕ) → smallest ns ≡ Some m → has ns m ≡ true
+pub least-in : (ns : List ℕ) (m : ℕ) → smallest ns ≡ Some m → has ns m ≡ true
 least-in [] m e = absurd (none-some (smallest []) refl e)
 least-in (n ∷ ns) m e = least-in-by n ns m (smallest ns) refl (λ k is. least-in ns k is) e
 

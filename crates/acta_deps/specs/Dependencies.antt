@@ -1,11 +1,11 @@
 -- The rules on dependencies. Each but the clash is a test of one edge: its kind, whether t is the
 -- one that it is about, and how the other stands. The first edge that passes is named.
-use Rattle.std.specs.Prelude.{ℕ, Bool, false, not, ◌&&◌, ◌||◌, ◌==◌, List, [], ◌∷◌, Option}
+use Rattle.std.specs.Prelude.{ℕ, Bool, false, not, ◌&&◌, ◌||◌, ◌==◌, List, [], ◌∷◌, Option, None}
 use Rattle.acta_table.specs.declared.dep.Dep.{Dep}
 use Rattle.acta_table.specs.declared.dep.Dep.TheVariants.{Cd, Scd, Ad, Wd, Td, Ed, Cmd, Bd, Sd, Bcd, Bad, Wcd}
 use Rattle.acta_table.specs.declared.dep.Edge.{Edge}
 use Rattle.acta_table.specs.declared.answer.Status.{Status}
-use Rattle.acta_table.specs.declared.answer.Status.TheVariants.{InProgress, Committed, Aborted}
+use Rattle.acta_table.specs.declared.answer.Status.TheVariants.{NotBegun, InProgress, Committed, Aborted, Joined}
 use Rattle.acta_table.specs.declared.answer.Rule.TheVariants.{BeginDep, SerialDep, BeginOnCommit, BeginOnAbort, TerminationDep, OwesAbort, OwesCommit, CommitOrder, WeakBegin, Unpayable, Clash}
 use Rattle.acta_table.specs.declared.answer.Refusal.{Refusal}
 use Rattle.acta_table.specs.Numbered.{first_number}
@@ -158,3 +158,11 @@ abort_refusal status edges t = first_of (
 unfoldable pub join_refusal : (ℕ → Status) → List Edge → ℕ → Option Refusal
 join_refusal status edges t =
     first_of (owing_abort status edges t ∷ owing_commit status edges t ∷ [])
+
+-- the lowest rule that t would break by coming to stand so
+abbrev pub refusal_to : (ℕ → Status) → List Edge → ℕ → Status → Option Refusal
+refusal_to status edges t NotBegun = None
+refusal_to status edges t InProgress = start_refusal status edges t
+refusal_to status edges t Committed = commit_refusal status edges t
+refusal_to status edges t Aborted = abort_refusal status edges t
+refusal_to status edges t Joined = join_refusal status edges t

@@ -42,7 +42,7 @@ impl<A: Allocator> Deps<A> {
     }
 
     // Whether `u` would owe the event by the edge.
-    fn owes_by(&self, change: Change, u: TxnId, missing: Missing, e: &Edge) -> bool
+    pub(crate) fn owes_by(&self, change: Change, u: TxnId, missing: Missing, e: &Edge) -> bool
         ensures { result ≡ owes missing (status_after self.now change) u.0 e.now }
     {
         let debt = self.debt_after(change, e);
@@ -135,7 +135,7 @@ impl<A: Allocator> Deps<A> {
 
     // The smallest transaction that would owe both a commit and an abort: the one that changes, or one that owes by an
     // edge on it, since no other owes more than before.
-    fn clashing(&self, change: Change) -> Option<u32>
+    pub(crate) fn clashing(&self, change: Change) -> Option<u32>
         ensures { result ≡ clashing (status_after self.now change) self.now.edges }
     {
         self.known();

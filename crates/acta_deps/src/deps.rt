@@ -96,7 +96,7 @@ impl<A: Allocator> Deps<A> {
         self.refused.clear();
     }
 
-    /// `t`, a number from 1 to 4,095 that has not begun, begins. Ask `may_start` first.
+    /// `t`, a number from 1 to 16,383 that has not begun, begins. Ask `may_start` first.
     #[tactic(auto, using(crate::proofs::Clear::start_clear))]
     pub fn started(&mut self, t: TxnId)
         requires low { 0 < t.0 }
@@ -109,7 +109,7 @@ impl<A: Allocator> Deps<A> {
         self.set(t, Status::InProgress);
     }
 
-    /// `t`, a number from 1 to 4,095 that is in progress, commits. Ask `may_commit` first.
+    /// `t`, a number from 1 to 16,383 that is in progress, commits. Ask `may_commit` first.
     #[tactic(auto, using(crate::proofs::Clear::commit_clear))]
     pub fn committed(&mut self, t: TxnId)
         requires low { 0 < t.0 }
@@ -122,7 +122,7 @@ impl<A: Allocator> Deps<A> {
         self.set(t, Status::Committed);
     }
 
-    /// `t`, a number from 1 to 4,095 that is in progress, aborts. Ask `may_abort` first.
+    /// `t`, a number from 1 to 16,383 that is in progress, aborts. Ask `may_abort` first.
     #[tactic(auto, using(crate::proofs::Clear::abort_clear))]
     pub fn aborted(&mut self, t: TxnId)
         requires low { 0 < t.0 }
@@ -135,7 +135,7 @@ impl<A: Allocator> Deps<A> {
         self.set(t, Status::Aborted);
     }
 
-    /// `t`, a number from 1 to 4,095 that is in progress, joins another, and so neither commits nor
+    /// `t`, a number from 1 to 16,383 that is in progress, joins another, and so neither commits nor
     /// aborts (ACTA's join of split transactions). Ask `may_join` first.
     #[tactic(auto, using(crate::proofs::Clear::join_clear))]
     pub fn joined(&mut self, t: TxnId)

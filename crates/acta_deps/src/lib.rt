@@ -12,8 +12,11 @@ mod debt;
 mod deps;
 mod edge_list;
 mod forming;
+mod obstacle;
 mod places;
 mod refused;
 mod rules;
+mod waiting;
 
 pub use deps::Deps;
+pub use obstacle::{Barring, Clash, NumberedEdge, Obstacle};

@@ -4,7 +4,7 @@ ghost use Rattle.acta_deps.specs.inside.Places.{latest};
 use acta_table::{LAST_TXN, MOST_EDGES, TABLE_SIZE, TxnId};
 use std::alloc::{AllocError, Allocator};
 
-/// A list of at most 16,384 transactions, of the numbers 0 to 4,095, in which each one's places are linked: from the last
+/// A list of at most 16,384 transactions, of the numbers 0 to 16,383, in which each one's places are linked: from the last
 /// to the one before. A place is counted from 1, and 0 is none. Contracts see the list.
 #[derive(Drop)]
 pub(crate) struct Places<A: Allocator> {

@@ -4,8 +4,8 @@ ghost use Rattle.acta_table.specs.Numbered.{first_number};
 ghost use Rattle.acta_table.specs.Refusals.{broken_by};
 ghost use Rattle.acta_deps.specs.Deps.{status_of};
 ghost use Rattle.acta_deps.specs.inside.Bars.{bars, party};
-ghost use Rattle.acta_deps.specs.inside.Refused.{refusal_to, refusal_upon};
-ghost use Rattle.acta_deps.specs.Dependencies.{commit_order, weak_begin, unpayable_commit, start_refusal, commit_refusal, abort_refusal, join_refusal};
+ghost use Rattle.acta_deps.specs.inside.Refused.{refusal_upon};
+ghost use Rattle.acta_deps.specs.Dependencies.{commit_order, weak_begin, unpayable_commit, start_refusal, commit_refusal, abort_refusal, join_refusal, refusal_to};
 
 use crate::bar::Bar;
 use crate::clash::Change;
@@ -176,7 +176,7 @@ impl<A: Allocator> Deps<A> {
     }
 
     // The lowest rule that the change would break.
-    fn refusal(&self, change: Change) -> Option<Refusal>
+    pub(crate) fn refusal(&self, change: Change) -> Option<Refusal>
         ensures { result ≡ refusal_upon (status_of self.now) self.now.edges change }
     {
         match change.status {

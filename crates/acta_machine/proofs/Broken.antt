@@ -68,7 +68,7 @@ neither : (a b : Bool) → (a || b) ≡ false → (a ≡ false) × (b ≡ false)
 neither true b e = cc
 neither false b e = (refl, e)
 
--- a number that is not bad is from 1 to 4,095
+-- a number that is not bad is from 1 to 16,383
 pub good_number : (t : ℕ) → broken_by BadNumber (smallest (filter is_bad_number (t ∷ []))) ≡ None → (0 < t) × (t ≤ LAST_TXN)
 good_number t e =
     let parts = neither (t == 0) (nat_lt LAST_TXN t) (none_bad t (is_bad_number t) (by_none BadNumber _ e)) in

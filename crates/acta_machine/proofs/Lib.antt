@@ -13,6 +13,7 @@ pub mod HolderGrowth
 pub mod OperationGrowth
 pub mod SetTies
 pub mod Opponents
+pub mod NamedOperations
 pub mod Origins
 pub mod Refusals
 pub mod Runs

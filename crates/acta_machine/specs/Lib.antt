@@ -3,6 +3,7 @@ pub mod Conflicts
 pub mod Exactness
 pub mod Families
 pub mod Places
+pub mod Reasons
 pub mod Rules
 pub mod Summary
 pub mod Table

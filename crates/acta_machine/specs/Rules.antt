@@ -154,9 +154,9 @@ form_too_late s e = broken_by FormTooLate (formed_late s e)
 unfoldable pub edges_full : {A : Type 0} → Parts A → Summary → Event A → Option Refusal
 edges_full m s e = broken_if (nat_lt MOST_EDGES (length (formed s.edges (edges_due m s e)))) EdgesFull
 
--- the lowest of the rules before that on too many edges that the event breaks
-abbrev pub broken_before_edges : {A : Type 0} → Parts A → Summary → Event A → Option Refusal
-broken_before_edges m s e = first_of (
+-- the lowest of the rules before that on conflicts that the event breaks
+abbrev pub broken_before_conflict : {A : Type 0} → Parts A → Summary → Event A → Option Refusal
+broken_before_conflict m s e = first_of (
     full s
     ∷ bad_number e
     ∷ bad_class m e
@@ -170,9 +170,12 @@ broken_before_edges m s e = first_of (
     ∷ not_responsible s e
     ∷ partial_delegation m s e
     ∷ bad_set s e
-    ∷ conflict m s e
-    ∷ form_too_late s e
     ∷ [])
+
+-- the lowest of the rules before that on too many edges that the event breaks
+abbrev pub broken_before_edges : {A : Type 0} → Parts A → Summary → Event A → Option Refusal
+broken_before_edges m s e =
+    first_of (broken_before_conflict m s e ∷ conflict m s e ∷ form_too_late s e ∷ [])
 
 -- the lowest of the rules before those on dependencies that the event breaks
 abbrev pub earlier_broken : {A : Type 0} → Parts A → Summary → Event A → Option Refusal

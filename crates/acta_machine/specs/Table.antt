@@ -1,5 +1,5 @@
 -- The written table: the answer to an event, the state after it, whole runs, and what readers show.
-use Rattle.std.specs.Prelude.{ℕ, ◌+◌, List, [], ◌∷◌, ◌++◌, length, Option, Some, None}
+use Rattle.std.specs.Prelude.{ℕ, ◌+◌, nat_lt, List, [], ◌∷◌, ◌++◌, length, if◌then◌else◌, Option, Some, None}
 use Rattle.acta_table.specs.declared.event.OpNo.{OpNo}
 use Rattle.acta_table.specs.declared.event.Event.{Event}
 use Rattle.acta_table.specs.declared.event.Kept.{Kept}
@@ -12,6 +12,7 @@ use Rattle.acta_table.specs.declared.answer.Refusal.{Refusal}
 use Rattle.acta_table.specs.declared.model.Parts.{Parts}
 use Rattle.acta_objects.specs.declared.state.ObjectState.{ObjectState}
 use Rattle.acta_deps.specs.Debts.{owed_in}
+use Rattle.acta_sets.specs.declared.held_op.HeldOp.{HeldOp}
 use Rattle.acta_sets.specs.Operations.{access_set, view_set}
 use Rattle.acta_machine.specs.Families.{conflict_set_of}
 use Rattle.acta_machine.specs.Values.{value_of, return_due}
@@ -32,6 +33,10 @@ abbrev pub kept_as : {A : Type 0} → State A → Event A → Kept A
 kept_as state event =
     record { event = event; ret = return_due state.model (summary_of state.model state.kept) event }
 
+-- the rule that an event would break, the lowest, with the number that it names
+abbrev pub refusal_in : {A : Type 0} → State A → Event A → Option Refusal
+refusal_in state event = lowest_broken state.model (summary_of state.model state.kept) event
+
 -- the answer, given the rule that is broken, if one is
 abbrev pub answered : {A : Type 0} → State A → Event A → Option Refusal → Answer
 answered state event None = Admitted (length state.kept + 1) (kept_as state event).ret
@@ -44,11 +49,11 @@ moved_on state event (Some r) = state
 
 -- the answer to an event
 unfoldable pub answer_to : {A : Type 0} → State A → Event A → Answer
-answer_to state event = answered state event (lowest_broken state.model (summary_of state.model state.kept) event)
+answer_to state event = answered state event (refusal_in state event)
 
 -- the state after an event
 unfoldable pub after : {A : Type 0} → State A → Event A → State A
-after state event = moved_on state event (lowest_broken state.model (summary_of state.model state.kept) event)
+after state event = moved_on state event (refusal_in state event)
 
 -- the answers to a list of events
 abbrev pub answers_to : {A : Type 0} → State A → List (Event A) → List Answer
@@ -87,6 +92,18 @@ conflict_set_in state t = conflict_set_of state.model (summary_of state.model st
 -- the operations that are not aborted
 abbrev pub view_set_in : {A : Type 0} → State A → List OpNo
 view_set_in state = view_set (summary_of state.model state.kept).operations
+
+-- the operations, by number, each with its holder and its fate
+abbrev pub operations_in : {A : Type 0} → State A → List HeldOp
+operations_in state = (summary_of state.model state.kept).operations
+
+-- the number of the one that is new, where there is one more
+abbrev pub one_more : ℕ → ℕ → Option OpNo
+one_more before now = if nat_lt before now then Some (record { 0 = now }) else None
+
+-- the number of the operation that an event adds, if it does
+abbrev pub op_added : {A : Type 0} → State A → Event A → Option OpNo
+op_added state event = one_more (length (operations_in state)) (length (operations_in (after state event)))
 
 -- the edges in force, by number
 abbrev pub edges_in : {A : Type 0} → State A → List Edge

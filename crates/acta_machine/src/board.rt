@@ -258,11 +258,18 @@ impl<A: Handle> Board<A> {
         self.origin(t).parent
     }
 
+    /// The number of the class that the transaction began with.
+    pub(crate) fn class_number(&self, t: TxnId) -> Option<ClassId>
+        ensures { result ≡ (shown self.now).class t.0 }
+    {
+        self.origin(t).class
+    }
+
     /// The class that the transaction began with.
     pub(crate) fn class_of(&self, t: TxnId) -> Option<&Class<A>>
         ensures { option_map (λ class. class.now) result ≡ class_of self.now.model (shown self.now) t.0 }
     {
-        let class = self.origin(t).class?;
+        let class = self.class_number(t)?;
         self.model.class(class)
     }
 

@@ -7,10 +7,14 @@ mod board;
 mod changes;
 mod conflicts;
 mod machine;
+mod reason;
 mod refused;
 mod rules;
 mod serial;
 
-pub use acta_sets::Handle;
-pub use machine::{Machine, Run};
+pub use acta_deps::{Barring, Clash, NumberedEdge};
+pub use acta_objects::FormFault;
+pub use acta_sets::{Handle, HeldOp};
+pub use machine::{Formed, Machine, Run};
+pub use reason::{Lack, NumberedOp, Reason};
 pub use serial::SerialError;

@@ -1,4 +1,4 @@
-ghost use Rattle.std.specs.Prelude.{◌≡◌, ◌<◌, ◌≤◌, All, true, false, [], length, map, None, Some, Err, OnOk, OnErr, IfOk, IfSome, replicate};
+ghost use Rattle.std.specs.Prelude.{◌≡◌, ◌<◌, ◌≤◌, All, true, false, [], length, map, None, Some, Err, OnOk, OnErr, IfOk, IfSome, option_map, replicate};
 ghost use Rattle.acta_table.specs.Faults.{lowest_fault};
 ghost use Rattle.acta_table.specs.WellFormed.{is_bad_number};
 ghost use Rattle.acta_machine.specs.Changes.{edges_due, summary_of};
@@ -11,18 +11,21 @@ ghost use Rattle.acta_axioms.specs.Operations as by_places;
 ghost use Rattle.acta_axioms.specs.Serial.{is_strict, serial_order, replayed};
 ghost use Rattle.acta_axioms.specs.SerialItems.{serial_items};
 ghost use Rattle.acta_machine.specs.Places.{FollowsPlaces, op_numbers, value_at};
-ghost use Rattle.acta_machine.specs.Table.{fresh, answer_to, answers_to, after, after_all, run_answers, run_state, status_in, value_in, access_set_in, conflict_set_in, view_set_in, edges_in, debts_in};
+ghost use Rattle.acta_machine.specs.Table.{fresh, answer_to, answers_to, after, after_all, run_answers, run_state, status_in, value_in, access_set_in, conflict_set_in, view_set_in, edges_in, operations_in, refusal_in, op_added, debts_in};
+ghost use Rattle.acta_machine.specs.Reasons.{refusal_of, IsSo};
+ghost use Rattle.acta_deps.specs.Waiting.{IsChain, IsClosed, StartsWith};
 
 use crate::board::{Board, Origin};
+use crate::reason::Reason;
 use crate::refused::{ROOM, Refused, keep_refused, refusal_among};
 use crate::serial::SerialError;
 use acta_axioms::{SerialItem, is_strict, serial_items};
 use acta_deps::Deps;
 use acta_objects::ObjectState;
-use acta_sets::{Handle, Permits};
+use acta_sets::{Handle, HeldOp, Permits};
 use acta_table::{
-    Answer, Edge, Event, Items, Kept, MOST_EVENTS, Model, ObjId, OpNo, Owed, Refusal, Status,
-    TABLE_SIZE, TxnId,
+    Answer, Edge, Event, Items, Kept, MOST_EDGES, MOST_EVENTS, Model, ObjId, OpNo, Owed, Refusal,
+    Status, TABLE_SIZE, TxnId,
 };
 use acta_values::Store;
 use std::alloc::{AllocError, Allocator};
@@ -108,6 +111,53 @@ impl<A: Handle> Machine<A> {
             Ok(due) => self.keep(event, &due),
             Err(refusal) => Ok(self.refuse(event, refusal)),
         }
+    }
+
+    /// Takes one event as `take` does, and says what it formed beside its answer: an operation has a number, and the
+    /// edges that are new stand behind those that were in force. `Err` as for `take`.
+    pub fn take_forming(&mut self, event: &Event<A>) -> Result<Formed, AllocError>
+        ensures answer { IfOk result (λ formed. formed.answer ≡ answer_to self.old event.now) }
+        ensures op { IfOk result (λ formed. formed.op ≡ op_added self.old event.now) }
+        ensures edges { IfOk result (λ formed. formed.edges_before ≡ length (edges_in self.old)) }
+        ensures ok { OnOk result (self.new ≡ after self.old event.now) }
+        ensures err { OnErr result (self.new ≡ self.old) }
+        ensures follows { FollowsPlaces self.new }
+    {
+        let edges_before = self.edges().len();
+        let operations_before = self.operations().len();
+        let answer = self.take(event)?;
+        let operations = self.operations().len();
+        let op = if operations_before < operations {
+            Some(OpNo(operations as u32))
+        } else {
+            None
+        };
+        Ok(Formed {
+            answer,
+            op,
+            edges_before,
+        })
+    }
+
+    /// Why the event would be refused, if it came next: the rule with its number as `take` would answer it, and what of
+    /// the machine breaks it. `None` where it would be admitted. `Err` where there is no memory (ours).
+    pub fn why(&self, event: &Event<A>) -> Result<Option<Reason>, AllocError>
+        ensures refusal { IfOk result (λ reason. option_map refusal_of reason ≡ refusal_in self.now event.now) }
+        ensures so { IfOk result (λ reason. IfSome reason (IsSo self.now.model (summary_of self.now.model self.now.kept) event.now)) }
+    {
+        self.board.why(event)
+    }
+
+    /// A chain of transactions from `t` on, each of which waits for the next to commit or abort, by a termination
+    /// dependency in force between the two, both in progress; it ends with one that it met before. None of those from
+    /// there on can commit or abort, unless another event ends one of them. `None` where no such chain was found. `Err`
+    /// where there is no memory (ours).
+    pub fn closed_wait(&self, t: TxnId) -> Result<Option<Items<TxnId, A>>, AllocError>
+        ensures chain { IfOk result (λ found. IfSome found (IsChain (status_in self.now) (edges_in self.now))) }
+        ensures closed { IfOk result (λ found. IfSome found IsClosed) }
+        ensures start { IfOk result (λ found. IfSome found (StartsWith t)) }
+    {
+        self.board.deps.closed_wait(t)
     }
 
     // The lowest rule that the event breaks, where it is known.
@@ -276,8 +326,18 @@ impl<A: Handle> Machine<A> {
     pub fn edges(&self) -> &[Edge]
         ensures edges { result.now ≡ edges_in self.now }
         ensures places { result.now ≡ edges_by_places.edges self.now.model self.now.kept }
+        ensures few { length (edges_in self.now) ≤ MOST_EDGES }
     {
         self.board.deps.edges()
+    }
+
+    /// The operations, in order, each with who holds it and what became of it: at most 65,536. The first has the
+    /// number 1.
+    pub fn operations(&self) -> &[HeldOp]
+        ensures operations { result.now ≡ operations_in self.now }
+        ensures few { length (operations_in self.now) ≤ MOST_EVENTS }
+    {
+        self.board.operations().operations()
     }
 
     /// The history: the events that were admitted, in order, with what they returned; at
@@ -290,6 +350,17 @@ impl<A: Handle> Machine<A> {
     {
         self.board.kept.as_slice()
     }
+}
+
+/// What became of an event (ours).
+#[derive(Clone, Copy, PartialEq, Eq, Debug)]
+pub struct Formed {
+    /// The answer to it.
+    pub answer: Answer,
+    /// The number of the operation that it added, if it is one that was admitted.
+    pub op: Option<OpNo>,
+    /// How many edges were in force before it: those that it formed stand behind them.
+    pub edges_before: usize,
 }
 
 /// What a run leaves: the answer to each event, and the machine after the last.

@@ -1,23 +1,30 @@
-ghost use Rattle.std.specs.Prelude.{◌≡◌, ◌+◌, ◌<◌, ◌≤◌, ◌++◌, ◌∷◌, [], filter, min, length, Some, None, option_map, option_and_then, if◌then◌else◌, IfErr, IfOk};
+ghost use Rattle.std.specs.Prelude.{◌≡◌, ◌+◌, ◌<◌, ◌≤◌, ◌++◌, ◌∷◌, [], filter, min, length, Some, None, is_none, is_some, option_map, option_and_then, if◌then◌else◌, IfErr, IfOk, IfSome};
+ghost use Rattle.std.specs.List.{list_any};
 ghost use Rattle.std.specs.Option.{option_map_or};
+ghost use Rattle.acta_table.specs.Classes.{can_do};
 ghost use Rattle.acta_table.specs.declared.event.EventKind.{EventKind};
 ghost use Rattle.acta_table.specs.Events.{partner};
 ghost use Rattle.acta_table.specs.Faults.{lowest_fault};
 ghost use Rattle.acta_table.specs.Numbered.{smallest};
-ghost use Rattle.acta_table.specs.Refusals.{broken_by};
+ghost use Rattle.acta_table.specs.Refusals.{first_of};
 ghost use Rattle.acta_table.specs.Sets.{is_named};
+ghost use Rattle.acta_deps.specs.Obstacles.{refusal_of as refusal_by, IsObstacle};
 ghost use Rattle.acta_deps.specs.Statuses.{has_ended, is_in_progress};
+ghost use Rattle.acta_objects.specs.WellFormed.{form_refusal};
+ghost use Rattle.acta_sets.specs.Operations.{operation_at};
 ghost use Rattle.acta_machine.specs.Changes.{edges_due};
-ghost use Rattle.acta_machine.specs.Rules.{full, not_in_progress, already_begun, class_may, txn_may, forms_none, not_in_model, partner_not_in_progress, is_of_another, not_held, not_responsible, wants_whole, left_out, partial_delegation, unknown_in, bad_set, refuses_conflicts, conflict, too_late, form_too_late, edges_full, broken_before_edges, dependency, fails, no_heir, lowest_broken};
-ghost use Rattle.acta_machine.specs.Families.{heir_of};
+ghost use Rattle.acta_machine.specs.Reasons.{refusal_of, statuses_after, IsLack, IsSo};
+ghost use Rattle.acta_machine.specs.Rules.{full, not_in_progress, already_begun, class_may, txn_may, forms_none, is_allowed, not_in_model, partner_not_in_progress, is_of_another, not_held, not_responsible, wants_whole, left_out, partial_delegation, unknown_in, bad_set, refuses_conflicts, conflict, too_late, form_too_late, edges_full, broken_before_conflict, broken_before_edges, dependency, no_heir, lowest_broken};
 ghost use Rattle.acta_machine.specs.inside.Shown.{shown};
 
 use crate::board::Board;
-use acta_objects::form_refusal;
+use crate::reason::{Lack, NumberedOp, Reason};
+use acta_deps::Obstacle;
+use acta_objects::form_fault;
 use acta_sets::Handle;
 use acta_table::{
     ClassId, Dep, Edge, Event, EventKind, Extent, MOST_EDGES, MOST_EVENTS, OpNo, OpSet, Refusal,
-    Rule, Status, TxnId, lesser, smallest_of,
+    Status, TxnId, lesser,
 };
 use std::alloc::{AllocError, Allocator};
 
@@ -31,16 +38,6 @@ fn partner_of<A: Allocator>(event: &Event<A>) -> Option<TxnId>
     }
 }
 
-// The rule, where there is such a number.
-fn broken_by(rule: Rule, number: Option<u32>) -> Option<Refusal>
-    ensures { result ≡ broken_by rule number }
-{
-    match number {
-        Some(number) => Some(Refusal::by(rule, number)),
-        None => None,
-    }
-}
-
 fn has_ended(status: Status) -> bool
     ensures { result ≡ has_ended status }
 {
@@ -49,37 +46,38 @@ fn has_ended(status: Status) -> bool
 
 impl<A: Handle> Board<A> {
     #[tactic(auto, unfolding(crate::specs::Rules::full))]
-    fn full(&self) -> Option<Refusal>
-        ensures { result ≡ full (shown self.now) }
+    fn full(&self) -> Option<Reason>
+        ensures refusal { option_map refusal_of result ≡ full (shown self.now) }
+        ensures so { IfSome result (λ reason. reason ≡ Reason.Full) }
     {
         if self.kept.len() >= MOST_EVENTS {
-            Some(Refusal::of(Rule::Full))
+            Some(Reason::Full)
         } else {
             None
         }
     }
 
     #[tactic(auto, unfolding(crate::specs::Rules::not_in_progress))]
-    fn not_in_progress(&self, event: &Event<A>) -> Option<Refusal>
-        ensures { result ≡ not_in_progress (shown self.now) event.now }
+    fn not_in_progress(&self, event: &Event<A>) -> Option<Reason>
+        ensures refusal { option_map refusal_of result ≡ not_in_progress (shown self.now) event.now }
+        ensures so { IfSome result (IsSo self.now.model (shown self.now) event.now) }
     {
-        let t = event.acting()?;
-        if self.status(t) == Status::InProgress {
-            None
-        } else {
-            Some(Refusal::by(Rule::NotInProgress, u32::from(t.0)))
+        let txn = event.acting()?;
+        match self.status(txn) {
+            Status::InProgress => None,
+            status => Some(Reason::NotInProgress { txn, status }),
         }
     }
 
     #[tactic(auto, unfolding(crate::specs::Rules::already_begun))]
-    fn already_begun(&self, event: &Event<A>) -> Option<Refusal>
-        ensures { result ≡ already_begun (shown self.now) event.now }
+    fn already_begun(&self, event: &Event<A>) -> Option<Reason>
+        ensures refusal { option_map refusal_of result ≡ already_begun (shown self.now) event.now }
+        ensures so { IfSome result (IsSo self.now.model (shown self.now) event.now) }
     {
-        let t = event.started()?;
-        if self.status(t) == Status::NotBegun {
-            None
-        } else {
-            Some(Refusal::by(Rule::AlreadyBegun, u32::from(t.0)))
+        let txn = event.started()?;
+        match self.status(txn) {
+            Status::NotBegun => None,
+            status => Some(Reason::AlreadyBegun { txn, status }),
         }
     }
 
@@ -130,45 +128,115 @@ impl<A: Handle> Board<A> {
         self.status(t) != Status::NotBegun && !self.may(t, EventKind::Form)
     }
 
-    #[tactic(auto, unfolding(crate::specs::Rules::not_in_model))]
-    fn not_in_model(&self, event: &Event<A>) -> Option<Refusal>
-        ensures { result ≡ not_in_model self.now.model (shown self.now) event.now }
+    // What the class lacks, if it can't start by such an event.
+    fn lacks_start(&self, class: ClassId, kind: EventKind, may: bool) -> Option<Lack>
+        requires { may ≡ class_may self.now.model class.0 kind }
+        ensures none { is_none result ≡ class_may self.now.model class.0 kind }
+        ensures some { IfSome result (λ lack. lack ≡ Lack.Start class kind) }
     {
-        let is_allowed = match event {
-            Event::Begin(_, class) => self.may_begin(*class),
-            Event::Form(_, j, i) => {
-                self.model.may_form() && !self.forms_none(*j) && !self.forms_none(*i)
-            }
-            Event::Spawn(t, _, class) => {
-                self.may_be_spawned(*class) && self.may(*t, EventKind::Spawn)
-            }
-            Event::Split(t, _, class, _) => {
-                self.may_be_split(*class) && self.may(*t, EventKind::Split)
-            }
-            Event::Join(t, _) => self.may(*t, EventKind::Join),
-            Event::Delegate(t, _, _) => self.may(*t, EventKind::Delegate),
-            Event::Operate(t, _, _) => self.may(*t, EventKind::Operate),
-            Event::Commit(t) => self.may(*t, EventKind::Commit),
-            Event::Abort(t) => self.may(*t, EventKind::Abort),
-            Event::Permit(t, _, _) => self.may(*t, EventKind::Permit),
-        };
-        if is_allowed {
+        if may {
             None
         } else {
-            Some(Refusal::of(Rule::NotInModel))
+            Some(Lack::Start { class, kind })
         }
     }
 
-    #[tactic(auto, unfolding(crate::specs::Rules::partner_not_in_progress))]
-    fn partner_not_in_progress(&self, event: &Event<A>) -> Option<Refusal>
-        ensures { result ≡ partner_not_in_progress (shown self.now) event.now }
+    // What the transaction's class lacks, if it may not do events of this kind.
+    fn lacks_doing(&self, txn: TxnId, kind: EventKind) -> Option<Lack>
+        ensures none { is_none result ≡ txn_may self.now.model (shown self.now) txn.0 kind }
+        ensures some { IfSome result (λ lack. lack ≡ Lack.Doing txn ((shown self.now).class txn.0) kind) }
     {
-        let u = partner_of(event)?;
-        if self.status(u) == Status::InProgress {
+        if self.may(txn, kind) {
             None
         } else {
-            Some(Refusal::by(Rule::PartnerNotInProgress, u32::from(u.0)))
+            let class = self.class_number(txn);
+            Some(Lack::Doing { txn, class, kind })
         }
+    }
+
+    // What the transaction's class lacks, if it has begun with one that may form no edges.
+    fn lacks_forming(&self, txn: TxnId) -> Option<Lack>
+        ensures none { is_some result ≡ forms_none self.now.model (shown self.now) txn.0 }
+        ensures some { IfSome result (λ lack. lack ≡ Lack.Doing txn ((shown self.now).class txn.0) EventKind.Form) }
+    {
+        if self.forms_none(txn) {
+            self.lacks_doing(txn, EventKind::Form)
+        } else {
+            None
+        }
+    }
+
+    // What the model lacks, if no class of it may form edges.
+    fn lacks_formers(&self) -> Option<Lack>
+        ensures none { is_none result ≡ list_any (can_do EventKind.Form) self.now.model.classes }
+        ensures some { IfSome result (λ lack. lack ≡ Lack.Forming) }
+    {
+        if self.model.may_form() {
+            None
+        } else {
+            Some(Lack::Forming)
+        }
+    }
+
+    // What the classes lack that the event needs.
+    fn lack(&self, event: &Event<A>) -> Option<Lack>
+        ensures none { is_none result ≡ is_allowed self.now.model (shown self.now) event.now }
+        ensures so { IfSome result (IsLack self.now.model (shown self.now) event.now) }
+    {
+        let kind = event.kind();
+        match event {
+            Event::Begin(_, class) => self.lacks_start(*class, kind, self.may_begin(*class)),
+            Event::Form(_, j, i) => {
+                self.lacks_formers()
+                    .or_else(|| self.lacks_forming(*j))
+                    .or_else(|| self.lacks_forming(*i))
+            }
+            Event::Spawn(t, _, class) => {
+                self.lacks_start(*class, kind, self.may_be_spawned(*class))
+                    .or_else(|| self.lacks_doing(*t, kind))
+            }
+            Event::Split(t, _, class, _) => {
+                self.lacks_start(*class, kind, self.may_be_split(*class))
+                    .or_else(|| self.lacks_doing(*t, kind))
+            }
+            Event::Join(t, _) => self.lacks_doing(*t, kind),
+            Event::Delegate(t, _, _) => self.lacks_doing(*t, kind),
+            Event::Operate(t, _, _) => self.lacks_doing(*t, kind),
+            Event::Commit(t) => self.lacks_doing(*t, kind),
+            Event::Abort(t) => self.lacks_doing(*t, kind),
+            Event::Permit(t, _, _) => self.lacks_doing(*t, kind),
+        }
+    }
+
+    #[tactic(auto, unfolding(crate::specs::Rules::not_in_model))]
+    fn not_in_model(&self, event: &Event<A>) -> Option<Reason>
+        ensures refusal { option_map refusal_of result ≡ not_in_model self.now.model (shown self.now) event.now }
+        ensures so { IfSome result (IsSo self.now.model (shown self.now) event.now) }
+    {
+        let lack = self.lack(event)?;
+        Some(Reason::NotInModel(lack))
+    }
+
+    #[tactic(auto, unfolding(crate::specs::Rules::partner_not_in_progress))]
+    fn partner_not_in_progress(&self, event: &Event<A>) -> Option<Reason>
+        ensures refusal { option_map refusal_of result ≡ partner_not_in_progress (shown self.now) event.now }
+        ensures so { IfSome result (IsSo self.now.model (shown self.now) event.now) }
+    {
+        let txn = partner_of(event)?;
+        match self.status(txn) {
+            Status::InProgress => None,
+            status => Some(Reason::PartnerNotInProgress { txn, status }),
+        }
+    }
+
+    // The operation of this number, where there is one.
+    fn numbered(&self, number: u32) -> Option<NumberedOp>
+        ensures held { option_map (λ op. op.held) result ≡ operation_at (shown self.now).operations number }
+        ensures number { IfSome result (λ op. op.number.0 ≡ number) }
+    {
+        let number = OpNo(number);
+        let held = self.operations().operation(number)?;
+        Some(NumberedOp { number, held })
     }
 
     // Whether the operation is there, and the transaction does not hold it in progress.
@@ -196,15 +264,16 @@ impl<A: Handle> Board<A> {
     }
 
     #[tactic(auto, unfolding(crate::specs::Rules::not_responsible))]
-    fn not_responsible(&self, event: &Event<A>) -> Option<Refusal>
-        ensures { result ≡ not_responsible (shown self.now) event.now }
+    fn not_responsible(&self, event: &Event<A>) -> Option<Reason>
+        ensures refusal { option_map refusal_of result ≡ not_responsible (shown self.now) event.now }
+        ensures so { IfSome result (IsSo self.now.model (shown self.now) event.now) }
     {
-        match event {
-            Event::Split(t, _, _, ops) | Event::Delegate(t, _, ops) => {
-                broken_by(Rule::NotResponsible, self.not_held(ops.as_slice(), *t))
-            }
-            _ => None,
-        }
+        let (Event::Split(t, _, _, ops) | Event::Delegate(t, _, ops)) = event else {
+            return None;
+        };
+        let number = self.not_held(ops.as_slice(), *t)?;
+        let op = self.numbered(number)?;
+        Some(Reason::NotResponsible(op))
     }
 
     // Whether the transaction's class wants all that it holds handed over.
@@ -225,15 +294,19 @@ impl<A: Handle> Board<A> {
     }
 
     #[tactic(auto, unfolding(crate::specs::Rules::partial_delegation))]
-    fn partial_delegation(&self, event: &Event<A>) -> Option<Refusal>
-        ensures { result ≡ partial_delegation self.now.model (shown self.now) event.now }
+    fn partial_delegation(&self, event: &Event<A>) -> Option<Reason>
+        ensures refusal { option_map refusal_of result ≡ partial_delegation self.now.model (shown self.now) event.now }
+        ensures so { IfSome result (IsSo self.now.model (shown self.now) event.now) }
     {
-        match event {
-            Event::Split(t, _, _, ops) | Event::Delegate(t, _, ops) if self.wants_whole(*t) => {
-                broken_by(Rule::PartialDelegation, self.left_out(ops, *t))
-            }
-            _ => None,
+        let (Event::Split(t, _, _, ops) | Event::Delegate(t, _, ops)) = event else {
+            return None;
+        };
+        if !self.wants_whole(*t) {
+            return None;
         }
+        let number = self.left_out(ops, *t)?;
+        let op = self.numbered(number)?;
+        Some(Reason::PartialDelegation(op))
     }
 
     // The smallest of the operations that is not there.
@@ -251,15 +324,16 @@ impl<A: Handle> Board<A> {
     }
 
     #[tactic(auto, unfolding(crate::specs::Rules::bad_set))]
-    fn bad_set(&self, event: &Event<A>) -> Option<Refusal>
-        ensures { result ≡ bad_set (shown self.now) event.now }
+    fn bad_set(&self, event: &Event<A>) -> Option<Reason>
+        ensures refusal { option_map refusal_of result ≡ bad_set (shown self.now) event.now }
+        ensures so { IfSome result (IsSo self.now.model (shown self.now) event.now) }
     {
-        match event {
-            Event::Split(_, _, _, ops) | Event::Delegate(_, _, ops) => {
-                broken_by(Rule::BadSet, self.unknown_in(ops.as_slice()))
-            }
-            _ => None,
-        }
+        let (Event::Split(_, _, _, ops) | Event::Delegate(_, _, ops)) = event else {
+            return None;
+        };
+        let number = OpNo(self.unknown_in(ops.as_slice())?);
+        let operations = self.operations().operations().len();
+        Some(Reason::BadSet { number, operations })
     }
 
     // Whether the transaction's class refuses operations that conflict.
@@ -273,8 +347,9 @@ impl<A: Handle> Board<A> {
     }
 
     #[tactic(auto, unfolding(crate::specs::Rules::conflict))]
-    fn conflict(&self, event: &Event<A>) -> Result<Option<Refusal>, AllocError>
-        ensures { IfOk result (λ refusal. refusal ≡ conflict self.now.model (shown self.now) event.now) }
+    fn conflict(&self, event: &Event<A>) -> Result<Option<Reason>, AllocError>
+        ensures refusal { IfOk result (λ reason. option_map refusal_of reason ≡ conflict self.now.model (shown self.now) event.now) }
+        ensures so { IfOk result (λ reason. IfSome reason (IsSo self.now.model (shown self.now) event.now)) }
     {
         let Event::Operate(t, ob, op) = event else {
             return Ok(None);
@@ -282,71 +357,121 @@ impl<A: Handle> Board<A> {
         if !self.refuses_conflicts(*t) {
             return Ok(None);
         }
-        let number = self.first_against(*t, *ob, op)?;
-        Ok(broken_by(Rule::Conflict, number))
+        let Some(number) = self.first_against(*t, *ob, op)? else {
+            return Ok(None);
+        };
+        match self.numbered(number) {
+            Some(op) => Ok(Some(Reason::Conflict(op))),
+            None => Ok(None),
+        }
+    }
+
+    // The smaller of j and i that has ended.
+    fn smaller_ended(&self, j: TxnId, i: TxnId) -> Option<TxnId>
+        ensures { option_map (λ t. t.0) result ≡ smallest (filter (λ t. has_ended ((shown self.now).status t)) (j.0 ∷ i.0 ∷ [])) }
+    {
+        match (has_ended(self.status(j)), has_ended(self.status(i))) {
+            (true, true) => Some(if j.0 <= i.0 { j } else { i }),
+            (true, false) => Some(j),
+            (false, true) => Some(i),
+            (false, false) => None,
+        }
     }
 
     // The smaller of j and i that is too far on for an edge of this kind.
-    fn too_late(&self, kind: Dep, j: TxnId, i: TxnId) -> Option<u32>
-        ensures { result ≡ too_late (shown self.now) kind j.0 i.0 }
+    fn too_late(&self, kind: Dep, j: TxnId, i: TxnId) -> Option<TxnId>
+        ensures { option_map (λ t. t.0) result ≡ too_late (shown self.now) kind j.0 i.0 }
     {
         if !kind.is_begin_kind() {
-            return smallest_of(j, has_ended(self.status(j)), i, has_ended(self.status(i)));
+            return self.smaller_ended(j, i);
         }
         if self.status(j) == Status::NotBegun {
             None
         } else {
-            Some(u32::from(j.0))
+            Some(j)
         }
     }
 
     #[tactic(auto, unfolding(crate::specs::Rules::form_too_late))]
-    fn form_too_late(&self, event: &Event<A>) -> Option<Refusal>
-        ensures { result ≡ form_too_late (shown self.now) event.now }
+    fn form_too_late(&self, event: &Event<A>) -> Option<Reason>
+        ensures refusal { option_map refusal_of result ≡ form_too_late (shown self.now) event.now }
+        ensures so { IfSome result (IsSo self.now.model (shown self.now) event.now) }
     {
         let Event::Form(kind, j, i) = event else {
             return None;
         };
-        broken_by(Rule::FormTooLate, self.too_late(*kind, *j, *i))
+        let txn = self.too_late(*kind, *j, *i)?;
+        let status = self.status(txn);
+        Some(Reason::FormTooLate { txn, status })
     }
 
     // More edges would be in force than there may be, where the event forms these. `Err` where there is no memory.
     #[tactic(auto, unfolding(crate::specs::Rules::edges_full))]
-    fn edges_full(&self, event: &Event<A>, due: &[Edge]) -> Result<Option<Refusal>, AllocError>
+    fn edges_full(&self, event: &Event<A>, due: &[Edge]) -> Result<Option<Reason>, AllocError>
         requires { due.now ≡ edges_due self.now.model (shown self.now) event.now }
-        ensures { IfOk result (λ refusal. refusal ≡ edges_full self.now.model (shown self.now) event.now) }
+        ensures refusal { IfOk result (λ reason. option_map refusal_of reason ≡ edges_full self.now.model (shown self.now) event.now) }
+        ensures so { IfOk result (λ reason. IfSome reason (λ it. it ≡ Reason.EdgesFull)) }
     {
         let room = MOST_EDGES - self.deps.edges().len();
         // (where all would fit, none need be looked for)
         if due.len() > room && self.deps.lacks(due)? > room {
-            Ok(Some(Refusal::of(Rule::EdgesFull)))
+            Ok(Some(Reason::EdgesFull))
         } else {
             Ok(None)
         }
     }
 
-    /// The lowest of the rules before that on too many edges that the event breaks. `Err` where there is no memory.
-    pub(crate) fn broken_before_edges(
-        &self,
-        event: &Event<A>,
-    ) -> Result<Option<Refusal>, AllocError>
-        ensures { IfOk result (λ refusal. refusal ≡ broken_before_edges self.now.model (shown self.now) event.now) }
+    // What is wrong with the event's form.
+    fn bad_form(&self, event: &Event<A>) -> Option<Reason>
+        ensures refusal { option_map refusal_of result ≡ form_refusal self.now.model event.now }
+        ensures so { IfSome result (IsSo self.now.model (shown self.now) event.now) }
     {
-        let early = self
-            .full()
-            .or_else(|| form_refusal(&self.model, event))
+        let fault = form_fault(&self.model, event)?;
+        Some(Reason::Form(fault))
+    }
+
+    // Why it is refused by the lowest of the rules on room, on form and on how those stand who do or start it.
+    fn ill_timed(&self, event: &Event<A>) -> Option<Reason>
+        ensures refusal { option_map refusal_of result ≡ first_of (full (shown self.now) ∷ form_refusal self.now.model event.now ∷ not_in_progress (shown self.now) event.now ∷ already_begun (shown self.now) event.now ∷ []) }
+        ensures so { IfSome result (IsSo self.now.model (shown self.now) event.now) }
+    {
+        self.full()
+            .or_else(|| self.bad_form(event))
             .or_else(|| self.not_in_progress(event))
             .or_else(|| self.already_begun(event))
+    }
+
+    // Why it is refused by the lowest of the rules on what is handed over.
+    fn ill_handed(&self, event: &Event<A>) -> Option<Reason>
+        ensures refusal { option_map refusal_of result ≡ first_of (not_responsible (shown self.now) event.now ∷ partial_delegation self.now.model (shown self.now) event.now ∷ bad_set (shown self.now) event.now ∷ []) }
+        ensures so { IfSome result (IsSo self.now.model (shown self.now) event.now) }
+    {
+        self.not_responsible(event)
+            .or_else(|| self.partial_delegation(event))
+            .or_else(|| self.bad_set(event))
+    }
+
+    // Why it is refused by the lowest of the rules before that on conflicts.
+    fn before_conflict(&self, event: &Event<A>) -> Option<Reason>
+        ensures refusal { option_map refusal_of result ≡ broken_before_conflict self.now.model (shown self.now) event.now }
+        ensures so { IfSome result (IsSo self.now.model (shown self.now) event.now) }
+    {
+        self.ill_timed(event)
             .or_else(|| self.not_in_model(event))
             .or_else(|| self.partner_not_in_progress(event))
-            .or_else(|| self.not_responsible(event))
-            .or_else(|| self.partial_delegation(event))
-            .or_else(|| self.bad_set(event));
-        if early.is_some() {
-            return Ok(early);
+            .or_else(|| self.ill_handed(event))
+    }
+
+    /// Why it is refused by the lowest of the rules before that on too many edges. `Err` where there is no memory.
+    pub(crate) fn broken_before_edges(&self, event: &Event<A>) -> Result<Option<Reason>, AllocError>
+        ensures refusal { IfOk result (λ reason. option_map refusal_of reason ≡ broken_before_edges self.now.model (shown self.now) event.now) }
+        ensures so { IfOk result (λ reason. IfSome reason (IsSo self.now.model (shown self.now) event.now)) }
+    {
+        if let Some(reason) = self.before_conflict(event) {
+            return Ok(Some(reason));
         }
-        if let Some(refusal) = self.conflict(event)? {
-            return Ok(Some(refusal));
+        if let Some(reason) = self.conflict(event)? {
+            return Ok(Some(reason));
         }
         Ok(self.form_too_late(event))
     }
@@ -370,26 +495,19 @@ impl<A: Handle> Board<A> {
         }
     }
 
-    // The one that would hold what the transaction holds when it commits, where it is not in progress.
-    fn lost_heir(&self, t: TxnId) -> Option<u32>
-        ensures { result ≡ option_and_then (λ p. fails (shown self.now) is_in_progress p.0) (heir_of self.now.model (shown self.now) t.0) }
-    {
-        let heir = self.heir(t)?;
-        if self.status(heir) == Status::InProgress {
-            None
-        } else {
-            Some(u32::from(heir.0))
-        }
-    }
-
     #[tactic(auto, unfolding(crate::specs::Rules::no_heir))]
-    fn no_heir(&self, event: &Event<A>) -> Option<Refusal>
-        ensures { result ≡ no_heir self.now.model (shown self.now) event.now }
+    fn no_heir(&self, event: &Event<A>) -> Option<Reason>
+        ensures refusal { option_map refusal_of result ≡ no_heir self.now.model (shown self.now) event.now }
+        ensures so { IfSome result (IsSo self.now.model (shown self.now) event.now) }
     {
         let Event::Commit(t) = event else {
             return None;
         };
-        broken_by(Rule::NoHeir, self.lost_heir(*t))
+        let parent = self.heir(*t)?;
+        match self.status(parent) {
+            Status::InProgress => None,
+            status => Some(Reason::NoHeir { parent, status }),
+        }
     }
 
     /// The lowest rule that the event breaks, where it breaks none before that on too many edges, and forms these
@@ -404,13 +522,16 @@ impl<A: Handle> Board<A> {
         ensures refusal { IfOk result (λ refusal. refusal ≡ lowest_broken self.old.model (shown self.old) event.now) }
         ensures same { self.new ≡ self.old }
     {
-        if let Some(refusal) = self.edges_full(event, due)? {
-            return Ok(Some(refusal));
+        if let Some(reason) = self.edges_full(event, due)? {
+            return Ok(Some(reason.refusal()));
         }
         if let Some(refusal) = self.dependency(event) {
             return Ok(Some(refusal));
         }
-        Ok(self.no_heir(event))
+        match self.no_heir(event) {
+            Some(reason) => Ok(Some(reason.refusal())),
+            None => Ok(None),
+        }
     }
 
     /// The edges that the event forms, where it breaks no rule, or else the lowest that it breaks. `Err` where there is
@@ -425,13 +546,58 @@ impl<A: Handle> Board<A> {
         ensures faultless { IfOk result (λ said. IfOk said (λ _. lowest_fault self.old.model ≡ None)) }
         ensures same { self.new ≡ self.old }
     {
-        if let Some(refusal) = self.broken_before_edges(event)? {
-            return Ok(Err(refusal));
+        if let Some(reason) = self.broken_before_edges(event)? {
+            return Ok(Err(reason.refusal()));
         }
         let due = self.edges_due(event)?;
         match self.broken_from_edges(event, &due)? {
             Some(refusal) => Ok(Err(refusal)),
             None => Ok(Ok(due)),
         }
+    }
+
+    // What stands in the way of the event by the edges in force.
+    fn obstacle(&self, event: &Event<A>) -> Option<Obstacle>
+        ensures refusal { option_map refusal_by result ≡ dependency (shown self.now) event.now }
+        ensures so { IfSome result (IsObstacle (shown self.now).status (statuses_after (shown self.now).status event.now) (shown self.now).edges) }
+    {
+        match event {
+            Event::Begin(t, _) => self.deps.obstacle(*t, Status::InProgress),
+            Event::Spawn(_, c, _) => self.deps.obstacle(*c, Status::InProgress),
+            Event::Split(_, u, _, _) => self.deps.obstacle(*u, Status::InProgress),
+            Event::Join(t, _) => self.deps.obstacle(*t, Status::Joined),
+            Event::Commit(t) => self.deps.obstacle(*t, Status::Committed),
+            Event::Abort(t) => self.deps.obstacle(*t, Status::Aborted),
+            Event::Delegate(_, _, _)
+            | Event::Form(_, _, _)
+            | Event::Operate(_, _, _)
+            | Event::Permit(_, _, _) => None,
+        }
+    }
+
+    // The same, as a reason.
+    fn why_by_edges(&self, event: &Event<A>) -> Option<Reason>
+        ensures refusal { option_map refusal_of result ≡ dependency (shown self.now) event.now }
+        ensures so { IfSome result (IsSo self.now.model (shown self.now) event.now) }
+    {
+        match self.obstacle(event)? {
+            Obstacle::Edge(barring) => Some(Reason::Barred(barring)),
+            Obstacle::Clash(clash) => Some(Reason::Clash(clash)),
+        }
+    }
+
+    /// Why the event is refused; `None` where it breaks no rule. `Err` where there is no memory.
+    pub(crate) fn why(&self, event: &Event<A>) -> Result<Option<Reason>, AllocError>
+        ensures refusal { IfOk result (λ reason. option_map refusal_of reason ≡ lowest_broken self.now.model (shown self.now) event.now) }
+        ensures so { IfOk result (λ reason. IfSome reason (IsSo self.now.model (shown self.now) event.now)) }
+    {
+        if let Some(reason) = self.broken_before_edges(event)? {
+            return Ok(Some(reason));
+        }
+        let due = self.edges_due(event)?;
+        if let Some(reason) = self.edges_full(event, &due)? {
+            return Ok(Some(reason));
+        }
+        Ok(self.why_by_edges(event).or_else(|| self.no_heir(event)))
     }
 }

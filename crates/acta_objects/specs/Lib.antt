@@ -1,4 +1,5 @@
 pub mod Conflicts
+pub mod FormFaults
 pub mod Limits
 pub mod Objects
 pub mod WellFormed

@@ -1,15 +1,48 @@
 //! Whether an event has the form that the model asks for, whatever has happened.
 
-ghost use Rattle.std.specs.Prelude.{◌≡◌, ◌++◌, ◌∷◌, [], filter, if◌then◌else◌};
+ghost use Rattle.std.specs.Prelude.{◌≡◌, ◌++◌, ◌∷◌, [], filter, if◌then◌else◌, option_map, IfSome};
 ghost use Rattle.acta_table.specs.Events.{named};
 ghost use Rattle.acta_table.specs.Numbered.{smallest};
 ghost use Rattle.acta_table.specs.Refusals.{broken_by};
 ghost use Rattle.acta_table.specs.WellFormed.{is_bad_number, bad_number, bad_class, bad_object, twice_in, same_transaction};
+ghost use Rattle.acta_objects.specs.FormFaults.{refusal_of, IsNamed};
 ghost use Rattle.acta_objects.specs.WellFormed.{bad_operation, form_refusal};
 
 use crate::state::is_of_kind;
-use acta_table::{Event, LAST_TXN, Model, Refusal, Rule, TxnId, smallest_of};
+use acta_table::{ClassId, Event, LAST_TXN, Model, ObjId, Op, Refusal, Rule, TxnId, smallest_of};
 use std::alloc::Allocator;
+
+/// What is wrong with the form of an event (ours).
+#[derive(Clone, Copy, PartialEq, Eq, Debug)]
+pub enum FormFault {
+    /// No transaction has this number, the smallest such that the event names.
+    BadNumber(u32),
+    /// The model has no class at this position.
+    BadClass(ClassId),
+    /// The model has no object at this position.
+    BadObject(ObjId),
+    /// The object is of a kind that has no such operation.
+    BadOperation(ObjId, Op),
+    /// The event names this transaction twice.
+    SameTransaction(TxnId),
+}
+
+impl FormFault {
+    /// The rule that it breaks, with the number that the rule names.
+    pub fn refusal(self) -> Refusal
+        ensures { result ≡ refusal_of self }
+    {
+        match self {
+            FormFault::BadNumber(number) => Refusal::by(Rule::BadNumber, number),
+            FormFault::BadClass(_) => Refusal::of(Rule::BadClass),
+            FormFault::BadObject(_) => Refusal::of(Rule::BadObject),
+            FormFault::BadOperation(_, _) => Refusal::of(Rule::BadOperation),
+            FormFault::SameTransaction(txn) => {
+                Refusal::by(Rule::SameTransaction, u32::from(txn.0))
+            }
+        }
+    }
+}
 
 fn is_bad_number(t: TxnId) -> bool
     ensures { result ≡ is_bad_number t.0 }
@@ -35,63 +68,69 @@ fn smallest_bad<A: Allocator>(event: &Event<A>) -> Option<u32>
 }
 
 #[tactic(auto, unfolding(acta_table::specs::WellFormed::bad_number))]
-fn bad_number<A: Allocator>(event: &Event<A>) -> Option<Refusal>
-    ensures { result ≡ bad_number event.now }
+fn bad_number<A: Allocator>(event: &Event<A>) -> Option<FormFault>
+    ensures refusal { option_map refusal_of result ≡ bad_number event.now }
+    ensures named { IfSome result (IsNamed event.now) }
 {
     let number = smallest_bad(event)?;
-    Some(Refusal::by(Rule::BadNumber, number))
+    Some(FormFault::BadNumber(number))
 }
 
 #[tactic(auto, unfolding(acta_table::specs::WellFormed::bad_class))]
-fn bad_class<A: Allocator>(model: &Model<A>, event: &Event<A>) -> Option<Refusal>
-    ensures { result ≡ bad_class model.now event.now }
+fn bad_class<A: Allocator>(model: &Model<A>, event: &Event<A>) -> Option<FormFault>
+    ensures refusal { option_map refusal_of result ≡ bad_class model.now event.now }
+    ensures named { IfSome result (IsNamed event.now) }
 {
     let class = event.class()?;
     if (class.0 as usize) < model.classes().len() {
         None
     } else {
-        Some(Refusal::of(Rule::BadClass))
+        Some(FormFault::BadClass(class))
     }
 }
 
 #[tactic(auto, unfolding(acta_table::specs::WellFormed::bad_object))]
-fn bad_object<A: Allocator>(model: &Model<A>, event: &Event<A>) -> Option<Refusal>
-    ensures { result ≡ bad_object model.now event.now }
+fn bad_object<A: Allocator>(model: &Model<A>, event: &Event<A>) -> Option<FormFault>
+    ensures refusal { option_map refusal_of result ≡ bad_object model.now event.now }
+    ensures named { IfSome result (IsNamed event.now) }
 {
     match event {
         Event::Operate(_, ob, _) | Event::Permit(_, _, ob)
-            if ob.0 as usize >= model.objects().len() => { Some(Refusal::of(Rule::BadObject)) }
+            if ob.0 as usize >= model.objects().len() => { Some(FormFault::BadObject(*ob)) }
         _ => None,
     }
 }
 
 #[tactic(auto, unfolding(crate::specs::WellFormed::bad_operation))]
-fn bad_operation<A: Allocator>(model: &Model<A>, event: &Event<A>) -> Option<Refusal>
-    ensures { result ≡ bad_operation model.now event.now }
+fn bad_operation<A: Allocator>(model: &Model<A>, event: &Event<A>) -> Option<FormFault>
+    ensures refusal { option_map refusal_of result ≡ bad_operation model.now event.now }
+    ensures named { IfSome result (IsNamed event.now) }
 {
     let Event::Operate(_, ob, op) = event else {
         return None;
     };
     match model.object(*ob) {
-        Some(object) if !is_of_kind(&object.kind, op) => Some(Refusal::of(Rule::BadOperation)),
+        Some(object) if !is_of_kind(&object.kind, op) => Some(FormFault::BadOperation(*ob, *op)),
         _ => None,
     }
 }
 
-// The rule, where the two are one.
-fn one_twice(j: TxnId, i: TxnId) -> Option<Refusal>
-    ensures { result ≡ broken_by Rule.SameTransaction (twice_in (j.0 ∷ i.0 ∷ [])) }
+// The two, where they are one.
+fn one_twice(j: TxnId, i: TxnId) -> Option<FormFault>
+    ensures refusal { option_map refusal_of result ≡ broken_by Rule.SameTransaction (twice_in (j.0 ∷ i.0 ∷ [])) }
+    ensures one { IfSome result (λ fault. fault ≡ FormFault.SameTransaction j) }
 {
     if j.0 == i.0 {
-        Some(Refusal::by(Rule::SameTransaction, u32::from(j.0)))
+        Some(FormFault::SameTransaction(j))
     } else {
         None
     }
 }
 
 #[tactic(auto, unfolding(acta_table::specs::WellFormed::same_transaction))]
-fn same_transaction<A: Allocator>(event: &Event<A>) -> Option<Refusal>
-    ensures { result ≡ same_transaction event.now }
+fn same_transaction<A: Allocator>(event: &Event<A>) -> Option<FormFault>
+    ensures refusal { option_map refusal_of result ≡ same_transaction event.now }
+    ensures named { IfSome result (IsNamed event.now) }
 {
     match event {
         Event::Spawn(j, i, _)
@@ -104,14 +143,23 @@ fn same_transaction<A: Allocator>(event: &Event<A>) -> Option<Refusal>
     }
 }
 
-/// The lowest of the rules on the form of an event that it breaks (ours): those on the numbers of transactions, on the
-/// class, the object and the operation named, and that an event names no transaction twice.
-pub fn form_refusal<A: Allocator>(model: &Model<A>, event: &Event<A>) -> Option<Refusal>
-    ensures { result ≡ form_refusal model.now event.now }
+/// What is wrong with the form of an event, by the lowest of the rules on it (ours): those on the numbers of
+/// transactions, on the class, the object and the operation named, and that an event names no transaction twice.
+pub fn form_fault<A: Allocator>(model: &Model<A>, event: &Event<A>) -> Option<FormFault>
+    ensures refusal { option_map refusal_of result ≡ form_refusal model.now event.now }
+    ensures named { IfSome result (IsNamed event.now) }
 {
     bad_number(event)
         .or_else(|| bad_class(model, event))
         .or_else(|| bad_object(model, event))
         .or_else(|| bad_operation(model, event))
         .or_else(|| same_transaction(event))
+}
+
+/// The lowest of the rules on the form of an event that it breaks (ours).
+pub fn form_refusal<A: Allocator>(model: &Model<A>, event: &Event<A>) -> Option<Refusal>
+    ensures { result ≡ form_refusal model.now event.now }
+{
+    let fault = form_fault(model, event)?;
+    Some(fault.refusal())
 }

@@ -10,7 +10,7 @@ mod members;
 mod replays;
 mod state;
 
-pub use forms::form_refusal;
+pub use forms::{FormFault, form_fault, form_refusal};
 pub use kinds::{Counter, ElementSet, ObjectKind, Register};
 pub use members::Members;
 pub use replays::{Replayed, replay};

@@ -1,5 +1,5 @@
 -- The operations of a history, numbered from 1 on: the sets of them, and what changes them.
-use Rattle.std.specs.Prelude.{ℕ, zero, suc, ◌+◌, Bool, false, ◌&&◌, ◌||◌, not, ◌==◌, List, [], ◌∷◌, ◌++◌, map, filter, if◌then◌else◌, Option, None, slice_get}
+use Rattle.std.specs.Prelude.{ℕ, ◌+◌, Bool, false, ◌&&◌, ◌||◌, not, ◌==◌, List, [], ◌∷◌, ◌++◌, map, filter, if◌then◌else◌, Option}
 use Rattle.std.specs.List.{list_any, list_all}
 use Rattle.std.specs.Option.{option_map_or}
 use Rattle.acta_table.specs.declared.event.TxnId.{TxnId}
@@ -8,7 +8,7 @@ use Rattle.acta_table.specs.declared.event.OpNo.{OpNo}
 use Rattle.acta_table.specs.declared.event.Op.{Op}
 use Rattle.acta_table.specs.declared.answer.Fate.{Fate}
 use Rattle.acta_table.specs.declared.answer.Fate.TheVariants.{InProgress}
-use Rattle.acta_table.specs.Numbered.{numbers_where, ascending}
+use Rattle.acta_table.specs.Numbered.{item_at, numbers_where, ascending}
 use Rattle.acta_table.specs.Sets.{is_named}
 use Rattle.acta_table.specs.Fates.{is_open, is_aborted}
 use Rattle.acta_objects.specs.Conflicts.{register_conflicts, counter_conflicts, set_conflicts}
@@ -56,8 +56,7 @@ added items t ob op = items ++ (record { ob = ob; op = op; holder = t; fate = In
 
 -- the operation of this number; there is no number 0
 abbrev pub operation_at : List HeldOp → ℕ → Option HeldOp
-operation_at items zero = None
-operation_at items (suc k) = slice_get items k
+operation_at items n = item_at items n
 
 -- whether t holds the operation of this number in progress
 abbrev pub is_held_in : ℕ → List HeldOp → OpNo → Bool

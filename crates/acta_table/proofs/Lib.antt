@@ -5,5 +5,6 @@ mod InOrder
 pub mod KindSets
 mod OpSearch
 pub mod OpSets
+pub mod FirstNumbers
 pub mod Smallest
 pub mod StartOrder

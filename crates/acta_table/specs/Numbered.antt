@@ -1,9 +1,14 @@
 -- Lists whose items are numbered from 1 on, and lists of numbers.
-use Rattle.std.specs.Prelude.{ℕ, ◌+◌, Bool, List, [], ◌∷◌, min, fold, if◌then◌else◌, Option, Some, None}
+use Rattle.std.specs.Prelude.{ℕ, zero, suc, ◌+◌, Bool, List, [], ◌∷◌, min, fold, slice_get, if◌then◌else◌, Option, Some, None}
 use Rattle.std.specs.BTreeSet.{insert_key}
 use Rattle.std.specs.Ordering.{nat_cmp}
 use Rattle.std.specs.List.{position_from}
 use Rattle.std.specs.Option.{option_map_or}
+
+-- the item of this number
+abbrev pub item_at : {X : Type 0} → List X → ℕ → Option X
+item_at xs zero = None
+item_at xs (suc k) = slice_get xs k
 
 -- the numbers, ascending, of the items that pass, where the first item has the number n
 abbrev pub numbers_from : {X : Type 0} → (X → Bool) → ℕ → List X → List ℕ

@@ -10,7 +10,7 @@ pub const MOST_CLASSES: usize = 16;
 pub const LONGEST_NAME: usize = 32;
 
 /// The largest number of a transaction; the least is 1.
-pub const LAST_TXN: u16 = 4095;
+pub const LAST_TXN: u16 = 16_383;
 
 /// How many entries a table by transaction number has: one for each number, and one for 0.
 pub const TABLE_SIZE: usize = LAST_TXN as usize + 1;

@@ -2,8 +2,8 @@
 //! compared when they run.
 
 use acta_axioms::{Places, SerialItem, Walk};
-use acta_machine::{Handle, Machine, Run, SerialError};
-use acta_table::{Answer, Event, Items, Kept, MOST_EVENTS, Model, Owed};
+use acta_machine::{Handle, Machine, Reason, Run, SerialError};
+use acta_table::{Answer, Event, Items, Kept, MOST_EVENTS, Model, Owed, TxnId};
 use std::alloc::AllocError;
 
 /// A machine on a copy of the model.
@@ -23,6 +23,22 @@ pub fn run_on<A: Handle>(
 /// What the machine answers the event.
 pub fn take<A: Handle>(machine: &mut Machine<A>, event: &Event<A>) -> Result<Answer, AllocError> {
     machine.take(event)
+}
+
+/// Why the machine would refuse the event.
+pub fn why<A: Handle>(
+    machine: &Machine<A>,
+    event: &Event<A>,
+) -> Result<Option<Reason>, AllocError> {
+    machine.why(event)
+}
+
+/// A chain of those who wait for one another, from the transaction on.
+pub fn closed_wait<A: Handle>(
+    machine: &Machine<A>,
+    t: TxnId,
+) -> Result<Option<Items<TxnId, A>>, AllocError> {
+    machine.closed_wait(t)
 }
 
 /// A copy of the machine.

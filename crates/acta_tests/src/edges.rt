@@ -31,16 +31,14 @@ fn as_many_as_there_may_be(rt: HostRuntime) {
     let alloc = rt.alloc();
     let model = model_of(&rt, alloc, Standard::Contingent.text());
     let mut machine = made(&rt, new_machine(alloc, &model), "a machine");
-    for kind in [Dep::Cd, Dep::Scd, Dep::Ad, Dep::Wd] {
-        form_up_to(&rt, &mut machine, kind, LAST_TXN);
-    }
-    form_up_to(&rt, &mut machine, Dep::Td, 9);
+    form_up_to(&rt, &mut machine, Dep::Cd, LAST_TXN);
+    form_up_to(&rt, &mut machine, Dep::Td, 3);
     same(&rt, &machine.edges().len(), &MOST_EDGES, "the edges");
     let (rule, by) = (Rule::EdgesFull, None);
-    let one_more = form_on_first(&rt, &mut machine, Dep::Td, 10);
+    let one_more = form_on_first(&rt, &mut machine, Dep::Td, 4);
     same(&rt, &one_more, &Answer::Refused { rule, by }, "one more");
     let (place, ret) = (16_385, None);
-    let again = form_on_first(&rt, &mut machine, Dep::Td, 9);
+    let again = form_on_first(&rt, &mut machine, Dep::Td, 3);
     same(&rt, &again, &Answer::Admitted { place, ret }, "one again");
     same(&rt, &machine.edges().len(), &MOST_EDGES, "no new edge");
     drop(machine);

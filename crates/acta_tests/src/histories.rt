@@ -25,18 +25,19 @@ do 2 x read : ok 5 0
 commit 2 : ok 6
 # Numbers that no transaction can have
 begin 0 flat : no 2 by 0
-begin 4096 flat : no 2 by 4096
-spawn 5000 5000 stranger : no 2 by 5000
-join 5000 4096 : no 2 by 4096
-delegate 5000 0 - : no 2 by 0
-commit 4096 : no 2 by 4096
-begin 4095 flat : ok 1
-? status 4096 : waiting
+begin 16384 flat : no 2 by 16384
+spawn 20000 20000 stranger : no 2 by 20000
+join 20000 16384 : no 2 by 16384
+delegate 20000 0 - : no 2 by 0
+commit 16384 : no 2 by 16384
+begin 16383 flat : ok 1
+? status 16384 : waiting
 # A class that the model lacks
 begin 1 stranger : no 3
 begin 1 flat : ok 1
 begin 1 stranger : no 3
 spawn 1 2 stranger : no 3
+spawn 5000 5000 stranger : no 3
 split 1 1 stranger - : no 3
 # An object that the model lacks
 begin 1 flat : ok 1
@@ -280,7 +281,7 @@ form TD 2 1 : ok 1
 begin 1 try : ok 2
 begin 2 try : ok 3
 form AD 1 1 : no 6 by 1
-form AD 5000 0 : no 2 by 0
+form AD 20000 0 : no 2 by 0
 form TD 2 1 : ok 4
 form BD 2 1 : no 15 by 2
 commit 2 : no 21 by 1
@@ -405,7 +406,7 @@ do 1 x write 5 : ok 2 done
 do 1 n add 3 : ok 3 done
 split 1 2 part 2 : ok 4
 split 1 0 part - : no 2 by 0
-split 5000 4096 part - : no 2 by 4096
+split 20000 16384 part - : no 2 by 16384
 split 1 3 stranger - : no 3
 split 1 1 part - : no 6 by 1
 split 4 3 part - : no 7 by 4
@@ -754,8 +755,8 @@ commit 1 : ok 7
 do 2 x read : ok 8 5
 # What may not be spawned
 spawn 0 2 sub : no 2 by 0
-spawn 4096 5000 sub : no 2 by 4096
-spawn 5000 4096 sub : no 2 by 4096
+spawn 16384 20000 sub : no 2 by 16384
+spawn 20000 16384 sub : no 2 by 16384
 begin 1 top : ok 1
 spawn 1 0 sub : no 2 by 0
 spawn 2 3 sub : no 7 by 2
@@ -1053,8 +1054,8 @@ permit 2 2 x : no 6 by 2
 begin 1 flat : ok 1
 begin 2 flat : ok 2
 permit 0 1 nowhere : no 2 by 0
-permit 1 4096 nowhere : no 2 by 4096
-permit 5000 4096 x : no 2 by 4096
+permit 1 16384 nowhere : no 2 by 16384
+permit 20000 16384 x : no 2 by 16384
 permit 1 2 nowhere : no 4
 permit 1 1 nowhere : no 4
 permit 3 3 x : no 6 by 3

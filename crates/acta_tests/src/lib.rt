@@ -45,6 +45,8 @@ mod placing;
 #[cfg(test)]
 mod playing;
 #[cfg(test)]
+mod reasons;
+#[cfg(test)]
 mod serials;
 #[cfg(test)]
 mod sets;

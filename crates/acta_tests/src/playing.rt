@@ -7,18 +7,19 @@
 //! ```
 //!
 //! where the second has an event and its answer, and the third asks the machine for what it shows. After each event,
-//! admitted or refused, what the machine shows is what the places of its history say. A machine that runs all events of
-//! a history at once answers them as one after another.
+//! admitted or refused, what the machine shows is what the places of its history say, and before it the machine says why
+//! it would be refused just where it is, by the same rule and number. A machine that runs all events of a history at
+//! once answers them as one after another.
 
 use crate::agreeing::differing;
-use crate::calls::{copy_of, new_machine, run_on, take};
+use crate::calls::{copy_of, new_machine, run_on, take, why};
 use crate::expecting::{made, parted, same, tells};
 use crate::histories::by_model;
 use crate::models::{Models, event_of};
 use crate::showing::shown;
-use acta_machine::{Handle, Machine};
+use acta_machine::{Handle, Machine, Reason};
 use acta_script::answer_line;
-use acta_table::{Answer, Event, Model};
+use acta_table::{Answer, Event, Model, Refusal};
 use std::process::Abort;
 
 // A history as far as it was played.
@@ -55,7 +56,9 @@ impl<A: Handle> Played<A> {
     fn take(&mut self, rt: &impl Abort, alloc: A, models: &Models<A>, line: &str) {
         let (said, due) = parted(rt, line, " : ");
         let event = event_of(rt, alloc, &models.wider, said);
+        let why = made(rt, why(&self.machine, &event), line);
         let answer = made(rt, take(&mut self.machine, &event), line);
+        same(rt, &why.map(refusal_by), &refusal_in(answer), line);
         made(rt, self.events.push(event), line);
         made(rt, self.answers.push(answer), line);
         let told = made(rt, answer_line(alloc, &answer), line);
@@ -91,6 +94,19 @@ impl<A: Handle> Played<A> {
         self.events.clear();
         self.answers.clear();
         met
+    }
+}
+
+// The refusal of a reason.
+fn refusal_by(reason: Reason) -> Refusal {
+    reason.refusal()
+}
+
+// The refusal of an answer, if it is one.
+fn refusal_in(answer: Answer) -> Option<Refusal> {
+    match answer {
+        Answer::Refused { rule, by } => Some(Refusal { rule, by }),
+        Answer::Admitted { .. } => None,
     }
 }
 

@@ -47,10 +47,10 @@ do 2 s insert 5 : ok 5 yes
 abort 1 : ok 6
 do 2 s size : ok 7 1
 commit 2 : ok 8
-begin 4095 flat : ok 9
-do 4095 s insert 3 : ok 10 yes
-do 4095 s size : ok 11 2
-commit 4095 : ok 12
+begin 16383 flat : ok 9
+do 16383 s insert 3 : ok 10 yes
+do 16383 s size : ok 11 2
+commit 16383 : ok 12
 begin 3 flat : ok 13
 do 3 s remove 5 : ok 14 yes
 commit 9 : no 7 by 9";
@@ -59,8 +59,8 @@ const CLEARED_ORDER: &str = "\
 2 : do 2 s has 4 = no
 3 : do 2 s insert 5 = yes
 4 : do 2 s size = 1
-5 : do 4095 s insert 3 = yes
-6 : do 4095 s size = 2";
+5 : do 16383 s insert 3 = yes
+6 : do 16383 s size = 2";
 
 // Takes the events of the lines on a new machine, which answers as they say.
 fn machine_after<A: Handle>(rt: &impl Abort, alloc: A, model: &Model<A>, text: &str) -> Machine<A> {

@@ -18,7 +18,7 @@ const TXNS: u16 = 12;
 // The numbers of transactions in most of the histories, and two at the end of their range.
 fn asked_txn(number: u16) -> TxnId {
     match number {
-        10 => TxnId(4095),
+        10 => TxnId(16383),
         11 => TxnId(65535),
         _ => TxnId(number),
     }

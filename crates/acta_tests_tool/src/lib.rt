@@ -31,3 +31,5 @@ mod serializing;
 mod texts;
 #[cfg(test)]
 mod tour;
+#[cfg(test)]
+mod tracing;

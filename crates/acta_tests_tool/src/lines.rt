@@ -74,7 +74,7 @@ split 1 2 part 9,2,1,2,9 -> split 1 2 part 1,2,9
 join 1 1 -> join 1 1
 delegate 1 2 - -> delegate 1 2 -
 delegate 1 2 00,4294967295 -> delegate 1 2 0,4294967295
-form WCD 4095 4096 -> form WCD 4095 4096
+form WCD 16383 16384 -> form WCD 16383 16384
 form CD 1 1 -> form CD 1 1
 do 1 x read -> do 1 x read
 do 1 x write -2147483648 -> do 1 x write -2147483648

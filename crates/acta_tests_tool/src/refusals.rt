@@ -84,7 +84,7 @@ fn line_of<A: Allocator + Copy>(alloc: A, call: &str) -> Told<A> {
             answer_line(alloc, &Answer::Refused { rule, by })
         }
         "debt" => {
-            let (edge, txn, missing) = (EdgeNo(16_384), TxnId(4095), Missing::Abort);
+            let (edge, txn, missing) = (EdgeNo(16_384), TxnId(16_383), Missing::Abort);
             owed_line(alloc, &Owed { edge, txn, missing })
         }
         _ => fault_line(alloc, 33, 65_536, 18_446_744_073_709_551_615),
@@ -168,7 +168,7 @@ kept 2 : do 1 x write 5 = done
 kept 2 : begin 1 part
 answer 1 : ok 65536 -9223372036854775808
 refusal 1 : no 28 by 4294967295
-debt 1 : owed 16384 4095 abort
+debt 1 : owed 16384 16383 abort
 fault 1 : fault 33 65536 18446744073709551615";
 
 // The call of a line, on this model.

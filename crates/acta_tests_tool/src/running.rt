@@ -5,7 +5,7 @@
 //! many.
 
 use crate::expecting::{holds, made, number, tells};
-use crate::{debugging, driving, images, judging, permits, refusals, serializing, tour};
+use crate::{debugging, driving, images, judging, permits, refusals, serializing, tour, tracing};
 use acta_locked::DriveError;
 use acta_tool::{
     Args, Command, Metered, ModelName, Outcome, ReadFault, Watched, drive_tool, exit_status, parse,
@@ -543,6 +543,7 @@ fn cases(rt: HostRuntime) {
         debugging::REFUSED,
         driving::DRIVES,
         serializing::ORDERS,
+        tracing::TRACES,
         permits::PERMITTED,
         permits::JUDGED,
         permits::STOPPED,

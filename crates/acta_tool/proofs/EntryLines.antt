@@ -2,7 +2,7 @@
 use Rattle.std.proofs.Common.{◌≡◌, ℕ, List, [], ◌∷◌, ◌++◌, codes, sym, ap, ◌∙◌, append_assoc, append-nil}
 use Rattle.acta_words.specs.Text.{line_of, text_of}
 
-next : (new old piece rest : List ℕ) → new ≡ old ++ piece → new ++ rest ≡ old ++ (piece ++ rest)
+pub next : (new old piece rest : List ℕ) → new ≡ old ++ piece → new ++ rest ≡ old ++ (piece ++ rest)
 next new old piece rest h = ap (λ t. t ++ rest) h ∙ append_assoc old piece rest
 
 -- the pieces, one behind the other, and the end of the line

@@ -12,5 +12,6 @@ pub mod SeatsInTurn
 pub mod Sections
 pub mod Serials
 pub mod Tasks
+mod TraceLines
 pub mod Turns
 pub mod TextsAndImages

@@ -12,7 +12,7 @@ use Rattle.acta_words.specs.Numerals.{read_natural}
 use Rattle.acta_locked.specs.declared.limits.TheConstants.{MOST_WORKERS}
 use Rattle.acta_tool.specs.declared.args.Args.{Args}
 use Rattle.acta_tool.specs.declared.args.Command.{Command}
-use Rattle.acta_tool.specs.declared.args.Command.TheVariants.{Assemble, CheckImage, Upgrade, Run, Judge, Debug, Serial, Drive}
+use Rattle.acta_tool.specs.declared.args.Command.TheVariants.{Assemble, CheckImage, Upgrade, Run, Trace, Judge, Debug, Serial, Drive}
 use Rattle.acta_tool.specs.declared.args.ModelName.{ModelName}
 use Rattle.acta_tool.specs.declared.args.ModelName.TheVariants.{Standard, Path}
 use Rattle.acta_tool.specs.declared.fault.UsageFault.{UsageFault}
@@ -56,6 +56,9 @@ upgrade_app = with_rule (new_app (codes "upgrade")) model_rule
 abbrev pub run_app : App
 run_app = with_rule (with_rule (new_app (codes "run")) model_rule) kept_rule
 
+abbrev pub trace_app : App
+trace_app = with_rule (new_app (codes "trace")) model_rule
+
 abbrev pub judge_app : App
 judge_app = with_rule (new_app (codes "judge")) model_rule
 
@@ -77,8 +80,8 @@ bare_app =
 -- the program with the commands that have the model alone
 abbrev pub plain_app : App
 plain_app =
-    with_subcommand (with_subcommand (with_subcommand (with_subcommand (with_subcommand (with_subcommand bare_app
-    assemble_app.top) check_app.top) upgrade_app.top) judge_app.top) debug_app.top) serial_app.top
+    with_subcommand (with_subcommand (with_subcommand (with_subcommand (with_subcommand (with_subcommand (with_subcommand
+    bare_app assemble_app.top) check_app.top) upgrade_app.top) trace_app.top) judge_app.top) debug_app.top) serial_app.top
 
 -- the program
 abbrev pub tool_app : App
@@ -150,6 +153,7 @@ IsCommand line Assemble = line.command ≡ codes "assemble"
 IsCommand line CheckImage = line.command ≡ codes "check-image"
 IsCommand line Upgrade = line.command ≡ codes "upgrade"
 IsCommand line (Run kept) = (line.command ≡ codes "run") × (line.is_kept ≡ kept)
+IsCommand line Trace = line.command ≡ codes "trace"
 IsCommand line Judge = line.command ≡ codes "judge"
 IsCommand line Debug = line.command ≡ codes "debug"
 IsCommand line Serial = line.command ≡ codes "serial"
@@ -164,10 +168,11 @@ IsKnown line =
     ⊎ ((line.command ≡ codes "check-image")
     ⊎ ((line.command ≡ codes "upgrade")
     ⊎ ((line.command ≡ codes "run")
+    ⊎ ((line.command ≡ codes "trace")
     ⊎ ((line.command ≡ codes "judge")
     ⊎ ((line.command ≡ codes "debug")
     ⊎ ((line.command ≡ codes "serial")
-    ⊎ ((line.command ≡ codes "drive") × IsSomeAnd (workers_in line) AreSeated × IsSomeAnd (turns_in line) AreTurns)))))))
+    ⊎ ((line.command ≡ codes "drive") × IsSomeAnd (workers_in line) AreSeated × IsSomeAnd (turns_in line) AreTurns))))))))
 
 -- the model is this one: a standard one, or a file
 abbrev pub IsModel : Text → ModelName → Type 0

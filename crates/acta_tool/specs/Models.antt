@@ -8,7 +8,7 @@ use Rattle.acta_image.specs.Reading.{loaded}
 use Rattle.acta_lang.specs.declared.fault.AsmFault.{AsmFault}
 use Rattle.acta_lang.specs.Meaning.{meaning}
 use Rattle.acta_tool.specs.declared.args.Command.{Command}
-use Rattle.acta_tool.specs.declared.args.Command.TheVariants.{Assemble, CheckImage, Upgrade, Run, Judge, Debug, Serial, Drive}
+use Rattle.acta_tool.specs.declared.args.Command.TheVariants.{Assemble, CheckImage, Upgrade, Run, Trace, Judge, Debug, Serial, Drive}
 use Rattle.acta_tool.specs.declared.models.NoModel.{NoModel}
 use Rattle.acta_tool.specs.declared.models.NoModel.TheVariants.{Text, Image}
 
@@ -34,6 +34,7 @@ model_by Assemble bytes = of_text (meaning bytes)
 model_by CheckImage bytes = of_image (loaded bytes)
 model_by Upgrade bytes = of_image (loaded bytes)
 model_by (Run kept) bytes = of_either bytes
+model_by Trace bytes = of_either bytes
 model_by Judge bytes = of_either bytes
 model_by Debug bytes = of_either bytes
 model_by Serial bytes = of_either bytes

@@ -2,7 +2,7 @@
 use Rattle.std.specs.Prelude.{◌≡◌, ◌<◌, ◌⊎◌, ℕ, List, [], Bool, true, false, if◌then◌else◌, Option, Some, None, Result, Ok, Err, IfSome, IsSome, length, ⊤}
 use Rattle.std.specs.Io.KnownBytes.{Appends, Keeps}
 use Rattle.acta_tool.specs.declared.args.Command.{Command}
-use Rattle.acta_tool.specs.declared.args.Command.TheVariants.{Assemble, CheckImage, Upgrade, Run, Judge, Debug, Serial, Drive}
+use Rattle.acta_tool.specs.declared.args.Command.TheVariants.{Assemble, CheckImage, Upgrade, Run, Trace, Judge, Debug, Serial, Drive}
 use Rattle.acta_tool.specs.declared.fault.UsageFault.{UsageFault}
 use Rattle.acta_tool.specs.declared.fault.UsageFault.TheVariants.{Usage, UnknownModel, NotText, Memory as no_memory}
 use Rattle.acta_tool.specs.declared.outcome.Outcome.{Outcome}
@@ -38,6 +38,7 @@ reads_input Assemble = false
 reads_input CheckImage = false
 reads_input Upgrade = false
 reads_input (Run kept) = true
+reads_input Trace = true
 reads_input Judge = true
 reads_input Debug = true
 reads_input Serial = true

@@ -1,13 +1,17 @@
 -- What the program writes for the bytes of a model and of an input, where it answers them.
-use Rattle.std.specs.Prelude.{ℕ, ◌+◌, Bool, true, false, ◌==◌, List, [], ◌∷◌, ◌++◌, map, length, codes, decimal, nat_lt, if◌then◌else◌, Option, Some, None, is_some, Result, Ok, Err}
+use Rattle.std.specs.Prelude.{ℕ, ◌+◌, Bool, true, false, not, ◌==◌, List, [], ◌∷◌, ◌++◌, map, drop, get_or, length, codes, decimal, nat_lt, if◌then◌else◌, Option, Some, None, is_some, Result, Ok, Err}
 use Rattle.std.specs.List.{after_first, before_first, position_or_len}
 use Rattle.std.specs.Option.{option_map_or}
 use Rattle.acta_table.specs.declared.answer.Answer.{Answer}
 use Rattle.acta_table.specs.declared.event.Event.{Event}
 use Rattle.acta_table.specs.declared.event.Event.TheVariants.{Operate}
+use Rattle.acta_table.specs.declared.dep.Edge.{Edge}
 use Rattle.acta_table.specs.declared.event.Kept.{Kept}
+use Rattle.acta_table.specs.declared.event.OpNo.{OpNo}
 use Rattle.acta_table.specs.declared.limits.TheConstants.{MOST_EVENTS}
 use Rattle.acta_table.specs.declared.model.Parts.{Parts}
+use Rattle.acta_table.specs.Dependencies.{word_of}
+use Rattle.acta_table.specs.Numbered.{numbers_where}
 use Rattle.acta_table.specs.Numbers.{model_fault_number}
 use Rattle.acta_words.specs.Text.{lines_of, words_of, line_of, text_of}
 use Rattle.acta_lang.specs.declared.fault.AsmFault.{AsmFault}
@@ -28,16 +32,16 @@ use Rattle.acta_judge.specs.Verdicts.{verdict}
 use Rattle.acta_script.specs.Answers.{answer_line, fault_line, owed_line}
 use Rattle.acta_script.specs.Commands.{command_of}
 use Rattle.acta_script.specs.Reading.{fault_number, event_of, kept_of}
-use Rattle.acta_script.specs.Writing.{kept_line}
+use Rattle.acta_script.specs.Writing.{event_line, kept_line}
 use Rattle.acta_tool.specs.declared.args.Command.{Command}
-use Rattle.acta_tool.specs.declared.args.Command.TheVariants.{Assemble, CheckImage, Upgrade, Run, Judge, Debug, Serial, Drive}
+use Rattle.acta_tool.specs.declared.args.Command.TheVariants.{Assemble, CheckImage, Upgrade, Run, Trace, Judge, Debug, Serial, Drive}
 use Rattle.acta_tool.specs.declared.models.NoModel.{NoModel}
 use Rattle.acta_tool.specs.declared.models.NoModel.TheVariants.{Text, Image}
 use Rattle.acta_tool.specs.declared.input.BadLine.{BadLine}
 use Rattle.acta_tool.specs.Debugging.{ends_events, texts_of}
 use Rattle.acta_tool.specs.Models.{model_by}
 use Rattle.acta_debug.specs.Sessions.{opened}
-use Rattle.acta_machine.specs.Table.{State, run_answers, run_state, debts_in}
+use Rattle.acta_machine.specs.Table.{State, fresh, answer_to, after, op_added, edges_in, run_answers, run_state, debts_in}
 
 -- what the lines say, up to the first that is faulty, and that one
 pub record Said (X : Type 0) : Type 0 where
@@ -117,6 +121,47 @@ run_on is_kept m s =
       text = text_of (told is_kept (run_answers m s.said) state ++ told_last is_kept state s.stop);
     }
 
+-- the numbers of the lines that have words
+unfoldable pub spoken_lines : List ℕ → List ℕ
+spoken_lines input = numbers_where (λ line. not (length (words_of line) == 0)) (lines_of input)
+
+-- : op N
+abbrev pub op_words : Option OpNo → List (List ℕ)
+op_words None = []
+op_words (Some op) = codes ":" ∷ codes "op" ∷ decimal op.0 ∷ []
+
+-- : edge N KIND J I, for each, where the first has the number n
+abbrev pub edge_words : ℕ → List Edge → List (List ℕ)
+edge_words n [] = []
+edge_words n (e ∷ edges) =
+    codes ":" ∷ codes "edge" ∷ decimal n ∷ word_of e.kind ∷ decimal e.j.0 ∷ decimal e.i.0 ∷ edge_words (n + 1) edges
+
+-- LINE ANSWER : EVENT, and what the event formed: its operation, and the edges behind so many, of those now in force
+unfoldable pub formed_line : {A : Type 0} → Parts A → ℕ → Event A → Answer → Option OpNo → ℕ → List Edge → List ℕ
+formed_line m line event answer op before edges =
+    line_of (
+    decimal line ∷ answer_line answer ∷ codes ":" ∷ event_line m event
+    ∷ (op_words op ++ edge_words (before + 1) (drop before edges)))
+
+-- the line of an event, from the state before it
+abbrev pub trace_line : {A : Type 0} → State A → ℕ → Event A → List ℕ
+trace_line state line event =
+    formed_line state.model line event (answer_to state event) (op_added state event) (length (edges_in state))
+    (edges_in (after state event))
+
+-- the same of each event, which stand in these lines
+abbrev pub trace_lines : {A : Type 0} → State A → List ℕ → List (Event A) → List (List ℕ)
+trace_lines state lines [] = []
+trace_lines state lines (event ∷ events) =
+    trace_line state (get_or lines 0 0) event ∷ trace_lines (after state event) (drop 1 lines) events
+
+-- the output of `trace` on a model: a line for each event, and what `run` tells last
+unfoldable pub trace_on : {A : Type 0} → Parts A → List ℕ → Said (Event A) → Output
+trace_on m lines s = record {
+  is_refused = is_some s.stop;
+  text = text_of (trace_lines (fresh m) lines s.said ++ told_last false (run_state m s.said) s.stop);
+}
+
 -- what a verdict tells: its faults, then what is owed
 abbrev pub verdict_lines : {A : Type 0} → Verdict A → List (List ℕ)
 verdict_lines v = map (λ f. fault_line (axiom_number f.broken) f.place f.by) v.faults ++ map owed_line v.owed
@@ -184,6 +229,7 @@ output_on Assemble m input = record { is_refused = false; text = image m }
 output_on CheckImage m input = record { is_refused = false; text = canonical m }
 output_on Upgrade m input = record { is_refused = false; text = image m }
 output_on (Run kept) m input = run_on kept m (said_in (event_of m) input)
+output_on Trace m input = trace_on m (spoken_lines input) (said_in (event_of m) input)
 output_on Judge m input = judge_on m (said_in (kept_of m) input)
 output_on Debug m input = debug_on m input
 output_on Serial m input = serial_on m (said_in (event_of m) input)

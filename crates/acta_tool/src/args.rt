@@ -30,6 +30,9 @@ pub enum Command {
     /// Answers the event lines of the standard input; or, where `kept`, tells the events that were kept, with what
     /// they returned, and nothing else.
     Run { kept: bool },
+    /// Answers the event lines of the standard input, and says with each answer in which line the event stands, and
+    /// which operation and edges it formed.
+    Trace,
     /// Judges the kept lines of the standard input: tells each fault, and what is owed.
     Judge,
     /// Takes the events that are admitted of the lines before `--` as the history of a debugger, and tells what comes
@@ -106,6 +109,7 @@ fn command_named(spelled: &Spelled<'_>) -> Option<Command>
         "run" => Some(Command::Run {
             kept: spelled.is_kept,
         }),
+        "trace" => Some(Command::Trace),
         "judge" => Some(Command::Judge),
         "debug" => Some(Command::Debug),
         "serial" => Some(Command::Serial),
@@ -140,8 +144,8 @@ fn begins_with_at(model: &str) -> bool
     model.starts_with('@')
 }
 
-// The model that is named so, if it is a file or a standard one.
-fn model_named(model: &str) -> Option<ModelName<'_>>
+/// The model that is named so, if it is a file or a standard one.
+pub fn model_named(model: &str) -> Option<ModelName<'_>>
     ensures some { IfSome result (IsModel model.now) }
     ensures none { IfNone result (IsUnknown model.now) }
 {
@@ -158,7 +162,10 @@ fn bare_command<'a>(alloc: Global) -> clap::Command<'a>
     ensures { app_of result ≡ bare_app }
 {
     clap::Command::new(alloc, "acta_tool")
-        .about("Runs histories of events against extended transaction models, as ACTA writes them")
+        .about(
+            "Runs histories of events against extended transaction models, as ACTA writes them. Two more commands \
+             have words of their own: explain --help, draw --help",
+        )
         .subcommand_required(true)
 }
 
@@ -280,6 +287,12 @@ fn plain_commands<'a>(alloc: Global) -> Result<clap::Command<'a>, AllocError>
         program,
         "upgrade",
         "Writes the model's image in version 2, of one in version 1 or 2, or what is wrong with it",
+    )?;
+    let program = with_command(
+        alloc,
+        program,
+        "trace",
+        "Answers the events of the standard input, each with its line and with what it formed",
     )?;
     let program = with_command(
         alloc,

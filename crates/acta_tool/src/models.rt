@@ -86,6 +86,7 @@ pub fn read_model<A: Allocator + Copy>(
         Command::Assemble => read_text(alloc, bytes),
         Command::CheckImage | Command::Upgrade => read_image(alloc, bytes),
         Command::Run { .. }
+        | Command::Trace
         | Command::Judge
         | Command::Debug
         | Command::Serial

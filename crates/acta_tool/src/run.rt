@@ -19,6 +19,7 @@ use crate::serializing::serial_model;
 use crate::sink::Sink;
 use crate::source::{MOST_BYTES, ReadFault, Source, read_all};
 use crate::telling::{tell_end, tell_events};
+use crate::tracing::trace_model;
 use acta_image::write_image;
 use acta_lang::print_model;
 use acta_machine::{Handle, Machine, Run};
@@ -81,6 +82,7 @@ fn tell_model<A: Handle + Send + Sync, R: Threads + Sync>(
         Command::CheckImage => print_model(alloc, &model)?,
         Command::Upgrade => write_image(alloc, &model)?,
         Command::Run { kept } => return run_model(alloc, kept, model, input),
+        Command::Trace => return trace_model(alloc, model, input),
         Command::Judge => return judge_model(rt, alloc, &model, input),
         Command::Debug => return debug_model(alloc, model, input),
         Command::Serial => return serial_model(alloc, model, input),
@@ -126,6 +128,7 @@ fn read_input<A: Allocator, S: Source>(
     match command {
         Command::Assemble | Command::CheckImage | Command::Upgrade => Ok(Vec::new(alloc)),
         Command::Run { .. }
+        | Command::Trace
         | Command::Judge
         | Command::Debug
         | Command::Serial

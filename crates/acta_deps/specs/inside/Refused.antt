@@ -1,27 +1,18 @@
 -- Changes of one status, and which of them are refused.
-use Rattle.std.specs.Prelude.{◌≡◌, ℕ, List, Option, Some, None}
+use Rattle.std.specs.Prelude.{◌≡◌, ℕ, List, Option, Some}
 use Rattle.std.specs.List.{All}
 use Rattle.acta_table.specs.declared.dep.Edge.{Edge}
 use Rattle.acta_table.specs.declared.answer.Refusal.{Refusal}
 use Rattle.acta_table.specs.declared.answer.Status.{Status}
-use Rattle.acta_table.specs.declared.answer.Status.TheVariants.{NotBegun, InProgress, Committed, Aborted, Joined}
 use Rattle.acta_deps.specs.declared.clash.Change.{Change}
 use Rattle.acta_deps.specs.declared.refused.Refused.{Refused}
 use Rattle.acta_deps.specs.Deps.{DepState, status_of}
 use Rattle.acta_deps.specs.Statuses.{with_status}
-use Rattle.acta_deps.specs.Dependencies.{start_refusal, commit_refusal, abort_refusal, join_refusal}
+use Rattle.acta_deps.specs.Dependencies.{refusal_to}
 
 -- the statuses, with that of one changed
 abbrev pub status_after : DepState → Change → ℕ → Status
 status_after d change = with_status (status_of d) change.txn.0 change.status
-
--- the lowest rule that t would break by coming to stand so
-abbrev pub refusal_to : (ℕ → Status) → List Edge → ℕ → Status → Option Refusal
-refusal_to status edges t NotBegun = None
-refusal_to status edges t InProgress = start_refusal status edges t
-refusal_to status edges t Committed = commit_refusal status edges t
-refusal_to status edges t Aborted = abort_refusal status edges t
-refusal_to status edges t Joined = join_refusal status edges t
 
 -- the lowest rule that the change breaks
 abbrev pub refusal_upon : (ℕ → Status) → List Edge → Change → Option Refusal

@@ -46,9 +46,9 @@ do 7 x read = 0
 fault 4 3 7
 # A number that no transaction has
 begin 6 flat
-begin 4096 flat
-begin 4095 flat
-fault 5 2 4096
+begin 16384 flat
+begin 16383 flat
+fault 5 2 16384
 # The number 0
 begin 6 flat
 begin 0 flat

@@ -1,7 +1,5 @@
-use Rattle.std.proofs.Common.{◌≡◌, ℕ, [], length, get_or, refl, sym, ap, ◌∙◌, subst, List}
+use Rattle.std.proofs.Common.{◌≡◌, ℕ, [], get_or, refl, sym, ap, ◌∙◌, subst, List}
 use Rattle.acta_table.specs.declared.event.Kept.{Kept}
-use Rattle.std.proofs.lemmas.List.{get_or-replicate, length-replicate}
-use Rattle.acta_table.specs.declared.limits.TheConstants.{TABLE_SIZE}
 use Rattle.acta_axioms.specs.declared.serial.SerialItem.{SerialItem}
 use Rattle.acta_axioms.proofs.Grouping.{AreGrouped, grouped-next, grouped-next-silent, grouped-next-idle}
 use Rattle.acta_axioms.proofs.serial.grouped.Goals.{in-Operate, in-Some+in_ok-put, in_default-ret, in_default}
@@ -12,11 +10,7 @@ same-grouped {A} {h} {n} {k} {gs} {hs} e f grouped = subst (λ m. AreGrouped h m
 
 pub loop-k-init : goal.loop-k-init
 loop-k-init g c =
-    record {
-      numbered = refl;
-      room = ap (length {A = List SerialItem}) c.in_ok-groups.ensures ∙ length-replicate {A = List SerialItem} TABLE_SIZE [];
-      so_far = λ t within. ap (λ (gs : List (List SerialItem)). get_or gs t []) c.in_ok-groups.ensures ∙ get_or-replicate {A = List SerialItem} TABLE_SIZE t [] [] within;
-    }
+    record { numbered = refl; so_far = λ t. ap (λ (gs : List (List SerialItem)). get_or gs t []) c.new-groups.ensures }
 
 pub loop-k-preserved : goal.loop-k-preserved
 loop-k-preserved g c =
@@ -24,8 +18,8 @@ loop-k-preserved g c =
       | in-Operate w ↦
           elim w.match-k-2.branch [
             | in-Some+in_ok-put u ↦
-                same-grouped (sym w.number-is) (sym (w.groups-is ∙ u.groups-is ∙ u.in_ok-put.ensures))
-                (grouped-next c.args.kept.now c.loop-k.k-index c.k-item.result w.in-Operate.t w.in-Operate.ob w.in-Operate.op u.in-Some.ret c.loop-k.number c.loop-k.groups c.loop-k-test.true c.k-item.is w.in-Operate.is u.in-Some.is c.loop-k.invariant)
+                same-grouped (sym w.number-is) (sym (w.groups-is ∙ u.groups-is))
+                (grouped-next c.args.kept.now c.loop-k.k-index c.k-item.result w.in-Operate.t w.in-Operate.ob w.in-Operate.op u.in-Some.ret c.loop-k.number c.loop-k.groups u.put.new.self c.loop-k-test.true c.k-item.is w.in-Operate.is u.in-Some.is c.loop-k.invariant u.in_ok-put.ensures)
             | in_default-ret u ↦
                 same-grouped (sym w.number-is) (sym (w.groups-is ∙ u.groups-is))
                 (grouped-next-silent c.args.kept.now c.loop-k.k-index c.k-item.result w.in-Operate.t w.in-Operate.ob w.in-Operate.op c.loop-k.number c.loop-k.groups c.loop-k-test.true c.k-item.is w.in-Operate.is u.in_default-ret.is c.loop-k.invariant)

@@ -2,7 +2,7 @@ use Rattle.std.proofs.Common.{sym, ◌∙◌, rules}
 use Rattle.std.proofs.lemmas.Bool.{and_parts, eqb-true}
 use denote.Enum.Bare.{same_true}
 use Rattle.acta_table.specs.contracts.answer.Status.{the_type}
-use Rattle.acta_deps.specs.inside.Refused.{refusal_to}
+use Rattle.acta_deps.specs.Dependencies.{refusal_to}
 use Rattle.acta_deps.proofs.refused.refusal_among.Goals as goal
 
 pub returns-then-eq : goal.returns-then-eq

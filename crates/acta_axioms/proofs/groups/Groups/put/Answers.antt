@@ -1,27 +1,25 @@
-use Rattle.std.proofs.Common.{Vec, ◌≡◌, ℕ, ◌<◌, ◌≤◌, [], ◌∷◌, ◌++◌, List, map, get_or, set, length, sym, ap, ◌∙◌, subst}
-use Rattle.std.proofs.lemmas.List.{map-set, get_or-map, set_past, length-map}
-use Rattle.acta_axioms.proofs.groups.Groups.put.Goals.{in-Some+in_ok-push, in_default}
-use Rattle.acta_axioms.specs.declared.groups.Groups.TheInside.{Inside}
+use Rattle.std.proofs.Common.{Vec, arith, ◌≡◌, ℕ, ◌<◌, ◌==◌, List, [], ◌∷◌, ◌++◌, map, get_or, set, length, ap, ◌∙◌}
+use Rattle.std.specs.Prelude.{if◌then◌else◌}
+use Rattle.std.proofs.lemmas.Bool.Decides.{nat_tests}
+use Rattle.std.proofs.lemmas.Grind.{common_steps}
+use Rattle.std.proofs.lemmas.List.{append-nil, length-map, get_or-map, get_or-set_same, get_or-set_other, map-set}
 use Rattle.acta_axioms.specs.declared.serial.SerialItem.{SerialItem}
 use Rattle.acta_axioms.proofs.groups.Groups.put.Goals as goal
 
--- what is put behind those of one, in lists that are seen through f
-put-there : {X Y : Type 0} (f : X → List Y) (xs : List X) (i : ℕ) (v w : X) (y : Y) → i < length xs → v ≡ get_or xs i v → f w ≡ f v ++ y ∷ [] → map f (set xs i w) ≡ set (map f xs) i (get_or (map f xs) i [] ++ y ∷ [])
-put-there f xs i v w y within is grown =
-    map-set f xs i w ∙ ap (set (map f xs) i) (grown ∙ ap (λ ys. ys ++ y ∷ []) (ap f is ∙ sym (get_or-map f xs i v [] within)))
-
-past-there : {X Y : Type 0} (f : X → List Y) (xs : List X) (i : ℕ) (ys : List Y) → length xs ≤ i → set (map f xs) i ys ≡ map f xs
-past-there f xs i ys past = set_past (map f xs) i ys (subst (λ n. n ≤ i) (sym (length-map xs f)) past)
+-- lists that are seen through f, with one item more in one of them
+put-there : {X Y : Type 0} (f : X → List Y) (xs : List X) (i u : ℕ) (v w : X) (y : Y) → i < length xs → v ≡ get_or xs i v → f w ≡ f v ++ y ∷ []
+    → get_or (map f (set xs i w)) u [] ≡ get_or (map f xs) u [] ++ (if i == u then y ∷ [] else [])
+put-there f xs i u v w y within is grown =
+    let long = length-map xs f in
+    let after = map-set f xs i w in
+    let own = get_or-map f xs i v [] within in
+    grind (arith, common_steps, nat_tests, after, long, own, append-nil, get_or-set_same, get_or-set_other)
 
 pub returns : goal.returns
 returns g c =
-    elim c.match-get_mut.branch [
-      | in-Some+in_ok-push w ↦
-          ap (λ (x : Inside g.row.A.Denot). map (λ (list : Vec SerialItem g.row.A.Denot). list.items) x.lists.items) w.self-inside-is
-          ∙ put-there (λ (list : Vec SerialItem g.row.A.Denot). list.items) c.self.inside.lists.items c.from.result w.in-Some.list.now w.push.new.self c.args.item w.in-Some.ensures.item.3.0 w.in-Some.ensures.value w.in_ok-push.ensures.items
-          ∙ (λ i. set (c.self.view_is i) (c.from.ensures i) (get_or (c.self.view_is i) (c.from.ensures i) [] ++ c.args.item ∷ []))
-      | in_default w ↦
-          ap (λ (x : Inside g.row.A.Denot). map (λ (list : Vec SerialItem g.row.A.Denot). list.items) x.lists.items) w.self-inside-is
-          ∙ sym (past-there (λ (list : Vec SerialItem g.row.A.Denot). list.items) c.self.inside.lists.items c.from.result _ w.in_default.ensures.item.3)
-          ∙ (λ i. set (c.self.view_is i) (c.from.ensures i) (get_or (c.self.view_is i) (c.from.ensures i) [] ++ c.args.item ∷ []))
-    ]
+    λ u.
+    put-there (λ (list : Vec SerialItem g.row.A.Denot). list.items) c.self.inside.lists.items c.from.result u c.index_mut-list.result.now c.push.new.self c.args.item
+    (omega (arith, c.in_ok-make_room.ensures.room, ap (length {A = List SerialItem}) c.self.view_is, length-map c.self.inside.lists.items (λ (list : Vec SerialItem g.row.A.Denot). list.items)))
+    c.index_mut-list.ensures.value c.in_ok-push.ensures.items
+    ∙ (λ i. get_or (c.self.view_is i) u [] ++ (if c.from.ensures i == u then c.args.item ∷ [] else []))
+    ∙ ap (λ items. items ++ (if c.args.t.0 == u then c.args.item ∷ [] else [])) (c.in_ok-make_room.ensures.same u)

@@ -25,6 +25,10 @@ returns-else-due-room g c =
       | else-due-room-via-then-due-room+in_ok-lacks+else-branch-room w ↦ omega (arith, w.in_ok-lacks.ensures, w.if-branch-room.false, now, room)
       | else-due-room-via-else-due-room w ↦ omega (arith, few_formed edges due, w.if-due-room.false, now, room)
     ] in
-    sym
-    (ap (λ (es : List Edge). broken_if (nat_lt MOST_EDGES (length (formed edges es))) EdgesFull) (sym c.requires)
-    ∙ ap (λ b. broken_if b EdgesFull) (le-ltb MOST_EDGES (length (formed edges due)) few))
+    record {
+      refusal =
+          sym
+          (ap (λ (es : List Edge). broken_if (nat_lt MOST_EDGES (length (formed edges es))) EdgesFull) (sym c.requires)
+          ∙ ap (λ b. broken_if b EdgesFull) (le-ltb MOST_EDGES (length (formed edges due)) few));
+      so = tt;
+    }

@@ -1,0 +1,230 @@
+//! What the words of a command line of `draw` ask for.
+
+use crate::choice::Choice;
+use crate::layout::{LEAST_WIDTH, MOST_WIDTH};
+use acta_table::{MOST_EVENTS, TxnId};
+use acta_tool::{ModelName, UsageFault, model_named};
+use acta_words::read_u16;
+use clap::builder::ValueParser;
+use clap::error::ErrorKind;
+use clap::{Arg, ArgAction, ArgMatches, Command};
+use std::alloc::{AllocError, Global};
+
+/// The form of a picture.
+#[derive(Clone, Copy, PartialEq, Eq, Debug)]
+pub enum Form {
+    /// A text for a terminal, of this width, or as wide as the screen.
+    Text { width: Option<usize> },
+    /// An SVG for a browser.
+    Svg,
+}
+
+/// What is to be drawn, and how.
+#[derive(Drop)]
+pub struct Drawing {
+    pub form: Form,
+    pub choice: Choice,
+}
+
+/// What a command line asks for.
+#[derive(Drop)]
+pub enum Asked<'a> {
+    /// The picture of a run of the event lines of the standard input on a model.
+    Picture(Drawing, ModelName<'a>),
+    /// This text, which says how to call the command and what the marks mean.
+    Help(String),
+}
+
+const LEGEND: &str = "The marks of a text, on the lane of a transaction:
+  o   it starts               *N  it does operation N
+  C   it commits              *   it spawns, splits, delegates or permits
+  A   it aborts               |   it is in progress
+  J   it joins another        x   an event of it is refused (`-` for its place)
+  !   it owes an event in the end
+Between two lanes:
+  *---o   it spawns the other, or splits it off
+  *-->|   it hands operations to the other: delegates, joins, or commits to it as its parent
+  *..>|   it permits the other to work on an object beside it
+  |<~~*   it comes to depend on the other; the edges stand behind the event";
+
+// An option that takes a number.
+fn number<'a>(
+    alloc: Global,
+    id: &'a str,
+    value: &'a str,
+    least: usize,
+    most: usize,
+    help: &'a str,
+) -> Arg<'a> {
+    Arg::new(alloc, id)
+        .long(id)
+        .value_name(value)
+        .action(ArgAction::Set)
+        .value_parser(ValueParser::Unsigned(least as u64, most as u64))
+        .help(help)
+}
+
+// The command line that is taken.
+fn surface<'a>(alloc: Global) -> Result<Command<'a>, AllocError> {
+    Command::new(alloc, "acta_tool draw")
+        .bin_name("acta_tool draw")?
+        .about(
+            "Draws the history of the event lines of the standard input on MODEL: a lane for each transaction, a row for each event",
+        )
+        .after_help(LEGEND)
+        .arg(
+            Arg::new(alloc, "MODEL")
+                .required(true)
+                .action(ArgAction::Set)
+                .help(
+                    "A file with the model's text or image, or one of @atomic, @nested, @split_join, @recoverable, @contingent",
+                ),
+        )?
+        .arg(
+            Arg::new(alloc, "svg")
+                .long("svg")
+                .action(ArgAction::SetTrue)
+                .help("Draws an SVG, which a browser shows"),
+        )?
+        .arg(
+            Arg::new(alloc, "txns")
+                .long("txns")
+                .value_name("T,T..")
+                .action(ArgAction::Set)
+                .help("Draws only these transactions, in this order"),
+        )?
+        .arg(number(
+            alloc,
+            "from",
+            "PLACE",
+            1,
+            MOST_EVENTS,
+            "Draws only from this place on",
+        ))?
+        .arg(number(
+            alloc,
+            "to",
+            "PLACE",
+            1,
+            MOST_EVENTS,
+            "Draws only up to this place",
+        ))?
+        .arg(number(
+            alloc,
+            "width",
+            "COLUMNS",
+            LEAST_WIDTH,
+            MOST_WIDTH,
+            "How wide a text may be: else COLUMNS of the environment tells, or it is 100",
+        ))
+}
+
+// A fault of the command line.
+fn usage(surface: &mut Command<'_>, text: &str) -> UsageFault {
+    match surface.error(ErrorKind::InvalidValue, text) {
+        Ok(error) => UsageFault::Usage(error),
+        Err(e) => UsageFault::Memory(e),
+    }
+}
+
+// The transactions that are listed so, with commas between them, each once; nothing where it is no such list.
+fn txns_listed(alloc: Global, list: &str) -> Result<Option<Vec<TxnId>>, AllocError> {
+    let mut txns: Vec<TxnId> = Vec::new(alloc);
+    for word in list.split(',') {
+        match read_u16(word.as_bytes()) {
+            Some(number) if crate::marks::has_lane(TxnId(number)) => {
+                if !txns.contains(&TxnId(number)) {
+                    txns.push(TxnId(number))?;
+                }
+            }
+            _ => return Ok(None),
+        }
+    }
+    Ok(Some(txns))
+}
+
+// The number of an option, where it was given.
+fn number_given(matches: &ArgMatches<'_>, id: &str) -> Option<u32> {
+    matches.get_one::<u32>(id)
+}
+
+// Which lanes and places the matches ask for.
+fn choice_asked(
+    alloc: Global,
+    surface: &mut Command<'_>,
+    matches: &ArgMatches<'_>,
+) -> Result<Choice, UsageFault> {
+    let txns = match matches.get_str("txns") {
+        Some(list) => match txns_listed(alloc, list)? {
+            Some(txns) => Some(txns),
+            None => {
+                return Err(usage(
+                    surface,
+                    "--txns takes numbers of transactions, from 1 to 16383, with commas between them",
+                ));
+            }
+        },
+        None => None,
+    };
+    let from = number_given(matches, "from").unwrap_or(1);
+    let to = number_given(matches, "to");
+    if to.is_some_and(|to| to < from) {
+        return Err(usage(surface, "--to is a place before --from"));
+    }
+    Ok(Choice { txns, from, to })
+}
+
+// What the matches ask for.
+fn asked_by<'a>(
+    alloc: Global,
+    surface: &mut Command<'a>,
+    matches: &ArgMatches<'a>,
+) -> Result<Asked<'a>, UsageFault> {
+    let choice = choice_asked(alloc, surface, matches)?;
+    let form = if matches.get_flag("svg") {
+        Form::Svg
+    } else {
+        Form::Text {
+            width: number_given(matches, "width").map(|width| width as usize),
+        }
+    };
+    let named = match matches.get_str("MODEL") {
+        Some(model) => model_named(model),
+        None => None,
+    };
+    match named {
+        Some(model) => Ok(Asked::Picture(Drawing { form, choice }, model)),
+        None => Err(UsageFault::UnknownModel),
+    }
+}
+
+// What is asked for by words that were not taken: help, or nothing.
+fn asked_else<'a>(alloc: Global, error: clap::Error) -> Result<Asked<'a>, UsageFault> {
+    match error.kind() {
+        ErrorKind::OutOfMemory => Err(UsageFault::Memory(AllocError)),
+        ErrorKind::DisplayHelp => Ok(Asked::Help(format!(in alloc; "{error}")?)),
+        _ => Err(UsageFault::Usage(error)),
+    }
+}
+
+/// What the words ask for; the first is the program's name, and the second `draw`. `Usage` where they are no such
+/// command line, with the text of `clap`; `UnknownModel` where no standard model has the name after the `@`; `Memory`
+/// where there is none.
+pub fn parse<'a>(alloc: Global, words: &'a [String]) -> Result<Asked<'a>, UsageFault> {
+    let mut surface = surface(alloc)?;
+    let words = words.get(1..).unwrap_or(&[]);
+    let asked = match surface.try_get_matches_from_mut(words) {
+        Ok(matches) => asked_by(alloc, &mut surface, &matches),
+        Err(e) => asked_else(alloc, e),
+    };
+    drop(surface);
+    asked
+}
+
+/// Whether the words ask for a picture: the second is `draw`.
+pub fn is_asked(words: &[String]) -> bool {
+    match words.get(1) {
+        Some(word) => word.as_str() == "draw",
+        None => false,
+    }
+}

@@ -1,0 +1,68 @@
+//! The arrows of a row: the edges that it formed, those between the same two transactions as one arrow.
+
+use crate::choice::Picked;
+use crate::lanes::{Lanes, Row};
+use acta_machine::Handle;
+use acta_table::{Edge, TxnId};
+use std::alloc::AllocError;
+
+/// An arrow from the one that depends to the one on which it depends.
+#[derive(Drop)]
+pub struct Arrow<A: Handle> {
+    pub j: TxnId,
+    pub i: TxnId,
+    /// The kinds of the edges, each with its number.
+    pub label: String<A>,
+    /// The edges in words, in lines.
+    pub title: String<A>,
+}
+
+// Writes an edge more to an arrow.
+fn add_edge<A: Handle>(arrow: &mut Arrow<A>, number: u64, edge: &Edge) -> Result<(), AllocError> {
+    if !arrow.label.is_empty() {
+        arrow.label.push_str(", ")?;
+        arrow.title.push('\n')?;
+    }
+    let kind = edge.kind.word();
+    let j = edge.j.0;
+    let i = edge.i.0;
+    let formula = acta_explain::formula(edge.kind);
+    write!(arrow.label, "{kind} {number}")?;
+    write!(
+        arrow.title,
+        "edge {number}: {kind} {j} on {i}, of J = {j} on I = {i}. {formula}"
+    )
+}
+
+/// The arrows of the row between lanes that are drawn. `Err` where there is no memory.
+pub fn arrows<A: Handle>(
+    lanes: &Lanes<A>,
+    picked: &Picked<A>,
+    row: &Row,
+) -> Result<Vec<Arrow<A>, A>, AllocError> {
+    let alloc = lanes.allocator();
+    let mut arrows: Vec<Arrow<A>, A> = Vec::new(alloc);
+    let mut number = row.edges_before as u64;
+    for edge in lanes.formed(row) {
+        number = number.saturating_add(1);
+        if picked.column(edge.j).is_none() || picked.column(edge.i).is_none() {
+            continue;
+        }
+        let is_new = match arrows.last() {
+            Some(last) => last.j != edge.j || last.i != edge.i,
+            None => true,
+        };
+        if is_new {
+            arrows.push(Arrow {
+                j: edge.j,
+                i: edge.i,
+                label: String::new(alloc),
+                title: String::new(alloc),
+            })?;
+        }
+        if let Some(arrow) = arrows.last_mut() {
+            add_edge(arrow, number, edge)?;
+        }
+    }
+    Ok(arrows)
+}

@@ -1,0 +1,31 @@
+//! Histories as pictures: a lane for each transaction, from its start to its end, with a row for each event. A picture
+//! is a text for a terminal or an SVG for a browser.
+//!
+//! Nothing here decides anything: what is admitted, what it forms and why an event is refused is asked of the machine,
+//! and is drawn. The lanes are made once (`Lanes`), a choice of transactions and places is made of them (`Picked`), and
+//! each form of picture is a walk over the rows that are picked.
+#![tactic(auto)]
+
+mod args;
+mod arrows;
+mod canvas;
+mod choice;
+mod lanes;
+mod layout;
+mod legend;
+mod marks;
+mod markup;
+mod picture;
+mod screen;
+mod sentences;
+mod sheet;
+mod svg;
+mod text;
+mod wrapping;
+
+pub use args::{Asked, Drawing, Form, is_asked, parse};
+pub use choice::{Choice, Picked};
+pub use lanes::{Lanes, Row};
+pub use marks::{Deed, Figure, Mark, Marked, Tie};
+pub use picture::{draw, draw_tool};
+pub use screen::Screen;

@@ -1,0 +1,196 @@
+//! What the words of a command line of `explain` ask for.
+
+use crate::hints::nearest;
+use crate::tables::{CODES, Table, push_meant};
+use acta_tool::{ModelName, UsageFault, model_named};
+use clap::error::ErrorKind;
+use clap::{Arg, ArgAction, ArgMatches, Command};
+use std::alloc::{AllocError, Global};
+
+/// What is to be explained.
+#[derive(Drop)]
+pub enum Asked<'a> {
+    /// The run of the event lines of the standard input on a model.
+    Run(ModelName<'a>),
+    /// The verdict on the kept lines of the standard input.
+    Judged(ModelName<'a>),
+    /// Nothing of a model: this text is the answer.
+    Words(String),
+}
+
+// The command line that is taken.
+fn surface<'a>(alloc: Global, name: &str) -> Result<Command<'a>, AllocError> {
+    Command::new(alloc, "acta_tool explain")
+        .bin_name(name)?
+        .no_binary_name(true)
+        .about(
+            "Tells in words what a run answers, and why: the event lines of the standard input on MODEL, which rule refuses an event, what breaks it, and what would let it go on; or what a rule, an axiom or a code means",
+        )
+        .arg(
+            Arg::new(alloc, "MODEL").action(ArgAction::Set).help(
+                "A file with the model's text or image, or one of @atomic, @nested, @split_join, @recoverable, @contingent",
+            ),
+        )?
+        .arg(
+            Arg::new(alloc, "judge")
+                .long("judge")
+                .action(ArgAction::SetTrue)
+                .help(
+                    "Judges kept lines, as `judge` reads them, and tells each fault of the verdict",
+                ),
+        )?
+        .arg(
+            Arg::new(alloc, "rule")
+                .long("rule")
+                .value_name("RULE")
+                .action(ArgAction::Set)
+                .help("Tells what a rule means, by its number or its name"),
+        )?
+        .arg(
+            Arg::new(alloc, "axiom")
+                .long("axiom")
+                .value_name("AXIOM")
+                .action(ArgAction::Set)
+                .help("Tells what an axiom means, by its number or its name"),
+        )?
+        .arg(
+            Arg::new(alloc, "code")
+                .long("code")
+                .value_name("CODE")
+                .num_args(1..)
+                .action(ArgAction::Append)
+                .help(
+                    "Tells what codes of lines, texts of models, images and models mean, by numbers or names",
+                ),
+        )
+}
+
+// How the command is called: by the last part of the program's name, and `explain`.
+fn called(alloc: Global, words: &[String]) -> Result<String, AllocError> {
+    let program = match words.first() {
+        Some(path) => path.as_str().rsplit('/').next().unwrap_or("acta"),
+        None => "acta",
+    };
+    format!(in alloc; "{program} explain")
+}
+
+// A fault of the command line.
+fn usage(surface: &mut Command<'_>, kind: ErrorKind, text: &str) -> UsageFault {
+    match surface.error(kind, text) {
+        Ok(error) => UsageFault::Usage(error),
+        Err(e) => UsageFault::Memory(e),
+    }
+}
+
+// What one table says by a word.
+fn told_by(alloc: Global, tables: &[Table], word: &str) -> Result<Option<String>, AllocError> {
+    let mut text = String::new(alloc);
+    let mut is_found = false;
+    for table in tables {
+        is_found |= push_meant(&mut text, alloc, *table, word)?;
+    }
+    Ok(if is_found { Some(text) } else { None })
+}
+
+// That no entry of the tables has this number or name, and which name was perhaps meant.
+fn unknown(alloc: Global, tables: &[Table], word: &str) -> Result<String, AllocError> {
+    let mut names = Vec::new(alloc);
+    for table in tables {
+        for entry in table.entries(alloc)?.iter() {
+            names.push(entry.name)?;
+        }
+    }
+    let title = if tables.len() == 1 {
+        tables.first().map_or("code", |one| one.title())
+    } else {
+        "code"
+    };
+    match nearest(alloc, word.as_bytes(), &names)? {
+        Some(meant) => {
+            format!(in alloc;
+                "no {title} has the number or the name {word:?}: did you mean {meant:?}?"
+            )
+        }
+        None => format!(in alloc; "no {title} has the number or the name {word:?}"),
+    }
+}
+
+// What the tables say by each of the words.
+fn words_told(
+    alloc: Global,
+    surface: &mut Command<'_>,
+    tables: &[Table],
+    words: &[&str],
+) -> Result<String, UsageFault> {
+    let mut text = String::new(alloc);
+    for word in words {
+        match told_by(alloc, tables, word)? {
+            Some(told) => text.push_str(told.as_str())?,
+            None => {
+                let said = unknown(alloc, tables, word)?;
+                return Err(usage(surface, ErrorKind::InvalidValue, said.as_str()));
+            }
+        }
+    }
+    Ok(text)
+}
+
+// What the matches ask for.
+fn asked_by<'a>(
+    alloc: Global,
+    surface: &mut Command<'a>,
+    matches: &ArgMatches<'a>,
+) -> Result<Asked<'a>, UsageFault> {
+    let model = matches.get_str("MODEL");
+    let rule = matches.get_str("rule");
+    let axiom = matches.get_str("axiom");
+    let codes = matches.get_strs("code");
+    let is_judged = matches.get_flag("judge");
+    match (model, rule, axiom, codes) {
+        (Some(model), None, None, None) => match model_named(model) {
+            Some(name) if is_judged => Ok(Asked::Judged(name)),
+            Some(name) => Ok(Asked::Run(name)),
+            None => Err(UsageFault::UnknownModel),
+        },
+        (None, Some(rule), None, None) if !is_judged => {
+            Ok(Asked::Words(words_told(alloc, surface, &[Table::Rules], &[rule])?))
+        }
+        (None, None, Some(axiom), None) if !is_judged => {
+            Ok(Asked::Words(words_told(alloc, surface, &[Table::Axioms], &[axiom])?))
+        }
+        (None, None, None, Some(codes)) if !is_judged => {
+            Ok(Asked::Words(words_told(alloc, surface, &CODES, codes)?))
+        }
+        _ => Err(usage(
+            surface,
+            ErrorKind::MissingRequiredArgument,
+            "a model is wanted, or one of --rule, --axiom and --code without a model",
+        )),
+    }
+}
+
+/// What the words ask for; the first is the program's name, and the second `explain`. `Usage` where they are no such
+/// command line, with the text of `clap`; `UnknownModel` where no standard model has the name after the `@`; `Memory`
+/// where there is none.
+pub fn parse<'a>(alloc: Global, words: &'a [String]) -> Result<Asked<'a>, UsageFault> {
+    let name = called(alloc, words)?;
+    let mut surface = surface(alloc, name.as_str()).map_err(UsageFault::Memory)?;
+    let words = words.get(2..).unwrap_or(&[]);
+    let asked = match surface.try_get_matches_from_mut(words) {
+        Ok(matches) => asked_by(alloc, &mut surface, &matches),
+        Err(e) => match e.kind() {
+            ErrorKind::OutOfMemory => Err(UsageFault::Memory(AllocError)),
+            _ => Err(UsageFault::Usage(e)),
+        },
+    };
+    drop(surface);
+    asked
+}
+
+/// Whether the words ask to explain something: the second is `explain`.
+pub fn is_asked(words: &[String]) -> bool {
+    match words.get(1) {
+        Some(word) => word.as_str() == "explain",
+        None => false,
+    }
+}

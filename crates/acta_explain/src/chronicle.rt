@@ -1,0 +1,160 @@
+//! What was told so far, and by which line each operation, each edge and each transaction came about: what a reason
+//! refers to. Where an input is told line by line, a line is a row.
+
+use acta_table::{ClassId, Event, OpNo, TABLE_SIZE, TxnId};
+use std::alloc::{AllocError, Allocator};
+
+/// A line of the input that says something, with what is told of it.
+#[derive(Drop)]
+pub struct Row<A: Allocator> {
+    /// The number of the line in the input, from 1.
+    pub line: usize,
+    /// The event, as its line.
+    pub event: String<A>,
+    /// The answer to it, as the program prints it.
+    pub answer: String<A>,
+    /// What it formed.
+    pub formed: String<A>,
+    /// Why it is refused, in lines.
+    pub reason: String<A>,
+}
+
+/// How one transaction began and ended, by the rows of the events, and what it began with.
+#[derive(Clone, Copy)]
+pub struct Life {
+    pub began: Option<usize>,
+    pub ended: Option<usize>,
+    pub class: Option<ClassId>,
+    pub parent: Option<TxnId>,
+}
+
+impl Life {
+    const UNBEGUN: Life = Life {
+        began: None,
+        ended: None,
+        class: None,
+        parent: None,
+    };
+}
+
+/// The rows so far, and for each operation, each edge and each transaction the rows by which it came about.
+#[derive(Drop)]
+pub struct Chronicle<A: Allocator> {
+    rows: Vec<Row<A>, A>,
+    operations: Vec<usize, A>,
+    edges: Vec<usize, A>,
+    lives: Vec<Life, A>,
+}
+
+impl<A: Allocator + Copy> Chronicle<A> {
+    /// Nothing is told yet. `Err` where there is no memory.
+    pub fn new(alloc: A) -> Result<Chronicle<A>, AllocError> {
+        let unbegun = Life::UNBEGUN;
+        Ok(Chronicle {
+            rows: Vec::new(alloc),
+            operations: Vec::new(alloc),
+            edges: Vec::new(alloc),
+            lives: vec![in alloc; unbegun; TABLE_SIZE]?,
+        })
+    }
+}
+
+// The transaction that the event ends.
+fn ended_by<A: Allocator>(event: &Event<A>) -> Option<TxnId> {
+    match event {
+        Event::Commit(t) | Event::Abort(t) | Event::Join(t, _) => Some(*t),
+        _ => None,
+    }
+}
+
+// The transaction that spawns the one that the event starts.
+fn parent_by<A: Allocator>(event: &Event<A>) -> Option<TxnId> {
+    match event {
+        Event::Spawn(t, _, _) => Some(*t),
+        _ => None,
+    }
+}
+
+impl<A: Allocator> Chronicle<A> {
+    /// Notes that the event of the row that comes next is kept, and that there are so many edges behind it. `Err` where
+    /// there is no memory.
+    pub fn note(&mut self, event: &Event<A>, edges: usize) -> Result<(), AllocError> {
+        let row = self.rows.len();
+        if let Event::Operate(_, _, _) = event {
+            self.operations.push(row)?;
+        }
+        for _ in self.edges.len()..edges {
+            self.edges.push(row)?;
+        }
+        if let Some(t) = event.started() {
+            self.begin(t, row, event.class(), parent_by(event));
+        }
+        if let Some(t) = ended_by(event) {
+            self.end(t, row);
+        }
+        Ok(())
+    }
+
+    // Notes by which row a transaction began, and with what. Only the first counts.
+    fn begin(&mut self, t: TxnId, row: usize, class: Option<ClassId>, parent: Option<TxnId>) {
+        if let Some(life) = self.lives.get_mut(usize::from(t.0)) {
+            if life.began.is_none() {
+                life.began = Some(row);
+                life.class = class;
+                life.parent = parent;
+            }
+        }
+    }
+
+    // Notes by which row a transaction ended. Only the first counts.
+    fn end(&mut self, t: TxnId, row: usize) {
+        if let Some(life) = self.lives.get_mut(usize::from(t.0)) {
+            if life.ended.is_none() {
+                life.ended = Some(row);
+            }
+        }
+    }
+
+    /// Puts a row behind the others. `Err` where there is no memory.
+    pub fn push(&mut self, row: Row<A>) -> Result<(), AllocError> {
+        self.rows.push(row)?;
+        Ok(())
+    }
+
+    /// The rows, in order.
+    pub fn rows(&self) -> &[Row<A>] {
+        self.rows.as_slice()
+    }
+
+    /// The row by which the operation of this number was done.
+    pub fn of_operation(&self, op: OpNo) -> Option<&Row<A>> {
+        let place = (op.0 as usize).checked_sub(1)?;
+        let row = self.operations.get(place)?;
+        self.rows.get(*row)
+    }
+
+    /// The row by which the edge of this number was formed.
+    pub fn of_edge(&self, number: u64) -> Option<&Row<A>> {
+        let place = (number as usize).checked_sub(1)?;
+        let row = self.edges.get(place)?;
+        self.rows.get(*row)
+    }
+
+    /// How the transaction began and ended so far. One of a number that no transaction can have never did.
+    pub fn life(&self, t: TxnId) -> Life {
+        match self.lives.get(usize::from(t.0)) {
+            Some(life) => *life,
+            None => Life::UNBEGUN,
+        }
+    }
+
+    /// The row by which the transaction began.
+    pub fn of_begin(&self, t: TxnId) -> Option<&Row<A>> {
+        self.rows.get(self.life(t).began?)
+    }
+
+    /// The row by which the transaction ended.
+    pub fn of_end(&self, t: TxnId) -> Option<&Row<A>> {
+        self.rows.get(self.life(t).ended?)
+    }
+}

@@ -1,0 +1,38 @@
+//! The runs of histories, told in words. For each event there is its answer, and what it formed or why it is refused:
+//! the rule, what of the machine breaks it, and what would let the event go on. For a faulty line, text or image there
+//! is where the fault is, what stands there in a good one, and which word was perhaps meant. And each rule, axiom and
+//! code is told by its name.
+//!
+//! Nothing here decides anything: what is admitted, why an event is refused and what a history lacks is asked of the
+//! machine and of the judge, and is put into sentences.
+#![tactic(auto)]
+
+mod args;
+mod chronicle;
+mod faults;
+mod hints;
+mod images;
+mod judged;
+mod layout;
+mod listing;
+mod outline;
+mod phrases;
+mod placed;
+mod reasons;
+mod report;
+mod run;
+mod tables;
+mod texts;
+mod words;
+
+pub use args::{Asked, is_asked, parse};
+pub use chronicle::{Chronicle, Life, Row};
+pub use hints::nearest;
+pub use images::{Field, field_at};
+pub use reasons::{NEVER, Refused};
+pub use report::{explain, explain_tool, write_words};
+pub use tables::Table;
+pub use words::{
+    AXIOMS, Entry, IMAGE_FAULTS, LINE_CODES, MODEL_FAULTS, RULES, TEXT_CODES, axiom_entry, formula,
+    image_entry, line_entry, model_entry, rule_entry, text_entry,
+};

@@ -1,0 +1,30 @@
+use Rattle.std.proofs.Common.{◌≡◌, ◌<◌, ◌++◌, ◌∙◌, ℕ, List, ap, get_or, length, sym, subst}
+use Rattle.acta_machine.specs.Table.{after_all}
+use Rattle.acta_script.specs.Laws.{IsInModel}
+use Rattle.acta_words.specs.Text.{text_of}
+use Rattle.acta_tool.specs.Output.{spoken_lines, trace_lines}
+use Rattle.acta_tool.proofs.TraceLines.{traced}
+use Rattle.acta_tool.proofs.tracing.trace_model.Goals as goal
+
+pub tell_traced-requires : goal.tell_traced-requires
+tell_traced-requires g c =
+    λ k d within.
+    let value = c.as_slice.ensures.value in
+    let fits : IsInModel c.args.model (get_or c.in_ok-read.read.said.items k d) = c.in_ok-read.ensures.fits k d (subst (λ xs. k < length xs) value within) in
+    subst (λ m. IsInModel m (get_or c.as_slice.result.now k d)) (sym (ap (λ s. s.model) c.in_ok-machine.ensures.fresh))
+    (subst (λ xs. IsInModel c.args.model (get_or xs k d)) (sym value) fits)
+
+pub returns : goal.returns
+returns g c =
+    let value = c.as_slice.ensures.value in
+    let begun = c.in_ok-machine.ensures.fresh in
+    let numbers : List ℕ = c.deref.result.now in
+    (λ i. record { is_refused = c.is_some.ensures i; text = c.tell_end.new.text.items })
+    ∙ traced c.args.model (spoken_lines c.args.input.now) numbers _ c.in_ok-read.read.said.items c.in_ok-read.read.stop c.tell_traced.new.machine c.tell_traced.new.text.items c.tell_end.new.text.items
+    c.in_ok-read.ensures.said
+    (c.deref.ensures.value ∙ c.in_ok-numbers.ensures)
+    (c.in_ok-tell_traced.ensures.told
+    ∙ ap (λ t. t ++ text_of (trace_lines c.in_ok-machine.machine numbers c.as_slice.result.now)) c.new-text.ensures.items
+    ∙ (λ x. text_of (trace_lines (begun x) numbers (value x))))
+    (c.in_ok-tell_traced.ensures.machine ∙ (λ x. after_all (begun x) (value x)))
+    c.in_ok-tell_end.ensures

@@ -1,0 +1,181 @@
+//! The command `trace`: the answer to each event, with the line in which it stands and what it formed.
+
+ghost use Rattle.std.specs.Prelude.{◌≡◌, ◌<◌, ◌≤◌, ◌+◌, ◌++◌, ◌∷◌, [], All, drop, flat_map, get_or, length, IfOk, OnOk};
+ghost use Rattle.acta_machine.specs.Table.{after_all, edges_in};
+ghost use Rattle.acta_script.specs.Laws.{IsInModel};
+ghost use Rattle.acta_script.specs.Reading.{event_of};
+ghost use Rattle.acta_words.specs.Text.{text_of};
+ghost use Rattle.acta_tool.specs.Output.{edge_words, formed_line, op_words, said_in, spoken_lines, trace_lines, trace_on};
+ghost use Rattle.acta_tool.specs.inside.Reports.{output_of};
+
+use crate::input::{EventLines, read_lines};
+use crate::reports::Report;
+use crate::telling::tell_end;
+use acta_machine::{Formed, Handle, Machine};
+use acta_script::{answer_line, write_event};
+use acta_table::{Edge, Event, MOST_EDGES, Model, OpNo};
+use acta_words::{Lines, has_words, push_line, push_natural, push_word};
+use itoa::Buffer;
+use std::alloc::{AllocError, Allocator};
+
+// The numbers of the lines that have words.
+#[tactic(auto, unfolding(crate::specs::Output::spoken_lines))]
+fn spoken_lines<A: Allocator>(alloc: A, input: &[u8]) -> Result<Vec<usize, A>, AllocError>
+    ensures { IfOk result (λ numbers. numbers.items ≡ spoken_lines input.now) }
+{
+    let mut numbers = Vec::new(alloc);
+    let mut lines = Lines::of(input);
+    let mut number = 0;
+    while let Some(line) = lines.next() {
+        number += 1;
+        if has_words(line) {
+            numbers.push(number)?;
+        }
+    }
+    Ok(numbers)
+}
+
+// Tells the operation that an event added.
+fn tell_op<A: Allocator>(text: &mut Vec<u8, A>, op: Option<OpNo>) -> Result<(), AllocError>
+    ensures { OnOk result (text.new.items ≡ text.old.items ++ flat_map (λ word. 32 ∷ word) (op_words op)) }
+{
+    let Some(op) = op else {
+        return Ok(());
+    };
+    push_word(text, b":")?;
+    push_word(text, b"op")?;
+    push_natural(text, u64::from(op.0))?;
+    Ok(())
+}
+
+// Tells an edge with its number.
+fn tell_edge<A: Allocator>(
+    text: &mut Vec<u8, A>,
+    number: u64,
+    edge: &Edge,
+) -> Result<(), AllocError>
+    ensures { OnOk result (text.new.items ≡ text.old.items ++ flat_map (λ word. 32 ∷ word) (edge_words number (edge.now ∷ []))) }
+{
+    push_word(text, b":")?;
+    push_word(text, b"edge")?;
+    push_natural(text, number)?;
+    push_word(text, edge.kind.word().as_bytes())?;
+    push_natural(text, u64::from(edge.j.0))?;
+    push_natural(text, u64::from(edge.i.0))?;
+    Ok(())
+}
+
+// Tells the edges that are new, of which so many were in force before.
+fn tell_edges<A: Allocator>(
+    text: &mut Vec<u8, A>,
+    before: usize,
+    edges: &[Edge],
+) -> Result<(), AllocError>
+    requires { 0 < length edges.now → before + length edges.now ≤ MOST_EDGES }
+    ensures { OnOk result (text.new.items ≡ text.old.items ++ flat_map (λ word. 32 ∷ word) (edge_words (before + 1) edges.now)) }
+{
+    let mut number = before as u64;
+    for edge in edges {
+        number += 1;
+        tell_edge(text, number, edge)?;
+    }
+    Ok(())
+}
+
+// The edges behind so many.
+fn behind(edges: &[Edge], before: usize) -> &[Edge]
+    ensures { result.now ≡ drop before edges.now }
+{
+    if before <= edges.len() {
+        &edges[before..]
+    } else {
+        &[]
+    }
+}
+
+// Tells an event in this line, and what became of it on the machine.
+fn tell_formed<A: Handle>(
+    alloc: A,
+    machine: &Machine<A>,
+    line: usize,
+    event: &Event<A>,
+    formed: &Formed,
+    text: &mut Vec<u8, A>,
+) -> Result<(), AllocError>
+    requires { IsInModel machine.now.model event.now }
+    ensures { OnOk result (text.new.items ≡ text.old.items ++ text_of (formed_line machine.now.model line event.now formed.now.answer formed.now.op formed.now.edges_before (edges_in machine.now) ∷ [])) }
+{
+    let mut digits = Buffer::new();
+    text.extend_from_slice(digits.format(line).as_bytes())?;
+    push_word(text, answer_line(alloc, &formed.answer)?.as_slice())?;
+    push_word(text, b":")?;
+    push_word(text, write_event(alloc, machine.model(), event)?.as_slice())?;
+    tell_op(text, formed.op)?;
+    let before = formed.edges_before;
+    tell_edges(text, before, behind(machine.edges(), before))?;
+    push_line(text, b"")?;
+    Ok(())
+}
+
+// The number of this line, or 0 where there is none.
+fn line_at(lines: &[usize], k: usize) -> usize
+    ensures { result ≡ get_or lines.now k 0 }
+{
+    match lines.get(k) {
+        Some(line) => *line,
+        None => 0,
+    }
+}
+
+// Has the machine take the events, which stand in these lines, and tells each.
+fn tell_traced<A: Handle>(
+    alloc: A,
+    machine: &mut Machine<A>,
+    lines: &[usize],
+    events: &[Event<A>],
+    text: &mut Vec<u8, A>,
+) -> Result<(), AllocError>
+    requires { All (IsInModel machine.old.model) events.now }
+    ensures told { OnOk result (text.new.items ≡ text.old.items ++ text_of (trace_lines machine.old lines.now events.now)) }
+    ensures machine { OnOk result (machine.new ≡ after_all machine.old events.now) }
+{
+    let mut k = 0;
+    for event in events {
+        let line = line_at(lines, k);
+        k += 1;
+        let formed = machine.take_forming(event)?;
+        tell_formed(alloc, machine, line, event, &formed, text)?;
+    }
+    Ok(())
+}
+
+/// What is told of a run of the events of the input, with their lines and what they formed.
+pub fn trace_model<A: Handle>(
+    alloc: A,
+    model: Model<A>,
+    input: &[u8],
+) -> Result<Report<A>, AllocError>
+    ensures { IfOk result (λ report. output_of report ≡ trace_on model (spoken_lines input.now) (said_in (event_of model) input.now)) }
+{
+    let lines = EventLines {
+        alloc,
+        model: &model,
+    };
+    let read = read_lines(alloc, &lines, input)?;
+    let numbers = spoken_lines(alloc, input)?;
+    let mut machine = Machine::new(alloc, model)?;
+    let mut text = Vec::new(alloc);
+    tell_traced(
+        alloc,
+        &mut machine,
+        &numbers,
+        read.said.as_slice(),
+        &mut text,
+    )?;
+    tell_end(alloc, false, &machine, read.stop, &mut text)?;
+    drop(machine);
+    Ok(Report {
+        text,
+        is_refused: read.stop.is_some(),
+    })
+}
