@@ -14,6 +14,7 @@ mod holding;
 mod lineage;
 mod places;
 mod seeking;
+mod sentences;
 mod serial;
 mod strict;
 mod taking;

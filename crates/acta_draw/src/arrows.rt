@@ -26,7 +26,7 @@ fn add_edge<A: Handle>(arrow: &mut Arrow<A>, number: u64, edge: &Edge) -> Result
     let kind = edge.kind.word();
     let j = edge.j.0;
     let i = edge.i.0;
-    let formula = acta_explain::formula(edge.kind);
+    let formula = edge.kind.sentence();
     write!(arrow.label, "{kind} {number}")?;
     write!(
         arrow.title,

@@ -33,6 +33,6 @@ pub use reasons::{NEVER, Refused};
 pub use report::{explain, explain_tool, write_words};
 pub use tables::Table;
 pub use words::{
-    AXIOMS, Entry, IMAGE_FAULTS, LINE_CODES, MODEL_FAULTS, RULES, TEXT_CODES, axiom_entry, formula,
+    AXIOMS, Entry, IMAGE_FAULTS, LINE_CODES, MODEL_FAULTS, RULES, TEXT_CODES, axiom_entry,
     image_entry, line_entry, model_entry, rule_entry, text_entry,
 };

@@ -8,6 +8,7 @@ mod fault;
 mod fields;
 mod loading;
 mod rows;
+mod sentences;
 mod upgrading;
 mod version;
 mod writing;

@@ -17,6 +17,7 @@ mod object_lines;
 mod policy_forms;
 mod printing;
 mod said;
+mod sentences;
 mod words;
 
 pub use assembling::assemble;

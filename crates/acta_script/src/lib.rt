@@ -29,6 +29,7 @@ mod operations;
 mod reading;
 mod returns;
 mod seated;
+mod sentences;
 mod writing;
 
 pub use answers::{answer_line, fault_line, owed_line};

@@ -11,6 +11,7 @@ mod limits;
 mod model;
 mod op_set;
 mod policy;
+mod sentences;
 mod start_edges;
 
 pub use answer::{Answer, Fate, Refusal, Rule, Status, lesser, smallest_of};

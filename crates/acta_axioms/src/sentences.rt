@@ -1,0 +1,78 @@
+//! The axioms in words: what each is called, and what it says in a sentence.
+
+use crate::fault::Axiom;
+use std::fmt;
+
+impl Axiom {
+    /// The name of the axiom; of one on dependencies the short name of their kind.
+    pub fn name(self) -> &'static str {
+        match self {
+            Axiom::BegunOnce => "BegunOnce",
+            Axiom::EndedAfterBegun => "EndedAfterBegun",
+            Axiom::EndedOnce => "EndedOnce",
+            Axiom::OperatesInProgress => "OperatesInProgress",
+            Axiom::FormOfEvent => "FormOfEvent",
+            Axiom::Allowed => "Allowed",
+            Axiom::PartiesInProgress => "PartiesInProgress",
+            Axiom::Responsible => "Responsible",
+            Axiom::HandsWhole => "HandsWhole",
+            Axiom::Conflict => "Conflict",
+            Axiom::Return => "Return",
+            Axiom::Heir => "Heir",
+            Axiom::FormedInTime => "FormedInTime",
+            Axiom::Dependency(kind) => kind.word(),
+            Axiom::Clash => "Clash",
+        }
+    }
+
+    /// What the axiom says of a history, in a sentence.
+    pub fn sentence(self) -> &'static str {
+        match self {
+            Axiom::BegunOnce => {
+                "A transaction begins at most once, a spawn or a split counted too."
+            }
+            Axiom::EndedAfterBegun => {
+                "A transaction commits, aborts or joins another only after it has begun."
+            }
+            Axiom::EndedOnce => "A transaction commits, aborts or joins another at most once.",
+            Axiom::OperatesInProgress => "Only a transaction in progress does operations.",
+            Axiom::FormOfEvent => {
+                "Numbers, classes, objects and operations are those of the model, and no event names one transaction twice."
+            }
+            Axiom::Allowed => {
+                "A transaction starts, and does an event, only as its class allows it, and an edge is formed only where a class may form any."
+            }
+            Axiom::PartiesInProgress => {
+                "Only one in progress spawns, splits, delegates or permits, and only one in progress is joined, delegated to or permitted."
+            }
+            Axiom::Responsible => {
+                "One that splits or delegates names only operations that it holds in progress."
+            }
+            Axiom::HandsWhole => {
+                "One whose class has `delegation whole` names all that it holds in progress where it splits or delegates."
+            }
+            Axiom::Conflict => {
+                "Where the class has `policy refuse`, an operation conflicts with none of its transaction's conflict set."
+            }
+            Axiom::Return => {
+                "An operation returns what the operations before it that aren't aborted make it return, and no other event returns anything."
+            }
+            Axiom::Heir => {
+                "One whose class commits to parents commits only while it has a parent in progress."
+            }
+            Axiom::FormedInTime => {
+                "An edge of a begin kind is formed before the one that depends begins, and any other before one of the two ends."
+            }
+            Axiom::Dependency(kind) => kind.sentence(),
+            Axiom::Clash => "No transaction owes both a commit and an abort.",
+        }
+    }
+}
+
+impl fmt::Display for Axiom {
+    fn fmt<W: fmt::Write>(&self, f: &mut fmt::Formatter<W>) -> fmt::Result {
+        let name = self.name();
+        let sentence = self.sentence();
+        write!(f, "{name}: {sentence}")
+    }
+}

@@ -1,0 +1,43 @@
+//! The faults of images in words: what each is called, and what it says in a sentence.
+
+use crate::fault::ImageFault;
+use std::error::Error;
+use std::fmt;
+
+impl ImageFault {
+    /// The name of the fault.
+    pub fn name(self) -> &'static str {
+        match self {
+            ImageFault::Magic => "Magic",
+            ImageFault::Version => "Version",
+            ImageFault::Truncated => "Truncated",
+            ImageFault::BadField(_) => "BadField",
+            ImageFault::Trailing(_) => "Trailing",
+            ImageFault::Model(_) => "Model",
+        }
+    }
+
+    /// When bytes have the fault, in a sentence.
+    pub fn sentence(self) -> &'static str {
+        match self {
+            ImageFault::Magic => "One of the first four bytes is another than in `ACTA`.",
+            ImageFault::Version => "The version is neither 1 nor 2.",
+            ImageFault::Truncated => "The bytes end inside a field, or before one.",
+            ImageFault::BadField(_) => "The field at this offset has a value that isn't allowed.",
+            ImageFault::Trailing(_) => "Bytes are left behind the last field, from this offset on.",
+            ImageFault::Model(_) => {
+                "All fields are good, and what they say has this fault of models."
+            }
+        }
+    }
+}
+
+impl fmt::Display for ImageFault {
+    fn fmt<W: fmt::Write>(&self, f: &mut fmt::Formatter<W>) -> fmt::Result {
+        let name = self.name();
+        let sentence = self.sentence();
+        write!(f, "{name}: {sentence}")
+    }
+}
+
+impl Error for ImageFault {}

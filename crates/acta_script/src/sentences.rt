@@ -1,0 +1,45 @@
+//! The faults of lines in words: what each is called, and what it says in a sentence.
+
+use crate::fault::LineFault;
+use std::error::Error;
+use std::fmt;
+
+impl LineFault {
+    /// The name of the fault.
+    pub fn name(self) -> &'static str {
+        match self {
+            LineFault::Empty => "Empty",
+            LineFault::Word => "Word",
+            LineFault::Arity => "Arity",
+            LineFault::Number => "Number",
+            LineFault::Name => "Name",
+        }
+    }
+
+    /// When a line has the fault, in a sentence.
+    pub fn sentence(self) -> &'static str {
+        match self {
+            LineFault::Empty => "There are no words.",
+            LineFault::Word => {
+                "The first word is no event, or the one in the place of a kind of dependency or of an operation is none."
+            }
+            LineFault::Arity => {
+                "There are too few or too many words for the event, or not one word behind a `=`."
+            }
+            LineFault::Number => {
+                "A number of a transaction, an INT, a list of operations or a return isn't written as one, or is out of its bounds."
+            }
+            LineFault::Name => "The model has no such class, or no such object.",
+        }
+    }
+}
+
+impl fmt::Display for LineFault {
+    fn fmt<W: fmt::Write>(&self, f: &mut fmt::Formatter<W>) -> fmt::Result {
+        let name = self.name();
+        let sentence = self.sentence();
+        write!(f, "{name}: {sentence}")
+    }
+}
+
+impl Error for LineFault {}
