@@ -62,9 +62,9 @@ or-told after es (Some x) b first then r e = first r e
 edge-told-by : (after : ℕ → Status) (es : List Edge) (rule : Rule) (test : Edge → Bool) → rule ≢ Clash → (o : Option ℕ) → first_number test es ≡ o → AreTold after es (broken_by rule o)
 edge-told-by after es rule test other None is r e = absurd (none-some e)
 edge-told-by after es rule test other (Some n) is r e =
-    let same : record { rule = rule; by = Some n } ≡ r = some-is e in
-    ( λ named. absurd (other (ap (λ (q : Refusal). q.rule) same ∙ named))
-    , λ _. (n, sym (ap (λ (q : Refusal). q.by) same), first-there test es n is)
+    let same : record { rule = rule; by = Some n } ≡ r = some-is e in (
+      λ named. absurd (other (ap (λ (q : Refusal). q.rule) same ∙ named)),
+      λ _. (n, sym (ap (λ (q : Refusal). q.by) same), first-there test es n is),
     )
 
 edge-told : (after : ℕ → Status) (es : List Edge) (rule : Rule) (test : Edge → Bool) → rule ≢ Clash → AreTold after es (broken_by rule (first_number test es))
@@ -73,9 +73,9 @@ edge-told after es rule test other = edge-told-by after es rule test other (firs
 clash-told-by : (after : ℕ → Status) (es : List Edge) (o : Option ℕ) → clashing after es ≡ o → AreTold after es (broken_by Clash o)
 clash-told-by after es None is r e = absurd (none-some e)
 clash-told-by after es (Some n) is r e =
-    let same : record { rule = Clash; by = Some n } ≡ r = some-is e in
-    ( λ _. (n, sym (ap (λ (q : Refusal). q.by) same), is)
-    , λ other. absurd (other (sym (ap (λ (q : Refusal). q.rule) same)))
+    let same : record { rule = Clash; by = Some n } ≡ r = some-is e in (
+      λ _. (n, sym (ap (λ (q : Refusal). q.by) same), is),
+      λ other. absurd (other (sym (ap (λ (q : Refusal). q.rule) same))),
     )
 
 clash-told : (s : ℕ → Status) (es : List Edge) (t : ℕ) (st : Status) → AreTold (with_status s t st) es (clash s es t st)

@@ -57,9 +57,7 @@ impl Obstacle {
     {
         match self {
             Obstacle::Edge(barring) => Refusal::by(barring.rule, barring.by.number),
-            Obstacle::Clash(clash) => {
-                Refusal::by(Rule::Clash, u32::from(clash.commit.edge.j.0))
-            }
+            Obstacle::Clash(clash) => { Refusal::by(Rule::Clash, u32::from(clash.commit.edge.j.0)) }
         }
     }
 }

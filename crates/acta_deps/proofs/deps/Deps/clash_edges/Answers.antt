@@ -15,7 +15,7 @@ returns-in_err-abort-clause-txn g c =
     absurd (owing-first (status_after c.args.self.now c.args.change) c.args.self.now.edges c.in_ok-number.number Abort (sym c.in_ok-number.ensures) (sym c.in_err-abort.ensures.number))
 
 pub returns-clause-so : goal.returns-clause-so
-returns-clause-so g c =
-    ( ((λ i. first_number (owes Commit (status_after c.args.self.now c.args.change) (c.in_ok-commit.ensures.party i)) c.args.self.now.edges) ∙ sym c.in_ok-commit.ensures.number, c.in_ok-commit.ensures.edge)
-    , ((λ i. first_number (owes Abort (status_after c.args.self.now c.args.change) (c.in_ok-commit.ensures.party i)) c.args.self.now.edges) ∙ sym c.in_ok-abort.ensures.number, c.in_ok-abort.ensures.edge)
-    )
+returns-clause-so g c = (
+  ((λ i. first_number (owes Commit (status_after c.args.self.now c.args.change) (c.in_ok-commit.ensures.party i)) c.args.self.now.edges) ∙ sym c.in_ok-commit.ensures.number, c.in_ok-commit.ensures.edge),
+  ((λ i. first_number (owes Abort (status_after c.args.self.now c.args.change) (c.in_ok-commit.ensures.party i)) c.args.self.now.edges) ∙ sym c.in_ok-abort.ensures.number, c.in_ok-abort.ensures.edge),
+)
