@@ -618,7 +618,7 @@ impl<'a, A: Handle> Refused<'a, A> {
         let j = edge.j.0;
         let i = edge.i.0;
         format!(in self.alloc;
-            "By {cause} of {i} would {j} owe {article} {missing}, which it can't do any more: {j} {stands}.\n{NEVER}"
+            "By {cause} of {i}, {j} would owe {article} {missing}, which it can't do any more: {j} {stands}.\n{NEVER}"
         )
     }
 
