@@ -7,5 +7,6 @@ pub mod Forms
 mod Histories
 pub mod Meeting
 pub mod Merging
+pub mod Putting
 pub mod Spotless
 pub mod Stretches

@@ -1,8 +1,9 @@
 -- The order of faults: by the number of the axiom, then by place, then by the number that breaks it.
-use Rattle.std.specs.Prelude.{List, [], fold}
+use Rattle.std.specs.Prelude.{Bool, List, [], fold}
 use Rattle.std.specs.BTreeSet.{insert_key}
 use Rattle.std.specs.declared.cmp.Ordering.{Ordering}
-use Rattle.std.specs.Ordering.{nat_cmp, ordering_then}
+use Rattle.std.specs.List.{list_any}
+use Rattle.std.specs.Ordering.{nat_cmp, ordering_then, is_eq}
 use Rattle.acta_axioms.specs.declared.fault.Fault.{Fault}
 use Rattle.acta_axioms.specs.Axioms.{axiom_number}
 
@@ -24,3 +25,7 @@ merged faults others = fold with_fault faults others
 -- the faults in order, each once
 abbrev pub in_order : List Fault → List Fault
 in_order faults = merged [] faults
+
+-- whether a fault is among these: one by the same axiom, at the same place and by the same number
+abbrev pub is_told : Fault → List Fault → Bool
+is_told f faults = list_any (λ g. is_eq (fault_cmp f g)) faults

@@ -2,7 +2,10 @@
 
 ghost use Rattle.std.specs.Prelude.{◌≡◌, ◌<◌, [], length, Err, IfOk};
 ghost use Rattle.acta_judge.specs.declared.verdict.JudgeError.{JudgeError};
-ghost use Rattle.acta_judge.specs.Verdicts.{verdict};
+ghost use Rattle.std.specs.List.Sorted.{IsStrictlySortedBy};
+ghost use Rattle.acta_axioms.specs.declared.fault.Fault.{Fault};
+ghost use Rattle.acta_judge.specs.Order.{fault_cmp, is_told};
+ghost use Rattle.acta_judge.specs.Verdicts.{all_faults, verdict};
 
 use crate::clashes::tell_clashes;
 use crate::cut::Cut;
@@ -23,7 +26,8 @@ fn told<'a, A: Handle + Send + Sync, R: Threads + Sync>(
     walk: &mut Walk<'a, A>,
 ) -> Result<Verdict<A>, AllocError>
     requires { walk.old.front ≡ [] }
-    ensures { IfOk result (λ v. v ≡ verdict walk.old.model walk.old.ahead) }
+    ensures verdict { IfOk result (λ v. v ≡ verdict walk.old.model walk.old.ahead) }
+    ensures ascending { IfOk result (λ v. IsStrictlySortedBy fault_cmp v.faults) }
 {
     let size = cut.size(walk.ahead().len(), cut.places);
     let places = tell_places(rt, alloc, walk, size)?;
@@ -53,6 +57,8 @@ pub fn judge<A: Handle + Send + Sync, R: Threads + Sync>(
     kept: &[Kept<A>],
 ) -> Result<Verdict<A>, JudgeError>
     ensures verdict { IfOk result (λ v. v ≡ verdict model.now kept.now) }
+    ensures ascending { IfOk result (λ v. IsStrictlySortedBy fault_cmp v.faults) }
+    ensures each { (f : Fault) → IfOk result (λ v. is_told f v.faults ≡ is_told f (all_faults model.now kept.now)) }
     ensures long { MOST_EVENTS < length kept.now → result ≡ Err JudgeError.TooLong }
     ensures short { result ≡ Err JudgeError.TooLong → MOST_EVENTS < length kept.now }
 {
@@ -68,6 +74,8 @@ pub fn judge_in_parts<A: Handle + Send + Sync, R: Threads + Sync>(
     kept: &[Kept<A>],
 ) -> Result<Verdict<A>, JudgeError>
     ensures verdict { IfOk result (λ v. v ≡ verdict model.now kept.now) }
+    ensures ascending { IfOk result (λ v. IsStrictlySortedBy fault_cmp v.faults) }
+    ensures each { (f : Fault) → IfOk result (λ v. is_told f v.faults ≡ is_told f (all_faults model.now kept.now)) }
     ensures long { MOST_EVENTS < length kept.now → result ≡ Err JudgeError.TooLong }
     ensures short { result ≡ Err JudgeError.TooLong → MOST_EVENTS < length kept.now }
 {

@@ -1,7 +1,8 @@
 //! Faults put in order, each once.
 
 ghost use Rattle.std.specs.Prelude.{◌≡◌, ◌++◌, flat_map, IfOk, OnOk};
-ghost use Rattle.acta_judge.specs.Order.{with_fault, merged, in_order};
+ghost use Rattle.std.specs.List.Sorted.{IsStrictlySortedBy};
+ghost use Rattle.acta_judge.specs.Order.{fault_cmp, with_fault, merged, in_order};
 ghost use Rattle.acta_judge.specs.inside.Parts.{together};
 
 use crate::edges::ByEdges;
@@ -56,7 +57,8 @@ fn put_edges<A: Handle>(
 
 // The faults, in order.
 fn listed<A: Handle>(alloc: A, faults: &BTreeSet<Fault, A>) -> Result<Vec<Fault, A>, AllocError>
-    ensures { IfOk result (λ listed. listed.items ≡ faults.now.keys) }
+    ensures keys { IfOk result (λ listed. listed.items ≡ faults.now.keys) }
+    ensures ascending { IfOk result (λ listed. IsStrictlySortedBy fault_cmp listed.items) }
 {
     let mut listed = Vec::with_capacity(alloc, faults.len())?;
     for fault in faults.iter() {
@@ -73,7 +75,8 @@ pub(crate) fn in_order<A: Handle>(
     edges: &[ByEdges<A>],
     clashes: &[Fault],
 ) -> Result<Vec<Fault, A>, AllocError>
-    ensures { IfOk result (λ listed. listed.items ≡ in_order (together places.now ++ flat_map (λ part. part.faults) edges.now ++ clashes.now)) }
+    ensures listed { IfOk result (λ listed. listed.items ≡ in_order (together places.now ++ flat_map (λ part. part.faults) edges.now ++ clashes.now)) }
+    ensures ascending { IfOk result (λ listed. IsStrictlySortedBy fault_cmp listed.items) }
 {
     let mut ordered = BTreeSet::new(alloc);
     put_places(places, &mut ordered)?;

@@ -19,8 +19,8 @@ use Rattle.acta_axioms.proofs.Conflicts.{suits-conflicts, ill-conflicts}
 use Rattle.acta_machine.specs.Summary.{Summary}
 use Rattle.acta_machine.specs.Changes.{edges_due}
 use Rattle.acta_machine.specs.Conflicts.{stands_against, opponents}
-use Rattle.acta_machine.specs.Families.{spared, spared_numbers}
-use Rattle.acta_machine.specs.inside.Spared.{is_spared, AreSpared}
+use Rattle.acta_machine.specs.Families.{spared}
+use Rattle.acta_machine.specs.inside.Spared.{is_spared, AreSpared, spared_numbers}
 
 by-number : (ts : List TxnId) (u : TxnId) → list_any (λ n. n == u.0) (map (λ t. t.0) ts) ≡ is_among ts u
 by-number [] u = refl

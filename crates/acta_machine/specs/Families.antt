@@ -1,5 +1,5 @@
 -- What a summary says of a transaction by its class and its ancestors.
-use Rattle.std.specs.Prelude.{ℕ, Bool, false, List, [], map, if◌then◌else◌, Option, None, option_and_then}
+use Rattle.std.specs.Prelude.{ℕ, Bool, false, List, [], if◌then◌else◌, Option, None, option_and_then}
 use Rattle.std.specs.Option.{option_map_or}
 use Rattle.acta_table.specs.declared.event.TxnId.{TxnId}
 use Rattle.acta_table.specs.declared.event.OpNo.{OpNo}
@@ -7,7 +7,6 @@ use Rattle.acta_table.specs.declared.model.Class.{Class}
 use Rattle.acta_table.specs.declared.model.Parts.{Parts}
 use Rattle.acta_table.specs.Ancestors.{ancestors_from}
 use Rattle.acta_table.specs.Classes.{class_at, spares, has_heir}
-use Rattle.acta_table.specs.Numbered.{ascending}
 use Rattle.acta_sets.specs.Operations.{conflict_set}
 use Rattle.acta_machine.specs.Summary.{Summary}
 
@@ -26,10 +25,6 @@ ancestors_of s t = ancestors_from s.kept s.parent (s.parent t)
 -- the ancestors of t, where its class leaves them out of the conflict set
 abbrev pub spared : {A : Type 0} → Parts A → Summary → ℕ → List TxnId
 spared m s t = if has_class (λ k. spares k.scope) m s t then ancestors_of s t else []
-
--- the same by number, ascending, each once
-abbrev pub spared_numbers : {A : Type 0} → Parts A → Summary → ℕ → List ℕ
-spared_numbers m s t = ascending (map (λ u. u.0) (spared m s t))
 
 -- the operations in progress that others hold, but for ancestors whom the class spares, and for those who permit it
 abbrev pub conflict_set_of : {A : Type 0} → Parts A → Summary → ℕ → List OpNo

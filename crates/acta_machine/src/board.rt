@@ -11,10 +11,10 @@ ghost use Rattle.acta_values.specs.KeptValues.{kinds_of};
 ghost use Rattle.acta_machine.specs.Places.{AreHeldWell};
 ghost use Rattle.acta_table.specs.Numbered.{ascending};
 ghost use Rattle.acta_table.specs.Classes.{spares};
-ghost use Rattle.acta_machine.specs.Families.{class_of, has_class, spared, spared_numbers, conflict_set_of, heir_of};
+ghost use Rattle.acta_machine.specs.Families.{class_of, has_class, spared, conflict_set_of, heir_of};
 ghost use Rattle.acta_machine.specs.Values.{value_of, return_due};
 ghost use Rattle.acta_machine.specs.inside.Shown.{shown, origin_in};
-ghost use Rattle.acta_machine.specs.inside.Spared.{AreSpared};
+ghost use Rattle.acta_machine.specs.inside.Spared.{AreSpared, spared_numbers};
 ghost use Rattle.acta_machine.specs.Rules.{lowest_broken};
 
 use acta_axioms::with_txns;

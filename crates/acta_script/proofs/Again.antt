@@ -31,8 +31,9 @@ use Rattle.acta_table.specs.Dependencies.{word_of}
 use Rattle.acta_table.specs.Faults.{lowest_fault, is_name}
 use Rattle.acta_script.specs.declared.fault.LineFault.{LineFault}
 use Rattle.acta_script.specs.declared.fault.LineFault.TheVariants.{Number, Name}
-use Rattle.acta_script.specs.Laws.{IsInModel, IsReadAgain, IsKeptAgain}
-use Rattle.acta_script.specs.Ranges.{IsWithin, HasRanges, HasRange, integer_of}
+use Rattle.acta_script.specs.Laws.{IsInModel}
+use Rattle.acta_script.specs.inside.Again.{IsReadAgain, IsKeptAgain}
+use Rattle.acta_script.specs.inside.Ranges.{IsWithin, HasRanges, HasRange, integer_of}
 use Rattle.acta_script.specs.Reading.{◌>>=◌, txn_said, integer_said, class_said, object_said, kind_said, begin_said, spawn_said, split_said, join_said, delegate_said, form_said, do_said, commit_said, abort_said, permit_said, event_said, return_named, return_said, is_equals, both, with_return, plain, kept_said, kept_of}
 use Rattle.acta_script.specs.Writing.{txn_word, class_word, object_word, operation_words, event_words, event_line, return_word, kept_line}
 use Rattle.acta_script.proofs.Checked.{IsChecked, checked}

@@ -1,24 +1,10 @@
--- What holds of lines and events.
-use Rattle.std.specs.Prelude.{◌≡◌, ◌<◌, length, IfSome, None, Ok}
+-- What holds of an event and a model.
+use Rattle.std.specs.Prelude.{◌<◌, length, IfSome}
 use Rattle.acta_table.specs.declared.event.Event.{Event}
-use Rattle.acta_table.specs.declared.event.Kept.{Kept}
 use Rattle.acta_table.specs.declared.model.Parts.{Parts}
 use Rattle.acta_table.specs.Events.{class_named, object_named}
-use Rattle.acta_script.specs.Reading.{event_of, kept_of}
-use Rattle.acta_script.specs.Writing.{event_line, kept_line}
 
 -- the class and the object that the event names, if it does, are in the model
 pub record IsInModel {A : Type 0} (m : Parts A) (event : Event A) : Type 0 where
   pub class : IfSome (class_named event) (λ class. class < length m.classes)
   pub object : IfSome (object_named event) (λ object. object < length m.objects)
-
--- the event names no class and no object
-abbrev pub NamesNothing : {A : Type 0} → Event A → Type 0
-NamesNothing event = (class_named event ≡ None) × (object_named event ≡ None)
-
--- the line of the event says the event, and so of a kept item
-abbrev pub IsReadAgain : {A : Type 0} → Parts A → Event A → Type 0
-IsReadAgain m event = event_of m (event_line m event) ≡ Ok event
-
-abbrev pub IsKeptAgain : {A : Type 0} → Parts A → Kept A → Type 0
-IsKeptAgain m kept = kept_of m (kept_line m kept) ≡ Ok kept

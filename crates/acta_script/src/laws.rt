@@ -6,8 +6,9 @@ ghost use Rattle.std.specs.List.{list_all};
 ghost use Rattle.std.specs.List.Sorted.{IsStrictlySortedBy};
 ghost use Rattle.std.specs.Ordering.{nat_cmp};
 ghost use Rattle.acta_table.specs.Sets.{numbers_of};
-ghost use Rattle.acta_script.specs.Laws.{IsInModel, IsReadAgain, IsKeptAgain};
-ghost use Rattle.acta_script.specs.Ranges.{IsWithin, integer_of, HasRanges, HasRange};
+ghost use Rattle.acta_script.specs.Laws.{IsInModel};
+ghost use Rattle.acta_script.specs.inside.Again.{IsReadAgain, IsKeptAgain};
+ghost use Rattle.acta_script.specs.inside.Ranges.{IsWithin, integer_of, HasRanges, HasRange};
 
 use acta_table::{Event, Kept, Model, Op, OpNo, OpSet, Ret, TxnId};
 use std::alloc::Allocator;

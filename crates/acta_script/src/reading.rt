@@ -2,7 +2,8 @@
 //! numbers, then names. So the fault that is told is the lowest.
 
 ghost use Rattle.std.specs.Prelude.{◌≡◌, map, Ok, IfOk, IfErr};
-ghost use Rattle.acta_script.specs.Laws.{IsInModel, NamesNothing};
+ghost use Rattle.acta_script.specs.Laws.{IsInModel};
+ghost use Rattle.acta_script.specs.inside.Again.{NamesNothing};
 ghost use Rattle.acta_script.specs.Reading.{IsWhy, begin_said, spawn_said, split_said, join_said, delegate_said, form_said, form_of_kind, do_said, commit_said, abort_said, permit_said, event_kind_said, event_of_kind, event_said, event_of};
 
 use crate::fault::{LineError, LineFault};

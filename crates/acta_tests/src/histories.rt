@@ -480,7 +480,18 @@ delegate 1 2 1 : ok 5
 delegate 2 3 1 : ok 6
 join 3 1 : ok 7
 delegate 2 1 1 : no 11 by 1
-abort 1 : ok 8";
+abort 1 : ok 8
+# What split off gets the rest by a join, and takes all of it back
+begin 1 part : ok 1
+do 1 x write 5 : ok 2 done
+do 1 n add 3 : ok 3 done
+split 1 2 part 2 : ok 4
+join 1 2 : ok 5
+? access 2 : 1 2
+commit 1 : no 7 by 1
+abort 2 : ok 6
+? value x : 0
+? value n : 0";
 
 /// Transactions that part with edges: `part` hands over the whole, may form edges, and lists two for a split, CD of
 /// the one that splits on the one that it splits off, and WD the other way round.

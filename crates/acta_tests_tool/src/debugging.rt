@@ -150,6 +150,18 @@ no AtStart
 status 0
 ";
 
+/// A place that is no number, behind the line that ends the events.
+pub const MISPLACED: &str = "\
+$ debug @atomic
+| begin 1 flat
+| do 1 x write 5
+| commit 1
+| --
+| goto x
+line 5 fault 4
+status 1
+";
+
 /// A debt that is owed behind place 4 and paid at place 5, and sums and elements behind it; breaks of each kind but
 /// that on the kind of an event.
 pub const PAID: &str = "\

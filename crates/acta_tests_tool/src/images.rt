@@ -494,6 +494,21 @@ fn upgrade_both<A: Allocator + Copy>(rt: &impl Abort, alloc: A, written: &[u8]) 
     upgrades(rt, alloc, image.as_slice(), written);
 }
 
+// The image of 31 bytes, in the first version.
+const SHORT: [u8; 31] = [
+    0x41, 0x43, 0x54, 0x41, 1, 1, 0, 1, 1, 0x78, 0, 0, 0, 0, 0, 4, 0x66, 0x6c, 0x61, 0x74, 1, 0,
+    0xe0, 0, 0, 0, 0, 0, 0, 0, 0,
+];
+
+// It is read, and each proper prefix is cut short.
+#[test]
+fn a_short_image(rt: HostRuntime) {
+    let mut image = SHORT;
+    turn_all(&rt, rt.alloc(), image.as_mut_slice());
+    let written = made(&rt, upgrade(rt.alloc(), &SHORT), "an image");
+    upgrades(&rt, rt.alloc(), &SHORT, written.as_slice());
+}
+
 #[test]
 fn upgraded(rt: HostRuntime) {
     for name in Standard::ALL {

@@ -538,6 +538,7 @@ fn cases(rt: HostRuntime) {
         judging::REFUSED,
         debugging::WRITTEN,
         debugging::PAID,
+        debugging::MISPLACED,
         debugging::STOOD,
         debugging::BARE,
         debugging::REFUSED,

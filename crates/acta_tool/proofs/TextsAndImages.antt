@@ -13,7 +13,10 @@ use Rattle.acta_image.specs.Spelling.{HasImageIn, image, image_in}
 use Rattle.acta_image.proofs.Images.{image-again, written-again}
 use Rattle.acta_lang.specs.Meaning.{meaning}
 use Rattle.acta_lang.proofs.OtherWords.{no_meaning}
-use Rattle.acta_tool.specs.Models.{is_image, of_either, of_image}
+use Rattle.acta_tool.specs.declared.args.Command.{Command}
+use Rattle.acta_tool.specs.declared.args.Command.TheVariants.{Assemble, CheckImage, Upgrade, Run, Trace, Judge, Debug, Serial, Drive}
+use Rattle.acta_tool.specs.Models.{is_image, of_either, of_image, takes_either}
+use Rattle.acta_tool.specs.Output.{output_by, tool_output}
 
 same-true : (xs ys : List ℕ) → bytes_eq xs ys ≡ true → xs ≡ ys
 same-true xs ys e = grind (arith, bytes_eq-Decides xs ys)
@@ -35,7 +38,7 @@ image_is_image version m = refl
 pub loaded_is : {A : Type 0} (m n : Parts A) → AreOfModel m → loaded (image m) ≡ Ok n → n ≡ m
 loaded_is m n known is = let again : loaded (image m) ≡ Ok m = written-again m known in cc
 
--- `run` finds the same model in an image as in a text of its model
+-- the same model is found in an image as in a text of its model
 pub found_alike : {A : Type 0} (text : List ℕ) (m : Parts A) → meaning text ≡ Ok m → AreOfModel m → of_either {A = A} (image m) ≡ of_either text
 found_alike {A} text m means known =
     rw (image_is_image Two m, text_is_no_image text m means, written-again m known, means) refl
@@ -47,3 +50,15 @@ found_in version m known has = rw (image-again version m known has) refl
 pub found_in_both : {A : Type 0} (version : ImageVersion) (m : Parts A) → AreOfModel m → HasImageIn version m → of_either {A = A} (image_in version m) ≡ of_either (image m)
 found_in_both {A} version m known has =
     rw (image_is_image version m, image_is_image Two m, image-again version m known has, written-again m known) refl
+
+-- a command that takes texts and images alike writes the same for bytes in which these find the same model
+pub written_alike : {A : Type 0} (command : Command) (one other input : List ℕ) → of_either {A = A} one ≡ of_either other → takes_either command ≡ true → tool_output A command one input ≡ tool_output A command other input
+written_alike Assemble one other input same takes = absurd (true≢false (sym takes))
+written_alike CheckImage one other input same takes = absurd (true≢false (sym takes))
+written_alike Upgrade one other input same takes = absurd (true≢false (sym takes))
+written_alike (Run kept) one other input same takes = ap (λ found. output_by (Run kept) found input) same
+written_alike Trace one other input same takes = ap (λ found. output_by Trace found input) same
+written_alike Judge one other input same takes = ap (λ found. output_by Judge found input) same
+written_alike Debug one other input same takes = ap (λ found. output_by Debug found input) same
+written_alike Serial one other input same takes = ap (λ found. output_by Serial found input) same
+written_alike (Drive workers turns) one other input same takes = ap (λ found. output_by (Drive workers turns) found input) same

@@ -1,5 +1,5 @@
 -- The model that bytes mean, by the command that asks.
-use Rattle.std.specs.Prelude.{ℕ, Bool, List, take, Result, Ok, Err, if◌then◌else◌}
+use Rattle.std.specs.Prelude.{ℕ, Bool, true, false, List, take, Result, Ok, Err, if◌then◌else◌}
 use Rattle.std.specs.Str.{bytes_eq}
 use Rattle.acta_table.specs.declared.model.Parts.{Parts}
 use Rattle.acta_image.specs.declared.fault.ImageFault.{ImageFault}
@@ -39,3 +39,15 @@ model_by Judge bytes = of_either bytes
 model_by Debug bytes = of_either bytes
 model_by Serial bytes = of_either bytes
 model_by (Drive workers turns) bytes = of_either bytes
+
+-- whether the command takes a text and an image alike
+abbrev pub takes_either : Command → Bool
+takes_either Assemble = false
+takes_either CheckImage = false
+takes_either Upgrade = false
+takes_either (Run kept) = true
+takes_either Trace = true
+takes_either Judge = true
+takes_either Debug = true
+takes_either Serial = true
+takes_either (Drive workers turns) = true

@@ -143,6 +143,12 @@ td_breaks_first : verdict free (upon Td (begin 3 0 ∷ begin 4 0 ∷ abort 4 ∷
 unfolding verdict all_faults owed breaches bad_number bad_class bad_object bad_operation same_transaction is_false place_broken axiom_number
 td_breaks_first = refl
 
+-- 4 joins another, which is neither a commit nor an abort, and commits behind it
+td_breaks_behind_the_join_of_4 : verdict free (upon Td (begin 3 0 ∷ begin 4 0 ∷ begin 5 0 ∷ join 4 5 ∷ commit 4 ∷ []))
+    ≡ found (fault EndedOnce 7 4 ∷ fault (Dependency Td) 7 2 ∷ [])
+unfolding verdict all_faults owed breaches bad_number bad_class bad_object bad_operation same_transaction is_false place_broken axiom_number
+td_breaks_behind_the_join_of_4 = refl
+
 -- 3 joins another, which decides nothing
 td_breaks_behind_a_join : verdict free (upon Td (begin 3 0 ∷ begin 4 0 ∷ begin 5 0 ∷ join 3 5 ∷ commit 4 ∷ []))
     ≡ found (fault (Dependency Td) 7 2 ∷ [])

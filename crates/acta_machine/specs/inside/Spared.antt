@@ -1,7 +1,8 @@
 -- Whose operations on an object a transaction is spared.
-use Rattle.std.specs.Prelude.{ℕ, ◌≡◌, Bool, ◌||◌, ◌==◌, List}
+use Rattle.std.specs.Prelude.{ℕ, ◌≡◌, Bool, ◌||◌, ◌==◌, List, map}
 use Rattle.std.specs.List.{list_any}
 use Rattle.acta_table.specs.declared.model.Parts.{Parts}
+use Rattle.acta_table.specs.Numbered.{ascending}
 use Rattle.acta_machine.specs.Summary.{Summary}
 use Rattle.acta_machine.specs.Families.{spared}
 
@@ -9,6 +10,10 @@ use Rattle.acta_machine.specs.Families.{spared}
 -- permit
 abbrev pub is_spared : {A : Type 0} → Parts A → Summary → ℕ → ℕ → ℕ → Bool
 is_spared m s t object u = list_any (λ a. a.0 == u) (spared m s t) || s.permits u t object
+
+-- the ancestors that the class of t leaves out of its conflict set, by number, ascending, each once
+abbrev pub spared_numbers : {A : Type 0} → Parts A → Summary → ℕ → List ℕ
+spared_numbers m s t = ascending (map (λ u. u.0) (spared m s t))
 
 -- these are those whose operations on the object t is spared
 abbrev pub AreSpared : {A : Type 0} → Parts A → Summary → ℕ → ℕ → List ℕ → Type 0

@@ -160,6 +160,16 @@ abort 6
 form TD 7 6
 fault 13 5 6
 fault 25 3 1
+# A join is no termination of which an edge speaks, and a commit behind it is one
+form TD 2 1
+begin 1 try
+begin 2 try
+begin 3 try
+join 2 3
+commit 2
+fault 3 6 2
+fault 6 5 2
+fault 25 6 1
 # Two commits in the wrong order
 form CD 2 1
 begin 1 try

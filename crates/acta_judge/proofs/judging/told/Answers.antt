@@ -11,9 +11,9 @@ use Rattle.acta_judge.specs.inside.Parts.{together}
 use Rattle.acta_judge.proofs.Clashing.{clashing-by-debts}
 use Rattle.acta_judge.proofs.judging.told.Goals as goal
 
-pub returns : goal.returns
+pub returns-clause-verdict : goal.returns-clause-verdict
 unfolding verdict all_faults
-returns g c =
+returns-clause-verdict g c =
     let m = c.args.walk.now.model in
     let h = c.args.walk.now.ahead in
     let begun = c.requires in
@@ -26,6 +26,6 @@ returns g c =
     let place = ap (λ xs. length xs) (c.front.ensures.front ∙ front) in
     let clashing = ap clashing_among (c.as_slice-2.ensures.value ∙ debts) ∙ clashing-by-debts m h in
     let clashes = c.as_slice-5.ensures.value ∙ c.in_ok-clashes.ensures ∙ (λ i. faults_of Clash (place i) (clashing i)) in
-    let faults = c.of.ensures ∙ c.in_ok-faults.ensures ∙ (λ i. in_order (places i ++ edges i ++ clashes i)) in
+    let faults = c.of.ensures ∙ c.in_ok-faults.ensures.listed ∙ (λ i. in_order (places i ++ edges i ++ clashes i)) in
     let owing = c.of-2.ensures ∙ debts in
     λ i. record { faults = faults i; owed = owing i }
