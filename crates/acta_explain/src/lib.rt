@@ -27,7 +27,7 @@ mod telling;
 mod texts;
 mod words;
 
-pub use args::{Asked, is_asked, parse};
+pub use args::{Asked, called, is_asked, parse};
 pub use chronicle::{Chronicle, Life, Row};
 pub use hints::nearest;
 pub use images::{Field, field_at};
