@@ -1,12 +1,8 @@
 //! The run of an input as lanes and rows: a row for each event with its answer, what it formed and why it was refused,
 //! and for each transaction from which row to which its lane goes.
 
-ghost use Rattle.std.specs.Prelude.{◌≡◌, IfOk, OnOk, is_some};
-ghost use Rattle.acta_script.specs.Reading.{event_of};
-ghost use Rattle.acta_tool.specs.Output.{said_in};
-
 use crate::marks::{Deed, Figure, figure_of};
-use acta_explain::{Row as ToldRow, Script, Spoken, Telling, spoken_events};
+use acta_explain::{Row as ToldRow, Script, Spoken, Telling};
 use acta_machine::Handle;
 use acta_table::{Answer, AtCommit, Edge, Event, Model, OpNo, Owed, TxnId};
 use acta_tool::BadLine;
@@ -78,12 +74,13 @@ fn behind(edges: &[Edge], before: usize, after: usize) -> &[Edge] {
 }
 
 impl<A: Handle> Lanes<A> {
-    /// The lanes of a run of the event lines of the input, up to the first line that is faulty. `Err` where there is no
-    /// memory.
-    pub fn of(alloc: A, model: Model<A>, input: &[u8]) -> Result<Lanes<A>, AllocError>
-        ensures { IfOk result (λ lanes. is_some lanes.stop ≡ is_some (said_in (event_of model) input.now).stop) }
-    {
-        let Script { said, lines, stop } = spoken_events(alloc, &model, input)?;
+    /// The lanes of a run of the events that the lines of an input say. `Err` where there is no memory.
+    pub fn of(
+        alloc: A,
+        model: Model<A>,
+        script: Script<'_, Event<A>, A>,
+    ) -> Result<Lanes<A>, AllocError> {
+        let Script { said, lines, stop } = script;
         let mut lanes = Lanes {
             alloc,
             telling: Telling::new(alloc, model)?,
@@ -101,9 +98,7 @@ impl<A: Handle> Lanes<A> {
     }
 
     // Takes an event, and notes its row.
-    fn take(&mut self, spoken: Spoken<A>, event: Event<A>) -> Result<(), AllocError>
-        ensures { OnOk result (self.new.stop ≡ self.old.stop) }
-    {
+    fn take(&mut self, spoken: Spoken<A>, event: Event<A>) -> Result<(), AllocError> {
         let deed = Deed::of(&event, self.heir(&event));
         let formed = self.telling.take(spoken, event)?;
         let row = Row {
@@ -171,9 +166,7 @@ impl<A: Handle> Lanes<A> {
     }
 
     /// The faulty line that stopped the run.
-    pub fn stop(&self) -> Option<BadLine>
-        ensures { result ≡ self.now.stop }
-    {
+    pub fn stop(&self) -> Option<BadLine> {
         self.stop
     }
 

@@ -11,6 +11,7 @@ use crate::lanes::Lanes;
 use crate::screen::Screen;
 use crate::svg::{draw_svg, draw_words};
 use crate::text::draw_text;
+use acta_explain::spoken_events;
 use acta_machine::Handle;
 use acta_tool::{
     BadLine, Command, ModelError, NoModel, Outcome, ReadFault, Report, Sink, Source, read_model,
@@ -85,11 +86,13 @@ pub fn draw<A: Handle>(
         Err(ModelError::Fault(fault)) => return no_model(alloc, drawing, fault),
         Err(ModelError::Memory) => return Err(AllocError),
     };
-    let lanes = Lanes::of(alloc, model, input)?;
+    let script = spoken_events(alloc, &model, input)?;
+    let is_refused = script.stop.is_some();
+    let lanes = Lanes::of(alloc, model, script)?;
     let text = picture(alloc, &lanes, drawing, screen)?;
     Ok(Report {
         text: text.into_bytes(),
-        is_refused: lanes.stop().is_some(),
+        is_refused,
     })
 }
 
