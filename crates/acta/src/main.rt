@@ -144,8 +144,10 @@ fn serve_draw<R: Env + Files + Input + Print + AllocGlobal>(
     words: &[String],
 ) -> Result<Outcome, UsageFault> {
     let screen = Screen::of(rt, is_terminal);
-    let asked = acta_draw::parse(rt.alloc(), words)?;
-    Ok(draw_by(rt, screen, &asked.drawing, asked.model))
+    Ok(match acta_draw::parse(rt.alloc(), words)? {
+        acta_draw::Asked::Help(told) => write_words(told, &mut Watched::new(io::writer(rt))),
+        acta_draw::Asked::Picture(drawing, name) => draw_by(rt, screen, &drawing, name),
+    })
 }
 
 // Does what the words ask for; the standard output may be a terminal.

@@ -1,5 +1,4 @@
 pub mod Growing
-pub mod Handing
 pub mod Judging
 pub mod Settling
 pub mod Watching

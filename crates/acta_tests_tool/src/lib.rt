@@ -14,8 +14,6 @@ mod driving;
 #[cfg(test)]
 mod expecting;
 #[cfg(test)]
-mod explaining;
-#[cfg(test)]
 mod images;
 #[cfg(test)]
 mod judging;
