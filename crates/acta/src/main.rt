@@ -144,10 +144,8 @@ fn serve_draw<R: Env + Files + Input + Print + AllocGlobal>(
     words: &[String],
 ) -> Result<Outcome, UsageFault> {
     let screen = Screen::of(rt, is_terminal);
-    Ok(match acta_draw::parse(rt.alloc(), words)? {
-        acta_draw::Asked::Help(told) => write_words(told, &mut Watched::new(io::writer(rt))),
-        acta_draw::Asked::Picture(drawing, name) => draw_by(rt, screen, &drawing, name),
-    })
+    let asked = acta_draw::parse(rt.alloc(), words)?;
+    Ok(draw_by(rt, screen, &asked.drawing, asked.model))
 }
 
 // Does what the words ask for; the standard output may be a terminal.

@@ -2,6 +2,7 @@
 
 use crate::choice::Choice;
 use crate::layout::{LEAST_WIDTH, MOST_WIDTH};
+use acta_explain::called;
 use acta_table::{MOST_EVENTS, TxnId};
 use acta_tool::{ModelName, UsageFault, model_named};
 use acta_words::read_u16;
@@ -26,13 +27,11 @@ pub struct Drawing {
     pub choice: Choice,
 }
 
-/// What a command line asks for.
+/// What a command line asks for: the picture of a run of the event lines of the standard input on a model.
 #[derive(Drop)]
-pub enum Asked<'a> {
-    /// The picture of a run of the event lines of the standard input on a model.
-    Picture(Drawing, ModelName<'a>),
-    /// This text, which says how to call the command and what the marks mean.
-    Help(String),
+pub struct Asked<'a> {
+    pub drawing: Drawing,
+    pub model: ModelName<'a>,
 }
 
 const LEGEND: &str = "The marks of a text, on the lane of a transaction:
@@ -65,9 +64,10 @@ fn number<'a>(
 }
 
 // The command line that is taken.
-fn surface<'a>(alloc: Global) -> Result<Command<'a>, AllocError> {
+fn surface<'a>(alloc: Global, name: &str) -> Result<Command<'a>, AllocError> {
     Command::new(alloc, "acta_tool draw")
-        .bin_name("acta_tool draw")?
+        .bin_name(name)?
+        .no_binary_name(true)
         .about(
             "Draws the history of the event lines of the standard input on MODEL: a lane for each transaction, a row for each event",
         )
@@ -193,29 +193,27 @@ fn asked_by<'a>(
         None => None,
     };
     match named {
-        Some(model) => Ok(Asked::Picture(Drawing { form, choice }, model)),
+        Some(model) => {
+            let drawing = Drawing { form, choice };
+            Ok(Asked { drawing, model })
+        }
         None => Err(UsageFault::UnknownModel),
     }
 }
 
-// What is asked for by words that were not taken: help, or nothing.
-fn asked_else<'a>(alloc: Global, error: clap::Error) -> Result<Asked<'a>, UsageFault> {
-    match error.kind() {
-        ErrorKind::OutOfMemory => Err(UsageFault::Memory(AllocError)),
-        ErrorKind::DisplayHelp => Ok(Asked::Help(format!(in alloc; "{error}")?)),
-        _ => Err(UsageFault::Usage(error)),
-    }
-}
-
 /// What the words ask for; the first is the program's name, and the second `draw`. `Usage` where they are no such
-/// command line, with the text of `clap`; `UnknownModel` where no standard model has the name after the `@`; `Memory`
+/// command line or ask for help, with the text of `clap`; `UnknownModel` where no standard model has the name after the `@`; `Memory`
 /// where there is none.
 pub fn parse<'a>(alloc: Global, words: &'a [String]) -> Result<Asked<'a>, UsageFault> {
-    let mut surface = surface(alloc)?;
-    let words = words.get(1..).unwrap_or(&[]);
+    let name = called(alloc, words, "draw")?;
+    let mut surface = surface(alloc, name.as_str()).map_err(UsageFault::Memory)?;
+    let words = words.get(2..).unwrap_or(&[]);
     let asked = match surface.try_get_matches_from_mut(words) {
         Ok(matches) => asked_by(alloc, &mut surface, &matches),
-        Err(e) => asked_else(alloc, e),
+        Err(e) => match e.kind() {
+            ErrorKind::OutOfMemory => Err(UsageFault::Memory(AllocError)),
+            _ => Err(UsageFault::Usage(e)),
+        },
     };
     drop(surface);
     asked

@@ -12,7 +12,7 @@ pub const PLACE: usize = 7;
 pub const LEAST_WIDTH: usize = 40;
 
 /// The most that it can have.
-pub const MOST_WIDTH: usize = 10_000;
+pub const MOST_WIDTH: usize = 2_000;
 
 /// The width where none is said.
 pub const USUAL_WIDTH: usize = 100;

@@ -1,14 +1,21 @@
 //! What is written for the bytes of a model and of an input.
 
+ghost use Rattle.std.specs.Prelude.{◌≡◌, ◌≤◌, ◌+◌, true, false, IfOk, IfSome};
+ghost use Rattle.acta_explain.specs.Statuses.{EndsAs};
+ghost use Rattle.acta_tool.specs.declared.args.Command.TheVariants.{Run};
+ghost use Rattle.acta_tool.specs.Outcome.{FailsBy, IsUnreadTooLong, KeepsUnread, WritesBy, is_undriven, reason_of};
+ghost use Rattle.acta_tool.specs.Output.{tool_output};
+
 use crate::args::{Drawing, Form};
 use crate::lanes::Lanes;
 use crate::screen::Screen;
 use crate::svg::{draw_svg, draw_words};
 use crate::text::draw_text;
+use acta_explain::spoken_events;
 use acta_machine::Handle;
 use acta_tool::{
-    BadLine, Command, MOST_BYTES, ModelError, NoModel, Outcome, ReadFault, Report, Sink, Source,
-    read_all, read_model, refuse_line, refuse_model, write_report,
+    BadLine, Command, ModelError, NoModel, Outcome, ReadFault, Report, Sink, Source, read_model,
+    read_within, refuse_line, refuse_model, write_report,
 };
 use std::alloc::AllocError;
 
@@ -44,11 +51,9 @@ fn picture<A: Handle>(
 }
 
 // What is told of bytes that mean no model.
-fn no_model<A: Handle>(
-    alloc: A,
-    drawing: &Drawing,
-    fault: NoModel,
-) -> Result<Report<A>, AllocError> {
+fn no_model<A: Handle>(alloc: A, drawing: &Drawing, fault: NoModel) -> Result<Report<A>, AllocError>
+    ensures { IfOk result (λ report. report.is_refused ≡ true) }
+{
     let report = refuse_model(alloc, fault)?;
     match drawing.form {
         Form::Text { .. } => Ok(report),
@@ -62,38 +67,33 @@ fn no_model<A: Handle>(
     }
 }
 
-/// What is drawn for the bytes of a model and of an input. `Err` where there is no memory.
+// The command that takes the lines in the same way.
+const LIKE: Command = Command::Run { kept: false };
+
+/// What is drawn for the bytes of a model and of an input, which is refused where `run` refuses it. `Err` where there is
+/// no memory.
 pub fn draw<A: Handle>(
     alloc: A,
     drawing: &Drawing,
     screen: Screen,
     model: &[u8],
     input: &[u8],
-) -> Result<Report<A>, AllocError> {
-    let model = match read_model(alloc, Command::Run { kept: false }, model) {
+) -> Result<Report<A>, AllocError>
+    ensures { IfOk result (λ report. report.is_refused ≡ (tool_output A (Run false) model.now input.now).is_refused) }
+{
+    let model = match read_model(alloc, LIKE, model) {
         Ok(model) => model,
         Err(ModelError::Fault(fault)) => return no_model(alloc, drawing, fault),
         Err(ModelError::Memory) => return Err(AllocError),
     };
-    let lanes = Lanes::of(alloc, model, input)?;
+    let script = spoken_events(alloc, &model, input)?;
+    let is_refused = script.stop.is_some();
+    let lanes = Lanes::of(alloc, model, script)?;
     let text = picture(alloc, &lanes, drawing, screen)?;
     Ok(Report {
         text: text.into_bytes(),
-        is_refused: lanes.stop().is_some(),
+        is_refused,
     })
-}
-
-// The whole input, where the model isn't too long.
-fn read_within<A: Handle, S: Source>(
-    alloc: A,
-    model: &[u8],
-    input: &mut S,
-) -> Result<Vec<u8, A>, ReadFault> {
-    let bytes = read_all(alloc, input)?;
-    if model.len() > MOST_BYTES {
-        return Err(ReadFault::TooMuch);
-    }
-    Ok(bytes)
 }
 
 /// Reads the whole input, and writes in one go what is drawn of it on the model of these bytes. `Unread` and
@@ -105,8 +105,16 @@ pub fn draw_tool<A: Handle, S: Source, W: Sink>(
     model: &[u8],
     input: &mut S,
     output: &mut W,
-) -> Outcome {
-    let bytes = match read_within(alloc, model, input) {
+) -> Outcome
+    ensures status { IfSome (S.remaining input.old) (λ bytes. EndsAs result (tool_output A (Run false) model.now bytes).is_refused) }
+    ensures unread { KeepsUnread result (W.contents output.old) (W.contents output.new) }
+    ensures written { WritesBy result (W.has_failed output.old) (W.has_failed output.new) }
+    ensures reads { S.reads input.new ≤ S.reads input.old + 16777217 }
+    ensures failed { FailsBy (reason_of result) (S.has_failed input.old) (S.has_failed input.new) }
+    ensures too_long { IsUnreadTooLong model.now (S.remaining input.old) (reason_of result) }
+    ensures undriven { is_undriven result ≡ false }
+{
+    let bytes = match read_within(alloc, LIKE, model, input) {
         Ok(bytes) => bytes,
         Err(reason) => return Outcome::Unread(reason),
     };

@@ -3,7 +3,7 @@
 use crate::choice::Picked;
 use crate::lanes::{Lanes, Row};
 use crate::marks::{Deed, Mark};
-use acta_explain::{Row as ToldRow, rule_entry};
+use acta_explain::{MOST_TOLD, Row as ToldRow, rule_entry};
 use acta_machine::Handle;
 use acta_table::{Answer, Edge, Missing, Owed, TxnId};
 use std::alloc::{AllocError, Allocator};
@@ -81,6 +81,14 @@ pub fn left_out<A: Handle>(lanes: &Lanes<A>, picked: &Picked<A>) -> Result<Strin
         )?;
     } else if rows < all {
         write!(text, "{rows} of {all} events are drawn.")?;
+    }
+    let untold = lanes.untold();
+    if untold > 0 {
+        let gap = if text.is_empty() { "" } else { " " };
+        write!(
+            text,
+            "{gap}{untold} refused events more are not drawn: the first {MOST_TOLD} are."
+        )?;
     }
     Ok(text)
 }

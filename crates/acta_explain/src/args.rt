@@ -65,13 +65,13 @@ fn surface<'a>(alloc: Global, name: &str) -> Result<Command<'a>, AllocError> {
         )
 }
 
-// How the command is called: by the last part of the program's name, and `explain`.
-fn called(alloc: Global, words: &[String]) -> Result<String, AllocError> {
+/// How a command is called: by the last part of the program's name, which is the first of the words, and its own.
+pub fn called(alloc: Global, words: &[String], command: &str) -> Result<String, AllocError> {
     let program = match words.first() {
         Some(path) => path.as_str().rsplit('/').next().unwrap_or("acta"),
         None => "acta",
     };
-    format!(in alloc; "{program} explain")
+    format!(in alloc; "{program} {command}")
 }
 
 // A fault of the command line.
@@ -173,7 +173,7 @@ fn asked_by<'a>(
 /// command line, with the text of `clap`; `UnknownModel` where no standard model has the name after the `@`; `Memory`
 /// where there is none.
 pub fn parse<'a>(alloc: Global, words: &'a [String]) -> Result<Asked<'a>, UsageFault> {
-    let name = called(alloc, words)?;
+    let name = called(alloc, words, "explain")?;
     let mut surface = surface(alloc, name.as_str()).map_err(UsageFault::Memory)?;
     let words = words.get(2..).unwrap_or(&[]);
     let asked = match surface.try_get_matches_from_mut(words) {

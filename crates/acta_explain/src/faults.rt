@@ -25,6 +25,16 @@ pub struct Stop<'a> {
     pub is_kept: bool,
 }
 
+impl<'a> Stop<'a> {
+    /// Its number and its fault, as other commands tell them.
+    pub fn bad_line(&self) -> BadLine {
+        BadLine {
+            line: self.line,
+            fault: self.fault,
+        }
+    }
+}
+
 // What stands at a place of a line of an event.
 #[derive(Clone, Copy, PartialEq, Eq)]
 enum Part {
@@ -412,11 +422,7 @@ pub fn push_stop<A: Handle>(
     model: &Model<A>,
     stop: &Stop<'_>,
 ) -> Result<(), AllocError> {
-    let bad = BadLine {
-        line: stop.line,
-        fault: stop.fault,
-    };
-    text.push_str(text_of(alloc, refuse_line(alloc, bad)?.text.as_slice())?.as_str())?;
+    text.push_str(text_of(alloc, refuse_line(alloc, stop.bad_line())?.text.as_slice())?.as_str())?;
     let words = placed_words(alloc, stop.bytes)?;
     let culprit = find_culprit(alloc, model, &words, stop)?;
     let told = culprit_text(alloc, stop, &culprit)?;

@@ -1,37 +1,31 @@
 //! The verdict on kept lines, told in words: each fault with its axiom, its line and what breaks the axiom there, and
 //! then what is owed.
 
-ghost use Rattle.std.specs.Prelude.{◌≤◌, length};
+ghost use Rattle.std.specs.Prelude.{◌≡◌, ◌≤◌, length, true, IfOk};
+ghost use Rattle.acta_script.specs.Reading.{kept_of};
 ghost use Rattle.acta_table.specs.declared.limits.TheConstants.{MOST_EVENTS};
+ghost use Rattle.acta_tool.specs.Output.{judge_on, said_in};
 
 use crate::chronicle::{Chronicle, Row};
-use crate::faults::{Stop, push_lines, push_stop};
+use crate::faults::{push_lines, push_stop};
 use crate::phrases::{
     class_of, may_line, name_text, numbered_edge_text, operation_text, row_text, starts_line,
     text_of,
 };
+use crate::spoken::{Script, Spoken, SpokenLines, spoken_kept};
 use crate::words::{axiom_entry, rule_entry};
 use acta_axioms::{Axiom, Fault, Walk};
-use acta_judge::{JudgeError, Verdict, judge};
+use acta_judge::{Verdict, judge};
 use acta_machine::Handle;
 use acta_objects::form_fault;
-use acta_script::{LineError, fault_line, owed_line, read_kept, write_kept};
+use acta_script::{fault_line, owed_line};
 use acta_table::{Edge, Event, Kept, LAST_TXN, MOST_EVENTS, Model, OpNo, Owed, Ret, TxnId};
 use acta_tool::Report;
-use acta_words::{Lines, has_words};
 use std::alloc::AllocError;
 use std::thread::Threads;
 
 // What a sentence is, or want of memory.
 type Told<A> = Result<String<A>, AllocError>;
-
-// The kept lines of an input, up to the first that is faulty.
-#[derive(Drop)]
-struct Lists<'a, A: Handle> {
-    kept: Vec<Kept<A>, A>,
-    rows: Vec<Row<A>, A>,
-    stop: Option<Stop<'a>>,
-}
 
 // A list of kept items, with what its places formed and what its operations should have returned.
 #[derive(Drop)]
@@ -52,59 +46,14 @@ struct Due {
 }
 
 // The row of a kept line.
-fn kept_row<A: Handle>(
-    alloc: A,
-    model: &Model<A>,
-    line: usize,
-    bytes: &[u8],
-) -> Result<(Kept<A>, Row<A>), LineError> {
-    let kept = read_kept(alloc, model, bytes)?;
-    let event = text_of(alloc, write_kept(alloc, model, &kept)?.as_slice())?;
-    let row = Row {
-        line,
-        event,
+fn row_of<A: Handle>(alloc: A, spoken: Spoken<'_>) -> Result<Row<A>, AllocError> {
+    Ok(Row {
+        line: spoken.line,
+        event: spoken.text(alloc)?,
         answer: String::new(alloc),
         formed: String::new(alloc),
         reason: String::new(alloc),
-    };
-    Ok((kept, row))
-}
-
-// The kept lines of the input.
-fn read_lists<'a, A: Handle>(
-    alloc: A,
-    model: &Model<A>,
-    input: &'a [u8],
-) -> Result<Lists<'a, A>, AllocError> {
-    let mut lists = Lists {
-        kept: Vec::new(alloc),
-        rows: Vec::new(alloc),
-        stop: None,
-    };
-    let mut number = 0usize;
-    for line in Lines::of(input) {
-        number = number.saturating_add(1);
-        if !has_words(line) {
-            continue;
-        }
-        match kept_row(alloc, model, number, line) {
-            Ok((kept, row)) => {
-                lists.kept.push(kept)?;
-                lists.rows.push(row)?;
-            }
-            Err(LineError::Fault(fault)) => {
-                lists.stop = Some(Stop {
-                    line: number,
-                    bytes: line,
-                    fault,
-                    is_kept: true,
-                });
-                break;
-            }
-            Err(LineError::Memory) => return Err(AllocError),
-        }
-    }
-    Ok(lists)
+    })
 }
 
 // Whether an operation at this place doesn't return what is due.
@@ -136,7 +85,7 @@ fn scene_of<'a, A: Handle>(
     alloc: A,
     model: &'a Model<A>,
     kept: &'a [Kept<A>],
-    rows: Vec<Row<A>, A>,
+    lines: SpokenLines<'_>,
     faults: &[Fault],
 ) -> Result<Scene<'a, A>, AllocError>
     requires { length kept.now ≤ MOST_EVENTS }
@@ -145,7 +94,8 @@ fn scene_of<'a, A: Handle>(
     let mut chronicle = Chronicle::new(alloc)?;
     let mut due = Vec::new(alloc);
     let mut place = 0u32;
-    for (item, row) in kept.iter().zip(rows) {
+    let mut lines = lines;
+    for item in kept {
         place = place.saturating_add(1);
         if is_off(faults, place) {
             let ret = due_next(&walk)?;
@@ -155,7 +105,9 @@ fn scene_of<'a, A: Handle>(
             walk.step()?;
         }
         chronicle.note(&item.event, walk.edges().len())?;
-        chronicle.push(row)?;
+        if let Some(line) = lines.take_next() {
+            chronicle.push(row_of(alloc, line)?)?;
+        }
     }
     let edges = Vec::from_slice(alloc, walk.edges())?;
     drop(walk);
@@ -364,7 +316,9 @@ fn return_text<A: Handle>(alloc: A, ret: Ret) -> Told<A> {
 }
 
 // A text that refuses the input.
-fn refusal<A: Handle>(text: String<A>) -> Report<A> {
+fn refusal<A: Handle>(text: String<A>) -> Report<A>
+    ensures { result.is_refused ≡ true }
+{
     Report {
         text: text.into_bytes(),
         is_refused: true,
@@ -372,7 +326,9 @@ fn refusal<A: Handle>(text: String<A>) -> Report<A> {
 }
 
 // What is told where the lines are too many.
-fn too_long<A: Handle>(text: String<A>) -> Result<Report<A>, AllocError> {
+fn too_long<A: Handle>(text: String<A>) -> Result<Report<A>, AllocError>
+    ensures { IfOk result (λ report. report.is_refused ≡ true) }
+{
     let mut text = text;
     text.push_str("judge fault 1\n")?;
     push_lines(
@@ -382,32 +338,29 @@ fn too_long<A: Handle>(text: String<A>) -> Result<Report<A>, AllocError> {
     Ok(refusal(text))
 }
 
-/// What is told of the kept lines of the input. `Err` where there is no memory.
+/// What is told of the kept lines of the input, which is refused where `judge` refuses it. `Err` where there is no memory.
 pub fn explain_judged<A: Handle + Send + Sync, R: Threads + Sync>(
     rt: &R,
     alloc: A,
     model: &Model<A>,
     input: &[u8],
-) -> Result<Report<A>, AllocError> {
-    let Lists { kept, rows, stop } = read_lists(alloc, model, input)?;
+) -> Result<Report<A>, AllocError>
+    ensures { IfOk result (λ report. report.is_refused ≡ (judge_on model.now (said_in (kept_of model.now) input.now)).is_refused) }
+{
+    let Script { said, lines, stop } = spoken_kept(alloc, model, input)?;
     let mut text = String::new(alloc);
     if let Some(stop) = stop {
         push_stop(&mut text, alloc, model, &stop)?;
         return Ok(refusal(text));
     }
-    if kept.len() > MOST_EVENTS {
+    if said.len() > MOST_EVENTS {
         return too_long(text);
     }
-    match judge(rt, alloc, model, kept.as_slice()) {
-        Ok(verdict) => {
-            let faults = verdict.faults.as_slice();
-            let scene = scene_of(alloc, model, kept.as_slice(), rows, faults)?;
-            Ok(Report {
-                text: scene.verdict(&verdict)?.into_bytes(),
-                is_refused: false,
-            })
-        }
-        Err(JudgeError::TooLong) => too_long(text),
-        Err(JudgeError::Memory) => Err(AllocError),
-    }
+    let verdict = judge(rt, alloc, model, said.as_slice()).map_err(|_| AllocError)?;
+    let faults = verdict.faults.as_slice();
+    let scene = scene_of(alloc, model, said.as_slice(), lines, faults)?;
+    Ok(Report {
+        text: scene.verdict(&verdict)?.into_bytes(),
+        is_refused: false,
+    })
 }

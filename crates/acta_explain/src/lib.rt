@@ -21,17 +21,21 @@ mod placed;
 mod reasons;
 mod report;
 mod run;
+mod spoken;
 mod tables;
+mod telling;
 mod texts;
 mod words;
 
-pub use args::{Asked, is_asked, parse};
+pub use args::{Asked, called, is_asked, parse};
 pub use chronicle::{Chronicle, Life, Row};
 pub use hints::nearest;
 pub use images::{Field, field_at};
-pub use reasons::{NEVER, Refused};
+pub use reasons::NEVER;
 pub use report::{explain, explain_tool, write_words};
+pub use spoken::{Script, Spoken, SpokenLines, spoken_events};
 pub use tables::Table;
+pub use telling::{MOST_TOLD, Telling};
 pub use words::{
     AXIOMS, Entry, IMAGE_FAULTS, LINE_CODES, MODEL_FAULTS, RULES, TEXT_CODES, axiom_entry,
     image_entry, line_entry, model_entry, rule_entry, text_entry,

@@ -1,6 +1,10 @@
 //! What is written for the bytes of a model and of an input.
 
-use crate::args::Asked;
+ghost use Rattle.std.specs.Prelude.{◌≡◌, ◌≤◌, ◌+◌, true, false, IfOk, IfSome};
+ghost use Rattle.acta_explain.specs.Statuses.{EndsAs, command_like};
+ghost use Rattle.acta_tool.specs.Outcome.{FailsBy, IsUnreadTooLong, KeepsUnread, WritesBy, is_undriven, reason_of};
+ghost use Rattle.acta_tool.specs.Output.{output_on, tool_output};
+
 use crate::faults::push_lines;
 use crate::images::image_fault;
 use crate::judged::explain_judged;
@@ -10,8 +14,8 @@ use crate::texts::text_fault;
 use acta_machine::Handle;
 use acta_table::Model;
 use acta_tool::{
-    Command, MOST_BYTES, ModelError, ModelName, NoModel, Outcome, ReadFault, Report, Sink, Source,
-    read_all, read_model, refuse_model, write_report,
+    Command, ModelError, ModelName, NoModel, Outcome, ReadFault, Report, Sink, Source, read_model,
+    read_within, refuse_model, write_report,
 };
 use std::alloc::{AllocError, Global};
 use std::thread::Threads;
@@ -33,7 +37,9 @@ fn explain_no_model<A: Handle>(
     name: ModelName<'_>,
     bytes: &[u8],
     fault: NoModel,
-) -> Result<Report<A>, AllocError> {
+) -> Result<Report<A>, AllocError>
+    ensures { IfOk result (λ report. report.is_refused ≡ true) }
+{
     let path = path_of(alloc, name)?;
     let line = refuse_model(alloc, fault)?;
     let mut text = text_of(alloc, line.text.as_slice())?;
@@ -48,6 +54,17 @@ fn explain_no_model<A: Handle>(
     })
 }
 
+// The command that takes the lines in the same way.
+fn command_like(is_judged: bool) -> Command
+    ensures { result ≡ command_like is_judged }
+{
+    if is_judged {
+        Command::Judge
+    } else {
+        Command::Run { kept: false }
+    }
+}
+
 // What is told on a model.
 fn explain_on<A: Handle + Send + Sync, R: Threads + Sync>(
     rt: &R,
@@ -55,7 +72,9 @@ fn explain_on<A: Handle + Send + Sync, R: Threads + Sync>(
     is_judged: bool,
     model: Model<A>,
     input: &[u8],
-) -> Result<Report<A>, AllocError> {
+) -> Result<Report<A>, AllocError>
+    ensures { IfOk result (λ report. report.is_refused ≡ (output_on (command_like is_judged) model input.now).is_refused) }
+{
     if is_judged {
         explain_judged(rt, alloc, &model, input)
     } else {
@@ -64,7 +83,7 @@ fn explain_on<A: Handle + Send + Sync, R: Threads + Sync>(
 }
 
 /// What is told for the bytes of a model of this name and of an input: of its events, or, where `is_judged`, of its kept
-/// lines. `Err` where there is no memory.
+/// lines. The input is refused where `run`, or `judge`, refuses it. `Err` where there is no memory.
 pub fn explain<A: Handle + Send + Sync, R: Threads + Sync>(
     rt: &R,
     alloc: A,
@@ -72,25 +91,14 @@ pub fn explain<A: Handle + Send + Sync, R: Threads + Sync>(
     name: ModelName<'_>,
     model: &[u8],
     input: &[u8],
-) -> Result<Report<A>, AllocError> {
-    match read_model(alloc, Command::Run { kept: false }, model) {
+) -> Result<Report<A>, AllocError>
+    ensures { IfOk result (λ report. report.is_refused ≡ (tool_output A (command_like is_judged) model.now input.now).is_refused) }
+{
+    match read_model(alloc, command_like(is_judged), model) {
         Ok(model) => explain_on(rt, alloc, is_judged, model, input),
         Err(ModelError::Fault(fault)) => explain_no_model(alloc, name, model, fault),
         Err(ModelError::Memory) => Err(AllocError),
     }
-}
-
-// The whole input, where the model isn't too long.
-fn read_within<A: Handle, S: Source>(
-    alloc: A,
-    model: &[u8],
-    input: &mut S,
-) -> Result<Vec<u8, A>, ReadFault> {
-    let bytes = read_all(alloc, input)?;
-    if model.len() > MOST_BYTES {
-        return Err(ReadFault::TooMuch);
-    }
-    Ok(bytes)
 }
 
 /// Reads the whole input, and writes in one go what is told of it on the model of these bytes and this name. `Unread`
@@ -103,8 +111,16 @@ pub fn explain_tool<A: Handle + Send + Sync, R: Threads + Sync, S: Source, W: Si
     model: &[u8],
     input: &mut S,
     output: &mut W,
-) -> Outcome {
-    let bytes = match read_within(alloc, model, input) {
+) -> Outcome
+    ensures status { IfSome (S.remaining input.old) (λ bytes. EndsAs result (tool_output A (command_like is_judged) model.now bytes).is_refused) }
+    ensures unread { KeepsUnread result (W.contents output.old) (W.contents output.new) }
+    ensures written { WritesBy result (W.has_failed output.old) (W.has_failed output.new) }
+    ensures reads { S.reads input.new ≤ S.reads input.old + 16777217 }
+    ensures failed { FailsBy (reason_of result) (S.has_failed input.old) (S.has_failed input.new) }
+    ensures too_long { IsUnreadTooLong model.now (S.remaining input.old) (reason_of result) }
+    ensures undriven { is_undriven result ≡ false }
+{
+    let bytes = match read_within(alloc, command_like(is_judged), model, input) {
         Ok(bytes) => bytes,
         Err(reason) => return Outcome::Unread(reason),
     };

@@ -4,6 +4,7 @@ pub mod Collecting
 pub mod Counting
 mod Examples
 pub mod Forms
+pub mod Generations
 mod Histories
 pub mod Meeting
 pub mod Merging

@@ -19,5 +19,7 @@ mod verdict;
 
 pub use cut::Cut;
 pub use judging::{judge, judge_in_parts};
-pub use laws::{met_axioms_leave_no_fault, no_fault_in_places};
+pub use laws::{
+    ancestors_are_the_parent_and_its_own, met_axioms_leave_no_fault, no_fault_in_places,
+};
 pub use verdict::{JudgeError, Verdict};

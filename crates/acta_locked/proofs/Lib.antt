@@ -1,4 +1,5 @@
 pub mod Growing
+pub mod Handing
 pub mod Judging
 pub mod Settling
 pub mod Watching

@@ -1,11 +1,17 @@
 -- What a worker hands in at a desk, and what a desk counts.
-use Rattle.std.specs.Prelude.{◌≡◌, ℕ, ◌+◌, List, length, map, take}
+use Rattle.std.specs.Prelude.{◌≡◌, ℕ, ◌+◌, ◌⊎◌, List, [], ◌∷◌, ◌++◌, length, map, take, Result, Ok, Err}
 use Rattle.std.specs.List.{AllByRecursion}
 use Rattle.acta_table.specs.declared.event.Event.{Event}
 use Rattle.acta_table.specs.declared.model.Parts.{Parts}
+use Rattle.acta_table.specs.declared.limits.TheConstants.{MOST_EVENTS}
 use Rattle.acta_locked.specs.declared.book.Entry.{Entry}
+use Rattle.acta_locked.specs.declared.book.TakeError.{TakeError}
+use Rattle.acta_locked.specs.declared.book.TakeError.TheVariants as refusal
 use Rattle.acta_locked.specs.declared.worker.Report.{Report}
+use Rattle.acta_locked.specs.declared.worker.WorkError.{WorkError}
+use Rattle.acta_locked.specs.declared.worker.WorkError.TheVariants.{BookFull, GaveUp, Memory}
 use Rattle.acta_locked.specs.Books.{Entries, IsRun, entered, entry_of}
+use Rattle.acta_locked.specs.Gates.{LetOn}
 
 -- entries of one seat, whose events are the script, in order; a desk tells seat and event of an entry
 pub record IsHandedIn {A : Type 0} (seat_in : Entry A → ℕ) (event_in : Entry A → Event A) (seat : ℕ)
@@ -18,6 +24,27 @@ pub record IsReport {A : Type 0} (seat_in : Entry A → ℕ) (event_in : Entry A
     (script : List (Event A)) (r : Report A) : Type 0 where
   pub seat_is : r.seat ≡ seat
   pub entries : IsHandedIn seat_in event_in seat script r.entries
+
+-- entries of the first events of a script, whose calls the gate let through
+pub record AreLetOn {A : Type 0} (seat_in : Entry A → ℕ) (event_in : Entry A → Event A) (may_pass : ℕ → Type 0)
+    (may_go_on : ℕ → Entry A → Type 0) (seat : ℕ) (script : List (Event A)) (es : List (Entry A)) : Type 0 where
+  pub handed : IsHandedIn seat_in event_in seat (take (length es) script) es
+  pub let_on : LetOn may_pass may_go_on 1 es
+
+-- why a worker of this seat and script has no report, by the answers that its desk gave and by its gate. Each call was
+-- let through and answered, up to one: there the gate may stop, before the call or behind it; or the desk told that it
+-- is full; or there was no memory, which the desk told, or the worker met between two calls
+abbrev pub IsWhy : {A : Type 0} → (Entry A → ℕ) → (Entry A → Event A) → (List (Result (Entry A) TakeError) → Type 0)
+    → (ℕ → Type 0) → (ℕ → Type 0) → (ℕ → Entry A → Type 0) → ℕ → List (Event A) → WorkError → Type 0
+IsWhy {A} seat_in event_in gave may_stop may_pass may_go_on seat script (GaveUp _) =
+    (es : List (Entry A)) × AreLetOn seat_in event_in may_pass may_go_on seat script es
+    × (gave (map Ok es) ⊎ ((e : Entry A) × gave (map Ok (es ++ e ∷ [])))) × may_stop (length es + 1)
+IsWhy {A} seat_in event_in gave may_stop may_pass may_go_on seat script BookFull =
+    (es : List (Entry A)) × AreLetOn seat_in event_in may_pass may_go_on seat script es
+    × gave (map Ok es ++ Err refusal.BookFull ∷ [])
+IsWhy {A} seat_in event_in gave may_stop may_pass may_go_on seat script Memory =
+    (es : List (Entry A)) × AreLetOn seat_in event_in may_pass may_go_on seat script es
+    × (gave (map Ok es) ⊎ gave (map Ok es ++ Err refusal.Memory ∷ []))
 
 -- a desk that was handed the first events of a script, in order, and no others
 abbrev pub IsStopped : {A D : Type 0} → (Entry A → ℕ) → (Entry A → Event A) → (List (Entry A) → D → Type 0) → ℕ
@@ -33,3 +60,21 @@ IsOfSomeRun {A} m seat event e = (b : Entries A) × (b.model ≡ m) × (e ≡ en
 pub record Counts {A : Type 0} (parts amount : ℕ) (es : List (Entry A)) (parts_then amount_then : ℕ) : Type 0 where
   pub cut : parts_then ≡ parts
   pub counted : amount_then ≡ amount + length es
+
+-- the entries among a desk's answers
+abbrev pub entries_in : {A : Type 0} → List (Result (Entry A) TakeError) → List (Entry A)
+entries_in [] = []
+entries_in (Ok e ∷ answers) = e ∷ entries_in answers
+entries_in (Err _ ∷ answers) = entries_in answers
+
+-- a desk with this book gives these answers, and has that book then: it enters each entry, an error changes nothing, and
+-- the book was full where it told so
+abbrev pub Gives : {A : Type 0} → Entries A → List (Result (Entry A) TakeError) → Entries A → Type 0
+Gives b [] c = c ≡ b
+Gives b (Ok e ∷ answers) c = Gives (entered b e) answers c
+Gives b (Err refusal.BookFull ∷ answers) c = (length b.entries ≡ MOST_EVENTS) × Gives b answers c
+Gives b (Err refusal.Memory ∷ answers) c = Gives b answers c
+
+-- some book of the model is a run, and full
+abbrev pub IsSomeFullRun : {A : Type 0} → Parts A → Type 0
+IsSomeFullRun {A} m = (b : Entries A) × (b.model ≡ m) × IsRun b × (length b.entries ≡ MOST_EVENTS)

@@ -1,6 +1,7 @@
 //! Desks: where a worker hands in its events.
 
-ghost use Rattle.std.specs.Prelude.{◌≡◌, ◌++◌, ◌∷◌, [], ℕ, List, Err, length, IfOk, OnErr};
+ghost use Rattle.std.specs.Prelude.{◌≡◌, ◌++◌, ◌∷◌, [], ℕ, List, Result, Err, length, IfOk, OnErr};
+ghost use Rattle.acta_locked.specs.declared.book.TakeError.{TakeError as Refusal};
 ghost use Rattle.acta_locked.specs.Books.{entered, entry_of, no_entries, with_entries};
 
 use crate::book::{Book, Entry, TakeError};
@@ -20,6 +21,9 @@ pub trait Desk<E, X> {
     // From the first state to the second the desk answered these entries, and no others.
     ghost answered: { Self → List X → Self → Type 0 };
 
+    // From the first state to the second the desk gave these answers, its errors among them, and no others.
+    ghost gave: { Self → List (Result X Refusal) → Self → Type 0 };
+
     // What is known of a desk that has no room for an entry; nothing, where it doesn't say.
     ghost may_be_full: { Self → Type 0 } = { λ _. Unit {0} };
 
@@ -34,6 +38,7 @@ pub trait Desk<E, X> {
         ensures event { IfOk result (λ entry. event_in entry ≡ event) }
         ensures answered { IfOk result (λ entry. answered self.old (entry ∷ []) self.new) }
         ensures none { OnErr result (answered self.old [] self.new) }
+        ensures gave { gave self.old (result ∷ []) self.new }
         ensures no_room { result ≡ Err TakeError.BookFull → may_be_full self.new };
 
     // A desk that stays as it is has answered nothing, and what it answered in two stretches it answered in both.
@@ -41,6 +46,11 @@ pub trait Desk<E, X> {
 
     ghost further: { (d e f : Self) (xs ys : List X) → answered d xs e → answered e ys f
         → answered d (xs ++ ys) f };
+
+    // The same of all its answers.
+    ghost silent: { (d : Self) → gave d [] d };
+
+    ghost onward: { (d e f : Self) (xs ys : List (Result X Refusal)) → gave d xs e → gave e ys f → gave d (xs ++ ys) f };
 }
 
 /// A desk with a book of its own (ours).
@@ -64,7 +74,8 @@ impl<A: Handle> PlainDesk<A> {
 
 impl<A: Handle> Desk<Event<A>, Entry<A>> for PlainDesk<A> {
     ghost use Rattle.acta_table.specs.declared.limits.TheConstants.{MOST_EVENTS};
-    ghost use Rattle.acta_locked.specs.inside.Growth.{book-nothing, book-further};
+    ghost use Rattle.acta_locked.specs.Desks.{Gives};
+    ghost use Rattle.acta_locked.specs.inside.Growth.{book-nothing, book-further, gives-nothing, gives-further};
 
     ghost seat_of = { λ d. d.seat };
 
@@ -73,6 +84,8 @@ impl<A: Handle> Desk<Event<A>, Entry<A>> for PlainDesk<A> {
     ghost event_in = { λ e. e.event };
 
     ghost answered = { λ d xs e. e.book ≡ with_entries d.book xs };
+
+    ghost gave = { λ d answers e. Gives d.book answers e.book };
 
     ghost may_be_full = { λ d. length d.book.entries ≡ MOST_EVENTS };
 
@@ -88,6 +101,7 @@ impl<A: Handle> Desk<Event<A>, Entry<A>> for PlainDesk<A> {
         ensures entry { IfOk result (λ entry. entry ≡ entry_of self.old.book self.old.seat event) }
         ensures answered { IfOk result (λ entry. self.new.book ≡ entered self.old.book entry) }
         ensures none { OnErr result (self.new.book ≡ with_entries self.old.book []) }
+        ensures gave { Gives self.old.book (result ∷ []) self.new.book }
         ensures no_room { result ≡ Err TakeError.BookFull → length self.new.book.entries ≡ MOST_EVENTS }
         ensures full { result ≡ Err TakeError.BookFull → length self.old.book.entries ≡ MOST_EVENTS }
         ensures barred { length self.old.book.entries ≡ MOST_EVENTS → result ≡ Err TakeError.BookFull }
@@ -98,4 +112,8 @@ impl<A: Handle> Desk<Event<A>, Entry<A>> for PlainDesk<A> {
     ghost nothing = { λ d. book-nothing d.book };
 
     ghost further = { λ d e f xs ys p q. book-further d.book e.book f.book xs ys p q };
+
+    ghost silent = { λ d. gives-nothing d.book };
+
+    ghost onward = { λ d e f xs ys one two. gives-further d.book e.book f.book xs ys one two };
 }

@@ -1,8 +1,10 @@
 //! The threads of a driven run: one for each script, each with a desk at the locked book.
 
-ghost use Rattle.std.specs.Prelude.{◌≡◌, ◌+◌, ◌≤◌, false, length, vec_capacity, vec_len, IfErr, IfOk};
+ghost use Rattle.std.specs.Prelude.{◌≡◌, ◌+◌, ◌-◌, ◌<◌, ◌≤◌, ℕ, [], false, true, get_or, length, vec_capacity, vec_len, IfErr, IfOk};
 ghost use Rattle.std.specs.Result.{ForOk};
 ghost use Rattle.acta_locked.specs.Drives.{is_of_scripts};
+ghost use Rattle.acta_locked.specs.declared.run.DriveError.TheVariants.{NoThread};
+ghost use Rattle.acta_locked.specs.inside.Outcomes.{AreOutcomes, IsOfGate, IsOutcome, is_scarce};
 
 use crate::book::Entry;
 use crate::limits::MOST_WORKERS;
@@ -14,7 +16,7 @@ use std::alloc::Allocator;
 use std::sync::ledger::Share;
 use std::sync::{Mutex, Wait};
 use std::thread;
-use std::thread::{JoinHandle, Scope, Threads};
+use std::thread::{Promise, PromisedHandle, Scope, Threads};
 
 /// What a worker's thread hands back: its share, which has counted the entries of its report, and the report.
 #[derive(Drop)]
@@ -50,6 +52,9 @@ fn sit<A: Handle, J: Job<A>, R: Wait, G: Gate<Entry<A>>>(
 ) -> Done<A, J>
     requires one_part { share.parts ≡ 1 }
     requires none { share.amount ≡ 0 }
+    requires of_gate { IsOfGate (G.may_stop gate.now) (G.may_pass gate.now) (G.may_go_on gate.now) J.may_stop J.may_pass J.may_go_on }
+    requires of_seat { script.now ≡ get_or J.scripts (seat - 1) [] }
+    ensures { IsOutcome J.may_stop J.may_pass J.may_go_on J.model seat (get_or J.scripts (seat - 1) []) result.outcome }
 {
     let mut desk = LockedDesk {
         seat,
@@ -67,18 +72,71 @@ fn sit<A: Handle, J: Job<A>, R: Wait, G: Gate<Entry<A>>>(
     Done { share, outcome }
 }
 
-// Joins the threads, in the order in which they were started.
+// Of which seat a thread is: its outcome is one of this seat.
+#[derive(Clone, Copy)]
+struct Seat(u8);
+
+impl<A: Allocator, J: Job<A>> Promise<Done<A, J>> for Seat {
+    ghost kept_by = { λ p done. IsOutcome J.may_stop J.may_pass J.may_go_on J.model p.0 (get_or J.scripts (p.0 - 1) []) done.outcome };
+}
+
+// A worker's thread, which is still to be joined.
+#[derive(Drop)]
+struct Running<A: Allocator, J: Job<A>> {
+    handle: PromisedHandle<Done<A, J>, Seat>,
+}
+
+// Starts the thread of a seat. `NoThread` where it could not be started.
+fn started<
+    's,
+    E: 's,
+    A: Handle + Send + Sync + 's,
+    J: Job<A> + Send + Sync + 's,
+    R: Threads + Wait + Sync + 's,
+    G: Gate<Entry<A>> + Sync + 's,
+>(
+    scope: &Scope<'s, E>,
+    rt: &'s R,
+    alloc: A,
+    vault: &'s Mutex<Vault<A, J>>,
+    seat: u8,
+    share: Share<J>,
+    script: &'s Script<A>,
+    gate: &'s G,
+) -> Result<Running<A, J>, DriveError>
+    requires one_part { share.parts ≡ 1 }
+    requires none { share.amount ≡ 0 }
+    requires of_gate { IsOfGate (G.may_stop gate.now) (G.may_pass gate.now) (G.may_go_on gate.now) J.may_stop J.may_pass J.may_go_on }
+    requires of_seat { script.now ≡ get_or J.scripts (seat - 1) [] }
+    ensures seat { IfOk result (λ running. running.handle.promise.0 ≡ seat) }
+    ensures late { IfErr result (λ e. e ≡ NoThread) }
+{
+    let job = move || -> Done<A, J>
+        requires { (share.parts ≡ 1) × (share.amount ≡ 0) × IsOfGate (G.may_stop gate.now) (G.may_pass gate.now) (G.may_go_on gate.now) J.may_stop J.may_pass J.may_go_on × (script.now ≡ get_or J.scripts (seat - 1) []) }
+        ensures { IsOutcome J.may_stop J.may_pass J.may_go_on J.model seat (get_or J.scripts (seat - 1) []) result.outcome }
+    { sit(rt, alloc, vault, seat, share, script, gate) };
+    match scope.spawn_with(Seat(seat), job) {
+        Ok(handle) => Ok(Running { handle }),
+        Err(_) => Err(DriveError::NoThread),
+    }
+}
+
+// Joins the threads, in the order in which they were started, which is that of their seats.
 fn joined<A: Allocator, J: Job<A>, R: Threads>(
     rt: &R,
-    running: Vec<JoinHandle<Done<A, J>>, A>,
+    running: Vec<Running<A, J>, A>,
     done: Vec<Done<A, J>, A>,
 ) -> Vec<Done<A, J>, A>
     requires empty { vec_len done ≡ 0 }
     requires room { vec_len running ≤ vec_capacity done }
-    ensures { vec_len result ≡ vec_len running }
+    requires seats { (k : ℕ) (r : _) → k < vec_len running → (get_or running.items k r).handle.promise.0 ≡ k + 1 }
+    ensures all { vec_len result ≡ vec_len running }
+    ensures each { (k : ℕ) (d : _) → k < vec_len running
+        → IsOutcome J.may_stop J.may_pass J.may_go_on J.model (k + 1) (get_or J.scripts k []) (get_or result.items k d).outcome }
 {
     let mut done = done;
-    for handle in running {
+    for one in running {
+        let Running { handle } = one;
         let Ok(()) = done.push(handle.join(rt)) else {
             unreachable!()
         };
@@ -106,8 +164,12 @@ pub fn run_in<
     requires few { length scripts.now ≤ MOST_WORKERS }
     requires parts { rest.parts ≡ length scripts.now + 1 }
     requires none { rest.amount ≡ 0 }
+    requires of_gate { IsOfGate (G.may_stop gate.now) (G.may_pass gate.now) (G.may_go_on gate.now) J.may_stop J.may_pass J.may_go_on }
+    requires of_scripts { scripts.now ≡ J.scripts }
     ensures all { IfOk result (λ back. vec_len back.done ≡ length scripts.now) }
+    ensures each { IfOk result (λ back. AreOutcomes (λ done. done.outcome) J.may_stop J.may_pass J.may_go_on J.model J.scripts back.done.items) }
     ensures late { IfErr result (λ e. is_of_scripts e ≡ false) }
+    ensures scarce { IfErr result (λ e. is_scarce e ≡ true) }
 {
     let mut rest = rest;
     let reports = Vec::with_capacity(alloc, scripts.len())?;
@@ -116,15 +178,11 @@ pub fn run_in<
     for k in 0..scripts.len() {
         let share = rest.split_off(1, 0);
         let seat = k as u8 + 1;
-        let script = &scripts[k];
-        let job = move || -> Done<A, J>
-            requires { (share.parts ≡ 1) × (share.amount ≡ 0) }
-        { sit(rt, alloc, vault, seat, share, script, gate) };
-        let Ok(handle) = scope.spawn(job) else {
+        let Ok(one) = started(scope, rt, alloc, vault, seat, share, &scripts[k], gate) else {
             joined(rt, running, done);
             return Err(DriveError::NoThread);
         };
-        let Ok(()) = running.push(handle) else {
+        let Ok(()) = running.push(one) else {
             unreachable!()
         };
     }
@@ -155,16 +213,22 @@ pub fn in_scope<
     requires few { length scripts.now ≤ MOST_WORKERS }
     requires parts { rest.parts ≡ length scripts.now + 1 }
     requires none { rest.amount ≡ 0 }
+    requires of_gate { IsOfGate (G.may_stop gate.now) (G.may_pass gate.now) (G.may_go_on gate.now) J.may_stop J.may_pass J.may_go_on }
+    requires of_scripts { scripts.now ≡ J.scripts }
     ensures all { IfOk result (λ back. vec_len back.done ≡ length scripts.now) }
+    ensures each { IfOk result (λ back. AreOutcomes (λ done. done.outcome) J.may_stop J.may_pass J.may_go_on J.model J.scripts back.done.items) }
     ensures late { IfErr result (λ e. is_of_scripts e ≡ false) }
+    ensures scarce { IfErr result (λ e. is_scarce e ≡ true) }
 {
     thread::scope(
         thread::scope_env(),
         rt,
         |scope| -> Result<Back<A, J>, DriveError>
-            requires { (length scripts.now ≤ MOST_WORKERS) × (rest.parts ≡ length scripts.now + 1) × (rest.amount ≡ 0) }
+            requires { (length scripts.now ≤ MOST_WORKERS) × (rest.parts ≡ length scripts.now + 1) × (rest.amount ≡ 0) × IsOfGate (G.may_stop gate.now) (G.may_pass gate.now) (G.may_go_on gate.now) J.may_stop J.may_pass J.may_go_on × (scripts.now ≡ J.scripts) }
             ensures all { IfOk result (λ back. vec_len back.done ≡ length scripts.entry.now) }
+            ensures each { IfOk result (λ back. AreOutcomes (λ done. done.outcome) J.may_stop J.may_pass J.may_go_on J.model J.scripts back.done.items) }
             ensures late { IfErr result (λ e. is_of_scripts e ≡ false) }
+            ensures scarce { IfErr result (λ e. is_scarce e ≡ true) }
         { run_in(scope, rt, alloc, vault, rest, scripts, gate) },
     )
 }

@@ -13,17 +13,38 @@ use std::marker::Brand;
 use std::sync::ledger::{Ledger, Share};
 use std::sync::{Mutex, Wait, ledger};
 
-/// Which ledger counts the entries of a run, and of which model the run is; A is the model's allocator (ours).
+/// Which ledger counts the entries of a run, of which model the run is, which scripts its workers hand in, and at which
+/// gate; A is the model's allocator (ours).
 pub trait Job<A>: Ledger {
+    ghost use Rattle.std.specs.Prelude.{ℕ, List};
+    ghost use Rattle.acta_table.specs.declared.event.Event.{Event};
     ghost use Rattle.acta_table.specs.declared.model.Parts.{Parts};
+    ghost use Rattle.acta_locked.specs.declared.book.Entry.{Entry};
 
     ghost model: { Parts A };
+
+    ghost scripts: { List (List (Event A)) };
+
+    // What is known of the gate: where it may stop, pass and go on.
+    ghost may_stop: { ℕ → ℕ → Type 0 };
+
+    ghost may_pass: { ℕ → ℕ → Type 0 };
+
+    ghost may_go_on: { ℕ → ℕ → Entry A → Type 0 };
 }
 
 impl<A> Job<A> for Brand {
     ghost use Rattle.std.specs.Prelude.{[]};
 
     ghost model = { record { objects = []; classes = [] } };
+
+    ghost scripts = { [] };
+
+    ghost may_stop = { λ _ _. Unit {0} };
+
+    ghost may_pass = { λ _ _. Unit {0} };
+
+    ghost may_go_on = { λ _ _ _. Unit {0} };
 }
 
 /// What lies under the lock (ours): a book of the run's model, and the ledger, whose total is the number of its
@@ -107,9 +128,9 @@ pub struct LockedDesk<'a, A: Handle, J: Job<A>, R: Wait> {
 }
 
 impl<'a, A: Handle, J: Job<A>, R: Wait> Desk<Event<A>, Entry<A>> for LockedDesk<'a, A, J, R> {
-    ghost use Rattle.std.specs.Prelude.{◌≡◌, ◌∷◌, [], IfOk, OnErr};
-    ghost use Rattle.acta_locked.specs.Desks.{Counts, IsOfSomeRun};
-    ghost use Rattle.acta_locked.specs.inside.Growth.{count-nothing, count-further};
+    ghost use Rattle.std.specs.Prelude.{◌≡◌, ◌∷◌, [], Err, IfOk, OnErr};
+    ghost use Rattle.acta_locked.specs.Desks.{Counts, IsOfSomeRun, IsSomeFullRun, entries_in};
+    ghost use Rattle.acta_locked.specs.inside.Growth.{count-nothing, count-further, counts-nothing, counts-further};
 
     ghost seat_of = { λ d. d.seat };
 
@@ -118,6 +139,10 @@ impl<'a, A: Handle, J: Job<A>, R: Wait> Desk<Event<A>, Entry<A>> for LockedDesk<
     ghost event_in = { λ e. e.event };
 
     ghost answered = { λ d es e. Counts d.share.parts d.share.amount es e.share.parts e.share.amount };
+
+    ghost gave = { λ d answers e. Counts d.share.parts d.share.amount (entries_in answers) e.share.parts e.share.amount };
+
+    ghost may_be_full = { λ _. IsSomeFullRun J.model };
 
     fn seat(&self) -> u8 {
         self.seat
@@ -134,6 +159,8 @@ impl<'a, A: Handle, J: Job<A>, R: Wait> Desk<Event<A>, Entry<A>> for LockedDesk<
             Counts self.old.share.parts self.old.share.amount (entry ∷ []) self.new.share.parts self.new.share.amount) }
         ensures none { OnErr result
             (Counts {A = A} self.old.share.parts self.old.share.amount [] self.new.share.parts self.new.share.amount) }
+        ensures gave { Counts self.old.share.parts self.old.share.amount (entries_in (result ∷ [])) self.new.share.parts self.new.share.amount }
+        ensures no_room { result ≡ Err TakeError.BookFull → IsSomeFullRun J.model }
     {
         let mut vault = self.vault.lock(self.rt);
         vault.take(self.seat, event, &mut self.share)
@@ -142,5 +169,10 @@ impl<'a, A: Handle, J: Job<A>, R: Wait> Desk<Event<A>, Entry<A>> for LockedDesk<
     ghost nothing = { λ d. count-nothing d.share.parts d.share.amount };
 
     ghost further = { λ d e f xs ys one two. count-further d.share.parts d.share.amount e.share.parts e.share.amount
+        f.share.parts f.share.amount xs ys one two };
+
+    ghost silent = { λ d. counts-nothing d.share.parts d.share.amount };
+
+    ghost onward = { λ d e f xs ys one two. counts-further d.share.parts d.share.amount e.share.parts e.share.amount
         f.share.parts f.share.amount xs ys one two };
 }

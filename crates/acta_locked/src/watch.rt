@@ -1,11 +1,12 @@
 //! A thread that judges the history while the workers make it.
 
 ghost use Rattle.std.specs.Prelude.{◌≡◌, ◌+◌, ◌≤◌, ◌++◌, ◌∷◌, [], true, false, drop, length, vec_len, Err, Ok, Some};
-ghost use Rattle.std.specs.Prelude.{IfErr, IfOk, MatchResult};
+ghost use Rattle.std.specs.Prelude.{IfErr, IfOk, MatchResult, ⊤};
 ghost use Rattle.acta_table.specs.declared.limits.TheConstants.{MOST_EVENTS};
 ghost use Rattle.acta_judge.specs.Verdicts.{verdict};
 ghost use Rattle.acta_locked.specs.Books.{state_of};
-ghost use Rattle.acta_locked.specs.Drives.{IsDriven, is_of_scripts, scripts_fault};
+ghost use Rattle.acta_locked.specs.Drives.{EachLetOn, IsDriven, MayFail, is_of_scripts, scripts_fault};
+ghost use Rattle.acta_locked.specs.inside.Outcomes.{AreOutcomes, IsOfGate, is_of_judging, is_scarce};
 ghost use Rattle.acta_locked.specs.Fronts.{AreFronts};
 ghost use Rattle.acta_locked.specs.declared.run.DriveError.{DriveError};
 
@@ -151,7 +152,7 @@ fn keep_judging<A: Handle + Send + Sync, J: Job<A>, R: Threads + Wait + Sync, G:
     gate: &G,
 ) -> Result<Watch<A, J>, DriveError>
     requires { model.now ≡ J.model }
-    ensures { MatchResult result (λ w. length w.fronts ≡ turns) (λ e. is_of_scripts e ≡ false) }
+    ensures { MatchResult result (λ w. length w.fronts ≡ turns) (λ e. is_of_judging e ≡ true) }
 {
     let mut watch = Watch::new(alloc);
     for turn in 0..turns {
@@ -172,7 +173,7 @@ fn keep_judging<A: Handle + Send + Sync, J: Job<A>, R: Threads + Wait + Sync, G:
 struct Turns(u8);
 
 impl<A: Allocator, J: Job<A>> Promise<Result<Watch<A, J>, DriveError>> for Turns {
-    ghost kept_by = { λ p r. MatchResult r (λ w. length w.fronts ≡ p.0) (λ e. is_of_scripts e ≡ false) };
+    ghost kept_by = { λ p r. MatchResult r (λ w. length w.fronts ≡ p.0) (λ e. is_of_judging e ≡ true) };
 }
 
 // Starts the judging thread and then the workers, and joins all.
@@ -198,13 +199,17 @@ fn run_watched<
     requires few { length scripts.now ≤ MOST_WORKERS }
     requires parts { rest.parts ≡ length scripts.now + 1 }
     requires none { rest.amount ≡ 0 }
+    requires of_gate { IsOfGate (G.may_stop gate.now) (G.may_pass gate.now) (G.may_go_on gate.now) J.may_stop J.may_pass J.may_go_on }
+    requires of_scripts { scripts.now ≡ J.scripts }
     ensures all { IfOk result (λ r. vec_len r.0.done ≡ length scripts.now) }
-    ensures watched { IfOk result (λ r. MatchResult r.1 (λ w. length w.fronts ≡ turns) (λ e. is_of_scripts e ≡ false)) }
+    ensures each { IfOk result (λ r. AreOutcomes (λ done. done.outcome) J.may_stop J.may_pass J.may_go_on J.model J.scripts r.0.done.items) }
+    ensures watched { IfOk result (λ r. MatchResult r.1 (λ w. length w.fronts ≡ turns) (λ e. is_of_judging e ≡ true)) }
     ensures late { IfErr result (λ e. is_of_scripts e ≡ false) }
+    ensures scarce { IfErr result (λ e. is_scarce e ≡ true) }
 {
     let job = move || -> Result<Watch<A, J>, DriveError>
         requires { model.now ≡ J.model }
-        ensures { MatchResult result (λ w. length w.fronts ≡ turns) (λ e. is_of_scripts e ≡ false) }
+        ensures { MatchResult result (λ w. length w.fronts ≡ turns) (λ e. is_of_judging e ≡ true) }
     { keep_judging(rt, alloc, model, vault, turns, gate) };
     let Ok(judging) = scope.spawn_with(Turns(turns), job) else {
         return Err(DriveError::NoThread);
@@ -236,18 +241,24 @@ fn in_watched_scope<
     requires few { length scripts.now ≤ MOST_WORKERS }
     requires parts { rest.parts ≡ length scripts.now + 1 }
     requires none { rest.amount ≡ 0 }
+    requires of_gate { IsOfGate (G.may_stop gate.now) (G.may_pass gate.now) (G.may_go_on gate.now) J.may_stop J.may_pass J.may_go_on }
+    requires of_scripts { scripts.now ≡ J.scripts }
     ensures all { IfOk result (λ r. vec_len r.0.done ≡ length scripts.now) }
-    ensures watched { IfOk result (λ r. MatchResult r.1 (λ w. length w.fronts ≡ turns) (λ e. is_of_scripts e ≡ false)) }
+    ensures each { IfOk result (λ r. AreOutcomes (λ done. done.outcome) J.may_stop J.may_pass J.may_go_on J.model J.scripts r.0.done.items) }
+    ensures watched { IfOk result (λ r. MatchResult r.1 (λ w. length w.fronts ≡ turns) (λ e. is_of_judging e ≡ true)) }
     ensures late { IfErr result (λ e. is_of_scripts e ≡ false) }
+    ensures scarce { IfErr result (λ e. is_scarce e ≡ true) }
 {
     thread::scope(
         thread::scope_env(),
         rt,
         |scope| -> Result<(Back<A, J>, Result<Watch<A, J>, DriveError>), DriveError>
-            requires { (model.now ≡ J.model) × (length scripts.now ≤ MOST_WORKERS) × (rest.parts ≡ length scripts.now + 1) × (rest.amount ≡ 0) }
+            requires { (model.now ≡ J.model) × (length scripts.now ≤ MOST_WORKERS) × (rest.parts ≡ length scripts.now + 1) × (rest.amount ≡ 0) × IsOfGate (G.may_stop gate.now) (G.may_pass gate.now) (G.may_go_on gate.now) J.may_stop J.may_pass J.may_go_on × (scripts.now ≡ J.scripts) }
             ensures all { IfOk result (λ r. vec_len r.0.done ≡ length scripts.entry.now) }
-            ensures watched { IfOk result (λ r. MatchResult r.1 (λ w. length w.fronts ≡ turns) (λ e. is_of_scripts e ≡ false)) }
+            ensures each { IfOk result (λ r. AreOutcomes (λ done. done.outcome) J.may_stop J.may_pass J.may_go_on J.model J.scripts r.0.done.items) }
+            ensures watched { IfOk result (λ r. MatchResult r.1 (λ w. length w.fronts ≡ turns) (λ e. is_of_judging e ≡ true)) }
             ensures late { IfErr result (λ e. is_of_scripts e ≡ false) }
+            ensures scarce { IfErr result (λ e. is_scarce e ≡ true) }
         { run_watched(scope, rt, alloc, model, vault, rest, scripts, gate, turns) },
     )
 }
@@ -267,7 +278,7 @@ fn matched<A: Handle, J: Job<A>>(
     ensures driven { IfOk result (λ w. w.driven ≡ driven) }
     ensures turns { IfOk result (λ w. length w.fronts ≡ length watch.fronts) }
     ensures fronts { IfOk result (λ w. AreFronts J.model (state_of w.driven.book).kept w.fronts) }
-    ensures late { IfErr result (λ e. is_of_scripts e ≡ false) }
+    ensures late { IfErr result (λ e. is_of_judging e ≡ true) }
 {
     let (seen, fronts) = watch.seen();
     if !begins(seen.as_slice(), driven.book.machine().history()) {
@@ -299,10 +310,14 @@ fn watch_run<
     requires one_more { blank.parts ≡ length scripts.now + 1 }
     requires few { length scripts.now ≤ MOST_WORKERS }
     requires of_model { model ≡ J.model }
+    requires of_gate { IsOfGate (G.may_stop gate.now) (G.may_pass gate.now) (G.may_go_on gate.now) J.may_stop J.may_pass J.may_go_on }
+    requires of_scripts { scripts.now ≡ J.scripts }
     ensures driven { IfOk result (λ w. IsDriven model scripts.now w.driven) }
     ensures turns { IfOk result (λ w. length w.fronts ≡ turns) }
     ensures fronts { IfOk result (λ w. AreFronts model (state_of w.driven.book).kept w.fronts) }
     ensures late { IfErr result (λ e. is_of_scripts e ≡ false) }
+    ensures let_on { IfOk result (λ w. EachLetOn J.may_pass J.may_go_on w.driven.reports) }
+    ensures why { IfErr result (MayFail J.may_stop ⊤ scripts.now) }
 {
     let (calls, rest) = blank.open::<J>();
     let copy = model.copy()?;
@@ -332,6 +347,8 @@ pub fn drive_watched<A: Handle + Send + Sync, R: Threads + Wait + Sync, G: Gate<
     ensures fronts { IfOk result (λ w. AreFronts model (state_of w.driven.book).kept w.fronts) }
     ensures barred { (e : DriveError) → scripts_fault scripts.now ≡ Some e → result ≡ Err e }
     ensures only { IfErr result (λ e. is_of_scripts e ≡ true → scripts_fault scripts.now ≡ Some e) }
+    ensures let_on { IfOk result (λ w. EachLetOn (G.may_pass gate.now) (G.may_go_on gate.now) w.driven.reports) }
+    ensures why { IfErr result (MayFail (G.may_stop gate.now) ⊤ scripts.now) }
 {
     if let Some(fault) = fault_of(scripts) {
         return Err(fault);

@@ -1,8 +1,9 @@
 //! What a worker hands in, and what it gets.
 
-ghost use Rattle.std.specs.Prelude.{◌≡◌, ◌≤◌, ℕ, List, Err, false, length, IfOk, OnErr};
+ghost use Rattle.std.specs.Prelude.{◌≡◌, ◌≤◌, ℕ, List, Err, Ok, false, true, length, map, IfErr, IfOk, OnErr};
 ghost use Rattle.acta_locked.specs.declared.book.Entry.{Entry};
-ghost use Rattle.acta_locked.specs.Desks.{IsReport, IsStopped};
+ghost use Rattle.acta_locked.specs.Desks.{IsReport, IsStopped, IsWhy};
+ghost use Rattle.acta_locked.specs.Gates.{LetOn};
 
 use crate::book::{Entry, TakeError};
 use crate::desk::Desk;
@@ -16,13 +17,22 @@ pub trait Gate<X> {
     // At which calls of which seats the gate may give up; at any, where it doesn't say.
     ghost may_stop: { Self → ℕ → ℕ → Type 0 } = { λ _ _ _. Unit {0} };
 
+    // Before which calls of which seats the gate may be true; before any, where it doesn't say. So where it may not be,
+    // it gives up.
+    ghost may_pass: { Self → ℕ → ℕ → Type 0 } = { λ _ _ _. Unit {0} };
+
+    // Behind which calls of which seats, answered what, it may be true; behind any, where it doesn't say.
+    ghost may_go_on: { Self → ℕ → ℕ → X → Type 0 } = { λ _ _ _ _. Unit {0} };
+
     /// Called before the event is handed in.
     fn before(&self, seat: u8, call: usize) -> bool
-        ensures { result ≡ false → may_stop self.now seat call };
+        ensures stops { result ≡ false → may_stop self.now seat call }
+        ensures passes { result ≡ true → may_pass self.now seat call };
 
     /// Called with the entry that was answered.
     fn after(&self, seat: u8, call: usize, entry: &X) -> bool
-        ensures { result ≡ false → may_stop self.now seat call };
+        ensures stops { result ≡ false → may_stop self.now seat call }
+        ensures goes_on { result ≡ true → may_go_on self.now seat call entry.now };
 
     /// Called by a judging thread after each front, outside the lock, with which of its turns it is, from 1. It may
     /// wait.
@@ -112,6 +122,12 @@ pub fn work<A: Allocator + Copy, D: Desk<Event<A>, Entry<A>>, G: Gate<Entry<A>>>
         → (k : ℕ) × (1 ≤ k) × (k ≤ length script.now) × G.may_stop gate.now seat k }
     ensures no_room { result ≡ Err WorkError.BookFull → D.may_be_full desk.new }
     ensures before { OnErr result (IsStopped D.seat_in D.event_in (D.answered desk.old) (D.seat_of desk.old) script.now desk.new) }
+    ensures let_on { IfOk result (λ report.
+        LetOn (G.may_pass gate.now (D.seat_of desk.old)) (G.may_go_on gate.now (D.seat_of desk.old)) 1 report.entries) }
+    ensures gave { IfOk result (λ report. D.gave desk.old (map Ok report.entries) desk.new) }
+    ensures why { IfErr result (IsWhy D.seat_in D.event_in (λ answers. D.gave desk.old answers desk.new)
+        (G.may_stop gate.now (D.seat_of desk.old)) (G.may_pass gate.now (D.seat_of desk.old)) (G.may_go_on gate.now (D.seat_of desk.old))
+        (D.seat_of desk.old) script.now) }
 {
     let seat = desk.seat();
     let events = script.as_slice();

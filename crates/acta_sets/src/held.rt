@@ -86,12 +86,13 @@ pub(crate) fn list_of<A: Handle>(held: &Held<A>, at: u16) -> &[u32]
     }
 }
 
-/// Empties the list at a place.
+/// Empties the list at a place, and gives back its room: most who hold nothing any more have ended.
 fn clear_at<A: Handle>(held: &mut Held<A>, at: u16)
     ensures { (v : ℕ) → list_at held.new.items v ≡ (if v == at then [] else list_at held.old.items v) }
 {
+    let alloc = *held.allocator();
     if let Some(list) = held.get_mut(at as usize) {
-        list.clear();
+        *list = SmallVec::new(alloc);
     }
 }
 

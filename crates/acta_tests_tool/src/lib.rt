@@ -14,6 +14,8 @@ mod driving;
 #[cfg(test)]
 mod expecting;
 #[cfg(test)]
+mod explaining;
+#[cfg(test)]
 mod images;
 #[cfg(test)]
 mod judging;

@@ -7,13 +7,13 @@ use Rattle.acta_locked.specs.declared.run.DriveError.TheVariants.{NoWorker, TooM
 use Rattle.acta_locked.specs.declared.run.Driven.{Driven}
 use Rattle.acta_locked.specs.declared.watch.Front.{Front}
 use Rattle.acta_locked.specs.declared.watch.Watched.{Watched}
-use Rattle.acta_locked.specs.Drives.{IsDriven, is_of_scripts, scripts_fault}
+use Rattle.acta_locked.specs.Drives.{IsDriven, MayFail, is_of_scripts, scripts_fault}
 use Rattle.acta_tool.specs.declared.args.Command.{Command}
 use Rattle.acta_tool.specs.declared.outcome.Outcome.{Outcome}
 use Rattle.acta_tool.specs.declared.outcome.Outcome.TheVariants.{Done, Refused, Unread, Undriven, Unwritten}
 use Rattle.acta_tool.specs.Outcome.{Answers, is_undriven}
 use Rattle.acta_tool.specs.Output.{Output}
-use Rattle.acta_tool.specs.Driving.{AnswersOne, AreAsked, MayCome, MayWrite, Task, book_lines, is_too_long, unless_too_long}
+use Rattle.acta_tool.specs.Driving.{AnswersOne, AreAsked, MayCome, MayWrite, Task, book_lines, is_stop, is_too_long, unless_too_long}
 use Rattle.acta_tool.specs.declared.reports.Report.{Report}
 use Rattle.acta_tool.specs.inside.Reports.{MayComeOf, output_of}
 
@@ -36,10 +36,20 @@ never x e h = cc
 one_error : {T E : Type 0} (e f : E) → ◌≡◌ {A = Result T E} (Err e) (Err f) → f ≡ e
 one_error e f h = cc
 
--- an error that no scripts have may always come
-pub other : {A : Type 0} (found : Result (Task A) (List ℕ)) (e : DriveError) → is_of_scripts e ≡ false → MayCome found (Err e)
-other (Ok task) e is = λ of_scripts. absurd (true≢false (sym of_scripts ∙ is))
-other (Err line) e is = is
+-- where no call may be stopped, no gate stopped a worker
+pub unstopped : {A : Type 0} (unsettled : Type 0) (scripts : List (List (Event A))) (e : DriveError) → MayFail (λ seat k. ⊥) unsettled scripts e → is_stop e ≡ false
+unstopped unsettled scripts NoWorker may = refl
+unstopped unsettled scripts TooManyWorkers may = refl
+unstopped unsettled scripts TooManyEvents may = refl
+unstopped unsettled scripts Memory may = refl
+unstopped unsettled scripts NoThread may = refl
+unstopped unsettled scripts (GaveUp seat) may = absurd may.5
+unstopped unsettled scripts Unsettled may = refl
+
+-- an error that no scripts have, and no gate, may always come
+pub other : {A : Type 0} (found : Result (Task A) (List ℕ)) (e : DriveError) → is_of_scripts e ≡ false → is_stop e ≡ false → MayCome found (Err e)
+other (Ok task) e is unstopped = ((λ of_scripts. absurd (true≢false (sym of_scripts ∙ is))), unstopped)
+other (Err line) e is unstopped = (is, unstopped)
 
 -- a run that has a result is told
 pub driven : {A : Type 0} (task : Task A) (d : Driven A) (fs : List (Front A)) (r : Result (Report A) DriveError) → ((e : DriveError) → scripts_fault task.scripts ≡ Some e → Ok (let w : Watched A = record { driven = d; fronts = fs } in w) ≡ Err e) → IsDriven task.model task.scripts d → AreAsked task d fs
@@ -48,23 +58,23 @@ driven {A} task d fs (Ok report) barred is asked told memory =
     let free : (e : DriveError) → scripts_fault task.scripts ≡ Some e → ⊥ = λ e has. never (let w : Watched A = record { driven = d; fronts = fs } in w) e (barred e has) in
     subst (λ found. MayCome found (Ok (output_of report))) (sym (free_kept task (scripts_fault task.scripts) refl free))
     (none_of task (scripts_fault task.scripts) refl free, d, is, fs, asked, told)
-driven task d fs (Err e) barred is asked told memory = other (unless_too_long task) e (ap is_of_scripts memory)
+driven task d fs (Err e) barred is asked told memory = other (unless_too_long task) e (ap is_of_scripts memory) (ap is_stop memory)
 
-undriven_by : {A : Type 0} (task : Task A) (e : DriveError) (fault : Option DriveError) → scripts_fault task.scripts ≡ fault → (is_of_scripts e ≡ true → scripts_fault task.scripts ≡ Some e)
+undriven_by : {A : Type 0} (task : Task A) (e : DriveError) (fault : Option DriveError) → scripts_fault task.scripts ≡ fault → (is_of_scripts e ≡ true → scripts_fault task.scripts ≡ Some e) → is_stop e ≡ false
     → ((f : DriveError) → scripts_fault task.scripts ≡ Some f → ◌≡◌ {A = Result (Watched A) DriveError} (Err e) (Err f)) → e ≢ TooManyEvents → MayCome (by_fault task fault) (Err e)
-undriven_by task e None is only barred kept = only
-undriven_by task e (Some NoWorker) is only barred kept = only
-undriven_by task e (Some TooManyWorkers) is only barred kept = only
-undriven_by task e (Some TooManyEvents) is only barred kept = absurd (kept (sym (one_error e TooManyEvents (barred TooManyEvents is))))
-undriven_by task e (Some Memory) is only barred kept = only
-undriven_by task e (Some NoThread) is only barred kept = only
-undriven_by task e (Some (GaveUp seat)) is only barred kept = only
-undriven_by task e (Some Unsettled) is only barred kept = only
+undriven_by task e None is only unstopped barred kept = (only, unstopped)
+undriven_by task e (Some NoWorker) is only unstopped barred kept = (only, unstopped)
+undriven_by task e (Some TooManyWorkers) is only unstopped barred kept = (only, unstopped)
+undriven_by task e (Some TooManyEvents) is only unstopped barred kept = absurd (kept (sym (one_error e TooManyEvents (barred TooManyEvents is))))
+undriven_by task e (Some Memory) is only unstopped barred kept = (only, unstopped)
+undriven_by task e (Some NoThread) is only unstopped barred kept = (only, unstopped)
+undriven_by task e (Some (GaveUp seat)) is only unstopped barred kept = (only, unstopped)
+undriven_by task e (Some Unsettled) is only unstopped barred kept = (only, unstopped)
 
 -- and one that has none says why, unless there are too many events
-pub undriven : {A : Type 0} (task : Task A) (e : DriveError) → (is_of_scripts e ≡ true → scripts_fault task.scripts ≡ Some e) → ((f : DriveError) → scripts_fault task.scripts ≡ Some f → ◌≡◌ {A = Result (Watched A) DriveError} (Err e) (Err f))
+pub undriven : {A : Type 0} (task : Task A) (e : DriveError) → (is_of_scripts e ≡ true → scripts_fault task.scripts ≡ Some e) → is_stop e ≡ false → ((f : DriveError) → scripts_fault task.scripts ≡ Some f → ◌≡◌ {A = Result (Watched A) DriveError} (Err e) (Err f))
     → e ≢ TooManyEvents → MayCome (unless_too_long task) (Err e)
-undriven task e only barred kept = undriven_by task e (scripts_fault task.scripts) refl only barred kept
+undriven task e only unstopped barred kept = undriven_by task e (scripts_fault task.scripts) refl only unstopped barred kept
 
 -- a report that was written answers, for the bytes that were read
 answered : (result : Outcome) (May : Result Output DriveError → Type 0) (out : Output) (old new : Option (List ℕ)) → May (Ok out) → is_undriven result ≡ false → Answers result out old new → AnswersOne result May old new

@@ -11,7 +11,7 @@ use Rattle.acta_script.specs.Writing.{event_line}
 use Rattle.acta_machine.specs.Table.{debts_in}
 use Rattle.acta_locked.specs.declared.book.Entry.{Entry}
 use Rattle.acta_locked.specs.declared.run.DriveError.{DriveError}
-use Rattle.acta_locked.specs.declared.run.DriveError.TheVariants.{TooManyEvents}
+use Rattle.acta_locked.specs.declared.run.DriveError.TheVariants.{GaveUp, TooManyEvents}
 use Rattle.acta_locked.specs.declared.run.Driven.{Driven}
 use Rattle.acta_locked.specs.Books.{Entries, state_of}
 use Rattle.acta_locked.specs.declared.watch.Front.{Front}
@@ -65,6 +65,11 @@ abbrev pub is_too_long : Option DriveError → Bool
 is_too_long (Some TooManyEvents) = true
 is_too_long _ = false
 
+-- whether it is that a gate stopped a worker
+abbrev pub is_stop : DriveError → Bool
+is_stop (GaveUp seat) = true
+is_stop _ = false
+
 -- the task, or the line that refuses it
 abbrev pub unless_too_long : {A : Type 0} → Task A → Result (Task A) (List ℕ)
 unless_too_long task = if is_too_long (scripts_fault task.scripts) then Err (codes "drive fault 3") else Ok task
@@ -82,16 +87,16 @@ abbrev pub task_of : {A : Type 0} → ℕ → ℕ → Result (Parts A) NoModel �
 task_of workers turns (Err fault) input = Err (no_model_line fault)
 task_of workers turns (Ok m) input = task_on workers turns m (said_in (seated_of m workers) input)
 
--- what may be written: what some driven run of the task leaves, with any fronts that it asks for, or the line that refuses it; and why nothing may be,
--- which is no fault of the scripts unless they have it
+-- what may be written: what some driven run of the task leaves, with any fronts that it asks for, or the line that
+-- refuses it; and why nothing may be, which is no fault of the scripts unless they have it, and never a gate
 abbrev pub MayCome : {A : Type 0} → Result (Task A) (List ℕ) → Result Output DriveError → Type 0
 MayCome {A} (Ok task) (Ok out) =
     (scripts_fault task.scripts ≡ None) × (d : Driven A) × IsDriven task.model task.scripts d
     × (fs : List (Front A)) × AreAsked task d fs
     × (out ≡ record { is_refused = false; text = text_of (book_lines d.book fs) })
-MayCome (Ok task) (Err e) = is_of_scripts e ≡ true → scripts_fault task.scripts ≡ Some e
+MayCome (Ok task) (Err e) = (is_of_scripts e ≡ true → scripts_fault task.scripts ≡ Some e) × (is_stop e ≡ false)
 MayCome (Err line) (Ok out) = out ≡ record { is_refused = true; text = text_of (line ∷ []) }
-MayCome (Err line) (Err e) = is_of_scripts e ≡ false
+MayCome (Err line) (Err e) = (is_of_scripts e ≡ false) × (is_stop e ≡ false)
 
 -- what may come of the command `drive`, for the bytes of a model and of an input; A is the allocator's type
 abbrev pub MayWrite : (A : Type 0) → Command → List ℕ → List ℕ → Result Output DriveError → Type 0

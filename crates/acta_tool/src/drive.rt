@@ -9,7 +9,7 @@ ghost use Rattle.acta_locked.specs.Drives.{IsDriven, is_of_scripts, scripts_faul
 ghost use Rattle.acta_locked.specs.Fronts.{AreFronts};
 ghost use Rattle.acta_locked.specs.declared.run.DriveError.{DriveError as RunError};
 ghost use Rattle.acta_locked.specs.declared.run.DriveError.TheVariants.{Memory};
-ghost use Rattle.acta_tool.specs.Driving.{AnswersOne, MayWrite, book_lines, script_of, scripts_of, task_of, task_on, unless_too_long};
+ghost use Rattle.acta_tool.specs.Driving.{AnswersOne, MayWrite, book_lines, is_stop, script_of, scripts_of, task_of, task_on, unless_too_long};
 ghost use Rattle.acta_tool.specs.Models.{of_either};
 ghost use Rattle.acta_tool.specs.Outcome.{FailsBy, IsUnreadTooLong, KeepsUnread, WritesBy, is_drive, reason_of};
 ghost use Rattle.acta_tool.specs.Output.{said_in, stop_line};
@@ -98,6 +98,7 @@ fn driven<A: Handle + Send + Sync, R: Threads + Wait + Sync>(
     ensures fronts { IfOk result (λ w. AreFronts model (state_of w.driven.book).kept w.fronts) }
     ensures barred { (e : RunError) → scripts_fault scripts.now ≡ Some e → result ≡ Err e }
     ensures only { IfErr result (λ e. is_of_scripts e ≡ true → scripts_fault scripts.now ≡ Some e) }
+    ensures unstopped { IfErr result (λ e. is_stop e ≡ false) }
 {
     if turns > 0 {
         return drive_watched(rt, alloc, model, scripts, &OpenGate, turns);

@@ -20,4 +20,4 @@ returns-in-Ok g c =
 pub returns-in-Err : goal.returns-in-Err
 returns-in-Err g c =
     let task : Task g.row.A.Denot = record { model = c.args.model; scripts = scripts_of c.args.workers c.args.said.now; turns = c.args.turns } in
-    other (unless_too_long task) Memory refl
+    other (unless_too_long task) Memory refl refl

@@ -25,4 +25,4 @@ returns-in-Ok g c =
 pub returns-in_default : goal.returns-in_default
 returns-in_default g c =
     let task : Task g.row.A.Denot = record { model = c.args.model; scripts = c.args.scripts.now; turns = c.args.turns } in
-    undriven task c.in-Err.e c.in-Err.ensures.only c.in-Err.ensures.barred c.in_default.not-TooManyEvents
+    undriven task c.in-Err.e c.in-Err.ensures.only c.in-Err.ensures.unstopped c.in-Err.ensures.barred c.in_default.not-TooManyEvents

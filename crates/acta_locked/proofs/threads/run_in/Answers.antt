@@ -1,0 +1,25 @@
+use Rattle.std.proofs.Common.{rules, arith, below_more, ◌≡◌, ◌+◌, ℕ, get_or, length, ap, refl, vec_len, ◌∙◌}
+use Rattle.acta_locked.proofs.threads.run_in.Goals as goal
+
+pub loop-k-preserved : goal.loop-k-preserved
+loop-k-preserved g c =
+    let i = c.loop-k.invariant in
+    let n = vec_len c.loop-k.running in
+    let pushed = c.in-Ok-push.ensures in
+    let started = i.started in
+    let Fits : ℕ → Type 0 = λ k. (r : _) → (get_or c.push.new.self.items k r).handle.promise.0 ≡ k + 1 in
+    let seat : c.in-Ok.one.handle.promise.0 ≡ n + 1 = c.in-Ok.ensures.seat ∙ omega (arith, started) in
+    let here : Fits n = λ r. ap (λ one. one.handle.promise.0) (pushed.by_index.1 r refl) ∙ seat in
+    record {
+      parts = search rules;
+      none = search rules;
+      started = search rules;
+      room = search rules;
+      seats = λ k r below. below_more Fits n (λ j low r. ap (λ one. one.handle.promise.0) (pushed.by_index.0 j r low) ∙ i.seats j r (omega (arith, low, started))) here k (omega (arith, below, started)) r;
+    }
+
+pub returns-clause-each : goal.returns-clause-each
+returns-clause-each g c = λ k d below.
+    let started = c.loop-k.invariant.started in
+    let long = ap length c.requires.of_scripts in
+    c.joined-2.ensures.each k d (omega (arith, below, started, long, c.loop-k-test.false))
