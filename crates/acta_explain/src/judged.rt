@@ -13,6 +13,7 @@ use crate::phrases::{
     text_of,
 };
 use crate::spoken::{Script, Spoken, SpokenLines, spoken_kept};
+use crate::telling::MOST_TOLD;
 use crate::words::{axiom_entry, rule_entry};
 use acta_axioms::{Axiom, Fault, Walk};
 use acta_judge::{Verdict, judge};
@@ -289,11 +290,19 @@ impl<'a, A: Handle> Scene<'a, A> {
         writeln!(text, "{line}  by {edge}")
     }
 
-    // All that is told of a verdict.
+    // All that is told of a verdict. Of its faults the first are: a list can have one for each two of its operations.
     fn verdict(&self, verdict: &Verdict<A>) -> Told<A> {
         let mut text = String::new(self.alloc);
-        for fault in verdict.faults.as_slice() {
+        let faults = verdict.faults.as_slice();
+        for fault in faults.iter().take(MOST_TOLD) {
             self.push_fault(&mut text, fault)?;
+        }
+        let untold = faults.len().saturating_sub(MOST_TOLD);
+        if untold > 0 {
+            writeln!(
+                text,
+                "and {untold} faults more: the first {MOST_TOLD} are told"
+            )?;
         }
         for owed in verdict.owed.as_slice() {
             self.push_debt(&mut text, owed)?;

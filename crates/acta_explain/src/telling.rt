@@ -7,12 +7,12 @@ use crate::reasons::Refused;
 use crate::spoken::Spoken;
 use acta_machine::{Formed, Handle, Machine};
 use acta_script::answer_line;
-use acta_table::{Answer, Edge, Event, MOST_EVENTS, Model, Rule};
+use acta_table::{Answer, Edge, Event, Model, Rule};
 use std::alloc::AllocError;
 
-/// The most refused events that are told of a run, as many as a history has events: behind them they are counted, so
+/// The most refused events that are told of a run, and the most faults of a verdict. Behind them they are counted, so
 /// that millions of them take neither time nor room.
-pub const MOST_TOLD: usize = MOST_EVENTS;
+pub const MOST_TOLD: usize = 32_768;
 
 // The most refused events that are remembered until one is admitted.
 const MOST_REFUSED: usize = 64;

@@ -1,9 +1,12 @@
-//! `explain` and `draw`: what they write and how they end; and each allocation of a run refused in turn.
+//! `explain` and `draw`: what they write and how they end, also where more events are refused than they tell; what is told
+//! of events that no line can say; and each allocation of a run refused in turn.
 
-use crate::expecting::{holds, tells};
+use crate::expecting::{holds, made, tells};
 use acta_draw::{Choice, Drawing, Form, Screen, draw_tool};
-use acta_explain::explain_tool;
+use acta_explain::{MOST_TOLD, Spoken, Telling, explain_tool};
+use acta_lang::assemble;
 use acta_models::Standard;
+use acta_table::{ClassId, Event, ObjId, Op, TxnId};
 use acta_tool::{Metered, ModelName, Outcome, ReadFault, Watched};
 use refusing::Refusing;
 use std::alloc::{Allocator, Global};
@@ -194,6 +197,74 @@ fn tell_each<R: Threads + Sync + Abort, B: Allocator + Send + Sync>(
         let told = written(rt, alloc, heap, (ask, input), ends);
         tells(rt, told.as_slice(), due.as_bytes(), input);
     }
+}
+
+// Two more lines of an event that no model admits than are told.
+fn refused_lines(rt: &impl Abort, alloc: Global) -> String {
+    let mut lines = String::new(alloc);
+    for _ in 0..MOST_TOLD.saturating_add(2) {
+        made(rt, lines.push_str("begin 0 loose\n"), "lines");
+    }
+    lines
+}
+
+// What is written last where two more events are refused than are told.
+fn tell_last<R: Threads + Sync + Abort, B: Allocator + Send + Sync>(
+    rt: &R,
+    alloc: Global,
+    heap: &Refusing<B>,
+) {
+    let input = refused_lines(rt, alloc);
+    let rows = [
+        (
+            Ask::Explained,
+            "\nand 2 refused events more: the first 32768 are told\n",
+        ),
+        (
+            Ask::Drawn,
+            "\n2 refused events more are not drawn: the first 32768 are.\n",
+        ),
+    ];
+    for (ask, last) in rows {
+        let told = written(rt, alloc, heap, (ask, input.as_str()), Outcome::Done);
+        holds(rt, told.as_slice().ends_with(last.as_bytes()), last);
+    }
+}
+
+// What is told of an event of a class or an object that the model lacks, which no line can say.
+fn tells_lacking(rt: &impl Abort, alloc: Global, event: Event<Global>, due: &str) {
+    let model = made(rt, assemble(alloc, Standard::Atomic.text().as_bytes()), due);
+    let mut telling = made(rt, Telling::new(alloc, model), due);
+    let spoken = Spoken {
+        line: 1,
+        bytes: b"",
+    };
+    made(rt, telling.take(spoken, event), due);
+    let rows = telling.chronicle().rows();
+    let reason = rows.first().map_or("", |row| row.reason.as_str());
+    tells(rt, reason.as_bytes(), due.as_bytes(), due);
+}
+
+#[test]
+fn what_no_line_can_say(rt: HostRuntime) {
+    tells_lacking(
+        &rt,
+        rt.alloc(),
+        Event::Begin(TxnId(1), ClassId(200)),
+        "BadClass: the model has no class at position 200.\nNo later event can admit it.",
+    );
+    tells_lacking(
+        &rt,
+        rt.alloc(),
+        Event::Operate(TxnId(1), ObjId(200), Op::Read),
+        "BadObject: the model has no object at position 200.\nNo later event can admit it.",
+    );
+}
+
+#[test]
+fn more_refused_than_are_told(rt: HostRuntime) {
+    let heap = Refusing::new(rt.alloc());
+    tell_last(&rt, rt.alloc(), &heap);
 }
 
 #[test]
