@@ -1,10 +1,10 @@
 -- The ancestors of a transaction, by those of its parent.
-use Rattle.std.proofs.Common.{◌≡◌, ℕ, zero, suc, ◌<◌, ◌≤◌, List, [], ◌∷◌, length, Option, Some, None, option_map, refl, sym, ap, ◌∙◌, arith}
+use Rattle.std.proofs.Common.{◌≡◌, ℕ, zero, suc, ◌<◌, ◌≤◌, true, List, [], ◌∷◌, length, Option, Some, None, option_map, is_some, refl, ap, ◌∙◌, arith}
 use Rattle.std.specs.Option.{option_and_then}
 use Rattle.acta_table.specs.declared.event.Kept.{Kept}
 use Rattle.acta_table.specs.declared.event.TxnId.{TxnId}
 use Rattle.acta_table.specs.Ancestors.{ancestors_from}
-use Rattle.acta_axioms.specs.History.{Place, number, first, starts, has_begun, course, spawner, parent_of, ancestors}
+use Rattle.acta_axioms.specs.History.{Place, number, first, starts, course, spawner, parent_of, ancestors}
 use Rattle.acta_axioms.proofs.Growth.{HasStartedBy, parent_earlier, started_within}
 
 -- one that has a parent has started

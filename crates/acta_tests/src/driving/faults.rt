@@ -1,6 +1,6 @@
 //! Why a drive has no result: the faults of its scripts, and a gate that gives up.
 
-use crate::driving::gates::Stopping;
+use crate::driving::gates::{Pass, Shut};
 use crate::driving::scripts::{ADDITIONS, fault_of, scripts};
 use crate::expecting::{made, same};
 use acta_locked::{DriveError, OpenGate, Script};
@@ -46,17 +46,56 @@ fn are_barred<A: Handle + Send + Sync, R: Threads + Wait + Sync + Abort>(
     same(rt, &found, &Some(why), "barred scripts");
 }
 
-// The second worker gives up before its first call.
-fn gives_up<A: Handle + Send + Sync, R: Threads + Wait + Sync + Abort>(rt: &R, alloc: A) {
+// Where the gate is false at these places, the run gives up at the seat.
+fn gives_up<A: Handle + Send + Sync, R: Threads + Wait + Sync + Abort>(
+    rt: &R,
+    alloc: A,
+    at: &[Pass],
+    seat: u8,
+) {
     let scripts = scripts(rt, alloc, &ADDITIONS);
-    let gate = Stopping { seat: 2, call: 1 };
-    let found = fault_of(rt, alloc, Standard::Atomic, scripts.as_slice(), &gate);
+    let found = fault_of(
+        rt,
+        alloc,
+        Standard::Atomic,
+        scripts.as_slice(),
+        &Shut { at },
+    );
     same(
         rt,
         &found,
-        &Some(DriveError::GaveUp(2)),
+        &Some(DriveError::GaveUp(seat)),
         "a gate that gives up",
     );
+}
+
+// Each place of two workers with two calls each, alone; and a place of each, of which the lowest seat is told.
+fn gives_up_anywhere<A: Handle + Send + Sync, R: Threads + Wait + Sync + Abort>(rt: &R, alloc: A) {
+    for seat in [1u8, 2] {
+        for call in [1usize, 2] {
+            for is_behind in [false, true] {
+                let at = [Pass {
+                    seat,
+                    call,
+                    is_behind,
+                }];
+                gives_up(rt, alloc, &at, seat);
+            }
+        }
+    }
+    let both = [
+        Pass {
+            seat: 2,
+            call: 1,
+            is_behind: false,
+        },
+        Pass {
+            seat: 1,
+            call: 2,
+            is_behind: true,
+        },
+    ];
+    gives_up(rt, alloc, &both, 1);
 }
 
 #[test]
@@ -65,5 +104,5 @@ fn drives_that_have_no_result(rt: HostRuntime) {
     are_barred(&rt, alloc, &[], DriveError::NoWorker);
     are_barred(&rt, alloc, &[1; 17], DriveError::TooManyWorkers);
     are_barred(&rt, alloc, &[32_768, 32_769], DriveError::TooManyEvents);
-    gives_up(&rt, alloc);
+    gives_up_anywhere(&rt, alloc);
 }

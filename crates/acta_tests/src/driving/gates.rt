@@ -1,4 +1,4 @@
-//! Gates of the tests: one at which two workers meet, and one that is false at one place.
+//! Gates of the tests: one at which two workers meet, and one that is false at some places.
 
 use acta_locked::{Entry, Front, Gate};
 use std::alloc::Allocator;
@@ -97,22 +97,38 @@ impl<'a, R: Wait, A: Allocator + Copy> Gate<Entry<A>> for Meeting<'a, R, A> {
     fn judged<B: Allocator>(&self, _turn: u8, _front: &Front<B>) {}
 }
 
-/// A gate that is false before one call of one seat, and open elsewhere.
-#[derive(Drop)]
-pub struct Stopping {
-    /// The seat that it stops.
+/// Where a gate is asked: before a call of a seat, or behind it.
+#[derive(Clone, Copy, PartialEq, Eq)]
+pub struct Pass {
     pub seat: u8,
-    /// Before which of its calls.
     pub call: usize,
+    pub is_behind: bool,
 }
 
-impl<X> Gate<X> for Stopping {
+/// A gate that is false at these places, and true elsewhere.
+#[derive(Drop)]
+pub struct Shut<'a> {
+    pub at: &'a [Pass],
+}
+
+impl<'a> Shut<'a> {
+    fn is_open(&self, seat: u8, call: usize, is_behind: bool) -> bool {
+        let asked = Pass {
+            seat,
+            call,
+            is_behind,
+        };
+        !self.at.contains(&asked)
+    }
+}
+
+impl<'a, X> Gate<X> for Shut<'a> {
     fn before(&self, seat: u8, call: usize) -> bool {
-        seat != self.seat || call != self.call
+        self.is_open(seat, call, false)
     }
 
-    fn after(&self, _seat: u8, _call: usize, _entry: &X) -> bool {
-        true
+    fn after(&self, seat: u8, call: usize, _entry: &X) -> bool {
+        self.is_open(seat, call, true)
     }
 
     fn judged<A: Allocator>(&self, _turn: u8, _front: &Front<A>) {}
