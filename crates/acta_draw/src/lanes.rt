@@ -2,10 +2,10 @@
 //! and for each transaction from which row to which its lane goes.
 
 use crate::marks::{Deed, Figure, figure_of};
-use acta_explain::{Row as ToldRow, Script, Spoken, Telling};
+use acta_explain::{Row as ToldRow, Spoken, SpokenLines, Telling};
 use acta_machine::Handle;
 use acta_table::{Answer, AtCommit, Edge, Event, Model, OpNo, Owed, TxnId};
-use acta_tool::BadLine;
+use acta_tool::{BadLine, Input};
 use std::alloc::AllocError;
 
 /// An event of the input, with what became of it.
@@ -74,23 +74,21 @@ fn behind(edges: &[Edge], before: usize, after: usize) -> &[Edge] {
 }
 
 impl<A: Handle> Lanes<A> {
-    /// The lanes of a run of the events that the lines of an input say. `Err` where there is no memory.
+    /// The lanes of a run of the events that the lines of an input say, which are these. `Err` where there is no memory.
     pub fn of(
         alloc: A,
         model: Model<A>,
-        script: Script<'_, Event<A>, A>,
+        read: Input<Event<A>, A>,
+        input: &[u8],
     ) -> Result<Lanes<A>, AllocError> {
-        let Script {
-            said,
-            mut lines,
-            stop,
-        } = script;
+        let Input { said, stop } = read;
+        let mut lines = SpokenLines::of(input);
         let mut lanes = Lanes {
             alloc,
             telling: Telling::new(alloc, model)?,
             rows: Vec::new(alloc),
             owed: Vec::new(alloc),
-            stop: stop.map(|stop| stop.bad_line()),
+            stop,
         };
         for event in said {
             if let Some(line) = lines.take_next() {

@@ -11,11 +11,10 @@ use crate::lanes::Lanes;
 use crate::screen::Screen;
 use crate::svg::{draw_svg, draw_words};
 use crate::text::draw_text;
-use acta_explain::spoken_events;
 use acta_machine::Handle;
 use acta_tool::{
-    BadLine, Command, ModelError, NoModel, Outcome, ReadFault, Report, Sink, Source, read_model,
-    read_within, refuse_line, refuse_model, write_report,
+    BadLine, Command, EventLines, ModelError, NoModel, Outcome, ReadFault, Report, Sink, Source,
+    read_lines, read_model, read_within, refuse_line, refuse_model, write_report,
 };
 use std::alloc::AllocError;
 
@@ -86,9 +85,13 @@ pub fn draw<A: Handle>(
         Err(ModelError::Fault(fault)) => return no_model(alloc, drawing, fault),
         Err(ModelError::Memory) => return Err(AllocError),
     };
-    let script = spoken_events(alloc, &model, input)?;
-    let is_refused = script.stop.is_some();
-    let lanes = Lanes::of(alloc, model, script)?;
+    let reader = EventLines {
+        alloc,
+        model: &model,
+    };
+    let read = read_lines(alloc, &reader, input)?;
+    let is_refused = read.stop.is_some();
+    let lanes = Lanes::of(alloc, model, read, input)?;
     let text = picture(alloc, &lanes, drawing, screen)?;
     Ok(Report {
         text: text.into_bytes(),

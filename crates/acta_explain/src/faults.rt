@@ -9,7 +9,7 @@ use acta_machine::Handle;
 use acta_script::LineFault;
 use acta_table::Model;
 use acta_tool::{BadLine, refuse_line};
-use acta_words::{read_i32, read_i64, read_u16, read_u32};
+use acta_words::{Lines, read_i32, read_i64, read_u16, read_u32};
 use std::alloc::AllocError;
 
 /// A line that says nothing, by which a run stops.
@@ -26,8 +26,21 @@ pub struct Stop<'a> {
 }
 
 impl<'a> Stop<'a> {
-    /// Its number and its fault, as other commands tell them.
-    pub fn bad_line(&self) -> BadLine {
+    /// The faulty line of this input.
+    pub fn of(input: &'a [u8], bad: BadLine, is_kept: bool) -> Stop<'a> {
+        let bytes = Lines::of(input)
+            .nth(bad.line.saturating_sub(1))
+            .unwrap_or(b"".as_slice());
+        Stop {
+            line: bad.line,
+            bytes,
+            fault: bad.fault,
+            is_kept,
+        }
+    }
+
+    // Its number and its fault, as other commands tell them.
+    fn bad_line(&self) -> BadLine {
         BadLine {
             line: self.line,
             fault: self.fault,

@@ -1,18 +1,18 @@
 //! The verdict on kept lines, told in words: each fault with its axiom, its line and what breaks the axiom there, and
 //! then what is owed.
 
-ghost use Rattle.std.specs.Prelude.{◌≡◌, ◌≤◌, length, true, IfOk};
+ghost use Rattle.std.specs.Prelude.{◌≡◌, ◌≤◌, length, true, IfOk, None};
 ghost use Rattle.acta_script.specs.Reading.{kept_of};
 ghost use Rattle.acta_table.specs.declared.limits.TheConstants.{MOST_EVENTS};
-ghost use Rattle.acta_tool.specs.Output.{judge_on, said_in};
+ghost use Rattle.acta_tool.specs.Output.{judge_on, judged_on, said_in};
 
 use crate::chronicle::{Chronicle, Row};
-use crate::faults::{push_lines, push_stop};
+use crate::faults::{Stop, push_lines, push_stop};
 use crate::phrases::{
     class_of, may_line, name_text, numbered_edge_text, operation_text, row_text, starts_line,
     text_of,
 };
-use crate::spoken::{Script, Spoken, SpokenLines, spoken_kept};
+use crate::spoken::{Spoken, SpokenLines};
 use crate::telling::MOST_TOLD;
 use crate::words::{axiom_entry, rule_entry};
 use acta_axioms::{Axiom, Fault, Walk};
@@ -21,7 +21,7 @@ use acta_machine::Handle;
 use acta_objects::form_fault;
 use acta_script::{fault_line, owed_line};
 use acta_table::{Edge, Event, Kept, LAST_TXN, MOST_EVENTS, Model, OpNo, Owed, Ret, TxnId};
-use acta_tool::Report;
+use acta_tool::{KeptLines, Report, read_lines};
 use std::alloc::AllocError;
 use std::thread::Threads;
 
@@ -335,16 +335,49 @@ fn refusal<A: Handle>(text: String<A>) -> Report<A>
 }
 
 // What is told where the lines are too many.
-fn too_long<A: Handle>(text: String<A>) -> Result<Report<A>, AllocError>
+fn too_long<A: Handle>(alloc: A) -> Result<Report<A>, AllocError>
     ensures { IfOk result (λ report. report.is_refused ≡ true) }
 {
-    let mut text = text;
-    text.push_str("judge fault 1\n")?;
+    let mut text = String::from_str(alloc, "judge fault 1\n")?;
     push_lines(
         &mut text,
         "the lines that say something are more than 65,536, the most that are judged",
     )?;
     Ok(refusal(text))
+}
+
+// What is told of a line that is faulty.
+fn stopped<A: Handle>(alloc: A, model: &Model<A>, stop: &Stop<'_>) -> Result<Report<A>, AllocError>
+    ensures { IfOk result (λ report. report.is_refused ≡ true) }
+{
+    let mut text = String::new(alloc);
+    push_stop(&mut text, alloc, model, stop)?;
+    Ok(refusal(text))
+}
+
+// What is told of kept items, and of the lines that say them.
+fn explain_kept<A: Handle + Send + Sync, R: Threads + Sync>(
+    rt: &R,
+    alloc: A,
+    model: &Model<A>,
+    kept: &[Kept<A>],
+    lines: SpokenLines<'_>,
+) -> Result<Report<A>, AllocError>
+    ensures { IfOk result (λ report. report.is_refused ≡ (judged_on model.now kept.now None).is_refused) }
+{
+    if kept.len() > MOST_EVENTS {
+        return too_long(alloc);
+    }
+    match judge(rt, alloc, model, kept) {
+        Ok(verdict) => {
+            let scene = scene_of(alloc, model, kept, lines, verdict.faults.as_slice())?;
+            Ok(Report {
+                text: scene.verdict(&verdict)?.into_bytes(),
+                is_refused: false,
+            })
+        }
+        Err(_) => Err(AllocError),
+    }
 }
 
 /// What is told of the kept lines of the input, which is refused where `judge` refuses it. `Err` where there is no memory.
@@ -356,20 +389,12 @@ pub fn explain_judged<A: Handle + Send + Sync, R: Threads + Sync>(
 ) -> Result<Report<A>, AllocError>
     ensures { IfOk result (λ report. report.is_refused ≡ (judge_on model.now (said_in (kept_of model.now) input.now)).is_refused) }
 {
-    let Script { said, lines, stop } = spoken_kept(alloc, model, input)?;
-    let mut text = String::new(alloc);
-    if let Some(stop) = stop {
-        push_stop(&mut text, alloc, model, &stop)?;
-        return Ok(refusal(text));
+    let read = read_lines(alloc, &KeptLines { alloc, model }, input)?;
+    match read.stop {
+        Some(bad) => stopped(alloc, model, &Stop::of(input, bad, true)),
+        None => {
+            let lines = SpokenLines::of(input);
+            explain_kept(rt, alloc, model, read.said.as_slice(), lines)
+        }
     }
-    if said.len() > MOST_EVENTS {
-        return too_long(text);
-    }
-    let verdict = judge(rt, alloc, model, said.as_slice()).map_err(|_| AllocError)?;
-    let faults = verdict.faults.as_slice();
-    let scene = scene_of(alloc, model, said.as_slice(), lines, faults)?;
-    Ok(Report {
-        text: scene.verdict(&verdict)?.into_bytes(),
-        is_refused: false,
-    })
 }

@@ -9,12 +9,12 @@ use crate::chronicle::Chronicle;
 use crate::faults::{Stop, push_stop};
 use crate::layout::{Columns, push_debt, push_row};
 use crate::phrases::{numbered_edge_text, standing, text_of};
-use crate::spoken::{Script, spoken_events};
+use crate::spoken::SpokenLines;
 use crate::telling::{MOST_TOLD, Telling};
 use acta_machine::{Handle, Machine};
 use acta_script::owed_line;
 use acta_table::{Model, Owed};
-use acta_tool::Report;
+use acta_tool::{EventLines, Input, Report, read_lines};
 use std::alloc::AllocError;
 
 // By which edge something is owed, and why.
@@ -89,18 +89,20 @@ pub fn explain_run<A: Handle>(
 ) -> Result<Report<A>, AllocError>
     ensures { IfOk result (λ report. report.is_refused ≡ is_some (said_in (event_of model) input.now).stop) }
 {
-    let Script {
-        said,
-        mut lines,
-        stop,
-    } = spoken_events(alloc, &model, input)?;
+    let reader = EventLines {
+        alloc,
+        model: &model,
+    };
+    let Input { said, stop } = read_lines(alloc, &reader, input)?;
+    let mut lines = SpokenLines::of(input);
     let mut told = Telling::new(alloc, model)?;
     for event in said {
         if let Some(line) = lines.take_next() {
             told.take(line, event)?;
         }
     }
-    let text = told_text(alloc, &told, stop.as_ref())?;
+    let bad = stop.map(|bad| Stop::of(input, bad, false));
+    let text = told_text(alloc, &told, bad.as_ref())?;
     Ok(Report {
         text: text.into_bytes(),
         is_refused: stop.is_some(),
