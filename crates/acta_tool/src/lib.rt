@@ -34,4 +34,3 @@ pub use reports::{Report, refuse_line, refuse_model, write_report};
 pub use run::{read_within, run_tool};
 pub use sink::{Sink, Watched};
 pub use source::{MOST_BYTES, Metered, ReadFault, Source, read_all};
-pub use tracing::spoken_lines;

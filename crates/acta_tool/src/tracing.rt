@@ -18,9 +18,9 @@ use acta_words::{Lines, has_words, push_line, push_natural, push_word};
 use itoa::Buffer;
 use std::alloc::{AllocError, Allocator};
 
-/// The numbers of the lines that have words, from 1. `Err` where there is no memory.
+// The numbers of the lines that have words, from 1.
 #[tactic(auto, unfolding(crate::specs::Output::spoken_lines))]
-pub fn spoken_lines<A: Allocator>(alloc: A, input: &[u8]) -> Result<Vec<usize, A>, AllocError>
+fn spoken_lines<A: Allocator>(alloc: A, input: &[u8]) -> Result<Vec<usize, A>, AllocError>
     ensures { IfOk result (λ numbers. numbers.items ≡ spoken_lines input.now) }
 {
     let mut numbers = Vec::new(alloc);
