@@ -1,6 +1,7 @@
 -- What may come of a task, by what its driven run answers.
 use Rattle.std.proofs.Common.{◌≡◌, true, false, List, ℕ, refl, sym, ap, subst, ◌∙◌, true≢false}
 use Rattle.std.specs.Prelude.{◌≢◌, codes, if◌then◌else◌, Option, Some, None, Result, Ok, Err, IfOk, IfErr, IfSome}
+use Rattle.acta_table.specs.declared.event.Event.{Event}
 use Rattle.acta_words.specs.Text.{text_of}
 use Rattle.acta_locked.specs.declared.run.DriveError.{DriveError}
 use Rattle.acta_locked.specs.declared.run.DriveError.TheVariants.{NoWorker, TooManyWorkers, TooManyEvents, Memory, NoThread, GaveUp, Unsettled}
@@ -43,13 +44,13 @@ unstopped unsettled scripts TooManyWorkers may = refl
 unstopped unsettled scripts TooManyEvents may = refl
 unstopped unsettled scripts Memory may = refl
 unstopped unsettled scripts NoThread may = refl
-unstopped unsettled scripts (GaveUp seat) may = absurd may.5
+unstopped unsettled scripts (GaveUp seat) may = absurd may.2.3
 unstopped unsettled scripts Unsettled may = refl
 
 -- an error that no scripts have, and no gate, may always come
 pub other : {A : Type 0} (found : Result (Task A) (List ℕ)) (e : DriveError) → is_of_scripts e ≡ false → is_stop e ≡ false → MayCome found (Err e)
-other (Ok task) e is unstopped = ((λ of_scripts. absurd (true≢false (sym of_scripts ∙ is))), unstopped)
-other (Err line) e is unstopped = (is, unstopped)
+other (Ok task) e is passed = ((λ of_scripts. absurd (true≢false (sym of_scripts ∙ is))), passed)
+other (Err line) e is passed = (is, passed)
 
 -- a run that has a result is told
 pub driven : {A : Type 0} (task : Task A) (d : Driven A) (fs : List (Front A)) (r : Result (Report A) DriveError) → ((e : DriveError) → scripts_fault task.scripts ≡ Some e → Ok (let w : Watched A = record { driven = d; fronts = fs } in w) ≡ Err e) → IsDriven task.model task.scripts d → AreAsked task d fs
@@ -62,19 +63,19 @@ driven task d fs (Err e) barred is asked told memory = other (unless_too_long ta
 
 undriven_by : {A : Type 0} (task : Task A) (e : DriveError) (fault : Option DriveError) → scripts_fault task.scripts ≡ fault → (is_of_scripts e ≡ true → scripts_fault task.scripts ≡ Some e) → is_stop e ≡ false
     → ((f : DriveError) → scripts_fault task.scripts ≡ Some f → ◌≡◌ {A = Result (Watched A) DriveError} (Err e) (Err f)) → e ≢ TooManyEvents → MayCome (by_fault task fault) (Err e)
-undriven_by task e None is only unstopped barred kept = (only, unstopped)
-undriven_by task e (Some NoWorker) is only unstopped barred kept = (only, unstopped)
-undriven_by task e (Some TooManyWorkers) is only unstopped barred kept = (only, unstopped)
-undriven_by task e (Some TooManyEvents) is only unstopped barred kept = absurd (kept (sym (one_error e TooManyEvents (barred TooManyEvents is))))
-undriven_by task e (Some Memory) is only unstopped barred kept = (only, unstopped)
-undriven_by task e (Some NoThread) is only unstopped barred kept = (only, unstopped)
-undriven_by task e (Some (GaveUp seat)) is only unstopped barred kept = (only, unstopped)
-undriven_by task e (Some Unsettled) is only unstopped barred kept = (only, unstopped)
+undriven_by task e None is only passed barred kept = (only, passed)
+undriven_by task e (Some NoWorker) is only passed barred kept = (only, passed)
+undriven_by task e (Some TooManyWorkers) is only passed barred kept = (only, passed)
+undriven_by task e (Some TooManyEvents) is only passed barred kept = absurd (kept (sym (one_error e TooManyEvents (barred TooManyEvents is))))
+undriven_by task e (Some Memory) is only passed barred kept = (only, passed)
+undriven_by task e (Some NoThread) is only passed barred kept = (only, passed)
+undriven_by task e (Some (GaveUp seat)) is only passed barred kept = (only, passed)
+undriven_by task e (Some Unsettled) is only passed barred kept = (only, passed)
 
 -- and one that has none says why, unless there are too many events
 pub undriven : {A : Type 0} (task : Task A) (e : DriveError) → (is_of_scripts e ≡ true → scripts_fault task.scripts ≡ Some e) → is_stop e ≡ false → ((f : DriveError) → scripts_fault task.scripts ≡ Some f → ◌≡◌ {A = Result (Watched A) DriveError} (Err e) (Err f))
     → e ≢ TooManyEvents → MayCome (unless_too_long task) (Err e)
-undriven task e only unstopped barred kept = undriven_by task e (scripts_fault task.scripts) refl only unstopped barred kept
+undriven task e only passed barred kept = undriven_by task e (scripts_fault task.scripts) refl only passed barred kept
 
 -- a report that was written answers, for the bytes that were read
 answered : (result : Outcome) (May : Result Output DriveError → Type 0) (out : Output) (old new : Option (List ℕ)) → May (Ok out) → is_undriven result ≡ false → Answers result out old new → AnswersOne result May old new
