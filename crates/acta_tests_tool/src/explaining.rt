@@ -79,14 +79,6 @@ line 2 fault 2
     | did you mean `begin`?
 ";
 
-// A picture of all, in this form.
-fn drawing(form: Form) -> Drawing {
-    Drawing {
-        form,
-        choice: Choice::ALL,
-    }
-}
-
 // Does what is asked for on the input.
 fn serve<R: Threads + Sync, B: Allocator + Send + Sync>(
     rt: &R,
@@ -99,32 +91,24 @@ fn serve<R: Threads + Sync, B: Allocator + Send + Sync>(
     let name = ModelName::Standard(Standard::Recoverable);
     let mut input = Metered::new(input.as_bytes());
     let mut output = Watched::new(output);
-    match ask {
-        Ask::Explained => explain_tool(rt, heap, false, name, model, &mut input, &mut output),
-        Ask::Judged => explain_tool(rt, heap, true, name, model, &mut input, &mut output),
-        Ask::Drawn => {
-            let drawing = drawing(Form::Text { width: Some(100) });
-            draw_tool(
-                heap,
-                &drawing,
-                Screen::PLAIN,
-                model,
-                &mut input,
-                &mut output,
-            )
+    let form = match ask {
+        Ask::Explained | Ask::Judged => {
+            let is_judged = ask == Ask::Judged;
+            return explain_tool(rt, heap, is_judged, name, model, &mut input, &mut output);
         }
-        Ask::Svg => {
-            let drawing = drawing(Form::Svg);
-            draw_tool(
-                heap,
-                &drawing,
-                Screen::PLAIN,
-                model,
-                &mut input,
-                &mut output,
-            )
-        }
-    }
+        Ask::Drawn => Form::Text { width: Some(100) },
+        Ask::Svg => Form::Svg,
+    };
+    let choice = Choice::ALL;
+    let drawing = Drawing { form, choice };
+    draw_tool(
+        heap,
+        &drawing,
+        Screen::PLAIN,
+        model,
+        &mut input,
+        &mut output,
+    )
 }
 
 // What is written where nothing is refused, for a run that ends so.
