@@ -2,7 +2,7 @@
 //! and for each transaction from which row to which its lane goes.
 
 use crate::marks::{Deed, Figure, figure_of};
-use acta_explain::{Row as ToldRow, Spoken, SpokenLines, Telling};
+use acta_explain::{Row as ToldRow, Spoken, Telling, spoken_in};
 use acta_machine::Handle;
 use acta_table::{Answer, AtCommit, Edge, Event, Model, OpNo, Owed, TxnId};
 use acta_tool::{BadLine, Input};
@@ -82,7 +82,7 @@ impl<A: Handle> Lanes<A> {
         input: &[u8],
     ) -> Result<Lanes<A>, AllocError> {
         let Input { said, stop } = read;
-        let mut lines = SpokenLines::of(input);
+        let lines = spoken_in(alloc, input)?;
         let mut lanes = Lanes {
             alloc,
             telling: Telling::new(alloc, model)?,
@@ -90,10 +90,8 @@ impl<A: Handle> Lanes<A> {
             owed: Vec::new(alloc),
             stop,
         };
-        for event in said {
-            if let Some(line) = lines.take_next() {
-                lanes.take(line, event)?;
-            }
+        for (event, line) in said.into_iter().zip(lines) {
+            lanes.take(line, event)?;
         }
         if lanes.stop.is_none() {
             lanes.owed = lanes.telling.machine().owed()?;

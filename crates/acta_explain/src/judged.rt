@@ -12,7 +12,7 @@ use crate::phrases::{
     class_of, may_line, name_text, numbered_edge_text, operation_text, row_text, starts_line,
     text_of,
 };
-use crate::spoken::{Spoken, SpokenLines};
+use crate::spoken::{Spoken, spoken_in};
 use crate::telling::MOST_TOLD;
 use crate::words::{axiom_entry, rule_entry};
 use acta_axioms::{Axiom, Fault, Walk};
@@ -86,7 +86,7 @@ fn scene_of<'a, A: Handle>(
     alloc: A,
     model: &'a Model<A>,
     kept: &'a [Kept<A>],
-    lines: SpokenLines<'_>,
+    lines: Vec<Spoken<'_>, A>,
     faults: &[Fault],
 ) -> Result<Scene<'a, A>, AllocError>
     requires { length kept.now ≤ MOST_EVENTS }
@@ -95,8 +95,7 @@ fn scene_of<'a, A: Handle>(
     let mut chronicle = Chronicle::new(alloc)?;
     let mut due = Vec::new(alloc);
     let mut place = 0u32;
-    let mut lines = lines;
-    for item in kept {
+    for (item, line) in kept.iter().zip(lines) {
         place = place.saturating_add(1);
         if is_off(faults, place) {
             let ret = due_next(&walk)?;
@@ -106,9 +105,7 @@ fn scene_of<'a, A: Handle>(
             walk.step()?;
         }
         chronicle.note(&item.event, walk.edges().len())?;
-        if let Some(line) = lines.take_next() {
-            chronicle.push(row_of(alloc, line)?)?;
-        }
+        chronicle.push(row_of(alloc, line)?)?;
     }
     let edges = Vec::from_slice(alloc, walk.edges())?;
     drop(walk);
@@ -361,7 +358,7 @@ fn explain_kept<A: Handle + Send + Sync, R: Threads + Sync>(
     alloc: A,
     model: &Model<A>,
     kept: &[Kept<A>],
-    lines: SpokenLines<'_>,
+    lines: Vec<Spoken<'_>, A>,
 ) -> Result<Report<A>, AllocError>
     ensures { IfOk result (λ report. report.is_refused ≡ (judged_on model.now kept.now None).is_refused) }
 {
@@ -393,7 +390,7 @@ pub fn explain_judged<A: Handle + Send + Sync, R: Threads + Sync>(
     match read.stop {
         Some(bad) => stopped(alloc, model, &Stop::of(input, bad, true)),
         None => {
-            let lines = SpokenLines::of(input);
+            let lines = spoken_in(alloc, input)?;
             explain_kept(rt, alloc, model, read.said.as_slice(), lines)
         }
     }

@@ -33,7 +33,7 @@ pub use hints::nearest;
 pub use images::{Field, field_at};
 pub use reasons::NEVER;
 pub use report::{explain, explain_tool, write_words};
-pub use spoken::{Spoken, SpokenLines};
+pub use spoken::{Spoken, spoken_in};
 pub use tables::Table;
 pub use telling::{MOST_TOLD, Telling};
 pub use words::{

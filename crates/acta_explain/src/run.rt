@@ -9,7 +9,7 @@ use crate::chronicle::Chronicle;
 use crate::faults::{Stop, push_stop};
 use crate::layout::{Columns, push_debt, push_row};
 use crate::phrases::{numbered_edge_text, standing, text_of};
-use crate::spoken::SpokenLines;
+use crate::spoken::spoken_in;
 use crate::telling::{MOST_TOLD, Telling};
 use acta_machine::{Handle, Machine};
 use acta_script::owed_line;
@@ -94,12 +94,10 @@ pub fn explain_run<A: Handle>(
         model: &model,
     };
     let Input { said, stop } = read_lines(alloc, &reader, input)?;
-    let mut lines = SpokenLines::of(input);
+    let lines = spoken_in(alloc, input)?;
     let mut told = Telling::new(alloc, model)?;
-    for event in said {
-        if let Some(line) = lines.take_next() {
-            told.take(line, event)?;
-        }
+    for (event, line) in said.into_iter().zip(lines) {
+        told.take(line, event)?;
     }
     let bad = stop.map(|bad| Stop::of(input, bad, false));
     let text = told_text(alloc, &told, bad.as_ref())?;

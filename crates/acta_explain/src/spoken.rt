@@ -1,4 +1,4 @@
-//! The lines of an input that say something, one after another.
+//! The lines of an input that say something, as they stand there.
 
 use crate::phrases::name_text;
 use acta_words::{Lines, has_words, words_of};
@@ -27,31 +27,18 @@ impl<'a> Spoken<'a> {
     }
 }
 
-/// The lines of an input that say something, one after another.
-#[derive(Drop)]
-pub struct SpokenLines<'a> {
-    lines: Lines<'a>,
-    number: usize,
-}
-
-impl<'a> SpokenLines<'a> {
-    /// Those of this input, none taken yet.
-    pub fn of(input: &'a [u8]) -> SpokenLines<'a> {
-        SpokenLines {
-            lines: Lines::of(input),
-            number: 0,
+/// The lines of the input that say something, in order. `Err` where there is no memory.
+pub fn spoken_in<'a, A: Allocator>(
+    alloc: A,
+    input: &'a [u8],
+) -> Result<Vec<Spoken<'a>, A>, AllocError> {
+    let mut spoken = Vec::new(alloc);
+    let mut line = 0usize;
+    for bytes in Lines::of(input) {
+        line = line.saturating_add(1);
+        if has_words(bytes) {
+            spoken.push(Spoken { line, bytes })?;
         }
     }
-
-    /// The next one.
-    pub fn take_next(&mut self) -> Option<Spoken<'a>> {
-        while let Some(bytes) = self.lines.next() {
-            self.number = self.number.saturating_add(1);
-            if has_words(bytes) {
-                let line = self.number;
-                return Some(Spoken { line, bytes });
-            }
-        }
-        None
-    }
+    Ok(spoken)
 }
