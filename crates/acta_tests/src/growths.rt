@@ -1,5 +1,6 @@
 //! Each growth of a call refused in turn: the call answers want of memory, and changes nothing.
 
+use crate::alike::{same_machines, same_reason};
 use crate::calls::{copy_of, new_machine, owed_by, places_of, run_on, take};
 use crate::expecting::{holds, made, number_of, parted, same, tells};
 use crate::models::{PARTING, PERMITTING, event_of, model_of};
@@ -9,7 +10,7 @@ use acta_objects::{ObjectState, replay};
 use acta_script::answer_line;
 use acta_table::{
     Answer, Dep, Dependent, Event, Items, Kept, Kind, Model, ObjId, Op, OpNo, OpSet, StartEdge,
-    StartEdges, Status, TxnId,
+    StartEdges, TxnId,
 };
 use refusing::Refusing;
 use std::alloc::{AllocError, Allocator};
@@ -20,20 +21,44 @@ const ONE: TxnId = TxnId(1);
 // More allocations than any of these calls makes.
 const MOST: u64 = 99;
 
-// How many events and edges the machine has, how many operations are in the conflict set of the second transaction, and
-// how the first one stands.
-fn shape<A: Handle>(rt: &impl Abort, machine: &Machine<A>) -> (usize, usize, usize, Status) {
-    let others = made(rt, machine.conflict_set(TxnId(2)), "a conflict set");
-    (
-        machine.history().len(),
-        machine.edges().len(),
-        others.len(),
-        machine.status(ONE),
-    )
+// Takes the event, its nth growth refused. Says whether there are as many.
+fn take_refused<A: Handle, B: Allocator>(
+    heap: &Refusing<B>,
+    machine: &mut Machine<A>,
+    event: &Event<A>,
+    nth: u64,
+) -> (Option<Answer>, bool) {
+    heap.refuse(nth);
+    let answer = take(machine, event).ok();
+    let was_refused = !heap.is_waiting();
+    heap.refuse(0);
+    (answer, was_refused)
 }
 
-// Runs the events but the last, and takes that one, its nth growth refused: the call has to answer `Err` then, and leaves
-// the machine as it was. Gives the answer of a call that has fewer growths.
+// Takes the event, its nth growth refused: the call has to answer `Err` then, and leaves all that the machine shows as
+// it was, and why it would refuse the event. Says whether there are as many.
+fn leaves<A: Handle, B: Allocator>(
+    rt: &impl Abort,
+    heap: &Refusing<B>,
+    machine: &mut Machine<A>,
+    event: &Event<A>,
+    nth: u64,
+) -> (Option<Answer>, bool) {
+    let before = made(rt, copy_of(machine), "a copy");
+    let (answer, was_refused) = take_refused(heap, machine, event, nth);
+    holds(rt, answer.is_none() == was_refused, "an answer");
+    if was_refused {
+        let is_same = same_machines(rt, machine, &before);
+        holds(rt, is_same, "what a machine shows");
+        let is_same = same_reason(rt, machine, &before, event);
+        holds(rt, is_same, "a reason");
+    }
+    drop(before);
+    (answer, was_refused)
+}
+
+// Runs the events but the last, and takes that one, its nth growth refused. Where the call has as many, it is made
+// again. Gives the answer, and whether it has as many.
 fn take_last<A: Handle, B: Allocator>(
     rt: &impl Abort,
     heap: &Refusing<B>,
@@ -41,25 +66,19 @@ fn take_last<A: Handle, B: Allocator>(
     model: &Model<A>,
     (before, last): (&[Event<A>], &Event<A>),
     nth: u64,
-) -> Option<Answer> {
+) -> (Answer, bool) {
     let mut run = made(rt, run_on(alloc, model, before), "a run");
-    let shown = shape(rt, &run.machine);
-    heap.refuse(nth);
-    let answer = take(&mut run.machine, last).ok();
-    let was_refused = !heap.is_waiting();
-    heap.refuse(0);
-    holds(rt, answer.is_none() == was_refused, "an answer");
-    holds(
-        rt,
-        answer.is_some() || shape(rt, &run.machine) == shown,
-        "a growth",
-    );
+    let (answer, was_refused) = leaves(rt, heap, &mut run.machine, last, nth);
+    let answer = match answer {
+        Some(answer) => answer,
+        None => made(rt, take(&mut run.machine, last), "an event"),
+    };
     drop(run);
-    answer
+    (answer, was_refused)
 }
 
 // Takes the last event, each growth refused in turn, each time on a machine of its own, so that none has room left of a
-// refused call. Gives the answer in the end, and how many growths there are.
+// refused call. Gives the answer, which is the same behind each refused call, and how many growths there are.
 fn refuse_each<A: Handle, B: Allocator>(
     rt: &impl Abort,
     heap: &Refusing<B>,
@@ -67,16 +86,20 @@ fn refuse_each<A: Handle, B: Allocator>(
     model: &Model<A>,
     events: (&[Event<A>], &Event<A>),
 ) -> (Answer, u64) {
-    for nth in 1..MOST {
-        if let Some(answer) = take_last(rt, heap, alloc, model, events, nth) {
-            return (answer, nth.wrapping_sub(1));
+    let (first, mut was_refused) = take_last(rt, heap, alloc, model, events, 1);
+    for nth in 2..MOST {
+        if !was_refused {
+            return (first, nth.wrapping_sub(2));
         }
+        let (answer, is_refused) = take_last(rt, heap, alloc, model, events, nth);
+        same(rt, &answer, &first, "an answer");
+        was_refused = is_refused;
     }
     panic!(rt; "too many allocations")
 }
 
-// Takes the event of the line behind those before, each growth refused in turn, and puts it behind them. The line has an
-// event, its answer, and how many growths it has.
+// Takes the event of the line behind those before, each growth refused in turn, and puts it behind them. The line has
+// an event, its answer, and how many growths it has.
 fn grow_line<A: Handle, B: Allocator>(
     rt: &impl Abort,
     heap: &Refusing<B>,
@@ -112,8 +135,8 @@ fn grow_each<A: Handle, B: Allocator>(
     drop(model);
 }
 
-// Of the history, and of the edges: of their set, and of the two lists of places by which each transaction's are found. An
-// end takes no memory, whatever is owed by it.
+// Of the history, and of the edges: of their set, and of the two lists of places by which each transaction's are found.
+// An end takes no memory, whatever is owed by it.
 const OF_FORMS: &str = "\
 begin 1 try : ok 1 : 1
 form AD 2 1 : ok 2 : 9
@@ -121,8 +144,9 @@ begin 2 try : ok 3 : 0
 abort 1 : ok 4 : 0";
 
 // Of a first operation: of its object's value, of the operations, and of each index of them; of one on an object of
-// another kind, of its value and its modes. Of a delegation: of the set that is kept, of what is handed on, of the counts,
-// and of what each transaction holds; of a split with two edges, of these too. A join of one that holds nothing has none.
+// another kind, of its value and its modes. Of a delegation: of the set that is kept, of what is handed on, of the
+// counts, and of what each transaction holds; of a split with two edges, of these too. A join of one that holds nothing
+// has none.
 const OF_PARTS: &str = "\
 begin 1 part : ok 1 : 1
 begin 2 part : ok 2 : 0
@@ -179,10 +203,34 @@ do 1 x write 5 : ok 5 done : 1
 do 1 x write 5 : ok 6 done : 0
 do 2 x read : ok 7 5 : 12";
 
+// Of a split with no edge: of the set that is kept, and of what is handed on. Of a join: of what is handed on, and as
+// the fifth event, of the history.
+const OF_SPLITS: &str = "\
+begin 1 part : ok 1 : 1
+do 1 x write 5 : ok 2 done : 13
+do 1 n add 2 : ok 3 done : 1
+split 1 2 part 2 : ok 4 : 2
+join 2 1 : ok 5 : 2";
+
+// An abort takes no memory, whatever another has done behind it, whose work stands. Of an operation that conflicts with
+// what another holds, where the edges of the two are in force: of the set of those whom it depends on, and of the edges
+// that are due. Of one that conflicts with nothing, and of a read: of the list of a mode, and of the counts, or of the
+// history, which the first event, the fifth and the ninth have.
+const OF_ABORTS: &str = "\
+begin 1 loose : ok 1 : 1
+begin 2 loose : ok 2 : 0
+do 1 x write 5 : ok 3 done : 13
+do 1 s insert 3 : ok 4 yes : 8
+do 2 x write 6 : ok 5 done : 15
+do 2 s insert 3 : ok 6 no : 2
+do 2 n add 7 : ok 7 done : 2
+abort 1 : ok 8 : 0
+do 2 x read : ok 9 6 : 2";
+
 // Of a first permit: of the two lists, by who gave it and by who was given it, and of a set in each. One that is given
 // again has none, nor has one on another object between the same two; one the other way round has the two sets; one
-// whose number is behind the end of a list has that list too. An operation beside one that permits has the list of those
-// and their set, and the list of a mode. The first event, the fifth and the ninth have the history's.
+// whose number is behind the end of a list has that list too. An operation beside one that permits has the list of
+// those and their set, and the list of a mode. The first event, the fifth and the ninth have the history's.
 const OF_PERMITS: &str = "\
 begin 1 flat : ok 1 : 1
 begin 2 flat : ok 2 : 0
@@ -207,6 +255,8 @@ fn of_events(rt: HostRuntime) {
         (PARTING, OF_LISTS),
         (Standard::Nested.text(), OF_SPAWNS),
         (Standard::Recoverable.text(), OF_DEPENDING),
+        (Standard::SplitJoin.text(), OF_SPLITS),
+        (Standard::Recoverable.text(), OF_ABORTS),
         (PERMITTING, OF_PERMITS),
     ] {
         grow_each(&rt, &heap, &heap, model, text);
@@ -478,7 +528,7 @@ fn read<A: Allocator + Copy>(
     events
 }
 
-// The growths of each call on the machine, and on its events.
+// The growths of each call on the machine, and on its events. None of them changes what the machine shows.
 fn grow_all<A: Handle, B: Allocator>(
     rt: &impl Abort,
     heap: &Refusing<B>,
@@ -486,9 +536,12 @@ fn grow_all<A: Handle, B: Allocator>(
     machine: &Machine<A>,
     events: &[Event<A>],
 ) {
+    let before = made(rt, copy_of(machine), "a copy");
     for line in CALLS.lines() {
         grow(rt, heap, alloc, machine, events, line);
+        holds(rt, same_machines(rt, machine, &before), line);
     }
+    drop(before);
 }
 
 // The growths of each call on the model of nested transactions, after the events that are read.

@@ -2,12 +2,14 @@
 //! verdicts on histories, sessions of debuggers, driven runs, each refused allocation, and the edges of checked models.
 //! The values that they expect were computed by hand.
 //!
-//! A helper that owns what is dear to let go, as a machine, a walk, a book or a debugger, gives it to `drop` at its end:
-//! who lets it go by itself lets go of each of its parts, and each is proved there.
+//! A helper that owns what is dear to let go, as a machine, a walk, a book or a debugger, gives it to `drop` at its
+//! end: who lets it go by itself lets go of each of its parts, and each is proved there.
 #![tactic(auto)]
 
 #[cfg(test)]
 mod agreeing;
+#[cfg(test)]
+mod alike;
 #[cfg(test)]
 mod calls;
 #[cfg(test)]
@@ -20,6 +22,8 @@ mod driving;
 mod edges;
 #[cfg(test)]
 mod expecting;
+#[cfg(test)]
+mod forming;
 #[cfg(test)]
 mod formulas;
 #[cfg(test)]
@@ -39,6 +43,8 @@ mod objects;
 #[cfg(test)]
 mod orders;
 #[cfg(test)]
+mod outside;
+#[cfg(test)]
 mod permitting;
 #[cfg(test)]
 mod placing;
@@ -57,6 +63,10 @@ mod standards;
 #[cfg(test)]
 mod stepping;
 #[cfg(test)]
+mod tables;
+#[cfg(test)]
 mod values;
 #[cfg(test)]
 mod walking;
+#[cfg(test)]
+mod walks;

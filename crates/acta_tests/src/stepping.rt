@@ -1,11 +1,12 @@
 //! Each growth of a walk's steps refused in turn: a step that is refused leaves the walk where it was.
 
+use crate::alike::same_walks;
 use crate::calls::walk_of;
 use crate::expecting::{holds, made, number_of, parted, same};
 use crate::models::{FOLLOWING, LENDING, TRUSTING, event_of, model_of};
 use acta_axioms::Walk;
 use acta_machine::Handle;
-use acta_table::{Kept, Model, TxnId};
+use acta_table::{Kept, Model};
 use refusing::Refusing;
 use std::alloc::Allocator;
 use std::process::Abort;
@@ -13,20 +14,54 @@ use std::process::Abort;
 // More growths than any of these calls has.
 const MOST: u64 = 20;
 
-// How many items the walk has taken, how many operations and edges it shows, and how many operations are in the conflict
-// set of the second transaction.
-fn counts<A: Handle>(rt: &impl Abort, walk: &Walk<'_, A>) -> (usize, usize, usize, usize) {
-    let others = made(rt, walk.conflict_set(TxnId(2)), "a conflict set");
-    (
-        walk.front().len(),
-        walk.operations().len(),
-        walk.edges().len(),
-        others.len(),
-    )
+// Takes a step, the nth growth refused. Says whether it could not be taken, and whether it has as many.
+fn step_refused<A: Handle, B: Allocator>(
+    heap: &Refusing<B>,
+    walk: &mut Walk<'_, A>,
+    nth: u64,
+) -> (bool, bool) {
+    heap.refuse(nth);
+    let stepped = walk.step();
+    let was_refused = !heap.is_waiting();
+    heap.refuse(0);
+    (stepped.is_err(), was_refused)
 }
 
-// Steps through a list up to its last item, and over that one, the nth growth refused: the step has to answer `Err` then,
-// and leaves the walk as it was. Whether the step has as many growths.
+// Takes a step, the nth growth refused: there is no memory for it then, the walk says what it said, and takes the step
+// again. Whether the step has as many.
+fn leaves<A: Handle, B: Allocator>(
+    rt: &impl Abort,
+    heap: &Refusing<B>,
+    walk: &mut Walk<'_, A>,
+    nth: u64,
+) -> bool {
+    let before = made(rt, walk.copy(), "a copy");
+    let (is_short, was_refused) = step_refused(heap, walk, nth);
+    holds(rt, is_short == was_refused, "a step");
+    if was_refused {
+        holds(rt, same_walks(rt, walk, &before), "a growth");
+        made(rt, walk.step(), "a step");
+    }
+    drop(before);
+    was_refused
+}
+
+// A walk that stands before the last item of a list.
+fn up_to_last<'a, A: Handle>(
+    rt: &impl Abort,
+    alloc: A,
+    model: &'a Model<A>,
+    kept: &'a [Kept<A>],
+) -> Walk<'a, A> {
+    let mut walk = made(rt, walk_of(alloc, model, kept), "a walk");
+    for _ in 1..kept.len() {
+        made(rt, walk.step(), "a step before");
+    }
+    walk
+}
+
+// Steps over the last item of a list, the nth growth refused, and then to where a walk comes of which none is. Whether
+// the step has as many growths.
 fn is_refused<A: Handle, B: Allocator>(
     rt: &impl Abort,
     heap: &Refusing<B>,
@@ -35,27 +70,18 @@ fn is_refused<A: Handle, B: Allocator>(
     kept: &[Kept<A>],
     nth: u64,
 ) -> bool {
-    let mut walk = made(rt, walk_of(alloc, model, kept), "a walk");
-    for _ in 1..kept.len() {
-        made(rt, walk.step(), "a step before");
-    }
-    let before = counts(rt, &walk);
-    heap.refuse(nth);
-    let stepped = walk.step();
-    let was_refused = !heap.is_waiting();
-    heap.refuse(0);
-    holds(rt, stepped.is_err() == was_refused, "a step");
-    holds(
-        rt,
-        stepped.is_ok() || counts(rt, &walk) == before,
-        "a growth",
-    );
+    let mut walk = up_to_last(rt, alloc, model, kept);
+    let mut other = made(rt, walk.copy(), "a copy");
+    made(rt, other.step(), "a step");
+    let was_refused = leaves(rt, heap, &mut walk, nth);
+    holds(rt, same_walks(rt, &walk, &other), "a step");
+    drop(other);
     drop(walk);
     was_refused
 }
 
-// Steps over the last item of a list, each growth refused in turn, each time in a walk of its own, so that none has room
-// left of a refused step. Gives how many growths there are.
+// Steps over the last item of a list, each growth refused in turn, each time in a walk of its own, so that none has
+// room left of a refused step. Gives how many growths there are.
 fn step_each<A: Handle, B: Allocator>(
     rt: &impl Abort,
     heap: &Refusing<B>,
@@ -105,9 +131,9 @@ fn steps<A: Handle, B: Allocator>(
     drop(model);
 }
 
-// Of a first operation: of its object's value, of the operations, and of each index of them; of one with edges, of the set
-// of those whom it depends on, of the edges that are due, of the set of the edges, and of the counts; of one that spares
-// its ancestor, of the set of these; of a delegation, of what is handed on; of the edge that is formed.
+// Of a first operation: of its object's value, of the operations, and of each index of them; of one with edges, of the
+// set of those whom it depends on, of the edges that are due, of the set of the edges, and of the counts; of one that
+// spares its ancestor, of the set of these; of a delegation, of what is handed on; of the edge that is formed.
 const OF_DEPENDING: &str = "\
 begin 1 loose : 0
 begin 2 loose : 0
@@ -141,9 +167,9 @@ do 1 s has 4 : 1
 abort 1 : 0";
 
 // Of a permit, also before its parties begin: of the two lists, by who gave it and by who was given it, and of a set in
-// each; of the sets alone where the lists reach so far; of nothing where it is there already, or one of the two has ended.
-// Of an operation beside one that permits: of the list of those who do, of the list of those in progress among them, of
-// their set, and of the list of a mode.
+// each; of the sets alone where the lists reach so far; of nothing where it is there already, or one of the two has
+// ended. Of an operation beside one that permits: of the list of those who do, of the list of those in progress among
+// them, of their set, and of the list of a mode.
 const OF_PERMITS: &str = "\
 permit 1 2 x : 4
 begin 1 loose : 0

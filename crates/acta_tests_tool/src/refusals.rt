@@ -104,17 +104,17 @@ fn told<A: Allocator + Copy>(alloc: A, model: &Model<A>, call: &str, bytes: &[u8
     }
 }
 
-// What the call answers is these bytes, where it answers any. Says whether it does.
+// What the call answers to the first bytes are the second ones, where it answers any. Says whether it does.
 fn answers<A: Allocator + Copy>(
     rt: &impl Abort,
     alloc: A,
     model: &Model<A>,
     call: &str,
-    bytes: &[u8],
+    (bytes, due): (&[u8], &[u8]),
 ) -> bool {
     match told(alloc, model, call, bytes) {
         Ok(said) => {
-            tells(rt, said.as_slice(), bytes, call);
+            tells(rt, said.as_slice(), due, call);
             true
         }
         Err(_) => false,
@@ -128,7 +128,7 @@ fn is_whole<A: Allocator + Copy>(
     alloc: A,
     model: &Model<A>,
     (call, nth): (&str, u64),
-    bytes: &[u8],
+    bytes: (&[u8], &[u8]),
 ) -> bool {
     heap.refuse(nth);
     let has_answered = answers(rt, alloc, model, call, bytes);
@@ -139,14 +139,14 @@ fn is_whole<A: Allocator + Copy>(
 }
 
 // Refuses each allocation of a call in turn, of which there are more than `least`. Where the call finds all its memory
-// it answers these bytes; and so it does where it can do without what was refused, or else `Err`.
+// it answers the second bytes to the first; and so it does where it can do without what was refused, or else `Err`.
 fn refuse_each<A: Allocator + Copy>(
     rt: &impl Abort,
     heap: &Refusing<Global>,
     alloc: A,
     model: &Model<A>,
     (call, least): (&str, u64),
-    bytes: &[u8],
+    bytes: (&[u8], &[u8]),
 ) {
     for nth in 1..MOST {
         if is_whole(rt, heap, alloc, model, (call, nth), bytes) {
@@ -157,11 +157,14 @@ fn refuse_each<A: Allocator + Copy>(
     rt.panic("a call makes too many allocations")
 }
 
-// Calls, each with the number of allocations that it makes more of, and with its line.
+// Calls, each with the number of allocations that it makes more of, and with its line, and what is written for that
+// where it is another.
 const LINES: &str = "\
 event 2 : delegate 1 2 1,2,9
+event 3 : delegate 1 2 9,2,1 -> delegate 1 2 1,2,9
 event 1 : permit 1 2 x
 kept 2 : delegate 1 2 1,2,9
+kept 3 : delegate 1 2 9,2,1 -> delegate 1 2 1,2,9
 kept 1 : permit 1 2 x
 kept 2 : split 1 2 part 4,7
 kept 2 : do 1 x write 5 = done
@@ -182,7 +185,9 @@ fn refuse_line<A: Allocator + Copy>(
     let (call, line) = parted(rt, row, " : ");
     let (call, least) = parted(rt, call, " ");
     let least = number(rt, least);
-    refuse_each(rt, heap, alloc, model, (call, least), line.as_bytes());
+    let (line, due) = line.split_once(" -> ").unwrap_or((line, line));
+    let bytes = (line.as_bytes(), due.as_bytes());
+    refuse_each(rt, heap, alloc, model, (call, least), bytes);
 }
 
 // The canonical texts of the standard models, one behind the other.
@@ -214,7 +219,7 @@ fn refuse_lines<A: Allocator + Copy>(
     }
     for name in Standard::ALL {
         let text = name.text().as_bytes();
-        refuse_each(rt, heap, alloc, model, ("text", 10), text);
+        refuse_each(rt, heap, alloc, model, ("text", 10), (text, text));
     }
 }
 
@@ -228,9 +233,10 @@ fn refuse_all<A: Allocator + Copy>(
     let model = model_of(rt, alloc, Standard::SplitJoin);
     refuse_lines(rt, heap, alloc, &model);
     let (texts, image) = (all_texts(rt, other), nested_image(rt, other));
-    refuse_each(rt, heap, alloc, &model, ("texts", 50), texts.as_slice());
-    refuse_each(rt, heap, alloc, &model, ("image", 10), image.as_slice());
-    refuse_each(rt, heap, alloc, &model, ("upgrade", 10), image.as_slice());
+    let (texts, image) = (texts.as_slice(), image.as_slice());
+    refuse_each(rt, heap, alloc, &model, ("texts", 50), (texts, texts));
+    refuse_each(rt, heap, alloc, &model, ("image", 10), (image, image));
+    refuse_each(rt, heap, alloc, &model, ("upgrade", 10), (image, image));
     drop(model);
 }
 
@@ -240,9 +246,25 @@ fn calls(rt: HostRuntime) {
     refuse_all(&rt, rt.alloc(), &heap, &heap);
 }
 
-/// Cases of `running` of which each allocation is refused in turn: runs, verdicts, commands to a debugger, images, and
-/// a driven run.
+/// Cases of `running` of which each allocation is refused in turn: runs, a serial order, verdicts, commands to a
+/// debugger, images, and a driven run.
 pub const RUNS: &str = "\
+$ run @atomic
+| begin 1 flat
+| do 1 x write 5
+| commit 1
+ok 1
+ok 2 done
+ok 3
+status 0 over 20
+
+$ serial @atomic
+| begin 1 flat
+| do 1 x write 5
+| commit 1
+do 1 x write 5 = done
+status 0 over 20
+
 $ run @atomic
 | begin 1 flat
 | do 1 x write 5

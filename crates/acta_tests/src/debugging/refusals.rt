@@ -1,12 +1,14 @@
 //! Each growth refused in turn: a call answers want of memory, and the debugger stays as it was.
 
+use crate::alike::same_machines;
+use crate::calls::copy_of;
 use crate::debugging::commands::told;
 use crate::debugging::histories::{SAID, events_of, items, on_sums, opened, ran, sums};
 use crate::expecting::{holds, made, parted, same};
 use crate::models::model_of;
 use crate::showing::number_in;
 use acta_debug::{Debugger, NewError};
-use acta_machine::Handle;
+use acta_machine::{Handle, Machine};
 use acta_models::Standard;
 use acta_table::ObjId;
 use refusing::Refusing;
@@ -35,9 +37,72 @@ back : at 2504 : 2498
 back : at 2503 : 2497
 goto 2506 : at 2506 : 2500";
 
+// The same on a history of 130 events: from its midst to its end and back, and to breaks of two kinds.
+const CALLS_130: &str = "\
+goto 65 : at 65 : 59
+back : at 64 : 58
+break like commit 1 : break 1 : 58
+run : Finished at 130 : 124
+back : at 129 : 123
+goto 65 : at 65 : 59
+goto 0 : at 0 : 0
+run : Broke { number: 1, place: 4 } at 4 : 0
+run : Broke { number: 1, place: 5 } at 5 : 0
+run : Finished at 130 : 124";
+
 // The counter n, where the debugger stands.
 fn sum<A: Handle>(rt: &impl Abort, debugger: &Debugger<A>) -> Option<i64> {
     number_in(rt, debugger.machine(), ObjId(1))
+}
+
+// Does what the command says, the nth allocation refused. Gives what is told, and whether the allocation never came.
+fn told_at<A: Handle>(
+    rt: &impl Abort,
+    alloc: Global,
+    refusing: &Refusing<Global>,
+    debugger: &mut Debugger<A>,
+    command: &str,
+    nth: u64,
+) -> (String, bool) {
+    refusing.refuse(nth);
+    let text = told(rt, alloc, debugger, command);
+    let is_whole = refusing.is_waiting();
+    refusing.refuse(0);
+    (text, is_whole)
+}
+
+// Where a debugger stood, with the counter n there, and a copy of its machine, unless its history is long.
+#[derive(Drop)]
+struct Stood<A: Handle> {
+    places: (u32, u32),
+    sum: Option<i64>,
+    machine: Option<Machine<A>>,
+}
+
+impl<A: Handle> Stood<A> {
+    // Where the debugger stands.
+    fn by(rt: &impl Abort, debugger: &Debugger<A>) -> Stood<A> {
+        let machine = if debugger.last() < 1_000 {
+            Some(made(rt, copy_of(debugger.machine()), "a copy"))
+        } else {
+            None
+        };
+        Stood {
+            places: (debugger.at(), debugger.last()),
+            sum: sum(rt, debugger),
+            machine,
+        }
+    }
+
+    // Whether the debugger stands there still, with a machine that shows what it showed.
+    fn stands(&self, rt: &impl Abort, debugger: &Debugger<A>) -> bool {
+        let is_same = match &self.machine {
+            Some(machine) => same_machines(rt, debugger.machine(), machine),
+            None => true,
+        };
+        let places = (debugger.at(), debugger.last());
+        is_same && places == self.places && sum(rt, debugger) == self.sum
+    }
 }
 
 // Does what the command says, the nth allocation refused; where it came, want of memory is told, and the debugger
@@ -50,16 +115,15 @@ fn refused<A: Handle>(
     command: &str,
     nth: u64,
 ) -> Option<String> {
-    let stood = (debugger.at(), sum(rt, debugger));
-    refusing.refuse(nth);
-    let text = told(rt, alloc, debugger, command);
-    let is_whole = refusing.is_waiting();
-    refusing.refuse(0);
+    let stood = Stood::by(rt, debugger);
+    let (text, is_whole) = told_at(rt, alloc, refusing, debugger, command, nth);
+    let is_same = is_whole || stood.stands(rt, debugger);
+    drop(stood);
     if is_whole {
         return Some(text);
     }
     holds(rt, text.as_str().starts_with("Memory at "), command);
-    same(rt, &(debugger.at(), sum(rt, debugger)), &stood, command);
+    holds(rt, is_same, command);
     None
 }
 
@@ -110,7 +174,7 @@ fn new_refused<A: Handle>(
     rt: &impl Abort,
     refusing: &Refusing<Global>,
     heap: A,
-    text: &str,
+    (text, last): (&str, u32),
     nth: u64,
 ) -> bool {
     let model = model_of(rt, heap, Standard::Contingent.text());
@@ -120,7 +184,7 @@ fn new_refused<A: Handle>(
     let is_whole = refusing.is_waiting();
     refusing.refuse(0);
     let due = if is_whole {
-        Ok(16)
+        Ok(last)
     } else {
         Err(NewError::Memory)
     };
@@ -129,11 +193,16 @@ fn new_refused<A: Handle>(
     !is_whole
 }
 
-// Makes a debugger on the history, its first allocation refused, then the second, and so on, until none is, which are
-// more than 9.
-fn new_each<A: Handle>(rt: &impl Abort, refusing: &Refusing<Global>, heap: A, text: &str) {
+// Makes a debugger on the history, which has so many events, its first allocation refused, then the second, and so on,
+// until none is, which are more than 9.
+fn new_each<A: Handle>(
+    rt: &impl Abort,
+    refusing: &Refusing<Global>,
+    heap: A,
+    history: (&str, u32),
+) {
     for nth in 1..MOST {
-        if !new_refused(rt, refusing, heap, text, nth) {
+        if !new_refused(rt, refusing, heap, history, nth) {
             holds(rt, nth.wrapping_sub(1) > 9, "a new debugger");
             return;
         }
@@ -141,8 +210,8 @@ fn new_each<A: Handle>(rt: &impl Abort, refusing: &Refusing<Global>, heap: A, te
     rt.panic("a call makes too many allocations")
 }
 
-// Makes a debugger on what is kept of the events, the nth allocation refused; where it came, there is none. Says whether
-// it came.
+// Makes a debugger on what is kept of the events, the nth allocation refused; where it came, there is none. Says
+// whether it came.
 fn ran_refused<A: Handle>(
     rt: &impl Abort,
     refusing: &Refusing<Global>,
@@ -192,11 +261,24 @@ fn refuse_calls<A: Handle>(
 }
 
 #[test]
-fn a_debugger_for_which_there_is_no_memory(rt: HostRuntime) {
+fn a_new_debugger_for_which_there_is_no_memory(rt: HostRuntime) {
     let heap = Refusing::new(rt.alloc());
     let text = sums(&rt, rt.alloc(), 10);
-    new_each(&rt, &heap, &heap, text.as_str());
+    new_each(&rt, &heap, &heap, (text.as_str(), 16));
+    let text = sums(&rt, rt.alloc(), 124);
+    new_each(&rt, &heap, &heap, (text.as_str(), 130));
     ran_each(&rt, &heap, &heap, SAID);
+}
+
+#[test]
+fn a_debugger_for_which_there_is_no_memory(rt: HostRuntime) {
+    let heap = Refusing::new(rt.alloc());
     refuse_calls(&rt, rt.alloc(), &heap, &heap, 64, CALLS);
+    refuse_calls(&rt, rt.alloc(), &heap, &heap, 124, CALLS_130);
+}
+
+#[test]
+fn a_debugger_far_on_for_which_there_is_no_memory(rt: HostRuntime) {
+    let heap = Refusing::new(rt.alloc());
     refuse_calls(&rt, rt.alloc(), &heap, &heap, 2_500, CALLS_FAR);
 }

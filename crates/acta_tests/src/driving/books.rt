@@ -1,6 +1,8 @@
 //! What is asked of entries: whether they are the same, whether they are a seat's part of a book and answer its script,
-//! how they are answered, and whether a machine of its own answers them again.
+//! how they are answered, and whether a machine of its own answers them again; and whether a book shows what it showed.
 
+use crate::alike::same_machines;
+use crate::calls::copy_of;
 use crate::expecting::{made, same};
 use acta_locked::{Book, Entry, Report, Script, TakeError};
 use acta_machine::{Handle, Machine};
@@ -134,4 +136,35 @@ pub fn replayed<A: Handle>(
 /// entry.
 pub fn taken<A: Handle>(book: &mut Book<A>, event: Event<A>) -> Result<Entry<A>, TakeError> {
     book.take(1, event)
+}
+
+/// What a book showed.
+#[derive(Drop)]
+pub struct Shown<A: Handle> {
+    entries: Vec<Entry<A>, A>,
+    machine: Machine<A>,
+}
+
+impl<A: Handle> Shown<A> {
+    /// What the book shows.
+    pub fn by(rt: &impl Abort, alloc: A, book: &Book<A>) -> Shown<A> {
+        let mut entries = Vec::new(alloc);
+        for entry in book.entries() {
+            made(
+                rt,
+                entries.push(made(rt, entry.copy(), "an entry")),
+                "an entry",
+            );
+        }
+        Shown {
+            entries,
+            machine: made(rt, copy_of(book.machine()), "a copy"),
+        }
+    }
+
+    /// Whether the book shows this still.
+    pub fn is_shown(&self, rt: &impl Abort, book: &Book<A>) -> bool {
+        are_same(book.entries(), self.entries.as_slice())
+            && same_machines(rt, book.machine(), &self.machine)
+    }
 }

@@ -11,8 +11,8 @@ use std::process::Abort;
 use std::sync::Wait;
 use std::thread::Threads;
 
-// Events, of which some are admitted and some are refused.
-const CALLS: &str = "\
+/// Events, of which some are admitted and some are refused.
+pub const CALLS: &str = "\
 begin 1 flat
 begin 1 flat
 do 1 x write 5
@@ -41,8 +41,8 @@ ok 7
 no 7 by 2
 ";
 
-// What the worker at the desk reports.
-fn reported<A: Handle>(
+/// What the worker at the desk reports.
+pub fn reported<A: Handle>(
     alloc: A,
     desk: &mut PlainDesk<A>,
     one: &Script<A>,
@@ -50,9 +50,9 @@ fn reported<A: Handle>(
     work(alloc, desk, one, &OpenGate)
 }
 
-// A worker at a desk with a book of its own: the report is that of the first seat and has the book's entries, which are
-// answered as the lines say.
-fn worked_alone<A: Handle>(rt: &impl Abort, alloc: A, one: &Script<A>) -> PlainDesk<A> {
+/// A worker at a desk with a book of its own: the report is that of the first seat and has the book's entries, which
+/// are answered as the lines say.
+pub fn worked_alone<A: Handle>(rt: &impl Abort, alloc: A, one: &Script<A>) -> PlainDesk<A> {
     let model = model_of(rt, alloc, Standard::Atomic.text());
     let mut desk = made(rt, PlainDesk::new(alloc, 1, model), "a desk");
     let report = made(rt, reported(alloc, &mut desk, one), "a report");

@@ -103,6 +103,8 @@ fn drives_that_have_no_result(rt: HostRuntime) {
     let alloc = rt.alloc();
     are_barred(&rt, alloc, &[], DriveError::NoWorker);
     are_barred(&rt, alloc, &[1; 17], DriveError::TooManyWorkers);
+    // (where both are too many, of workers it is told)
+    are_barred(&rt, alloc, &[4_000; 17], DriveError::TooManyWorkers);
     are_barred(&rt, alloc, &[32_768, 32_769], DriveError::TooManyEvents);
     gives_up_anywhere(&rt, alloc);
 }

@@ -1,6 +1,6 @@
 //! Each allocation refused in turn: a book stays as it was, and a driven run says why it has no result.
 
-use crate::driving::books::taken;
+use crate::driving::books::{Shown, taken};
 use crate::driving::scripts::{ADDITIONS, script, scripts};
 use crate::expecting::{holds, made, same};
 use crate::models::model_of;
@@ -43,11 +43,12 @@ fn fault_at<A: Handle, B: Allocator>(
 fn take_refused<A: Handle, B: Allocator>(
     rt: &impl Abort,
     heap: &Refusing<B>,
+    alloc: A,
     book: &mut Book<A>,
     event: &Event<A>,
     nth: u64,
 ) -> bool {
-    let (entries, admitted) = (book.entries().len(), book.machine().history().len());
+    let before = Shown::by(rt, alloc, book);
     let (fault, is_whole) = fault_at(rt, heap, book, event, nth);
     let due = if is_whole {
         None
@@ -57,9 +58,10 @@ fn take_refused<A: Handle, B: Allocator>(
     same(rt, &fault, &due, "a call of the book");
     holds(
         rt,
-        is_whole || stands(book, entries, admitted),
+        is_whole || before.is_shown(rt, book),
         "the book as it was",
     );
+    drop(before);
     is_whole
 }
 
@@ -68,11 +70,12 @@ fn take_refused<A: Handle, B: Allocator>(
 fn take_each<A: Handle, B: Allocator>(
     rt: &impl Abort,
     heap: &Refusing<B>,
+    alloc: A,
     book: &mut Book<A>,
     event: &Event<A>,
 ) -> u64 {
     for nth in 1..MOST {
-        if take_refused(rt, heap, book, event, nth) {
+        if take_refused(rt, heap, alloc, book, event, nth) {
             return nth.wrapping_sub(1);
         }
     }
@@ -97,12 +100,14 @@ commit 2";
 fn take_calls<A: Handle, B: Allocator>(
     rt: &impl Abort,
     heap: &Refusing<B>,
+    alloc: A,
     book: &mut Book<A>,
     calls: &[Event<A>],
 ) -> u64 {
     let mut refused = 0u64;
     for event in calls {
-        refused = refused.wrapping_add(take_each(rt, heap, book, event));
+        let more = take_each(rt, heap, alloc, book, event);
+        refused = refused.wrapping_add(more);
     }
     refused
 }
@@ -112,7 +117,7 @@ fn take_all<A: Handle, B: Allocator>(rt: &impl Abort, heap: &Refusing<B>, alloc:
     let model = model_of(rt, alloc, Standard::SplitJoin.text());
     let calls = script(rt, alloc, &model, CALLS);
     let mut book = made(rt, Book::new(alloc, model), "a book");
-    let refused = take_calls(rt, heap, &mut book, calls.as_slice());
+    let refused = take_calls(rt, heap, alloc, &mut book, calls.as_slice());
     holds(rt, stands(&book, 10, 9), "the book in the end");
     drop(book);
     refused

@@ -735,8 +735,8 @@ do 6 x write 6 = done
 do 6 n add 1 = done
 do 7 n get = 1";
 
-// The lists of each model, by its text.
-fn by_model() -> [(&'static str, &'static str); 11] {
+/// The lists of each model, by its text.
+pub fn by_model() -> [(&'static str, &'static str); 11] {
     [
         (Standard::Atomic.text(), FLAT),
         (Standard::Contingent.text(), CONTINGENT),

@@ -1,13 +1,15 @@
 //! Each growth of a call refused in turn: the answer is want of memory, and no other.
 
 use crate::expecting::holds;
+use crate::judging::breaking::by_model;
+use crate::judging::limits::{has_faults, repeated};
 use crate::judging::reading::Judged;
 use crate::judging::verdicts::told;
-use crate::models::model_of;
+use crate::models::{Models, model_of};
 use acta_judge::{JudgeError, Verdict, judge};
 use acta_machine::Handle;
 use acta_models::Standard;
-use acta_table::Model;
+use acta_table::{Kept, Model};
 use refusing::Refusing;
 use std::alloc::Allocator;
 use std::process::Abort;
@@ -69,11 +71,11 @@ fn refused<A: Handle + Send + Sync, B: Allocator>(
     heap: &Refusing<B>,
     alloc: A,
     model: &Model<A>,
-    judged: &Judged<A>,
+    items: &[Kept<A>],
     nth: u64,
 ) -> (Result<Verdict<A>, JudgeError>, bool) {
     heap.refuse(nth);
-    let answer = judge(rt, alloc, model, judged.items.as_slice());
+    let answer = judge(rt, alloc, model, items);
     let was_refused = !heap.is_waiting();
     heap.refuse(0);
     (answer, was_refused)
@@ -88,7 +90,7 @@ fn is_refused<A: Handle + Send + Sync, B: Allocator>(
     judged: &Judged<A>,
     nth: u64,
 ) -> bool {
-    let (answer, was_refused) = refused(rt, heap, alloc, model, judged, nth);
+    let (answer, was_refused) = refused(rt, heap, alloc, model, judged.items.as_slice(), nth);
     match answer {
         Ok(verdict) => {
             let lines = told(rt, alloc, &verdict);
@@ -100,19 +102,19 @@ fn is_refused<A: Handle + Send + Sync, B: Allocator>(
     was_refused
 }
 
-// Judges what the lines say, its first allocation refused, then the second, and so on, until none is. Says how many
-// were.
+// Judges what the lines say by the model that the text means, its first allocation refused, then the second, and so on,
+// until none is. Says how many were.
 fn refuse_each<A: Handle + Send + Sync, B: Allocator>(
     rt: &(impl Threads + Sync + Abort),
     heap: &Refusing<B>,
     alloc: A,
-    name: Standard,
+    text: &str,
     lines: &str,
 ) -> u64 {
-    let model = model_of(rt, alloc, name.text());
-    let judged = Judged::read(rt, alloc, &model, lines);
+    let models = Models::of(rt, alloc, text);
+    let judged = Judged::read(rt, alloc, &models.wider, lines);
     for nth in 1..MOST {
-        if !is_refused(rt, heap, alloc, &model, &judged, nth) {
+        if !is_refused(rt, heap, alloc, &models.model, &judged, nth) {
             return nth.wrapping_sub(1);
         }
     }
@@ -123,16 +125,98 @@ fn refuse_each<A: Handle + Send + Sync, B: Allocator>(
 fn refuse_judging<B: Allocator + Send + Sync>(
     rt: &(impl Threads + Sync + Abort),
     heap: &Refusing<B>,
-    (name, lines): (Standard, &str),
+    (text, lines): (&str, &str),
 ) -> u64 {
-    refuse_each(rt, heap, heap, name, lines)
+    refuse_each(rt, heap, heap, text, lines)
 }
 
 #[test]
 fn a_judge_for_whom_there_is_no_memory(rt: HostRuntime) {
     let heap = Refusing::new(rt.alloc());
     for (name, lines, least) in HISTORIES {
-        let refused = refuse_judging(&rt, &heap, (name, lines));
+        let refused = refuse_judging(&rt, &heap, (name.text(), lines));
         assert!(rt; refused >= least, "only {refused} at {lines}");
+    }
+}
+
+// Each of the lists that break axioms, of which each has a title. A judge has memory for what it knows of transactions,
+// whatever the list.
+#[test]
+fn faulty_lists_for_which_there_is_no_memory(rt: HostRuntime) {
+    let heap = Refusing::new(rt.alloc());
+    for (text, lists) in by_model() {
+        for list in lists.split("# ") {
+            let (_, lines) = list.split_once('\n').unwrap_or((list, ""));
+            let refused = refuse_judging(&rt, &heap, (text, lines));
+            assert!(rt; refused >= 2, "only {refused} at {list}");
+        }
+    }
+}
+
+// Judges so many commits of one that never began, each of which is faulty, the nth allocation refused; where it came,
+// the answer is want of memory. Says whether it came.
+fn are_refused<A: Handle + Send + Sync, B: Allocator>(
+    rt: &(impl Threads + Sync + Abort),
+    heap: &Refusing<B>,
+    alloc: A,
+    model: &Model<A>,
+    (items, times): (&[Kept<A>], u32),
+    nth: u64,
+) -> bool {
+    let (answer, was_refused) = refused(rt, heap, alloc, model, items, nth);
+    match answer {
+        Ok(verdict) => {
+            holds(rt, !was_refused, "a verdict");
+            has_faults(rt, verdict.faults.as_slice(), times);
+        }
+        Err(error) => holds(rt, was_refused && error == JudgeError::Memory, "none"),
+    }
+    was_refused
+}
+
+// Which allocation is refused the kth time: each of the first 64 in turn, and behind them one of so many.
+fn refused_at(k: u64, step: u64) -> u64 {
+    if k <= 64 {
+        k
+    } else {
+        k.wrapping_sub(64).wrapping_mul(step).wrapping_add(64)
+    }
+}
+
+// Judges so many commits, the first allocation refused, then the second, and so on, until none is; behind the first 64
+// only one of so many. Says how many were.
+fn refuse_commits<A: Handle + Send + Sync, B: Allocator>(
+    rt: &(impl Threads + Sync + Abort),
+    heap: &Refusing<B>,
+    alloc: A,
+    (times, step): (u32, u64),
+) -> u64 {
+    let model = model_of(rt, alloc, Standard::Atomic.text());
+    let items = repeated(rt, alloc, times, true);
+    for k in 1..MOST {
+        let nth = refused_at(k, step);
+        if !are_refused(rt, heap, alloc, &model, (items.as_slice(), times), nth) {
+            return k.wrapping_sub(1);
+        }
+    }
+    panic!(rt; "too many allocations")
+}
+
+// With such an allocator too.
+fn refuse_repeated<B: Allocator + Send + Sync>(
+    rt: &(impl Threads + Sync + Abort),
+    heap: &Refusing<B>,
+    (times, step): (u32, u64),
+) -> u64 {
+    refuse_commits(rt, heap, heap, (times, step))
+}
+
+// Of many faults there are many growths. Of the most of them it would take minutes to refuse each, and few are.
+#[test]
+fn many_faults_for_which_there_is_no_memory(rt: HostRuntime) {
+    let heap = Refusing::new(rt.alloc());
+    for (times, step, least) in [(256u32, 1u64, 80u64), (4_096, 128, 70)] {
+        let refused = refuse_repeated(&rt, &heap, (times, step));
+        assert!(rt; refused >= least, "only {refused} at {times}");
     }
 }
