@@ -1,10 +1,11 @@
 //! What is written for the bytes of a model and of an input.
 
-ghost use Rattle.std.specs.Prelude.{◌≡◌, ◌≤◌, ◌+◌, true, false, IfOk, IfSome};
+ghost use Rattle.std.specs.Prelude.{◌≡◌, ◌≤◌, ◌+◌, true, false, is_some, IfOk, IfSome};
 ghost use Rattle.acta_explain.specs.Statuses.{EndsAs};
+ghost use Rattle.acta_script.specs.Reading.{event_of};
 ghost use Rattle.acta_tool.specs.declared.args.Command.TheVariants.{Run};
 ghost use Rattle.acta_tool.specs.Outcome.{FailsBy, IsUnreadTooLong, KeepsUnread, WritesBy, is_undriven, reason_of};
-ghost use Rattle.acta_tool.specs.Output.{tool_output};
+ghost use Rattle.acta_tool.specs.Output.{output_on, said_in, tool_output};
 
 use crate::args::{Drawing, Form};
 use crate::lanes::Lanes;
@@ -12,6 +13,7 @@ use crate::screen::Screen;
 use crate::svg::{draw_svg, draw_words};
 use crate::text::draw_text;
 use acta_machine::Handle;
+use acta_table::Model;
 use acta_tool::{
     BadLine, Command, EventLines, ModelError, NoModel, Outcome, ReadFault, Report, Sink, Source,
     read_lines, read_model, read_within, refuse_line, refuse_model, write_report,
@@ -66,25 +68,16 @@ fn no_model<A: Handle>(alloc: A, drawing: &Drawing, fault: NoModel) -> Result<Re
     }
 }
 
-// The command that takes the lines in the same way.
-const LIKE: Command = Command::Run { kept: false };
-
-/// What is drawn for the bytes of a model and of an input, which is refused where `run` refuses it. `Err` where there is
-/// no memory.
-pub fn draw<A: Handle>(
+// What is drawn of a run of the event lines of the input.
+fn draw_run<A: Handle>(
     alloc: A,
     drawing: &Drawing,
     screen: Screen,
-    model: &[u8],
+    model: Model<A>,
     input: &[u8],
 ) -> Result<Report<A>, AllocError>
-    ensures { IfOk result (λ report. report.is_refused ≡ (tool_output A (Run false) model.now input.now).is_refused) }
+    ensures { IfOk result (λ report. report.is_refused ≡ is_some (said_in (event_of model) input.now).stop) }
 {
-    let model = match read_model(alloc, LIKE, model) {
-        Ok(model) => model,
-        Err(ModelError::Fault(fault)) => return no_model(alloc, drawing, fault),
-        Err(ModelError::Memory) => return Err(AllocError),
-    };
     let reader = EventLines {
         alloc,
         model: &model,
@@ -97,6 +90,38 @@ pub fn draw<A: Handle>(
         text: text.into_bytes(),
         is_refused,
     })
+}
+
+// The same, which is refused where `run` refuses it.
+#[tactic(auto, unfolding(acta_tool::specs::Output::run_on))]
+fn draw_on<A: Handle>(
+    alloc: A,
+    drawing: &Drawing,
+    screen: Screen,
+    model: Model<A>,
+    input: &[u8],
+) -> Result<Report<A>, AllocError>
+    ensures { IfOk result (λ report. report.is_refused ≡ (output_on (Run false) model input.now).is_refused) }
+{
+    draw_run(alloc, drawing, screen, model, input)
+}
+
+/// What is drawn for the bytes of a model and of an input, which is refused where `run` refuses it. `Err` where there is
+/// no memory.
+pub fn draw<A: Handle>(
+    alloc: A,
+    drawing: &Drawing,
+    screen: Screen,
+    model: &[u8],
+    input: &[u8],
+) -> Result<Report<A>, AllocError>
+    ensures { IfOk result (λ report. report.is_refused ≡ (tool_output A (Run false) model.now input.now).is_refused) }
+{
+    match read_model(alloc, Command::Run { kept: false }, model) {
+        Ok(model) => draw_on(alloc, drawing, screen, model, input),
+        Err(ModelError::Fault(fault)) => no_model(alloc, drawing, fault),
+        Err(ModelError::Memory) => Err(AllocError),
+    }
 }
 
 /// Reads the whole input, and writes in one go what is drawn of it on the model of these bytes. `Unread` and
@@ -117,7 +142,7 @@ pub fn draw_tool<A: Handle, S: Source, W: Sink>(
     ensures too_long { IsUnreadTooLong model.now (S.remaining input.old) (reason_of result) }
     ensures undriven { is_undriven result ≡ false }
 {
-    let bytes = match read_within(alloc, LIKE, model, input) {
+    let bytes = match read_within(alloc, Command::Run { kept: false }, model, input) {
         Ok(bytes) => bytes,
         Err(reason) => return Outcome::Unread(reason),
     };

@@ -66,6 +66,7 @@ fn command_like(is_judged: bool) -> Command
 }
 
 // What is told on a model.
+#[tactic(auto, unfolding(acta_tool::specs::Output::run_on))]
 fn explain_on<A: Handle + Send + Sync, R: Threads + Sync>(
     rt: &R,
     alloc: A,
