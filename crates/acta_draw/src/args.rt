@@ -202,8 +202,8 @@ fn asked_by<'a>(
 }
 
 /// What the words ask for; the first is the program's name, and the second `draw`. `Usage` where they are no such
-/// command line or ask for help, with the text of `clap`; `UnknownModel` where no standard model has the name after the `@`; `Memory`
-/// where there is none.
+/// command line or ask for help, with the text of `clap`; `UnknownModel` where no standard model has the name after the
+/// `@`; `Memory` where there is none.
 pub fn parse<'a>(alloc: Global, words: &'a [String]) -> Result<Asked<'a>, UsageFault> {
     let name = called(alloc, words, "draw")?;
     let mut surface = surface(alloc, name.as_str()).map_err(UsageFault::Memory)?;
