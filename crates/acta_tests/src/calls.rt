@@ -2,6 +2,7 @@
 //! compared when they run.
 
 use acta_axioms::{Places, SerialItem, Walk};
+use acta_deps::Deps;
 use acta_machine::{Handle, Machine, Reason, Run, SerialError};
 use acta_table::{Answer, Event, Items, Kept, MOST_EVENTS, Model, Owed, TxnId};
 use std::alloc::AllocError;
@@ -44,6 +45,11 @@ pub fn closed_wait<A: Handle>(
 /// A copy of the machine.
 pub fn copy_of<A: Handle>(machine: &Machine<A>) -> Result<Machine<A>, AllocError> {
     machine.copy()
+}
+
+/// A copy of the table of dependencies.
+pub fn copy_of_deps<A: Handle>(deps: &Deps<A>) -> Result<Deps<A>, AllocError> {
+    deps.copy()
 }
 
 /// What the machine says is owed.

@@ -1,16 +1,60 @@
-//! Tests of the judge: histories as text with their verdicts, histories that machines keep, lists that no machine need
-//! have kept against a slow judge that asks their places, the longest list, and each refused growth. The verdicts that
-//! are written out were found by hand.
+//! Tests of the judge: what machines keep has no fault, random histories among it, and long lists. Verdicts on lists from
+//! elsewhere are told by the program's own cases.
 
-mod asking;
-mod breaking;
-mod limits;
-mod machines;
+pub mod limits;
+pub mod lists;
 mod mixing;
-mod parts;
-mod places;
-mod reading;
-mod refusals;
-mod slowly;
-mod telling;
-mod verdicts;
+
+use crate::calls::owed_by;
+use crate::expecting::{made, same};
+use acta_judge::{Verdict, judge};
+use acta_machine::{Handle, Machine};
+use acta_script::{fault_line, owed_line};
+use acta_table::{Items, Owed};
+use std::alloc::{Allocator, Global};
+use std::process::Abort;
+use std::thread::Threads;
+
+// Adds the lines of debts.
+fn put_debts(rt: &impl Abort, other: Global, text: &mut String, owed: &[Owed]) {
+    for debt in owed {
+        let line = made(rt, owed_line(other, debt), "a debt");
+        let line = made(rt, String::from_utf8(line), "a debt");
+        made(rt, text.push_str(line.as_str()), "a debt");
+        made(rt, text.push_str("\n"), "a debt");
+    }
+}
+
+/// The lines of a verdict.
+pub fn lines_of<A: Allocator>(rt: &impl Abort, other: Global, verdict: &Verdict<A>) -> String {
+    let mut text = String::new(other);
+    for fault in verdict.faults.as_slice() {
+        let line = fault_line(other, fault.broken.number(), fault.place, fault.by);
+        let line = made(rt, String::from_utf8(made(rt, line, "a fault")), "a fault");
+        made(rt, text.push_str(line.as_str()), "a fault");
+        made(rt, text.push_str("\n"), "a fault");
+    }
+    put_debts(rt, other, &mut text, verdict.owed.as_slice());
+    text
+}
+
+/// The history of the machine is judged to have no fault, and to owe what the machine owes.
+pub fn is_faultless<A: Handle + Send + Sync>(
+    rt: &(impl Threads + Sync + Abort),
+    (alloc, other): (A, Global),
+    machine: &Machine<A>,
+    title: &str,
+) {
+    let verdict = judge(rt, alloc, machine.model(), machine.history());
+    let verdict = made(rt, verdict, title);
+    let mut due = String::new(other);
+    let owed = made(rt, owed_by(machine), title);
+    put_debts(rt, other, &mut due, owed.as_slice());
+    same(
+        rt,
+        &lines_of(rt, other, &verdict).as_str(),
+        &due.as_str(),
+        title,
+    );
+    drop(verdict);
+}

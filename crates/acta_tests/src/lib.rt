@@ -1,15 +1,11 @@
-//! Tests that cross the crates: histories as text with their answers, lists of events and what their places say,
-//! verdicts on histories, sessions of debuggers, driven runs, each refused allocation, and the edges of checked models.
-//! The values that they expect were computed by hand.
+//! Tests that cross the crates: worked answers of machines and debuggers, verdicts, driven runs, each refused allocation of
+//! each call, and the edges of checked models. What the program shows of histories is tested by `cases/`, which takes no
+//! proof.
 //!
-//! A helper that owns what is dear to let go, as a machine, a walk, a book or a debugger, gives it to `drop` at its
-//! end: who lets it go by itself lets go of each of its parts, and each is proved there.
+//! A helper that owns a machine, a walk, a book or a debugger gives it to `drop` at its end: otherwise each of its parts
+//! is dropped there, and each drop is proved there.
 #![tactic(auto)]
 
-#[cfg(test)]
-mod agreeing;
-#[cfg(test)]
-mod alike;
 #[cfg(test)]
 mod calls;
 #[cfg(test)]
@@ -23,50 +19,24 @@ mod edges;
 #[cfg(test)]
 mod expecting;
 #[cfg(test)]
-mod forming;
-#[cfg(test)]
-mod formulas;
-#[cfg(test)]
-mod growths;
-#[cfg(test)]
 mod heaps;
 #[cfg(test)]
-mod histories;
-#[cfg(test)]
 mod judging;
-#[cfg(test)]
-mod lists;
 #[cfg(test)]
 mod models;
 #[cfg(test)]
 mod objects;
 #[cfg(test)]
-mod orders;
-#[cfg(test)]
 mod outside;
 #[cfg(test)]
-mod permitting;
-#[cfg(test)]
-mod placing;
-#[cfg(test)]
-mod playing;
+mod readings;
 #[cfg(test)]
 mod reasons;
 #[cfg(test)]
-mod serials;
+mod refused;
 #[cfg(test)]
 mod sets;
 #[cfg(test)]
-mod showing;
+mod shown;
 #[cfg(test)]
 mod standards;
-#[cfg(test)]
-mod stepping;
-#[cfg(test)]
-mod tables;
-#[cfg(test)]
-mod values;
-#[cfg(test)]
-mod walking;
-#[cfg(test)]
-mod walks;

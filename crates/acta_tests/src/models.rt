@@ -1,11 +1,27 @@
-//! The models of the histories, as texts, and what is read of texts and lines.
+//! Models of the tests, as texts, and what is read of texts and lines.
 
 use crate::expecting::made;
 use acta_lang::assemble;
-use acta_script::read_event;
-use acta_table::{Event, Model};
+use acta_script::{read_event, read_kept};
+use acta_table::{Event, Kept, Model};
 use std::alloc::Allocator;
 use std::process::Abort;
+
+/// Flat transactions that form edges and delegate all that they hold.
+pub const DELEGATING: &str = "\
+object x register 0
+object n counter 0
+object m counter 0
+object s set
+class part
+starts begin
+may delegate form operate commit abort
+scope others
+policy refuse
+commit keeps
+delegation whole
+end
+";
 
 /// Transactions that split with an edge in either direction, hand over the whole, and form edges.
 pub const PARTING: &str = "\
@@ -43,22 +59,6 @@ split started AD starter
 end
 ";
 
-/// Flat transactions that form edges and delegate all that they hold.
-pub const DELEGATING: &str = "\
-object x register 0
-object n counter 0
-object m counter 0
-object s set
-class part
-starts begin
-may delegate form operate commit abort
-scope others
-policy refuse
-commit keeps
-delegation whole
-end
-";
-
 /// Nested transactions with no edges at a spawn.
 pub const UNTIED: &str = "\
 object x register 0
@@ -80,57 +80,6 @@ scope nonancestors
 policy refuse
 commit toparent
 delegation whole
-end
-";
-
-/// Nested transactions, where a parent commits after its children.
-pub const ORDERED: &str = "\
-object x register 0
-object n counter 0
-object m counter 0
-object s set
-class top
-starts begin
-may spawn operate commit abort
-scope nonancestors
-policy refuse
-commit keeps
-delegation whole
-end
-class sub
-starts spawned
-may spawn operate commit abort
-scope nonancestors
-policy refuse
-commit toparent
-delegation whole
-spawn starter CD started
-end
-";
-
-/// Nested transactions, where a parent ends after its children, and aborts with each.
-pub const WAITING: &str = "\
-object x register 0
-object n counter 0
-object m counter 0
-object s set
-class top
-starts begin
-may spawn operate commit abort
-scope nonancestors
-policy refuse
-commit keeps
-delegation whole
-end
-class sub
-starts spawned
-may spawn operate commit abort
-scope nonancestors
-policy refuse
-commit toparent
-delegation whole
-spawn starter AD started
-spawn starter TD started
 end
 ";
 
@@ -291,6 +240,11 @@ pub fn model_of<A: Allocator + Copy>(rt: &impl Abort, alloc: A, text: &str) -> M
     made(rt, assemble(alloc, text.as_bytes()), "a model")
 }
 
+/// The same. Nothing where memory ran out.
+pub fn assembled<A: Allocator + Copy>(alloc: A, text: &str) -> Option<Model<A>> {
+    assemble(alloc, text.as_bytes()).ok()
+}
+
 /// The event that the line says.
 pub fn event_of<A: Allocator + Copy>(
     rt: &impl Abort,
@@ -299,6 +253,36 @@ pub fn event_of<A: Allocator + Copy>(
     line: &str,
 ) -> Event<A> {
     made(rt, read_event(alloc, model, line.as_bytes()), line)
+}
+
+/// The events that the lines say.
+pub fn events_of<A: Allocator + Copy>(
+    rt: &impl Abort,
+    alloc: A,
+    model: &Model<A>,
+    lines: &str,
+) -> Vec<Event<A>, A> {
+    let mut events = Vec::new(alloc);
+    for line in lines.lines() {
+        let event = event_of(rt, alloc, model, line);
+        made(rt, events.push(event), line);
+    }
+    events
+}
+
+/// The kept items that the lines say.
+pub fn items_of<A: Allocator + Copy>(
+    rt: &impl Abort,
+    alloc: A,
+    model: &Model<A>,
+    lines: &str,
+) -> Vec<Kept<A>, A> {
+    let mut items = Vec::new(alloc);
+    for line in lines.lines() {
+        let item = made(rt, read_kept(alloc, model, line.as_bytes()), line);
+        made(rt, items.push(item), line);
+    }
+    items
 }
 
 impl<A: Allocator + Copy> Models<A> {

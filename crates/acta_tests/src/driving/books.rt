@@ -1,8 +1,6 @@
-//! What is asked of entries: whether they are the same, whether they are a seat's part of a book and answer its script,
-//! how they are answered, and whether a machine of its own answers them again; and whether a book shows what it showed.
+//! What is asked of entries: whether they are equal, whether they are a seat's part of a book and answer its script, what
+//! their answers are, and whether a machine of its own answers them again.
 
-use crate::alike::same_machines;
-use crate::calls::copy_of;
 use crate::expecting::{made, same};
 use acta_locked::{Book, Entry, Report, Script, TakeError};
 use acta_machine::{Handle, Machine};
@@ -68,14 +66,19 @@ pub fn are_parts<A: Allocator>(
 }
 
 /// The answers of the entries, a line each.
-pub fn answers<A: Allocator + Copy>(rt: &impl Abort, alloc: A, entries: &[Entry<A>]) -> Vec<u8, A> {
-    let mut lines = Vec::new(alloc);
+pub fn answers<A: Allocator, B: Allocator + Copy>(
+    rt: &impl Abort,
+    other: B,
+    entries: &[Entry<A>],
+) -> String<B> {
+    let mut text = String::new(other);
     for entry in entries {
-        let line = made(rt, answer_line(alloc, &entry.answer), "an answer");
-        made(rt, lines.extend_from_slice(line.as_slice()), "an answer");
-        made(rt, lines.push(b'\n'), "an answer");
+        let line = made(rt, answer_line(other, &entry.answer), "an answer");
+        let line = made(rt, String::from_utf8(line), "an answer");
+        made(rt, text.push_str(line.as_str()), "an answer");
+        made(rt, text.push_str("\n"), "an answer");
     }
-    lines
+    text
 }
 
 /// The answers of the entries are these lines.
@@ -85,8 +88,12 @@ pub fn are_answered<A: Allocator + Copy>(
     entries: &[Entry<A>],
     due: &str,
 ) {
-    let lines = answers(rt, alloc, entries);
-    same(rt, &lines.as_slice(), &due.as_bytes(), "the answers");
+    same(
+        rt,
+        &answers(rt, alloc, entries).as_str(),
+        &due,
+        "the answers",
+    );
 }
 
 // Whether the machine takes the event with this answer.
@@ -136,35 +143,4 @@ pub fn replayed<A: Handle>(
 /// entry.
 pub fn taken<A: Handle>(book: &mut Book<A>, event: Event<A>) -> Result<Entry<A>, TakeError> {
     book.take(1, event)
-}
-
-/// What a book showed.
-#[derive(Drop)]
-pub struct Shown<A: Handle> {
-    entries: Vec<Entry<A>, A>,
-    machine: Machine<A>,
-}
-
-impl<A: Handle> Shown<A> {
-    /// What the book shows.
-    pub fn by(rt: &impl Abort, alloc: A, book: &Book<A>) -> Shown<A> {
-        let mut entries = Vec::new(alloc);
-        for entry in book.entries() {
-            made(
-                rt,
-                entries.push(made(rt, entry.copy(), "an entry")),
-                "an entry",
-            );
-        }
-        Shown {
-            entries,
-            machine: made(rt, copy_of(book.machine()), "a copy"),
-        }
-    }
-
-    /// Whether the book shows this still.
-    pub fn is_shown(&self, rt: &impl Abort, book: &Book<A>) -> bool {
-        are_same(book.entries(), self.entries.as_slice())
-            && same_machines(rt, book.machine(), &self.machine)
-    }
 }

@@ -26,8 +26,8 @@ abort 2
 commit 2
 ";
 
-// Their answers.
-const ANSWERS: &str = "\
+/// Their answers.
+pub const ANSWERS: &str = "\
 ok 1
 no 8 by 1
 ok 2 done

@@ -3,11 +3,11 @@
 use crate::driving::books::{are_answered, are_parts};
 use crate::driving::gates::{Meeting, Place};
 use crate::driving::scripts::{ADDITIONS, driven, scripts};
-use crate::expecting::{holds, same};
-use crate::showing::number_in;
+use crate::expecting::{holds, made, same};
 use acta_locked::{Driven, Entry};
-use acta_machine::Handle;
+use acta_machine::{Handle, Machine};
 use acta_models::Standard;
+use acta_objects::ObjectState;
 use acta_table::ObjId;
 use std::alloc::Allocator;
 use std::process::Abort;
@@ -20,6 +20,15 @@ const X: ObjId = ObjId(0);
 const N: ObjId = ObjId(1);
 
 const M: ObjId = ObjId(2);
+
+// The number that a register or a counter has.
+fn number_in<A: Handle>(rt: &impl Abort, machine: &Machine<A>, object: ObjId) -> Option<i64> {
+    match made(rt, machine.value(object), "a value") {
+        Some(ObjectState::Register(value)) => Some(i64::from(value)),
+        Some(ObjectState::Counter(value)) => Some(value),
+        _ => None,
+    }
+}
 
 // Drives the two scripts that the texts say, whose workers meet. The gate was shown what the book has, each report is
 // its seat's part, and the answers are these lines.

@@ -7,7 +7,6 @@ use crate::models::model_of;
 use acta_locked::{DriveError, Entry, Front, Gate, OpenGate, Script, Watched, drive_watched};
 use acta_machine::Handle;
 use acta_models::Standard;
-use refusing::Refusing;
 use std::alloc::Allocator;
 use std::process::Abort;
 use std::sync::Wait;
@@ -17,9 +16,6 @@ use std::thread::Threads;
 
 // How often a flag is looked at, before its wait runs out.
 const TURNS: u32 = 10_000_000;
-
-// More allocations than a watched drive makes.
-const MOST: u64 = 1_000;
 
 fn raise(flag: &AtomicU64) {
     flag.store(1, Ordering::SeqCst);
@@ -156,66 +152,4 @@ fn no_turn_and_no_worker(rt: HostRuntime) {
     let none = scripts(&rt, rt.alloc(), &[]);
     let barred = watched(&rt, rt.alloc(), none.as_slice(), &OpenGate, 2).err();
     same(&rt, &barred, &Some(DriveError::NoWorker), "no worker");
-}
-
-// How many fronts a watched drive has, or why there is none.
-fn fronts_of<A: Handle>(watched: &Result<Watched<A>, DriveError>) -> Result<usize, DriveError> {
-    match watched {
-        Ok(watched) => Ok(watched.fronts.as_slice().len()),
-        Err(error) => Err(*error),
-    }
-}
-
-// Drives two scripts, watched, the nth allocation refused: there are all fronts where it never came, and else the answer
-// is want of memory, or that a thread could not be started. Says whether it never came.
-fn is_whole<A: Handle + Send + Sync, R: Threads + Wait + Sync + Abort, B: Allocator>(
-    rt: &R,
-    heap: &Refusing<B>,
-    alloc: A,
-    scripts: &[Script<A>],
-    nth: u64,
-) -> bool {
-    let model = model_of(rt, alloc, Standard::Atomic.text());
-    heap.refuse(nth);
-    let watched = drive_watched(rt, alloc, model, scripts, &OpenGate, 3);
-    let is_whole = heap.is_waiting();
-    heap.refuse(0);
-    let is_due = match fronts_of(&watched) {
-        Ok(fronts) => is_whole && fronts == 3,
-        Err(DriveError::Memory | DriveError::NoThread) => !is_whole,
-        Err(_) => false,
-    };
-    drop(watched);
-    holds(rt, is_due, "a watched drive");
-    is_whole
-}
-
-// The first allocation refused, then the second, and so on, until none is. Says how many were.
-fn watch_each<A: Handle + Send + Sync, R: Threads + Wait + Sync + Abort, B: Allocator>(
-    rt: &R,
-    heap: &Refusing<B>,
-    alloc: A,
-) -> u64 {
-    let scripts = scripts(rt, alloc, &ADDITIONS);
-    for nth in 1..MOST {
-        if is_whole(rt, heap, alloc, scripts.as_slice(), nth) {
-            return nth.wrapping_sub(1);
-        }
-    }
-    rt.panic("a call makes too many allocations")
-}
-
-// With an allocator that may be shared by threads, since the one inside it may.
-fn refuse_watched<B: Allocator + Send + Sync, R: Threads + Wait + Sync + Abort>(
-    rt: &R,
-    heap: &Refusing<B>,
-) -> u64 {
-    watch_each(rt, heap, heap)
-}
-
-#[test]
-fn a_watched_drive_that_cannot_grow(rt: HostRuntime) {
-    let heap = Refusing::new(rt.alloc());
-    let refused = refuse_watched(&rt, &heap);
-    assert!(rt; refused > 12, "only {refused} growths");
 }

@@ -1,22 +1,19 @@
-//! Random histories in which transactions permit, hand over, spawn and depend: after each event the machine shows what
-//! the places say, and what it has kept has no fault. And lists of the same moves, which no machine has kept: a walk
-//! through them says what their places do, and they are judged as slowly.
+//! Random histories in which transactions permit, hand over, spawn and depend: what a machine keeps of them has no fault,
+//! and owes what the machine owes.
 
-use crate::agreeing::differing;
 use crate::calls::{new_machine, take};
-use crate::expecting::{holds, made, same};
-use crate::judging::verdicts::lines_on;
+use crate::expecting::made;
+use crate::judging::is_faultless;
 use crate::models::{KINDRED, SHARING, TRUSTING, event_of, model_of};
-use crate::walking::follows_places;
 use acta_machine::{Handle, Machine};
-use acta_table::{Event, EventKind, Kept, Model, Ret};
+use acta_table::{Event, EventKind, Model};
 use rand_core::utils::NextWord;
 use rand_pcg::Pcg32;
-use std::alloc::Allocator;
+use std::alloc::{Allocator, Global};
 use std::process::Abort;
 use std::thread::Threads;
 
-// What a transaction does, with its number in the place of the T, and that of another in the place of the U.
+// What a transaction does. Its number stands for T, and that of another for U.
 const SHARED: &str = "\
 begin T part
 begin T part
@@ -72,16 +69,13 @@ abort T";
 
 const HISTORIES: u32 = 40;
 
-// How many events a history and a list have behind the starts.
-const EVENTS: u32 = 16;
+// How many events are drawn for a history after its starts.
+const EVENTS: u32 = 24;
 
-// So many begin before all else.
+// How many transactions begin before all else.
 const BEGUN: u32 = 3;
 
 const TRANSACTIONS: u32 = 5;
-
-// The largest number of an operation that is compared.
-const OPERATIONS: usize = 7;
 
 // How many lines the text has.
 fn lines_in(text: &str) -> u32 {
@@ -156,32 +150,7 @@ fn drawn<A: Allocator + Copy>(
     event_of(rt, alloc, model, said.as_str())
 }
 
-// How many events of this kind the items have.
-fn count_of<A: Allocator>(items: &[Kept<A>], kind: EventKind) -> usize {
-    let mut count = 0usize;
-    for item in items {
-        if item.event.kind() == kind {
-            count = count.wrapping_add(1);
-        }
-    }
-    count
-}
-
-// The machine takes an event, or refuses it, and shows what the places of its history say.
-fn takes<A: Handle>(
-    rt: &impl Abort,
-    alloc: A,
-    machine: &mut Machine<A>,
-    event: Event<A>,
-    moves: &str,
-) {
-    made(rt, take(machine, &event), moves);
-    drop(event);
-    let differing = differing(rt, alloc, machine.model(), machine);
-    same(rt, &differing, &"nothing", moves);
-}
-
-// Plays a history, as long as its operations are compared.
+// A machine that has taken, or refused, random events.
 fn played<A: Handle>(
     rt: &impl Abort,
     alloc: A,
@@ -192,99 +161,52 @@ fn played<A: Handle>(
     let mut machine = made(rt, new_machine(alloc, model), "a machine");
     for t in 1..=BEGUN {
         let event = begun(rt, alloc, model, moves, t);
-        takes(rt, alloc, &mut machine, event, moves);
+        made(rt, take(&mut machine, &event), moves);
+        drop(event);
     }
     for _ in 0..EVENTS {
-        if count_of(machine.history(), EventKind::Operate) < OPERATIONS {
-            let event = drawn(rt, alloc, model, moves, words);
-            takes(rt, alloc, &mut machine, event, moves);
-        }
+        let event = drawn(rt, alloc, model, moves, words);
+        made(rt, take(&mut machine, &event), moves);
+        drop(event);
     }
     machine
 }
 
-// Plays a history, and judges it. Gives how many permits it has.
-fn plays<A: Handle + Send + Sync>(
-    rt: &(impl Threads + Sync + Abort),
-    alloc: A,
-    model: &Model<A>,
-    moves: &str,
-    words: &mut Pcg32,
-) -> usize {
-    let machine = played(rt, alloc, model, moves, words);
-    let lines = lines_on(rt, alloc, model, machine.history(), moves);
-    holds(rt, !lines.as_slice().starts_with(b"fault"), moves);
-    let permits = count_of(machine.history(), EventKind::Permit);
-    drop(machine);
-    permits
-}
-
-// The event as it is kept. Each operation returns the same, so that some returns are not those due.
-fn kept<A: Allocator>(event: Event<A>) -> Kept<A> {
-    let is_operation = event.kind() == EventKind::Operate;
-    let ret = is_operation.then_some(Ret::Done);
-    Kept { event, ret }
-}
-
-// A list of such moves, whether a machine would keep them or not.
-fn listed<A: Allocator + Copy>(
-    rt: &impl Abort,
-    alloc: A,
-    model: &Model<A>,
-    moves: &str,
-    words: &mut Pcg32,
-) -> Vec<Kept<A>, A> {
-    let mut items = Vec::new(alloc);
-    for t in 1..=BEGUN {
-        let event = begun(rt, alloc, model, moves, t);
-        made(rt, items.push(kept(event)), moves);
+// How many permits the machine has kept.
+fn permits_of<A: Handle>(machine: &Machine<A>) -> u32 {
+    let mut count = 0u32;
+    for item in machine.history() {
+        if item.event.kind() == EventKind::Permit {
+            count = count.wrapping_add(1);
+        }
     }
-    for _ in 0..EVENTS {
-        let event = drawn(rt, alloc, model, moves, words);
-        made(rt, items.push(kept(event)), moves);
-    }
-    items
+    count
 }
 
-// Judges a list, and lists without its first items.
-fn judges<A: Handle + Send + Sync>(
-    rt: &(impl Threads + Sync + Abort),
-    alloc: A,
-    model: &Model<A>,
-    moves: &str,
-    words: &mut Pcg32,
-) {
-    let items = listed(rt, alloc, model, moves, words);
-    for n in 0..=BEGUN as usize {
-        let rest = items.get(n..).unwrap_or(&[]);
-        holds(rt, follows_places(rt, alloc, model, rest), moves);
-        lines_on(rt, alloc, model, rest, moves);
-    }
-    drop(items);
-}
-
-// Plays and judges histories and lists of the model that the text means. Gives how many permits the histories have.
+// Plays and judges histories on the model that the text means. Returns how many permits they have.
 fn mixes<A: Handle + Send + Sync>(
     rt: &(impl Threads + Sync + Abort),
-    alloc: A,
+    (alloc, other): (A, Global),
     model: &str,
     moves: &str,
-) -> usize {
+) -> u32 {
     let model = model_of(rt, alloc, model);
     let mut words = Pcg32::new(42, 54);
-    let mut permits = 0usize;
+    let mut permits = 0u32;
     for _ in 0..HISTORIES {
-        permits = permits.wrapping_add(plays(rt, alloc, &model, moves, &mut words));
-        judges(rt, alloc, &model, moves, &mut words);
+        let machine = played(rt, alloc, &model, moves, &mut words);
+        is_faultless(rt, (alloc, other), &machine, moves);
+        permits = permits.wrapping_add(permits_of(&machine));
+        drop(machine);
     }
     drop(model);
     permits
 }
 
 #[test]
-fn what_is_permitted_by_chance(rt: HostRuntime) {
+fn random_histories(rt: HostRuntime) {
     for (model, moves) in [(SHARING, SHARED), (TRUSTING, TRUSTED), (KINDRED, AKIN)] {
-        let permits = mixes(&rt, rt.alloc(), model, moves);
-        assert!(rt; permits > HISTORIES as usize / 2, "only {permits} permits");
+        let permits = mixes(&rt, (rt.alloc(), rt.alloc()), model, moves);
+        assert!(rt; permits > HISTORIES / 2, "only {permits} permits");
     }
 }

@@ -1,0 +1,54 @@
+//! Each allocation of a call refused in turn. A case is a call, the state that it starts from and the readers of that
+//! state: where an allocation is refused the call runs out of memory, the readers answer as before, and the same call
+//! then answers as it does where nothing is refused.
+
+mod books;
+mod debuggers;
+mod edges;
+mod judges;
+mod machines;
+mod permits;
+mod tables;
+mod values;
+mod walks;
+
+use crate::expecting::{made, parted};
+use refusing::{Case, Refusing, refuse_each};
+use std::alloc::{Allocator, Global};
+use std::process::Abort;
+
+/// The runtime of a test, memory that may be refused, and memory that never is.
+#[derive(Drop)]
+pub struct Setting<'a, R, A: Allocator> {
+    pub rt: &'a R,
+    pub alloc: A,
+    pub other: Global,
+}
+
+/// Plays a case whose call answers `due`. Returns how many allocations were refused.
+pub fn refuse<B: Allocator, C: Case>(
+    rt: &impl Abort,
+    heap: &Refusing<B>,
+    case: &C,
+    due: &str,
+) -> u64 {
+    made(rt, refuse_each(heap, case, due), due)
+}
+
+/// At least so many allocations were refused.
+pub fn at_least(rt: &impl Abort, refused: u64, least: u64, calls: &str) {
+    assert!(rt;
+        refused >= least,
+        "only {refused} refused allocations of {calls}"
+    );
+}
+
+/// What is asked and the answer as `shown` has it, each part after a space.
+pub fn asked_and_answer<'a>(rt: &impl Abort, line: &'a str) -> (&'a str, &'a str) {
+    parted(rt, line, " --")
+}
+
+/// A call and its answer, which stand on one line with `--` between them.
+pub fn call_and_answer<'a>(rt: &impl Abort, line: &'a str) -> (&'a str, &'a str) {
+    parted(rt, line, " -- ")
+}

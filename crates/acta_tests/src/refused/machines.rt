@@ -1,0 +1,462 @@
+//! Events that machines take, and what machines and models are asked, each allocation refused in turn.
+
+use crate::calls::{copy_of, new_machine, places_of, run_on, serial_of, take, why};
+use crate::expecting::made;
+use crate::models::{PARTING, PERMITTING, event_of, events_of, model_of};
+use crate::refused::{Setting, asked_and_answer, at_least, call_and_answer, refuse};
+use crate::shown::{of_machine, put, put_value};
+use acta_machine::{Handle, Machine, SerialError};
+use acta_models::Standard;
+use acta_script::answer_line;
+use acta_table::{Answer, Event, Model, ObjId, TxnId};
+use refusing::{Case, Refusing};
+use std::alloc::{AllocError, Allocator};
+use std::process::Abort;
+
+// A machine that has taken these events.
+fn machine_after<A: Handle>(
+    rt: &impl Abort,
+    alloc: A,
+    model: &Model<A>,
+    events: &[Event<A>],
+) -> Machine<A> {
+    let mut machine = made(rt, new_machine(alloc, model), "a machine");
+    for event in events {
+        made(rt, take(&mut machine, event), "an event");
+    }
+    machine
+}
+
+// A machine that has taken the events before takes one more.
+#[derive(Drop)]
+struct Taking<'a, R, A: Handle> {
+    on: &'a Setting<'a, R, A>,
+    model: &'a Model<A>,
+    before: &'a [Event<A>],
+    event: &'a Event<A>,
+}
+
+impl<'a, R: Abort, A: Handle> Case for Taking<'a, R, A> {
+    type State = Machine<A>;
+
+    type Answer = Answer;
+
+    fn start(&self) -> Machine<A> {
+        machine_after(self.on.rt, self.on.alloc, self.model, self.before)
+    }
+
+    fn call(&self, machine: &mut Machine<A>) -> Option<Answer> {
+        take(machine, self.event).ok()
+    }
+
+    fn tell(&self, answer: &Answer, _machine: &Machine<A>) -> String {
+        let line = made(self.on.rt, answer_line(self.on.other, answer), "an answer");
+        made(self.on.rt, String::from_utf8(line), "an answer")
+    }
+
+    fn read(&self, machine: &Machine<A>) -> String {
+        let rt = self.on.rt;
+        let mut text = of_machine(rt, self.on.other, machine);
+        put(
+            rt,
+            &mut text,
+            &made(rt, why(machine, self.event), "a reason"),
+        );
+        text
+    }
+}
+
+// A machine takes the events of the lines one after another, each allocation of each refused. Returns how many were.
+fn refuse_events<R: Abort, A: Handle, B: Allocator>(
+    on: &Setting<'_, R, A>,
+    heap: &Refusing<B>,
+    model: &str,
+    lines: &str,
+) -> u64 {
+    let model = model_of(on.rt, on.alloc, model);
+    let (mut before, mut refused) = (Vec::new(on.alloc), 0u64);
+    for line in lines.lines() {
+        let (said, due) = call_and_answer(on.rt, line);
+        let event = event_of(on.rt, on.alloc, &model, said);
+        let case = Taking {
+            on,
+            model: &model,
+            before: before.as_slice(),
+            event: &event,
+        };
+        refused = refused.wrapping_add(refuse(on.rt, heap, &case, due));
+        made(on.rt, before.push(event), line);
+    }
+    drop(before);
+    drop(model);
+    refused
+}
+
+// The history grows at the first event, the fifth and the ninth.
+const FORMS: &str = "\
+begin 1 try -- ok 1
+form AD 2 1 -- ok 2
+begin 2 try -- ok 3
+abort 1 -- ok 4";
+
+const PARTS: &str = "\
+begin 1 part -- ok 1
+begin 2 part -- ok 2
+do 1 x write 5 -- ok 3 done
+do 1 s insert 3 -- ok 4 yes
+delegate 1 2 1,2 -- ok 5
+do 1 n add 1 -- ok 6 done
+split 1 4 part 3 -- ok 7
+join 1 2 -- ok 8";
+
+// What a transaction holds stands in a list with room for eight inside; a lock mode has a list too, and lists that meet
+// by a delegation or a join are merged.
+const LISTS: &str = "\
+begin 1 part -- ok 1
+begin 2 part -- ok 2
+do 1 x write 1 -- ok 3 done
+do 1 x write 2 -- ok 4 done
+do 1 x write 3 -- ok 5 done
+do 1 x write 4 -- ok 6 done
+do 1 x write 5 -- ok 7 done
+do 1 x write 6 -- ok 8 done
+do 1 x write 7 -- ok 9 done
+do 1 x write 8 -- ok 10 done
+do 1 x write 9 -- ok 11 done
+do 1 s insert 1 -- ok 12 yes
+do 1 s insert 2 -- ok 13 yes
+do 1 s has 1 -- ok 14 yes
+do 1 s size -- ok 15 2
+delegate 1 2 1,2,3,4,5,6,7,8,9,10,11,12,13 -- ok 16
+do 1 n add 1 -- ok 17 done
+do 2 n add 1 -- ok 18 done
+do 1 n add 1 -- ok 19 done
+delegate 2 1 1,2,3,4,5,6,7,8,9,10,11,12,13,15 -- ok 20
+join 1 2 -- ok 21
+commit 2 -- ok 22";
+
+const SPAWNS: &str = "\
+begin 1 top -- ok 1
+spawn 1 2 sub -- ok 2
+do 2 x write 5 -- ok 3 done
+commit 2 -- ok 4";
+
+// An operation that forms two edges, which are taken back where the operation finds no memory.
+const DEPENDING: &str = "\
+begin 1 loose -- ok 1
+begin 2 loose -- ok 2
+do 1 x write 5 -- ok 3 done
+do 1 x write 5 -- ok 4 done
+do 1 x write 5 -- ok 5 done
+do 1 x write 5 -- ok 6 done
+do 2 x read -- ok 7 5";
+
+const SPLITS: &str = "\
+begin 1 part -- ok 1
+do 1 x write 5 -- ok 2 done
+do 1 n add 2 -- ok 3 done
+split 1 2 part 2 -- ok 4
+join 2 1 -- ok 5";
+
+const ABORTS: &str = "\
+begin 1 loose -- ok 1
+begin 2 loose -- ok 2
+do 1 x write 5 -- ok 3 done
+do 1 s insert 3 -- ok 4 yes
+do 2 x write 6 -- ok 5 done
+do 2 s insert 3 -- ok 6 no
+do 2 n add 7 -- ok 7 done
+abort 1 -- ok 8
+do 2 x read -- ok 9 6";
+
+const PERMITS: &str = "\
+begin 1 flat -- ok 1
+begin 2 flat -- ok 2
+do 1 x write 5 -- ok 3 done
+permit 1 2 x -- ok 4
+do 2 x read -- ok 5 5
+permit 1 2 x -- ok 6
+permit 1 2 n -- ok 7
+permit 2 1 x -- ok 8
+begin 4 flat -- ok 9
+permit 4 2 x -- ok 10
+permit 2 4 x -- ok 11
+abort 2 -- ok 12
+commit 1 -- ok 13";
+
+fn refuse_all_events<R: Abort, A: Handle, B: Allocator>(
+    on: &Setting<'_, R, A>,
+    heap: &Refusing<B>,
+) {
+    for (model, lines, least) in [
+        (Standard::Contingent.text(), FORMS, 5u64),
+        (PARTING, PARTS, 20),
+        (PARTING, LISTS, 30),
+        (Standard::Nested.text(), SPAWNS, 10),
+        (Standard::Recoverable.text(), DEPENDING, 12),
+        (Standard::SplitJoin.text(), SPLITS, 10),
+        (Standard::Recoverable.text(), ABORTS, 20),
+        (PERMITTING, PERMITS, 15),
+    ] {
+        at_least(on.rt, refuse_events(on, heap, model, lines), least, lines);
+    }
+}
+
+#[test]
+fn events_that_machines_take(rt: HostRuntime) {
+    let heap = Refusing::new(rt.alloc());
+    let on = Setting {
+        rt: &rt,
+        alloc: &heap,
+        other: rt.alloc(),
+    };
+    refuse_all_events(&on, &heap);
+}
+
+// What a machine is asked.
+#[derive(Drop)]
+struct Asking<'a, R, A: Handle> {
+    on: &'a Setting<'a, R, A>,
+    model: &'a Model<A>,
+    events: &'a [Event<A>],
+    call: &'a str,
+}
+
+// Adds a set of operations that the machine answers.
+fn put_set<A: Handle>(
+    rt: &impl Abort,
+    text: &mut String,
+    machine: &Machine<A>,
+    call: &str,
+) -> Result<(), AllocError> {
+    let ops = match call {
+        "access set" => machine.access_set(TxnId(1))?,
+        "conflict set of a top" => machine.conflict_set(TxnId(4))?,
+        "conflict set of a descendant" => machine.conflict_set(TxnId(3))?,
+        _ => machine.view_set()?,
+    };
+    put(rt, text, &ops.as_slice());
+    Ok(())
+}
+
+// Adds the numbers of the operations in serial order; or that the machine is not strict.
+fn put_order<A: Handle>(
+    rt: &impl Abort,
+    text: &mut String,
+    machine: &Machine<A>,
+) -> Result<(), AllocError> {
+    match serial_of(machine) {
+        Ok(order) => {
+            for item in order.as_slice() {
+                put(rt, text, &item.number);
+            }
+        }
+        Err(SerialError::NotStrict) => put(rt, text, &SerialError::NotStrict),
+        Err(SerialError::Memory) => return Err(AllocError),
+    }
+    Ok(())
+}
+
+// Adds what the machine, or its history, answers.
+fn put_answer<R: Abort, A: Handle>(
+    asking: &Asking<'_, R, A>,
+    text: &mut String,
+    machine: &Machine<A>,
+) -> Result<(), AllocError> {
+    let rt = asking.on.rt;
+    match asking.call {
+        "value" => put_value(rt, text, machine.value(ObjId(3))?.as_ref()),
+        "owed" => put(rt, text, &machine.owed()?.as_slice()),
+        "cycle" => put(rt, text, &machine.closed_wait(TxnId(1))?.is_some()),
+        "places" => {
+            let places = places_of(asking.on.alloc, asking.model, machine.history())?;
+            put(rt, text, &places.start(TxnId(1)));
+        }
+        "model copy" => put(rt, text, &asking.model.copy()?.classes().len()),
+        "serial order" => put_order(rt, text, machine)?,
+        _ => put_set(rt, text, machine, asking.call)?,
+    }
+    Ok(())
+}
+
+impl<'a, R: Abort, A: Handle> Case for Asking<'a, R, A> {
+    type State = Machine<A>;
+
+    type Answer = String;
+
+    fn start(&self) -> Machine<A> {
+        machine_after(self.on.rt, self.on.alloc, self.model, self.events)
+    }
+
+    fn call(&self, machine: &mut Machine<A>) -> Option<String> {
+        let mut text = String::new(self.on.other);
+        put_answer(self, &mut text, machine).ok()?;
+        Some(text)
+    }
+
+    fn tell(&self, answer: &String, _machine: &Machine<A>) -> String {
+        made(
+            self.on.rt,
+            String::from_str(self.on.other, answer.as_str()),
+            "a text",
+        )
+    }
+
+    fn read(&self, machine: &Machine<A>) -> String {
+        of_machine(self.on.rt, self.on.other, machine)
+    }
+}
+
+// A transaction with a child and a grandchild, another, and one that has aborted before its child.
+const FAMILY: &str = "\
+begin 1 top
+do 1 s insert 3
+spawn 1 2 sub
+spawn 2 3 sub
+begin 4 top
+do 4 n add 1
+begin 5 top
+spawn 5 6 sub
+abort 5";
+
+// What is asked after these, and the answers.
+const ANSWERS: &str = "\
+access set -- [OpNo(1)]
+conflict set of a top -- [OpNo(1)]
+conflict set of a descendant -- [OpNo(2)]
+view set -- [OpNo(1), OpNo(2)]
+value -- 3
+owed -- [Owed { edge: EdgeNo(6), txn: TxnId(6), missing: Abort }]
+cycle -- false
+model copy -- 2
+places -- Some(1)
+serial order -- NotStrict";
+
+// Machines that are made after them, with how many events each has, and whether it answers as the machine before.
+const MACHINES: &str = "\
+copy -- 9 true
+run -- 9 true
+new -- 0 false";
+
+// Two transactions that commit in the other order than they begin, and a third that is in progress.
+const CROSSED: &str = "\
+begin 1 flat
+begin 2 flat
+begin 3 flat
+do 1 n add 5
+do 2 x write 1
+do 2 n add 7
+do 3 m add 9
+commit 2
+do 1 x read
+commit 1";
+
+const ORDER: &str = "serial order -- OpNo(2) OpNo(3) OpNo(1) OpNo(5)";
+
+// A machine that is made of another, or of its model or its events.
+#[derive(Drop)]
+struct Making<'a, R, A: Handle> {
+    asking: Asking<'a, R, A>,
+}
+
+impl<'a, R: Abort, A: Handle> Case for Making<'a, R, A> {
+    type State = Machine<A>;
+
+    type Answer = Machine<A>;
+
+    fn start(&self) -> Machine<A> {
+        self.asking.start()
+    }
+
+    fn call(&self, machine: &mut Machine<A>) -> Option<Machine<A>> {
+        let asking = &self.asking;
+        match asking.call {
+            "copy" => copy_of(machine).ok(),
+            "new" => new_machine(asking.on.alloc, asking.model).ok(),
+            _ => Some(
+                run_on(asking.on.alloc, asking.model, asking.events)
+                    .ok()?
+                    .machine,
+            ),
+        }
+    }
+
+    // How many events the new machine has, and whether it answers as the other.
+    fn tell(&self, answer: &Machine<A>, machine: &Machine<A>) -> String {
+        let mut text = String::new(self.asking.on.other);
+        put(self.asking.on.rt, &mut text, &answer.history().len());
+        let (found, due) = (self.read(answer), self.read(machine));
+        put(
+            self.asking.on.rt,
+            &mut text,
+            &(found.as_str() == due.as_str()),
+        );
+        text
+    }
+
+    fn read(&self, machine: &Machine<A>) -> String {
+        self.asking.read(machine)
+    }
+}
+
+// Asks a machine what the lines say, each allocation refused. Returns how many were.
+fn refuse_answers<R: Abort, A: Handle, B: Allocator>(
+    on: &Setting<'_, R, A>,
+    heap: &Refusing<B>,
+    (model, events): (&str, &str),
+    lines: &str,
+) -> u64 {
+    let model = model_of(on.rt, on.alloc, model);
+    let (events, mut refused) = (events_of(on.rt, on.alloc, &model, events), 0u64);
+    for line in lines.lines() {
+        let (call, due) = asked_and_answer(on.rt, line);
+        let case = Asking {
+            on,
+            model: &model,
+            events: events.as_slice(),
+            call,
+        };
+        let more = if matches!(call, "copy" | "run" | "new") {
+            refuse(on.rt, heap, &Making { asking: case }, due)
+        } else {
+            refuse(on.rt, heap, &case, due)
+        };
+        refused = refused.wrapping_add(more);
+    }
+    drop(events);
+    drop(model);
+    refused
+}
+
+// Four events, of which the last is a permit or is not.
+const WITHOUT: &str = "begin 1 flat\nbegin 2 flat\ndo 1 x write 5\nbegin 3 flat";
+
+const WITH: &str = "begin 1 flat\nbegin 2 flat\ndo 1 x write 5\npermit 1 2 x";
+
+fn refuse_all_answers<R: Abort, A: Handle, B: Allocator>(
+    on: &Setting<'_, R, A>,
+    heap: &Refusing<B>,
+) {
+    let family = (Standard::Nested.text(), FAMILY);
+    let refused = refuse_answers(on, heap, family, ANSWERS);
+    at_least(on.rt, refused, 10, "machines that are asked");
+    let refused = refuse_answers(on, heap, family, MACHINES);
+    at_least(on.rt, refused, 60, "machines that are made");
+    let crossed = (Standard::Atomic.text(), CROSSED);
+    let refused = refuse_answers(on, heap, crossed, ORDER);
+    at_least(on.rt, refused, 4, "a serial order");
+    let without = refuse_answers(on, heap, (PERMITTING, WITHOUT), "copy -- 4 true");
+    let with = refuse_answers(on, heap, (PERMITTING, WITH), "copy -- 4 true");
+    at_least(on.rt, with, without.wrapping_add(2), "a copy with permits");
+}
+
+#[test]
+fn machines_that_are_asked(rt: HostRuntime) {
+    let heap = Refusing::new(rt.alloc());
+    let on = Setting {
+        rt: &rt,
+        alloc: &heap,
+        other: rt.alloc(),
+    };
+    refuse_all_answers(&on, &heap);
+}

@@ -1,0 +1,174 @@
+//! Each allocation of a call refused in turn.
+
+use crate::Refusing;
+use std::alloc::Allocator;
+
+// More allocations than the call of any case makes.
+const MOST: u64 = 10_000;
+
+/// A call, the state that it starts from, and the readers of that state.
+pub trait Case {
+    /// The state that the call starts from: `()` for a call that needs none.
+    type State: Drop;
+
+    /// What the call answers.
+    type Answer: Drop;
+
+    /// Makes the state that the call starts from. Nothing is refused meanwhile.
+    fn start(&self) -> Self::State;
+
+    /// Makes the call. Returns `None` where memory ran out.
+    fn call(&self, state: &mut Self::State) -> Option<Self::Answer>;
+
+    /// Returns the answer as text, after the call has left this state. Nothing is refused meanwhile.
+    fn tell(&self, answer: &Self::Answer, state: &Self::State) -> String;
+
+    /// Returns what the readers of the state answer, as text. Nothing is refused meanwhile.
+    fn read(&self, state: &Self::State) -> String;
+}
+
+/// What is wrong with a call, with the number of the allocation that was refused, from 1.
+#[derive(Clone, Copy, PartialEq, Eq, Debug)]
+pub enum Wrong {
+    /// Memory ran out, and afterwards a reader answers otherwise than before the call.
+    Changed(u64),
+    /// The answer is another than the expected one, or memory ran out although nothing was refused.
+    Answer(u64),
+    /// The call makes more than 10,000 allocations.
+    Endless,
+}
+
+// What came of a call whose nth allocation was refused: the answer, if there is one, whether that allocation came, and
+// whether the readers answer as before where there is no answer.
+struct Tried<X> {
+    answer: Option<X>,
+    was_refused: bool,
+    is_same: bool,
+}
+
+// Makes the call on the state, its nth allocation refused.
+fn try_call<B: Allocator, C: Case>(
+    heap: &Refusing<B>,
+    case: &C,
+    state: &mut C::State,
+    nth: u64,
+) -> Tried<C::Answer> {
+    let before = case.read(state);
+    heap.refuse(nth);
+    let answer = case.call(state);
+    let was_refused = !heap.is_waiting();
+    heap.refuse(0);
+    let is_same = answer.is_some() || case.read(state).as_str() == before.as_str();
+    Tried {
+        answer,
+        was_refused,
+        is_same,
+    }
+}
+
+// Whether the call has this answer.
+fn has_answer<C: Case>(case: &C, state: &C::State, answer: Option<&C::Answer>, due: &str) -> bool {
+    match answer {
+        Some(answer) => case.tell(answer, state).as_str() == due,
+        None => false,
+    }
+}
+
+// Makes the call on the state, its nth allocation refused, and again where that allocation came. Returns whether it came.
+fn refuse<B: Allocator, C: Case>(
+    heap: &Refusing<B>,
+    case: &C,
+    state: &mut C::State,
+    due: &str,
+    nth: u64,
+) -> Result<bool, Wrong> {
+    let Tried {
+        answer,
+        was_refused,
+        is_same,
+    } = try_call(heap, case, state, nth);
+    if !is_same {
+        drop(answer);
+        return Err(Wrong::Changed(nth));
+    }
+    let answer = match answer {
+        None if was_refused => case.call(state),
+        answer => answer,
+    };
+    let is_due = has_answer(case, state, answer.as_ref(), due);
+    drop(answer);
+    if is_due {
+        Ok(was_refused)
+    } else {
+        Err(Wrong::Answer(nth))
+    }
+}
+
+// The same on a new state.
+fn refuse_anew<B: Allocator, C: Case>(
+    heap: &Refusing<B>,
+    case: &C,
+    due: &str,
+    nth: u64,
+) -> Result<bool, Wrong> {
+    let mut state = case.start();
+    let was_refused = refuse(heap, case, &mut state, due, nth);
+    drop(state);
+    was_refused
+}
+
+/// Refuses each allocation of the call in turn, each time on a new state, so that no room is left of a refused call.
+/// Where an allocation is refused, the call runs out of memory, the readers answer as before, and the same call then
+/// answers `due`; or it answers `due` at once, without that memory. Returns how many allocations were refused.
+pub fn refuse_each<B: Allocator, C: Case>(
+    heap: &Refusing<B>,
+    case: &C,
+    due: &str,
+) -> Result<u64, Wrong> {
+    refuse_some(heap, case, due, (MOST, 1))
+}
+
+/// The same of the first allocations, and then of each of so many.
+pub fn refuse_some<B: Allocator, C: Case>(
+    heap: &Refusing<B>,
+    case: &C,
+    due: &str,
+    (first, step): (u64, u64),
+) -> Result<u64, Wrong> {
+    let mut nth = 0u64;
+    for refused in 0..MOST {
+        nth = nth.wrapping_add(if refused < first { 1 } else { step });
+        if !refuse_anew(heap, case, due, nth)? {
+            return Ok(refused);
+        }
+    }
+    Err(Wrong::Endless)
+}
+
+/// Refuses each allocation of the call in turn on one state, which is dear to make, until the call answers `due`. Until
+/// then the readers answer as before the first call.
+pub fn refuse_in_place<B: Allocator, C: Case>(
+    heap: &Refusing<B>,
+    case: &C,
+    state: &mut C::State,
+    due: &str,
+) -> Result<u64, Wrong> {
+    for nth in 1..MOST {
+        let Tried {
+            answer,
+            was_refused,
+            is_same,
+        } = try_call(heap, case, state, nth);
+        let is_due = has_answer(case, state, answer.as_ref(), due);
+        let is_answer = answer.is_some();
+        drop(answer);
+        if !is_same {
+            return Err(Wrong::Changed(nth));
+        } else if is_due {
+            return Ok(nth.wrapping_sub(1));
+        } else if is_answer || !was_refused {
+            return Err(Wrong::Answer(nth));
+        }
+    }
+    Err(Wrong::Endless)
+}
