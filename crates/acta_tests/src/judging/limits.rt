@@ -1,13 +1,14 @@
 //! The longest list that is judged, a longer one, and one with many faults.
 
-use crate::expecting::{holds, made, same, tells};
+use crate::expecting::{holds, made, same};
 use crate::judging::lines_of;
 use crate::models::model_of;
+use acta_axioms::{Axiom, Fault};
 use acta_judge::{JudgeError, Verdict, judge};
 use acta_machine::Handle;
 use acta_models::Standard;
 use acta_table::{Dep, Event, Kept, TxnId};
-use std::alloc::{Allocator, Global};
+use std::alloc::Allocator;
 use std::process::Abort;
 use std::thread::Threads;
 
@@ -31,16 +32,19 @@ pub fn commits<A: Allocator + Copy>(rt: &impl Abort, alloc: A, times: u32) -> Ve
     repeated(rt, alloc, &Event::Commit(TxnId(1)), times)
 }
 
-/// The verdict on them: each ends a transaction that has not begun, and each but the first ends it once more.
-pub fn faults_of_commits(rt: &impl Abort, other: Global, times: u32) -> String {
-    let mut text = String::new(other);
-    for place in 1..=times {
-        made(rt, write!(text, "fault 2 {place} 1\n"), "a fault");
+/// Whether these are the faults of so many commits: each ends a transaction that has not begun, and then each but the
+/// first ends it once more.
+pub fn are_of_commits(faults: &[Fault], times: u32) -> bool {
+    let (mut broken, mut place) = (Axiom::EndedAfterBegun, 0u32);
+    let mut are_due = true;
+    for fault in faults {
+        place = place.wrapping_add(1);
+        if place > times {
+            (broken, place) = (Axiom::EndedOnce, 2);
+        }
+        are_due &= fault.broken == broken && fault.place == place && fault.by == 1;
     }
-    for place in 2..=times {
-        made(rt, write!(text, "fault 3 {place} 1\n"), "a fault");
-    }
-    text
+    are_due && broken == Axiom::EndedOnce && place == times
 }
 
 // The verdict on so many commits, or on one edge that is formed so often.
@@ -69,7 +73,6 @@ fn long_lists(rt: HostRuntime) {
         "the most",
     );
     let found = made(&rt, judged(&rt, rt.alloc(), &commit, 4_096), "commits");
-    let due = faults_of_commits(&rt, rt.alloc(), 4_096);
-    let lines = lines_of(&rt, rt.alloc(), &found);
-    tells(&rt, lines.as_bytes(), due.as_str(), "commits");
+    let are_due = are_of_commits(found.faults.as_slice(), 4_096);
+    holds(&rt, are_due, "commits");
 }

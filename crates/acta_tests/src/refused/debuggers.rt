@@ -4,7 +4,7 @@ use crate::debugging::{EVENTS, answer, at_and_sum, debugger_of, on_events, opene
 use crate::expecting::made;
 use crate::models::{events_of, items_of, model_of};
 use crate::refused::{Setting, at_least, call_and_answer, refuse};
-use crate::shown::of_debugger;
+use crate::shown::{of_debugger, put};
 use acta_debug::Debugger;
 use acta_machine::Handle;
 use acta_models::Standard;
@@ -192,7 +192,9 @@ impl<'a, R: Abort, A: Handle> Case for Opening<'a, R, A> {
     }
 
     fn tell(&self, answer: &Debugger<A>, _parts: &Option<Parts<A>>) -> String {
-        of_debugger(self.on.rt, self.on.other, answer)
+        let mut text = at_and_sum(self.on.rt, self.on.other, answer, "");
+        put(self.on.rt, &mut text, &answer.last());
+        text
     }
 
     fn read(&self, _parts: &Option<Parts<A>>) -> String {
@@ -200,30 +202,19 @@ impl<'a, R: Abort, A: Handle> Case for Opening<'a, R, A> {
     }
 }
 
-// What the new debugger answers where nothing is refused.
-fn due<R: Abort, A: Handle>(opening: &Opening<'_, R, A>) -> String {
-    let mut parts = opening.start();
-    let debugger = opening.call(&mut parts).expect(opening.on.rt, "a debugger");
-    let text = opening.tell(&debugger, &parts);
-    drop(debugger);
-    drop(parts);
-    text
-}
-
 fn refuse_all_new<R: Abort, A: Handle, B: Allocator>(on: &Setting<'_, R, A>, heap: &Refusing<B>) {
     let (short, long) = (sums(on.rt, on.other, 10), sums(on.rt, on.other, 124));
-    for (lines, are_kept) in [
-        (short.as_str(), true),
-        (long.as_str(), true),
-        (EVENTS, false),
+    for (lines, are_kept, due) in [
+        (short.as_str(), true, "at 0, n = 0 16"),
+        (long.as_str(), true, "at 0, n = 0 130"),
+        (EVENTS, false, "at 0, n = 0 6"),
     ] {
         let case = Opening {
             on,
             lines,
             are_kept,
         };
-        let due = due(&case);
-        at_least(on.rt, refuse(on.rt, heap, &case, due.as_str()), 10, lines);
+        at_least(on.rt, refuse(on.rt, heap, &case, due), 10, lines);
     }
 }
 

@@ -1,11 +1,12 @@
 //! Verdicts on lists, each allocation refused in turn.
 
 use crate::expecting::made;
-use crate::judging::limits::{commits, faults_of_commits};
+use crate::judging::limits::{are_of_commits, commits};
 use crate::judging::lines_of;
 use crate::judging::lists::{Judged, by_model, with_two};
 use crate::models::{Models, model_of};
 use crate::refused::{Setting, at_least, refuse};
+use crate::shown::put;
 use acta_judge::{Cut, Verdict, judge, judge_in_parts};
 use acta_machine::Handle;
 use acta_models::Standard;
@@ -15,13 +16,15 @@ use std::alloc::{Allocator, Global};
 use std::process::Abort;
 use std::thread::Threads;
 
-// The verdict on a list, which is judged as it is cut.
+// The verdict on a list, which is judged whole or in so many parts. Of so many commits the faults are not told one by
+// one.
 #[derive(Drop)]
 struct Judging<'a, R, A: Handle> {
     on: &'a Setting<'a, R, A>,
     model: &'a Model<A>,
     kept: &'a [Kept<A>],
     parts: usize,
+    commits: u32,
 }
 
 impl<'a, R: Threads + Sync + Abort, A: Handle + Send + Sync> Case for Judging<'a, R, A> {
@@ -46,7 +49,13 @@ impl<'a, R: Threads + Sync + Abort, A: Handle + Send + Sync> Case for Judging<'a
     }
 
     fn tell(&self, answer: &Verdict<A>, _state: &()) -> String {
-        lines_of(self.on.rt, self.on.other, answer)
+        if self.commits == 0 {
+            return lines_of(self.on.rt, self.on.other, answer);
+        }
+        let mut text = String::new(self.on.other);
+        let are_due = are_of_commits(answer.faults.as_slice(), self.commits);
+        put(self.on.rt, &mut text, &are_due);
+        text
     }
 
     fn read(&self, _state: &()) -> String {
@@ -69,6 +78,7 @@ fn refuse_lists<R: Threads + Sync + Abort, A: Handle + Send + Sync, B: Allocator
             model: &models.model,
             kept: judged.items.as_slice(),
             parts,
+            commits: 0,
         };
         let refused = refuse(on.rt, heap, &case, judged.due.as_str());
         at_least(on.rt, refused, 2, lines);
@@ -86,14 +96,14 @@ fn refuse_commits<R: Threads + Sync + Abort, A: Handle + Send + Sync, B: Allocat
 ) {
     let model = model_of(on.rt, on.alloc, Standard::Atomic.text());
     let kept = commits(on.rt, on.alloc, times);
-    let due = faults_of_commits(on.rt, on.other, times);
     let case = Judging {
         on,
         model: &model,
         kept: kept.as_slice(),
         parts: 0,
+        commits: times,
     };
-    let refused = refuse_some(heap, &case, due.as_str(), (64, step));
+    let refused = refuse_some(heap, &case, " true", (64, step));
     at_least(on.rt, made(on.rt, refused, "commits"), 70, "commits");
     drop(kept);
     drop(model);
