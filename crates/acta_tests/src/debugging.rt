@@ -1,5 +1,4 @@
-//! Debuggers that stand on lists: which lists are histories, and what commands answer. What sessions show is told by the
-//! program's own cases.
+//! Debuggers on lists: which lists are histories, and what commands answer. The program's cases have whole sessions.
 
 use crate::expecting::{made, number, parted, same};
 use crate::models::{items_of, model_of};

@@ -3,17 +3,17 @@
 use crate::expecting::{holds, same};
 use refusing::Refusing;
 
-// Each push that grows is refused in turn, and leaves the list as it was.
+// A refused allocation leaves the list as it was.
 #[test]
-fn refuses_each_growth(rt: HostRuntime) {
+fn refuses_one_allocation(rt: HostRuntime) {
     let heap = Refusing::new(rt.alloc());
     let mut list: Vec<u64, &Refusing<_>> = Vec::new(&heap);
     heap.refuse(1);
-    holds(&rt, list.push(7).is_err(), "the first growth");
+    holds(&rt, list.push(7).is_err(), "a refused allocation");
     holds(&rt, !heap.is_waiting(), "it was refused");
     same(&rt, &list.len(), &0, "nothing was pushed");
     heap.refuse(2);
-    holds(&rt, list.push(7).is_ok(), "one growth is enough");
+    holds(&rt, list.push(7).is_ok(), "one allocation is enough");
     holds(&rt, heap.is_waiting(), "no second one came");
     same(&rt, &list.len(), &1, "one was pushed");
 }

@@ -1,5 +1,5 @@
-//! Tests of the judge: what machines keep has no fault, random histories among it, and long lists. Verdicts on lists from
-//! elsewhere are told by the program's own cases.
+//! Tests of the judge: what machines keep has no fault, and long lists are judged. The program's cases have verdicts on
+//! histories from elsewhere.
 
 pub mod limits;
 pub mod lists;

@@ -214,7 +214,7 @@ delegation whole
 end
 ";
 
-// What is read of a model with this behind it has one object and one class more than the model.
+// With this at its end, a model's text means one object and one class more.
 const MORE: &str = "\
 object nowhere register 0
 class stranger
@@ -227,8 +227,8 @@ delegation whole
 end
 ";
 
-/// A model, and the wider one by which its lines are read: with the object `nowhere` and the class `stranger` behind
-/// the others, so that a line can name what the model lacks.
+/// A model, and the wider one by which its lines are read. That one has the object `nowhere` and the class `stranger`
+/// too, so that a line can name what the model lacks.
 #[derive(Drop)]
 pub struct Models<A: Allocator> {
     pub model: Model<A>,

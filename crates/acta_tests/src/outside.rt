@@ -1,6 +1,5 @@
-//! Events that no text says, since a text names classes and objects by words: of a class or on an object that the model
-//! lacks by far. And those of a transaction far on, which are taken like any other's. Each has the answer that is due,
-//! and the reason that the machine gives before.
+//! Events that name a class or an object that the model lacks, which no line can do: each with the reason that the machine
+//! gives beforehand, and its answer.
 
 use crate::calls::{new_machine, take, why};
 use crate::expecting::{made, same, tells};
@@ -16,13 +15,9 @@ const ONE: TxnId = TxnId(1);
 
 const TWO: TxnId = TxnId(2);
 
-const FAR: TxnId = TxnId(5_000);
-
 const KNOWN: ClassId = ClassId(0);
 
 const LACKING: ClassId = ClassId(200);
-
-const COUNTER: ObjId = ObjId(1);
 
 const NOWHERE: ObjId = ObjId(200);
 
@@ -34,7 +29,7 @@ fn spelled<A: Allocator + Copy>(rt: &impl Abort, alloc: A, reason: Option<Reason
     }
 }
 
-// The machine says why it would refuse the event, if it would, and answers it, as is due.
+// The machine gives this reason for a refusal of the event, and then this answer to the event.
 fn answers<A: Handle>(
     rt: &impl Abort,
     alloc: A,
@@ -43,18 +38,17 @@ fn answers<A: Handle>(
     (reason, answer): (&str, &str),
 ) {
     let found = made(rt, why(machine, &event), reason);
-    let told = spelled(rt, alloc, found);
-    tells(rt, told.as_bytes(), reason, answer);
+    let text = spelled(rt, alloc, found);
+    tells(rt, text.as_bytes(), reason, answer);
     let found = made(rt, take(machine, &event), answer);
-    let told = made(rt, answer_line(alloc, &found), answer);
-    tells(rt, told.as_slice(), answer, reason);
+    let line = made(rt, answer_line(alloc, &found), answer);
+    tells(rt, line.as_slice(), answer, reason);
     drop(event);
 }
 
 const BAD_CLASS: (&str, &str) = ("Form(BadClass(ClassId(200)))", "no 3");
 
-// Each kind of event that names a class. Of a number that no transaction has it is told first, and that one has begun
-// only behind.
+// Each kind of event that names a class. A bad number comes before the class, and AlreadyBegun after it.
 fn of_no_class<A: Handle>(rt: &impl Abort, alloc: A, machine: &mut Machine<A>) {
     let ops = made(rt, OpSet::of(alloc, &[OpNo(1)]), "a set");
     answers(rt, alloc, machine, Event::Begin(TWO, LACKING), BAD_CLASS);
@@ -87,8 +81,7 @@ fn of_no_class<A: Handle>(rt: &impl Abort, alloc: A, machine: &mut Machine<A>) {
 
 const BAD_OBJECT: (&str, &str) = ("Form(BadObject(ObjId(200)))", "no 4");
 
-// Each kind of event that names an object. That its transaction has not begun is told only behind, and so is that it is
-// named twice.
+// Each kind of event that names an object. NotInProgress and SameTransaction come after it.
 fn on_no_object<A: Handle>(rt: &impl Abort, alloc: A, machine: &mut Machine<A>) {
     for op in [Op::Read, Op::Add(5), Op::Size] {
         answers(
@@ -161,82 +154,4 @@ fn of_classes_and_objects_that_a_model_lacks(rt: HostRuntime) {
     name_badly(&rt, rt.alloc(), Standard::Atomic.text());
     name_badly(&rt, rt.alloc(), FAMILIES);
     name_badly(&rt, rt.alloc(), SHARING);
-}
-
-const UNBEGUN: &str = "NotInProgress { txn: TxnId(5000), status: NotBegun }";
-
-const BEGUN: &str = "AlreadyBegun { txn: TxnId(5000), status: InProgress }";
-
-const COMMITTED: &str = "NotInProgress { txn: TxnId(5000), status: Committed }";
-
-const IN_ITS_WAY: &str = "Conflict(NumberedOp { number: OpNo(1), \
-    held: HeldOp { ob: ObjId(1), op: Add(5), holder: TxnId(5000), fate: InProgress } })";
-
-// The transaction begins, adds, is in another's way until it permits that, commits, and is over.
-fn go_far<A: Handle>(rt: &impl Abort, alloc: A, machine: &mut Machine<A>) {
-    answers(
-        rt,
-        alloc,
-        machine,
-        Event::Commit(FAR),
-        (UNBEGUN, "no 7 by 5000"),
-    );
-    answers(
-        rt,
-        alloc,
-        machine,
-        Event::Begin(FAR, KNOWN),
-        ("none", "ok 1"),
-    );
-    answers(
-        rt,
-        alloc,
-        machine,
-        Event::Begin(FAR, KNOWN),
-        (BEGUN, "no 8 by 5000"),
-    );
-    answers(
-        rt,
-        alloc,
-        machine,
-        Event::Begin(ONE, KNOWN),
-        ("none", "ok 2"),
-    );
-    let adds = Event::Operate(FAR, COUNTER, Op::Add(5));
-    answers(rt, alloc, machine, adds, ("none", "ok 3 done"));
-    let gets = Event::Operate(ONE, COUNTER, Op::Get);
-    answers(rt, alloc, machine, gets, (IN_ITS_WAY, "no 14 by 1"));
-    answers(
-        rt,
-        alloc,
-        machine,
-        Event::Permit(FAR, ONE, COUNTER),
-        ("none", "ok 4"),
-    );
-    let gets = Event::Operate(ONE, COUNTER, Op::Get);
-    answers(rt, alloc, machine, gets, ("none", "ok 5 5"));
-    same(rt, &machine.status(FAR), &Status::InProgress, "far on");
-    answers(rt, alloc, machine, Event::Commit(FAR), ("none", "ok 6"));
-    answers(
-        rt,
-        alloc,
-        machine,
-        Event::Abort(FAR),
-        (COMMITTED, "no 7 by 5000"),
-    );
-    same(rt, &machine.status(FAR), &Status::Committed, "far on");
-}
-
-// All that on a new machine.
-fn play_far<A: Handle>(rt: &impl Abort, alloc: A) {
-    let model = model_of(rt, alloc, SHARING);
-    let mut machine = made(rt, new_machine(alloc, &model), "a machine");
-    go_far(rt, alloc, &mut machine);
-    drop(machine);
-    drop(model);
-}
-
-#[test]
-fn of_a_transaction_far_on(rt: HostRuntime) {
-    play_far(&rt, rt.alloc());
 }

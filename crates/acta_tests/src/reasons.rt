@@ -1,17 +1,16 @@
-//! Why events are refused: what a machine says of one that may come next, beside the rule and its number, and who waits
-//! for whom. A line is one of
+//! Why machines refuse events, and which transactions wait for each other, as readings of scenarios:
 //!
 //! ```text
 //! do 1 x write 5
-//! ? do 2 x read : Conflict(NumberedOp { .. })
-//! ? wait 1 : 1 2 1
+//! ? do 2 x read -- Conflict(NumberedOp { .. })
+//! ? wait 1 -- 1 2 1
 //! ```
 //!
-//! where the first has an event that is admitted, the second asks why one would be refused, and the third for a chain of
-//! transactions that wait for one another.
+//! The first line has an event that is admitted, the second asks why an event would be refused, and the third for a cycle
+//! of transactions that wait for each other.
 
 use crate::calls::{closed_wait, new_machine, take, why};
-use crate::expecting::{holds, made, number, parted, same, tells};
+use crate::expecting::{holds, made, parted, same, tells};
 use crate::models::{Models, PARTING, event_of};
 use acta_machine::{Handle, Machine, Reason};
 use acta_models::Standard;
@@ -21,23 +20,23 @@ use std::process::Abort;
 const FLAT: &str = "\
 begin 1 flat
 begin 2 flat
-? begin 3 flat : none
-? begin 0 flat : Form(BadNumber(0))
-? begin 3 stranger : Form(BadClass(ClassId(1)))
-? do 1 nowhere read : Form(BadObject(ObjId(4)))
-? do 1 x get : Form(BadOperation(ObjId(0), Get))
-? delegate 1 1 - : Form(SameTransaction(TxnId(1)))
-? do 3 x read : NotInProgress { txn: TxnId(3), status: NotBegun }
-? begin 2 flat : AlreadyBegun { txn: TxnId(2), status: InProgress }
-? join 1 2 : NotInModel(Doing { txn: TxnId(1), class: Some(ClassId(0)), kind: Join })
-? form CD 1 2 : NotInModel(Forming)
+? begin 3 flat -- none
+? begin 0 flat -- Form(BadNumber(0))
+? begin 3 stranger -- Form(BadClass(ClassId(1)))
+? do 1 nowhere read -- Form(BadObject(ObjId(4)))
+? do 1 x get -- Form(BadOperation(ObjId(0), Get))
+? delegate 1 1 - -- Form(SameTransaction(TxnId(1)))
+? do 3 x read -- NotInProgress { txn: TxnId(3), status: NotBegun }
+? begin 2 flat -- AlreadyBegun { txn: TxnId(2), status: InProgress }
+? join 1 2 -- NotInModel(Doing { txn: TxnId(1), class: Some(ClassId(0)), kind: Join })
+? form CD 1 2 -- NotInModel(Forming)
 do 1 n add 5
 do 2 m add 1
-? do 2 n get : Conflict(NumberedOp { number: OpNo(1), held: HeldOp { ob: ObjId(1), op: Add(5), holder: TxnId(1), fate: InProgress } })
+? do 2 n get -- Conflict(NumberedOp { number: OpNo(1), held: HeldOp { ob: ObjId(1), op: Add(5), holder: TxnId(1), fate: InProgress } })
 commit 1
-? do 2 n get : none
-? commit 1 : NotInProgress { txn: TxnId(1), status: Committed }
-? begin 1 flat : AlreadyBegun { txn: TxnId(1), status: Committed }";
+? do 2 n get -- none
+? commit 1 -- NotInProgress { txn: TxnId(1), status: Committed }
+? begin 1 flat -- AlreadyBegun { txn: TxnId(1), status: Committed }";
 
 const HANDED: &str = "\
 begin 1 part
@@ -45,33 +44,33 @@ begin 2 part
 do 1 n add 5
 do 1 n add 6
 do 2 m add 7
-? spawn 1 3 part : NotInModel(Start { class: ClassId(0), kind: Spawn })
-? delegate 1 2 3 : NotResponsible(NumberedOp { number: OpNo(3), held: HeldOp { ob: ObjId(2), op: Add(7), holder: TxnId(2), fate: InProgress } })
-? delegate 1 2 1 : PartialDelegation(NumberedOp { number: OpNo(2), held: HeldOp { ob: ObjId(1), op: Add(6), holder: TxnId(1), fate: InProgress } })
-? split 1 3 part 1,2,9 : BadSet { number: OpNo(9), operations: 3 }
-? delegate 1 4 1,2 : PartnerNotInProgress { txn: TxnId(4), status: NotBegun }
+? spawn 1 3 part -- NotInModel(Start { class: ClassId(0), kind: Spawn })
+? delegate 1 2 3 -- NotResponsible(NumberedOp { number: OpNo(3), held: HeldOp { ob: ObjId(2), op: Add(7), holder: TxnId(2), fate: InProgress } })
+? delegate 1 2 1 -- PartialDelegation(NumberedOp { number: OpNo(2), held: HeldOp { ob: ObjId(1), op: Add(6), holder: TxnId(1), fate: InProgress } })
+? split 1 3 part 1,2,9 -- BadSet { number: OpNo(9), operations: 3 }
+? delegate 1 4 1,2 -- PartnerNotInProgress { txn: TxnId(4), status: NotBegun }
 join 2 1
-? join 1 2 : PartnerNotInProgress { txn: TxnId(2), status: Joined }
-? form CD 1 2 : FormTooLate { txn: TxnId(2), status: Joined }
-? form BD 1 3 : FormTooLate { txn: TxnId(1), status: InProgress }";
+? join 1 2 -- PartnerNotInProgress { txn: TxnId(2), status: Joined }
+? form CD 1 2 -- FormTooLate { txn: TxnId(2), status: Joined }
+? form BD 1 3 -- FormTooLate { txn: TxnId(1), status: InProgress }";
 
 const WAITING: &str = "\
 begin 1 loose
 begin 2 loose
 do 1 x write 5
-? wait 1 : none
+? wait 1 -- none
 do 2 n add 1
 do 2 x read
-? commit 2 : Barred(Barring { rule: TerminationDep, by: NumberedEdge { number: 2, edge: Edge { kind: Td, j: TxnId(2), i: TxnId(1) } }, j: InProgress, i: InProgress })
-? wait 2 : none
+? commit 2 -- Barred(Barring { rule: TerminationDep, by: NumberedEdge { number: 2, edge: Edge { kind: Td, j: TxnId(2), i: TxnId(1) } }, j: InProgress, i: InProgress })
+? wait 2 -- none
 do 1 n get
-? commit 1 : Barred(Barring { rule: TerminationDep, by: NumberedEdge { number: 4, edge: Edge { kind: Td, j: TxnId(1), i: TxnId(2) } }, j: InProgress, i: InProgress })
-? wait 1 : 1 2 1
-? wait 2 : 2 1 2
+? commit 1 -- Barred(Barring { rule: TerminationDep, by: NumberedEdge { number: 4, edge: Edge { kind: Td, j: TxnId(1), i: TxnId(2) } }, j: InProgress, i: InProgress })
+? wait 1 -- 1 2 1
+? wait 2 -- 2 1 2
 begin 3 loose
 do 3 x read
-? wait 3 : 3 1 2 1
-? wait 4 : none";
+? wait 3 -- 3 1 2 1
+? wait 4 -- none";
 
 const OWING: &str = "\
 form SCD 3 1
@@ -82,13 +81,13 @@ begin 1 try
 begin 2 try
 begin 3 try
 begin 5 try
-? begin 4 try : Barred(Barring { rule: BeginOnCommit, by: NumberedEdge { number: 3, edge: Edge { kind: Bcd, j: TxnId(4), i: TxnId(3) } }, j: NotBegun, i: InProgress })
+? begin 4 try -- Barred(Barring { rule: BeginOnCommit, by: NumberedEdge { number: 3, edge: Edge { kind: Bcd, j: TxnId(4), i: TxnId(3) } }, j: NotBegun, i: InProgress })
 commit 1
-? abort 5 : Barred(Barring { rule: OwesCommit, by: NumberedEdge { number: 4, edge: Edge { kind: Scd, j: TxnId(5), i: TxnId(1) } }, j: InProgress, i: Committed })
-? abort 2 : Clash(Clash { commit: NumberedEdge { number: 1, edge: Edge { kind: Scd, j: TxnId(3), i: TxnId(1) } }, abort: NumberedEdge { number: 2, edge: Edge { kind: Ad, j: TxnId(3), i: TxnId(2) } } })
+? abort 5 -- Barred(Barring { rule: OwesCommit, by: NumberedEdge { number: 4, edge: Edge { kind: Scd, j: TxnId(5), i: TxnId(1) } }, j: InProgress, i: Committed })
+? abort 2 -- Clash(Clash { commit: NumberedEdge { number: 1, edge: Edge { kind: Scd, j: TxnId(3), i: TxnId(1) } }, abort: NumberedEdge { number: 2, edge: Edge { kind: Ad, j: TxnId(3), i: TxnId(2) } } })
 commit 5
 commit 3
-? abort 2 : Barred(Barring { rule: Unpayable, by: NumberedEdge { number: 2, edge: Edge { kind: Ad, j: TxnId(3), i: TxnId(2) } }, j: Committed, i: InProgress })";
+? abort 2 -- Barred(Barring { rule: Unpayable, by: NumberedEdge { number: 2, edge: Edge { kind: Ad, j: TxnId(3), i: TxnId(2) } }, j: Committed, i: InProgress })";
 
 // The machine takes the event of the line.
 fn admits<A: Handle>(
@@ -112,26 +111,27 @@ fn spelled<A: Handle>(rt: &impl Abort, alloc: A, reason: Option<Reason>, line: &
 }
 
 // The transactions of a chain, in order.
-fn told<A: Handle>(rt: &impl Abort, chain: Option<Items<TxnId, A>>, due: &str) {
-    let Some(chain) = chain else {
-        same(rt, &"none", &due, due);
-        return;
-    };
-    let mut words = due.split(' ');
-    for t in chain.as_slice() {
-        let word = words.next().unwrap_or("");
-        same(rt, &u32::from(t.0), &number(rt, word), due);
+fn chain_of<A: Handle>(rt: &impl Abort, alloc: A, chain: Option<&Items<TxnId, A>>) -> String<A> {
+    let mut text = String::new(alloc);
+    match chain {
+        Some(chain) => {
+            for t in chain.as_slice() {
+                let t = t.0;
+                made(rt, write!(text, "{t} "), "a chain");
+            }
+        }
+        None => made(rt, text.push_str("none "), "no chain"),
     }
-    holds(rt, words.next().is_none(), due);
+    text
 }
 
-// The transaction of the number that a word says.
+// The transaction of a number.
 fn txn(rt: &impl Abort, word: &str) -> TxnId {
     TxnId(word.parse().ok().expect(rt, word))
 }
 
-// The machine says what is due where it is asked.
-fn says<A: Handle>(
+// The machine answers what is asked.
+fn answers<A: Handle>(
     rt: &impl Abort,
     alloc: A,
     models: &Models<A>,
@@ -140,7 +140,8 @@ fn says<A: Handle>(
 ) {
     if let Some(word) = asked.strip_prefix("wait ") {
         let chain = made(rt, closed_wait(machine, txn(rt, word)), asked);
-        told(rt, chain, due);
+        let found = chain_of(rt, alloc, chain.as_ref());
+        same(rt, &found.as_str().trim_end(), &due, asked);
         return;
     }
     let event = event_of(rt, alloc, &models.wider, asked);
@@ -149,13 +150,13 @@ fn says<A: Handle>(
     tells(rt, spelled.as_bytes(), due, asked);
 }
 
-// The machine on the model goes as the lines say.
+// A machine on the model goes through the lines.
 fn go<A: Handle>(rt: &impl Abort, alloc: A, model: &str, lines: &str) {
     let models = Models::of(rt, alloc, model);
     let mut machine = made(rt, new_machine(alloc, &models.model), "a machine");
     for line in lines.lines() {
         match line.strip_prefix("? ") {
-            Some(asked) => says(rt, alloc, &models, &machine, parted(rt, asked, " : ")),
+            Some(asked) => answers(rt, alloc, &models, &machine, parted(rt, asked, " -- ")),
             None => admits(rt, alloc, &models, &mut machine, line),
         }
     }

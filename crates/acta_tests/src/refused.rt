@@ -25,7 +25,7 @@ pub struct Setting<'a, R, A: Allocator> {
     pub other: Global,
 }
 
-/// Plays a case whose call answers `due`. Returns how many allocations were refused.
+/// Refuses each allocation of a case whose call answers `due`. Returns how many were refused.
 pub fn refuse<B: Allocator, C: Case>(
     rt: &impl Abort,
     heap: &Refusing<B>,

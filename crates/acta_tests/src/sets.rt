@@ -1,9 +1,9 @@
-//! Operations of which some have ended, while the one that holds them goes on; and as many as there is room for.
+//! As many operations as a table has room for.
 
 use crate::expecting::{holds, made, same};
 use acta_machine::Handle;
-use acta_sets::{HeldOp, OpTable};
-use acta_table::{Fate, MOST_EVENTS, ObjId, Op, OpNo, TxnId};
+use acta_sets::OpTable;
+use acta_table::{MOST_EVENTS, ObjId, Op, TxnId};
 use std::collections::BTreeSet;
 use std::process::Abort;
 
@@ -16,37 +16,6 @@ fn add<A: Handle>(rt: &impl Abort, table: &mut OpTable<A>, t: TxnId, op: Op) {
     if table.operations().len() < MOST_EVENTS {
         made(rt, table.add(t, ObjId(0), op), "an operation");
     }
-}
-
-// An operation of 2, and two of 1, of which the first has ended.
-fn ended<A: Handle>(rt: &impl Abort, alloc: A) -> OpTable<A> {
-    let mut table = OpTable::new(alloc);
-    add(rt, &mut table, TxnId(2), Op::Get);
-    add(rt, &mut table, ONE, Op::Get);
-    table.end_all(ONE, Fate::Committed);
-    add(rt, &mut table, ONE, Op::Get);
-    table
-}
-
-// Whether the first is of 2, the second of 1 and the third of 3, and there are no more.
-fn are_held(operations: &[HeldOp]) -> bool {
-    match operations {
-        [of_two, ended, handed] => {
-            of_two.holder == TxnId(2) && ended.holder == ONE && handed.holder == THREE
-        }
-        _ => false,
-    }
-}
-
-// All that 1 holds in progress goes to 3: neither what 2 holds nor what has ended.
-#[test]
-fn hands_over_what_is_in_progress(rt: HostRuntime) {
-    let mut table = ended(&rt, rt.alloc());
-    made(&rt, table.hand_all(ONE, THREE), "a delegation");
-    holds(&rt, are_held(table.operations()), "the operations");
-    let held = made(&rt, table.access_set(THREE), "an access set");
-    let is_third = held.as_slice() == [OpNo(3)].as_slice();
-    holds(&rt, is_third, "what is handed over");
 }
 
 // One more addition by 1, unless something stands against it, or there is no room.

@@ -29,8 +29,8 @@ fn is_part<A: Allocator>(
     script: &Script<A>,
     report: &Report<A>,
 ) -> bool {
-    let (events, told) = (script.as_slice(), report.entries.as_slice());
-    if report.seat != seat || told.len() != events.len() {
+    let (events, reported) = (script.as_slice(), report.entries.as_slice());
+    if report.seat != seat || reported.len() != events.len() {
         return false;
     }
     let mut next = 0;
@@ -39,7 +39,7 @@ fn is_part<A: Allocator>(
             if next >= events.len() || !entry.event.is_same(&events[next]) {
                 return false;
             }
-            if !entry.is_same(&told[next]) {
+            if !entry.is_same(&reported[next]) {
                 return false;
             }
             next += 1;

@@ -69,15 +69,15 @@ fn gives_up<A: Handle + Send + Sync, R: Threads + Wait + Sync + Abort>(
     );
 }
 
-// Each place of two workers with two calls each, alone; and a place of each, of which the lowest seat is told.
+// Each place of two workers with two calls each, alone; and a place of each, where the fault names the lower seat.
 fn gives_up_anywhere<A: Handle + Send + Sync, R: Threads + Wait + Sync + Abort>(rt: &R, alloc: A) {
     for seat in [1u8, 2] {
         for call in [1usize, 2] {
-            for is_behind in [false, true] {
+            for is_after in [false, true] {
                 let at = [Pass {
                     seat,
                     call,
-                    is_behind,
+                    is_after,
                 }];
                 gives_up(rt, alloc, &at, seat);
             }
@@ -87,12 +87,12 @@ fn gives_up_anywhere<A: Handle + Send + Sync, R: Threads + Wait + Sync + Abort>(
         Pass {
             seat: 2,
             call: 1,
-            is_behind: false,
+            is_after: false,
         },
         Pass {
             seat: 1,
             call: 2,
-            is_behind: true,
+            is_after: true,
         },
     ];
     gives_up(rt, alloc, &both, 1);
@@ -103,7 +103,7 @@ fn drives_that_have_no_result(rt: HostRuntime) {
     let alloc = rt.alloc();
     are_barred(&rt, alloc, &[], DriveError::NoWorker);
     are_barred(&rt, alloc, &[1; 17], DriveError::TooManyWorkers);
-    // (where both are too many, of workers it is told)
+    // (TooManyWorkers comes before TooManyEvents)
     are_barred(&rt, alloc, &[4_000; 17], DriveError::TooManyWorkers);
     are_barred(&rt, alloc, &[32_768, 32_769], DriveError::TooManyEvents);
     gives_up_anywhere(&rt, alloc);

@@ -66,8 +66,8 @@ impl<'a, R: Wait, A: Allocator + Copy> Meeting<'a, R, A> {
         let shown = self.shown.lock(self.rt);
         for entry in entries {
             let mut times = 0u64;
-            for told in shown.iter() {
-                if told.is_same(entry) {
+            for found in shown.iter() {
+                if found.is_same(entry) {
                     times = times.wrapping_add(1);
                 }
             }
@@ -97,12 +97,12 @@ impl<'a, R: Wait, A: Allocator + Copy> Gate<Entry<A>> for Meeting<'a, R, A> {
     fn judged<B: Allocator>(&self, _turn: u8, _front: &Front<B>) {}
 }
 
-/// Where a gate is asked: before a call of a seat, or behind it.
+/// Where a gate is asked: before a call of a seat, or after it.
 #[derive(Clone, Copy, PartialEq, Eq)]
 pub struct Pass {
     pub seat: u8,
     pub call: usize,
-    pub is_behind: bool,
+    pub is_after: bool,
 }
 
 /// A gate that is false at these places, and true elsewhere.
@@ -112,11 +112,11 @@ pub struct Shut<'a> {
 }
 
 impl<'a> Shut<'a> {
-    fn is_open(&self, seat: u8, call: usize, is_behind: bool) -> bool {
+    fn is_open(&self, seat: u8, call: usize, is_after: bool) -> bool {
         let asked = Pass {
             seat,
             call,
-            is_behind,
+            is_after,
         };
         !self.at.contains(&asked)
     }

@@ -86,8 +86,8 @@ fn lines_in(text: &str) -> u32 {
     count
 }
 
-// The line behind so many others.
-fn line_behind<'a>(rt: &impl Abort, text: &'a str, others: u32) -> &'a str {
+// The line after so many others.
+fn line_after<'a>(rt: &impl Abort, text: &'a str, others: u32) -> &'a str {
     let mut count = 0u32;
     for line in text.lines() {
         if count == others {
@@ -131,7 +131,7 @@ fn begun<A: Allocator + Copy>(
     moves: &str,
     t: u32,
 ) -> Event<A> {
-    let said = filled(rt, alloc, line_behind(rt, moves, 0), (t, t));
+    let said = filled(rt, alloc, line_after(rt, moves, 0), (t, t));
     event_of(rt, alloc, model, said.as_str())
 }
 
@@ -144,14 +144,14 @@ fn drawn<A: Allocator + Copy>(
     words: &mut Pcg32,
 ) -> Event<A> {
     let nth = words.next_word().checked_rem(lines_in(moves)).unwrap_or(0);
-    let line = line_behind(rt, moves, nth);
+    let line = line_after(rt, moves, nth);
     let numbers = (txn_drawn(words), txn_drawn(words));
     let said = filled(rt, alloc, line, numbers);
     event_of(rt, alloc, model, said.as_str())
 }
 
 // A machine that has taken, or refused, random events.
-fn played<A: Handle>(
+fn run<A: Handle>(
     rt: &impl Abort,
     alloc: A,
     model: &Model<A>,
@@ -183,7 +183,7 @@ fn permits_of<A: Handle>(machine: &Machine<A>) -> u32 {
     count
 }
 
-// Plays and judges histories on the model that the text means. Returns how many permits they have.
+// Runs and judges histories on the model that the text means. Returns how many permits they have.
 fn mixes<A: Handle + Send + Sync>(
     rt: &(impl Threads + Sync + Abort),
     (alloc, other): (A, Global),
@@ -194,7 +194,7 @@ fn mixes<A: Handle + Send + Sync>(
     let mut words = Pcg32::new(42, 54);
     let mut permits = 0u32;
     for _ in 0..HISTORIES {
-        let machine = played(rt, alloc, &model, moves, &mut words);
+        let machine = run(rt, alloc, &model, moves, &mut words);
         is_faultless(rt, (alloc, other), &machine, moves);
         permits = permits.wrapping_add(permits_of(&machine));
         drop(machine);

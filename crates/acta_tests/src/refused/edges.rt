@@ -76,8 +76,8 @@ impl<'a, R: Abort, A: Handle> Case for Forming<'a, R, A> {
     }
 }
 
-// A table has room for three edges of a transaction, so that behind three it is the second list that allocates, and the
-// first is taken back. One of the edges is named twice.
+// A list has room for four edges of a transaction. After three, the second edge of transaction 1 allocates, and the first
+// is taken back where that is refused. One of the edges is named twice.
 fn refuse_all<R: Abort, A: Handle, B: Allocator>(on: &Setting<'_, R, A>, heap: &Refusing<B>) {
     let three = [
         edge(Dep::Cd, 2, 1),

@@ -16,8 +16,7 @@ use std::alloc::{Allocator, Global};
 use std::process::Abort;
 use std::thread::Threads;
 
-// The verdict on a list, which is judged whole or in so many parts. Of so many commits the faults are not told one by
-// one.
+// The verdict on a list, which is judged whole or in so many parts. The faults of so many commits are only counted.
 #[derive(Drop)]
 struct Judging<'a, R, A: Handle> {
     on: &'a Setting<'a, R, A>,
