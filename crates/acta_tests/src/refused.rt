@@ -12,7 +12,7 @@ mod tables;
 mod values;
 mod walks;
 
-use crate::expecting::{made, parted};
+use crate::expecting::{holds, made, parted, tells};
 use refusing::{Case, Refusing, refuse_each};
 use std::alloc::{Allocator, Global};
 use std::process::Abort;
@@ -33,6 +33,26 @@ pub fn refuse<B: Allocator, C: Case>(
     due: &str,
 ) -> u64 {
     made(rt, refuse_each(heap, case, due), due)
+}
+
+/// More allocations than any call among threads makes.
+pub const MOST: u64 = 4_000;
+
+/// For a call among threads, which no case can make: whether it answered `due` with no allocation refused, after
+/// `heap.refuse(nth)`. Where one was refused, it ran out of memory, or did without that memory and answered `due`.
+pub fn is_over<B: Allocator>(
+    rt: &impl Abort,
+    heap: &Refusing<B>,
+    answer: Option<String>,
+    due: &str,
+) -> bool {
+    let was_refused = !heap.is_waiting();
+    heap.refuse(0);
+    holds(rt, was_refused || answer.is_some(), due);
+    if let Some(text) = &answer {
+        tells(rt, text.as_bytes(), due, due);
+    }
+    !was_refused
 }
 
 /// At least so many allocations were refused.

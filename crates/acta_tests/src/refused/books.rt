@@ -3,11 +3,11 @@
 use crate::driving::books::{answers, taken};
 use crate::driving::desks::{ANSWERS, CALLS, reported};
 use crate::driving::scripts::{ADDITIONS, script, scripts};
-use crate::expecting::{holds, made};
+use crate::expecting::{holds, made, same};
+use crate::judging::lines_of;
 use crate::models::{assembled, model_of};
-use crate::refused::{Setting, at_least, refuse};
+use crate::refused::{MOST, Setting, at_least, is_over, refuse};
 use crate::shown::{of_book, put};
-use acta_judge::Verdict;
 use acta_locked::{
     Book, DriveError, Entry, OpenGate, PlainDesk, Report, Script, drive, drive_watched,
 };
@@ -15,7 +15,7 @@ use acta_machine::Handle;
 use acta_models::Standard;
 use acta_table::Event;
 use refusing::{Case, Refusing};
-use std::alloc::{Allocator, Global};
+use std::alloc::{AllocError, Allocator, Global};
 use std::process::Abort;
 use std::sync::Wait;
 use std::thread::Threads;
@@ -33,13 +33,13 @@ fn book_after<A: Handle>(rt: &impl Abort, alloc: A, name: Standard, calls: &[Eve
 
 // One more call of a book.
 #[derive(Drop)]
-struct Taking<'a, R, A: Handle> {
-    on: &'a Setting<'a, R, A>,
+struct Taking<'a, 's, R, A: Handle> {
+    on: &'a Setting<'s, R, A>,
     before: &'a [Event<A>],
     event: &'a Event<A>,
 }
 
-impl<'a, R: Abort, A: Handle> Case for Taking<'a, R, A> {
+impl<'a, 's, R: Abort, A: Handle> Case for Taking<'a, 's, R, A> {
     type State = Book<A>;
 
     type Answer = Entry<A>;
@@ -80,6 +80,16 @@ split 1 4 part 3
 join 1 2
 commit 2";
 
+// One call more, each allocation refused. Returns how many were.
+fn refuse_call<'a, 's, R: Abort, A: Handle, B: Allocator>(
+    on: &'a Setting<'s, R, A>,
+    heap: &Refusing<B>,
+    (before, event): (&'a [Event<A>], &'a Event<A>),
+    due: &str,
+) -> u64 {
+    refuse(on.rt, heap, &Taking { on, before, event }, due)
+}
+
 fn refuse_calls<R: Abort, A: Handle, B: Allocator>(on: &Setting<'_, R, A>, heap: &Refusing<B>) {
     let model = model_of(on.rt, on.alloc, Standard::SplitJoin.text());
     let calls = script(on.rt, on.alloc, &model, TAKEN);
@@ -94,8 +104,8 @@ fn refuse_calls<R: Abort, A: Handle, B: Allocator>(on: &Setting<'_, R, A>, heap:
         };
         let due = format!(in on.other; " {number} {number} {admitted}");
         let due = made(on.rt, due, "an answer");
-        let case = Taking { on, before, event };
-        refused = refused.wrapping_add(refuse(on.rt, heap, &case, due.as_str()));
+        let more = refuse_call(&*on, heap, (before, event), due.as_str());
+        refused = refused.wrapping_add(more);
     }
     at_least(on.rt, refused, 10, TAKEN);
     drop(calls);
@@ -104,11 +114,11 @@ fn refuse_calls<R: Abort, A: Handle, B: Allocator>(on: &Setting<'_, R, A>, heap:
 
 // A new desk at the second seat.
 #[derive(Drop)]
-struct Seating<'a, R, A: Handle> {
-    on: &'a Setting<'a, R, A>,
+struct Seating<'a, 's, R, A: Handle> {
+    on: &'a Setting<'s, R, A>,
 }
 
-impl<'a, R: Abort, A: Handle> Case for Seating<'a, R, A> {
+impl<'a, 's, R: Abort, A: Handle> Case for Seating<'a, 's, R, A> {
     type State = ();
 
     type Answer = PlainDesk<A>;
@@ -137,12 +147,12 @@ impl<'a, R: Abort, A: Handle> Case for Seating<'a, R, A> {
 
 // A worker at a desk of its own. After a refusal it begins anew, at a new desk.
 #[derive(Drop)]
-struct Working<'a, R, A: Handle> {
-    on: &'a Setting<'a, R, A>,
+struct Working<'a, 's, R, A: Handle> {
+    on: &'a Setting<'s, R, A>,
     script: &'a Script<A>,
 }
 
-impl<'a, R: Abort, A: Handle> Working<'a, R, A> {
+impl<'a, 's, R: Abort, A: Handle> Working<'a, 's, R, A> {
     // Whether the entries are the first of the script's, and the machine is what their events leave.
     fn is_kept(&self, book: &Book<A>) -> bool {
         let (rt, alloc, other) = (self.on.rt, self.on.alloc, self.on.other);
@@ -155,7 +165,7 @@ impl<'a, R: Abort, A: Handle> Working<'a, R, A> {
     }
 }
 
-impl<'a, R: Abort, A: Handle> Case for Working<'a, R, A> {
+impl<'a, 's, R: Abort, A: Handle> Case for Working<'a, 's, R, A> {
     type State = PlainDesk<A>;
 
     type Answer = Report<A>;
@@ -189,13 +199,35 @@ impl<'a, R: Abort, A: Handle> Case for Working<'a, R, A> {
     }
 }
 
+// A new desk, each allocation refused. Returns how many were.
+fn refuse_seat<'a, 's, R: Abort, A: Handle, B: Allocator>(
+    on: &'a Setting<'s, R, A>,
+    heap: &Refusing<B>,
+    due: &str,
+) -> u64 {
+    refuse(on.rt, heap, &Seating { on }, due)
+}
+
+// A worker with this script, each allocation refused. Returns how many were.
+fn refuse_work<'a, 's, R: Abort, A: Handle, B: Allocator>(
+    on: &'a Setting<'s, R, A>,
+    heap: &Refusing<B>,
+    script: &'a Script<A>,
+    due: &str,
+) -> u64 {
+    refuse(on.rt, heap, &Working { on, script }, due)
+}
+
 fn refuse_desks<R: Abort, A: Handle, B: Allocator>(on: &Setting<'_, R, A>, heap: &Refusing<B>) {
-    let refused = refuse(on.rt, heap, &Seating { on }, " (2, 0)");
-    at_least(on.rt, refused, 5, "a new desk");
+    at_least(on.rt, refuse_seat(&*on, heap, " (2, 0)"), 5, "a new desk");
     let scripts = scripts(on.rt, on.alloc, &[CALLS]);
     let script = scripts.as_slice().first().expect(on.rt, "a script");
-    let refused = refuse(on.rt, heap, &Working { on, script }, ANSWERS);
-    at_least(on.rt, refused, 20, "a worker");
+    at_least(
+        on.rt,
+        refuse_work(&*on, heap, script, ANSWERS),
+        20,
+        "a worker",
+    );
     drop(scripts);
 }
 
@@ -211,38 +243,6 @@ fn calls_of_books_and_workers(rt: HostRuntime) {
     refuse_desks(&on, &heap);
 }
 
-// The verdict on a book.
-#[derive(Drop)]
-struct Judging<'a, R, A: Handle> {
-    on: &'a Setting<'a, R, A>,
-    calls: &'a [Event<A>],
-}
-
-impl<'a, R: Threads + Sync + Abort, A: Handle + Send + Sync> Case for Judging<'a, R, A> {
-    type State = Book<A>;
-
-    type Answer = Verdict<A>;
-
-    fn start(&self) -> Book<A> {
-        book_after(self.on.rt, self.on.alloc, Standard::Contingent, self.calls)
-    }
-
-    fn call(&self, book: &mut Book<A>) -> Option<Verdict<A>> {
-        book.verdict(self.on.rt).ok()
-    }
-
-    fn tell(&self, answer: &Verdict<A>, _book: &Book<A>) -> String {
-        let mut text = String::new(self.on.other);
-        put(self.on.rt, &mut text, &answer.faults.as_slice());
-        put(self.on.rt, &mut text, &answer.owed.as_slice());
-        text
-    }
-
-    fn read(&self, book: &Book<A>) -> String {
-        of_book(self.on.rt, self.on.other, book)
-    }
-}
-
 const OWING: &str = "\
 form SCD 2 1
 begin 1 try
@@ -251,12 +251,44 @@ begin 2 try
 do 2 s insert 4
 commit 1";
 
-// Two seats that each begin and add once, driven, and watched so often.
-#[derive(Drop)]
-struct Driving<'a, R, A: Handle> {
-    on: &'a Setting<'a, R, A>,
-    scripts: &'a [Script<A>],
-    turns: u8,
+// The lines of the verdict on a book. Nothing where memory ran out.
+fn verdict_on<A: Handle + Send + Sync>(
+    rt: &(impl Threads + Sync + Abort),
+    other: Global,
+    book: &Book<A>,
+) -> Option<String> {
+    match book.verdict(rt) {
+        Ok(verdict) => Some(lines_of(rt, other, &verdict)),
+        Err(AllocError) => None,
+    }
+}
+
+// The verdict on a book, each allocation refused. Returns how many were.
+fn refuse_verdict<A: Handle + Send + Sync, B: Allocator>(
+    rt: &(impl Threads + Sync + Abort),
+    (heap, alloc, other): (&Refusing<B>, A, Global),
+) -> u64 {
+    let model = model_of(rt, alloc, Standard::Contingent.text());
+    let calls = script(rt, alloc, &model, OWING);
+    let book = book_after(rt, alloc, Standard::Contingent, calls.as_slice());
+    let before = of_book(rt, other, &book);
+    for nth in 1..MOST {
+        heap.refuse(nth);
+        let answer = verdict_on(rt, other, &book);
+        if is_over(rt, heap, answer, "owed 1 2 commit\n") {
+            drop(book);
+            drop(calls);
+            drop(model);
+            return nth.wrapping_sub(1);
+        }
+        same(
+            rt,
+            &of_book(rt, other, &book).as_str(),
+            &before.as_str(),
+            "a book",
+        );
+    }
+    rt.panic("a verdict makes too many allocations")
 }
 
 // The run that a drive gives, if memory and threads sufficed. Another error ends the test.
@@ -268,80 +300,70 @@ fn unless_short<T>(rt: &impl Abort, driven: Result<T, DriveError>) -> Option<T> 
     }
 }
 
-impl<'a, R: Threads + Wait + Sync + Abort, A: Handle + Send + Sync> Case for Driving<'a, R, A> {
-    type State = ();
-
-    type Answer = (usize, usize);
-
-    fn start(&self) {}
-
-    // How many entries and fronts there are.
-    fn call(&self, _state: &mut ()) -> Option<(usize, usize)> {
-        let (rt, alloc) = (self.on.rt, self.on.alloc);
-        let model = assembled(alloc, Standard::Atomic.text())?;
-        if self.turns == 0 {
-            let driven = unless_short(rt, drive(rt, alloc, model, self.scripts, &OpenGate))?;
-            return Some((driven.book.entries().len(), 0));
-        }
-        let watched = drive_watched(rt, alloc, model, self.scripts, &OpenGate, self.turns);
+// How many entries and fronts a drive of the scripts has that is watched so often. Nothing where memory ran out.
+fn driven<A: Handle + Send + Sync, R: Threads + Wait + Sync + Abort>(
+    rt: &R,
+    (alloc, other): (A, Global),
+    scripts: &[Script<A>],
+    turns: u8,
+) -> Option<String> {
+    let model = assembled(alloc, Standard::Atomic.text())?;
+    let mut text = String::new(other);
+    if turns == 0 {
+        let driven = unless_short(rt, drive(rt, alloc, model, scripts, &OpenGate))?;
+        put(rt, &mut text, &driven.book.entries().len());
+        drop(driven);
+    } else {
+        let watched = drive_watched(rt, alloc, model, scripts, &OpenGate, turns);
         let watched = unless_short(rt, watched)?;
-        let entries = watched.driven.book.entries().len();
-        Some((entries, watched.fronts.as_slice().len()))
+        put(rt, &mut text, &watched.driven.book.entries().len());
+        put(rt, &mut text, &watched.fronts.as_slice().len());
+        drop(watched);
     }
-
-    fn tell(&self, answer: &(usize, usize), _state: &()) -> String {
-        let mut text = String::new(self.on.other);
-        put(self.on.rt, &mut text, answer);
-        text
-    }
-
-    fn read(&self, _state: &()) -> String {
-        String::new(self.on.other)
-    }
+    Some(text)
 }
 
-fn refuse_drives<R: Threads + Wait + Sync + Abort, A: Handle + Send + Sync, B: Allocator>(
-    on: &Setting<'_, R, A>,
-    heap: &Refusing<B>,
-) {
-    let model = model_of(on.rt, on.alloc, Standard::Contingent.text());
-    let calls = script(on.rt, on.alloc, &model, OWING);
-    let case = Judging {
-        on,
-        calls: calls.as_slice(),
-    };
-    let due = " [] [Owed { edge: EdgeNo(1), txn: TxnId(2), missing: Commit }]";
-    at_least(on.rt, refuse(on.rt, heap, &case, due), 8, "a verdict");
-    drop(calls);
-    drop(model);
-    let scripts = scripts(on.rt, on.alloc, &ADDITIONS);
-    for (turns, due) in [(0u8, " (4, 0)"), (3, " (4, 3)")] {
-        let case = Driving {
-            on,
-            scripts: scripts.as_slice(),
-            turns,
-        };
-        at_least(on.rt, refuse(on.rt, heap, &case, due), 8, "a drive");
+// A drive of two seats that each begin and add once, each allocation refused. Returns how many were.
+fn refuse_drive<A: Handle + Send + Sync, R: Threads + Wait + Sync + Abort, B: Allocator>(
+    rt: &R,
+    (heap, alloc, other): (&Refusing<B>, A, Global),
+    (turns, due): (u8, &str),
+) -> u64 {
+    let scripts = scripts(rt, alloc, &ADDITIONS);
+    for nth in 1..MOST {
+        heap.refuse(nth);
+        let answer = driven(rt, (alloc, other), scripts.as_slice(), turns);
+        if is_over(rt, heap, answer, due) {
+            drop(scripts);
+            return nth.wrapping_sub(1);
+        }
     }
-    drop(scripts);
+    rt.panic("a drive makes too many allocations")
 }
 
 // The allocator may be shared by threads, since the one inside it may.
-fn refuse_all_drives<R: Threads + Wait + Sync + Abort, B: Allocator + Send + Sync>(
+fn refuse_among_threads<R: Threads + Wait + Sync + Abort, B: Allocator + Send + Sync>(
     rt: &R,
     other: Global,
     heap: &Refusing<B>,
 ) {
-    let on = Setting {
+    at_least(rt, refuse_verdict(rt, (heap, heap, other)), 8, "a verdict");
+    at_least(
         rt,
-        alloc: heap,
-        other,
-    };
-    refuse_drives(&on, heap);
+        refuse_drive(rt, (heap, heap, other), (0, " 4")),
+        8,
+        "a drive",
+    );
+    at_least(
+        rt,
+        refuse_drive(rt, (heap, heap, other), (3, " 4 3")),
+        12,
+        "a watched drive",
+    );
 }
 
 #[test]
 fn verdicts_on_books_and_driven_runs(rt: HostRuntime) {
     let heap = Refusing::new(rt.alloc());
-    refuse_all_drives(&rt, rt.alloc(), &heap);
+    refuse_among_threads(&rt, rt.alloc(), &heap);
 }

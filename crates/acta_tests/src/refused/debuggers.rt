@@ -14,22 +14,21 @@ use refusing::{Case, Refusing, refuse_in_place};
 use std::alloc::Allocator;
 use std::process::Abort;
 
-// A command to a debugger on the history of the lines.
+// A command to a debugger, which starts on an empty history.
 #[derive(Drop)]
-struct Commanding<'a, R, A: Handle> {
-    on: &'a Setting<'a, R, A>,
-    history: &'a str,
+struct Commanding<'a, 's, R, A: Handle> {
+    on: &'a Setting<'s, R, A>,
     command: DebugCommand,
 }
 
-impl<'a, R: Abort, A: Handle> Case for Commanding<'a, R, A> {
+impl<'a, 's, R: Abort, A: Handle> Case for Commanding<'a, 's, R, A> {
     type State = Debugger<A>;
 
     type Answer = String;
 
     fn start(&self) -> Debugger<A> {
         let text = Standard::Contingent.text();
-        debugger_of(self.on.rt, self.on.alloc, text, self.history)
+        debugger_of(self.on.rt, self.on.alloc, text, "")
     }
 
     fn call(&self, debugger: &mut Debugger<A>) -> Option<String> {
@@ -50,6 +49,21 @@ impl<'a, R: Abort, A: Handle> Case for Commanding<'a, R, A> {
     }
 }
 
+// A command to the debugger, each allocation refused. Returns how many were.
+fn refuse_command<'a, 's, R: Abort, A: Handle, B: Allocator>(
+    on: &'a Setting<'s, R, A>,
+    heap: &Refusing<B>,
+    debugger: &mut Debugger<A>,
+    command: DebugCommand,
+    due: &str,
+) -> u64 {
+    made(
+        on.rt,
+        refuse_in_place(heap, &Commanding { on, command }, debugger, due),
+        due,
+    )
+}
+
 // The commands of the lines, one after another, to one debugger on a history with so many additions. Returns how many
 // allocations were refused.
 fn refuse_commands<R: Abort, A: Handle, B: Allocator>(
@@ -58,19 +72,15 @@ fn refuse_commands<R: Abort, A: Handle, B: Allocator>(
     additions: u32,
     lines: &str,
 ) -> u64 {
-    let text = sums(on.rt, on.other, additions);
-    let (history, mut refused) = (text.as_str(), 0u64);
-    let mut debugger = debugger_of(on.rt, on.alloc, Standard::Contingent.text(), history);
+    let (text, mut refused) = (sums(on.rt, on.other, additions), 0u64);
+    let model = Standard::Contingent.text();
+    let mut debugger = debugger_of(on.rt, on.alloc, model, text.as_str());
     for line in lines.lines() {
         let (said, due) = call_and_answer(on.rt, line);
         let command = read_command(on.alloc, debugger.machine().model(), said.as_bytes());
-        let case = Commanding {
-            on,
-            history,
-            command: made(on.rt, command, line),
-        };
-        let more = refuse_in_place(heap, &case, &mut debugger, due);
-        refused = refused.wrapping_add(made(on.rt, more, line));
+        let command = made(on.rt, command, line);
+        let more = refuse_command(&*on, heap, &mut debugger, command, due);
+        refused = refused.wrapping_add(more);
     }
     drop(debugger);
     refused
@@ -142,13 +152,13 @@ struct Parts<A: Handle> {
 
 // A new debugger on the kept items of the lines; or, where these are events, on what a machine keeps of them.
 #[derive(Drop)]
-struct Opening<'a, R, A: Handle> {
-    on: &'a Setting<'a, R, A>,
+struct Opening<'a, 's, R, A: Handle> {
+    on: &'a Setting<'s, R, A>,
     lines: &'a str,
     are_kept: bool,
 }
 
-impl<'a, R: Abort, A: Handle> Opening<'a, R, A> {
+impl<'a, 's, R: Abort, A: Handle> Opening<'a, 's, R, A> {
     fn parts(&self) -> Parts<A> {
         let (rt, alloc) = (self.on.rt, self.on.alloc);
         let model = model_of(rt, alloc, Standard::Contingent.text());
@@ -165,7 +175,7 @@ impl<'a, R: Abort, A: Handle> Opening<'a, R, A> {
     }
 }
 
-impl<'a, R: Abort, A: Handle> Case for Opening<'a, R, A> {
+impl<'a, 's, R: Abort, A: Handle> Case for Opening<'a, 's, R, A> {
     type State = Option<Parts<A>>;
 
     type Answer = Debugger<A>;
@@ -202,20 +212,29 @@ impl<'a, R: Abort, A: Handle> Case for Opening<'a, R, A> {
     }
 }
 
+// A new debugger, each allocation refused. Returns how many were.
+fn refuse_new<'a, 's, R: Abort, A: Handle, B: Allocator>(
+    on: &'a Setting<'s, R, A>,
+    heap: &Refusing<B>,
+    (lines, are_kept): (&'a str, bool),
+    due: &str,
+) -> u64 {
+    let case = Opening {
+        on,
+        lines,
+        are_kept,
+    };
+    refuse(on.rt, heap, &case, due)
+}
+
 fn refuse_all_new<R: Abort, A: Handle, B: Allocator>(on: &Setting<'_, R, A>, heap: &Refusing<B>) {
     let (short, long) = (sums(on.rt, on.other, 10), sums(on.rt, on.other, 124));
-    for (lines, are_kept, due) in [
-        (short.as_str(), true, "at 0, n = 0 16"),
-        (long.as_str(), true, "at 0, n = 0 130"),
-        (EVENTS, false, "at 0, n = 0 6"),
-    ] {
-        let case = Opening {
-            on,
-            lines,
-            are_kept,
-        };
-        at_least(on.rt, refuse(on.rt, heap, &case, due), 10, lines);
-    }
+    let short = refuse_new(&*on, heap, (short.as_str(), true), "at 0, n = 0 16");
+    at_least(on.rt, short, 10, "a short history");
+    let long = refuse_new(&*on, heap, (long.as_str(), true), "at 0, n = 0 130");
+    at_least(on.rt, long, 10, "a long history");
+    let kept = refuse_new(&*on, heap, (EVENTS, false), "at 0, n = 0 6");
+    at_least(on.rt, kept, 10, EVENTS);
 }
 
 #[test]

@@ -39,13 +39,13 @@ fn start<A: Handle>(deps: &mut Deps<A>, t: TxnId) {
 
 // A table in which two transactions have started, and which has these edges, gets some more.
 #[derive(Drop)]
-struct Forming<'a, R, A: Handle> {
-    on: &'a Setting<'a, R, A>,
+struct Forming<'a, 's, R, A: Handle> {
+    on: &'a Setting<'s, R, A>,
     before: &'a [Edge],
     edges: &'a [Edge],
 }
 
-impl<'a, R: Abort, A: Handle> Case for Forming<'a, R, A> {
+impl<'a, 's, R: Abort, A: Handle> Case for Forming<'a, 's, R, A> {
     type State = Deps<A>;
 
     type Answer = usize;
@@ -76,6 +76,16 @@ impl<'a, R: Abort, A: Handle> Case for Forming<'a, R, A> {
     }
 }
 
+// Some edges after others, each allocation refused. Returns how many were.
+fn refuse_edges<'a, 's, R: Abort, A: Handle, B: Allocator>(
+    on: &'a Setting<'s, R, A>,
+    heap: &Refusing<B>,
+    (before, edges): (&'a [Edge], &'a [Edge]),
+    due: &str,
+) -> u64 {
+    refuse(on.rt, heap, &Forming { on, before, edges }, due)
+}
+
 // A list has room for four edges of a transaction. After three, the second edge of transaction 1 allocates, and the first
 // is taken back where that is refused. One of the edges is named twice.
 fn refuse_all<R: Abort, A: Handle, B: Allocator>(on: &Setting<'_, R, A>, heap: &Refusing<B>) {
@@ -90,13 +100,11 @@ fn refuse_all<R: Abort, A: Handle, B: Allocator>(on: &Setting<'_, R, A>, heap: &
         edge(Dep::Td, 1, 3),
         edge(Dep::Td, 3, 1),
     ];
-    let (before, edges) = ([].as_slice(), more.as_slice());
     let due = " 3 (Td, 3, 1) (Cd, 2, 1) (Td, 1, 3)";
-    let refused = refuse(on.rt, heap, &Forming { on, before, edges }, due);
+    let refused = refuse_edges(&*on, heap, (&[], &more), due);
     at_least(on.rt, refused, 4, due);
-    let before = three.as_slice();
     let due = " 2 (Cd, 2, 1) (Cd, 4, 1) (Cd, 5, 16383) (Td, 3, 1) (Td, 1, 3)";
-    let refused = refuse(on.rt, heap, &Forming { on, before, edges }, due);
+    let refused = refuse_edges(&*on, heap, (&three, &more), due);
     at_least(on.rt, refused, 2, due);
 }
 

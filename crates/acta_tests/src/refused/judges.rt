@@ -1,111 +1,115 @@
 //! Verdicts on lists, each allocation refused in turn.
 
-use crate::expecting::made;
+use crate::expecting::holds;
 use crate::judging::limits::{are_of_commits, commits};
 use crate::judging::lines_of;
 use crate::judging::lists::{Judged, by_model, with_two};
 use crate::models::{Models, model_of};
-use crate::refused::{Setting, at_least, refuse};
-use crate::shown::put;
+use crate::refused::{MOST, at_least, is_over};
 use acta_judge::{Cut, Verdict, judge, judge_in_parts};
 use acta_machine::Handle;
 use acta_models::Standard;
 use acta_table::{Kept, Model};
-use refusing::{Case, Refusing, refuse_some};
+use refusing::Refusing;
 use std::alloc::{Allocator, Global};
 use std::process::Abort;
 use std::thread::Threads;
 
-// The verdict on a list, which is judged whole or in so many parts. The faults of so many commits are only counted.
-#[derive(Drop)]
-struct Judging<'a, R, A: Handle> {
-    on: &'a Setting<'a, R, A>,
-    model: &'a Model<A>,
-    kept: &'a [Kept<A>],
+// The verdict on a list that is not too long, which is judged whole or in so many parts. Nothing where memory ran out.
+fn verdict_on<A: Handle + Send + Sync>(
+    rt: &(impl Threads + Sync),
+    alloc: A,
+    model: &Model<A>,
+    kept: &[Kept<A>],
     parts: usize,
-    commits: u32,
+) -> Option<Verdict<A>> {
+    if parts == 0 {
+        return judge(rt, alloc, model, kept).ok();
+    }
+    let cut = Cut {
+        parts,
+        places: 1,
+        edges: 1,
+    };
+    judge_in_parts(rt, alloc, cut, model, kept).ok()
 }
 
-impl<'a, R: Threads + Sync + Abort, A: Handle + Send + Sync> Case for Judging<'a, R, A> {
-    type State = ();
-
-    type Answer = Verdict<A>;
-
-    fn start(&self) {}
-
-    // (no list is too long)
-    fn call(&self, _state: &mut ()) -> Option<Verdict<A>> {
-        let (rt, alloc) = (self.on.rt, self.on.alloc);
-        if self.parts == 0 {
-            return judge(rt, alloc, self.model, self.kept).ok();
-        }
-        let cut = Cut {
-            parts: self.parts,
-            places: 1,
-            edges: 1,
-        };
-        judge_in_parts(rt, alloc, cut, self.model, self.kept).ok()
-    }
-
-    fn tell(&self, answer: &Verdict<A>, _state: &()) -> String {
-        if self.commits == 0 {
-            return lines_of(self.on.rt, self.on.other, answer);
-        }
-        let mut text = String::new(self.on.other);
-        let are_due = are_of_commits(answer.faults.as_slice(), self.commits);
-        put(self.on.rt, &mut text, &are_due);
-        text
-    }
-
-    fn read(&self, _state: &()) -> String {
-        String::new(self.on.other)
-    }
+// The lines of the verdict.
+fn lines_on<A: Handle + Send + Sync>(
+    rt: &(impl Threads + Sync + Abort),
+    (alloc, other): (A, Global),
+    model: &Model<A>,
+    kept: &[Kept<A>],
+    parts: usize,
+) -> Option<String> {
+    let verdict = verdict_on(rt, alloc, model, kept, parts)?;
+    Some(lines_of(rt, other, &verdict))
 }
 
-// The lists, each judged in so many parts, or whole where there are none.
-fn refuse_lists<R: Threads + Sync + Abort, A: Handle + Send + Sync, B: Allocator>(
-    on: &Setting<'_, R, A>,
-    heap: &Refusing<B>,
+// The verdict on a list, each allocation refused. Returns how many were.
+fn refuse_list<A: Handle + Send + Sync, B: Allocator>(
+    rt: &(impl Threads + Sync + Abort),
+    (heap, alloc, other): (&Refusing<B>, A, Global),
+    model: &Model<A>,
+    judged: &Judged<A>,
+    parts: usize,
+) -> u64 {
+    let (kept, due) = (judged.items.as_slice(), judged.due.as_str());
+    for nth in 1..MOST {
+        heap.refuse(nth);
+        let answer = lines_on(rt, (alloc, other), model, kept, parts);
+        if is_over(rt, heap, answer, due) {
+            return nth.wrapping_sub(1);
+        }
+    }
+    rt.panic("a verdict makes too many allocations")
+}
+
+// Each of the lists on the model that the text means.
+fn refuse_lists<A: Handle + Send + Sync, B: Allocator>(
+    rt: &(impl Threads + Sync + Abort),
+    (heap, alloc, other): (&Refusing<B>, A, Global),
     (model, lists): (&str, &str),
     parts: usize,
 ) {
-    let models = Models::of(on.rt, on.alloc, model);
+    let models = Models::of(rt, alloc, model);
     for lines in lists.split("\n# ") {
-        let judged = Judged::read(on.rt, on.alloc, &models.wider, lines);
-        let case = Judging {
-            on,
-            model: &models.model,
-            kept: judged.items.as_slice(),
-            parts,
-            commits: 0,
-        };
-        let refused = refuse(on.rt, heap, &case, judged.due.as_str());
-        at_least(on.rt, refused, 2, lines);
+        let judged = Judged::read(rt, alloc, &models.wider, lines);
+        let refused = refuse_list(rt, (heap, alloc, other), &models.model, &judged, parts);
+        at_least(rt, refused, 2, lines);
         drop(judged);
     }
     drop(models);
 }
 
-// Commits of a transaction that never began, of which each is faulty: of the allocations the first are refused, and
-// then each of so many.
-fn refuse_commits<R: Threads + Sync + Abort, A: Handle + Send + Sync, B: Allocator>(
-    on: &Setting<'_, R, A>,
-    heap: &Refusing<B>,
-    (times, step): (u32, u64),
-) {
-    let model = model_of(on.rt, on.alloc, Standard::Atomic.text());
-    let kept = commits(on.rt, on.alloc, times);
-    let case = Judging {
-        on,
-        model: &model,
-        kept: kept.as_slice(),
-        parts: 0,
-        commits: times,
-    };
-    let refused = refuse_some(heap, &case, " true", (64, step));
-    at_least(on.rt, made(on.rt, refused, "commits"), 70, "commits");
-    drop(kept);
-    drop(model);
+// Commits of a transaction that never began, of which each is faulty: the first allocations are refused, and then each
+// of so many. Returns how many were.
+fn refuse_commits<A: Handle + Send + Sync, B: Allocator>(
+    rt: &(impl Threads + Sync + Abort),
+    (heap, alloc): (&Refusing<B>, A),
+    times: u32,
+    (first, step): (u64, u64),
+) -> u64 {
+    let model = model_of(rt, alloc, Standard::Atomic.text());
+    let kept = commits(rt, alloc, times);
+    let mut nth = 0u64;
+    for refused in 0..MOST {
+        nth = nth.wrapping_add(if refused < first { 1 } else { step });
+        heap.refuse(nth);
+        let verdict = verdict_on(rt, alloc, &model, kept.as_slice(), 0);
+        let was_refused = !heap.is_waiting();
+        heap.refuse(0);
+        holds(rt, verdict.is_none() == was_refused, "a verdict");
+        if let Some(verdict) = verdict {
+            let are_due = are_of_commits(verdict.faults.as_slice(), times);
+            holds(rt, are_due, "a verdict");
+            drop(verdict);
+            drop(kept);
+            drop(model);
+            return refused;
+        }
+    }
+    rt.panic("a verdict makes too many allocations")
 }
 
 // The allocator may be shared by threads, since the one inside it may.
@@ -113,34 +117,32 @@ fn refuse_all<R: Threads + Sync + Abort, B: Allocator + Send + Sync>(
     rt: &R,
     other: Global,
     heap: &Refusing<B>,
-    is_long: bool,
 ) {
-    let on = Setting {
-        rt,
-        alloc: heap,
-        other,
-    };
-    if is_long {
-        refuse_commits(&on, heap, (256, 1));
-        refuse_commits(&on, heap, (4_096, 128));
-        return;
-    }
     for list in by_model() {
-        refuse_lists(&on, heap, list, 0);
+        refuse_lists(rt, (heap, heap, other), list, 0);
     }
     for list in with_two() {
-        refuse_lists(&on, heap, list, 3);
+        refuse_lists(rt, (heap, heap, other), list, 0);
+        refuse_lists(rt, (heap, heap, other), list, 3);
     }
 }
 
 #[test]
 fn verdicts_on_lists(rt: HostRuntime) {
     let heap = Refusing::new(rt.alloc());
-    refuse_all(&rt, rt.alloc(), &heap, false);
+    refuse_all(&rt, rt.alloc(), &heap);
+}
+
+// The same.
+fn refuse_many<R: Threads + Sync + Abort, B: Allocator + Send + Sync>(rt: &R, heap: &Refusing<B>) {
+    let refused = refuse_commits(rt, (heap, heap), 256, (MOST, 1));
+    at_least(rt, refused, 80, "256 commits");
+    let refused = refuse_commits(rt, (heap, heap), 4_096, (48, 128));
+    at_least(rt, refused, 50, "4,096 commits");
 }
 
 #[test]
 fn verdicts_on_many_faults(rt: HostRuntime) {
     let heap = Refusing::new(rt.alloc());
-    refuse_all(&rt, rt.alloc(), &heap, true);
+    refuse_many(&rt, &heap);
 }

@@ -29,14 +29,14 @@ fn machine_after<A: Handle>(
 
 // A machine that has taken the events before takes one more.
 #[derive(Drop)]
-struct Taking<'a, R, A: Handle> {
-    on: &'a Setting<'a, R, A>,
+struct Taking<'a, 's, R, A: Handle> {
+    on: &'a Setting<'s, R, A>,
     model: &'a Model<A>,
     before: &'a [Event<A>],
     event: &'a Event<A>,
 }
 
-impl<'a, R: Abort, A: Handle> Case for Taking<'a, R, A> {
+impl<'a, 's, R: Abort, A: Handle> Case for Taking<'a, 's, R, A> {
     type State = Machine<A>;
 
     type Answer = Answer;
@@ -66,6 +66,23 @@ impl<'a, R: Abort, A: Handle> Case for Taking<'a, R, A> {
     }
 }
 
+// One event more, each allocation refused. Returns how many were.
+fn refuse_event<'a, 's, R: Abort, A: Handle, B: Allocator>(
+    on: &'a Setting<'s, R, A>,
+    heap: &Refusing<B>,
+    model: &'a Model<A>,
+    (before, event): (&'a [Event<A>], &'a Event<A>),
+    due: &str,
+) -> u64 {
+    let case = Taking {
+        on,
+        model,
+        before,
+        event,
+    };
+    refuse(on.rt, heap, &case, due)
+}
+
 // A machine takes the events of the lines one after another, each allocation of each refused. Returns how many were.
 fn refuse_events<R: Abort, A: Handle, B: Allocator>(
     on: &Setting<'_, R, A>,
@@ -78,13 +95,8 @@ fn refuse_events<R: Abort, A: Handle, B: Allocator>(
     for line in lines.lines() {
         let (said, due) = call_and_answer(on.rt, line);
         let event = event_of(on.rt, on.alloc, &model, said);
-        let case = Taking {
-            on,
-            model: &model,
-            before: before.as_slice(),
-            event: &event,
-        };
-        refused = refused.wrapping_add(refuse(on.rt, heap, &case, due));
+        let more = refuse_event(&*on, heap, &model, (before.as_slice(), &event), due);
+        refused = refused.wrapping_add(more);
         made(on.rt, before.push(event), line);
     }
     drop(before);
@@ -215,8 +227,8 @@ fn events_that_machines_take(rt: HostRuntime) {
 
 // What a machine is asked.
 #[derive(Drop)]
-struct Asking<'a, R, A: Handle> {
-    on: &'a Setting<'a, R, A>,
+struct Asking<'a, 's, R, A: Handle> {
+    on: &'a Setting<'s, R, A>,
     model: &'a Model<A>,
     events: &'a [Event<A>],
     call: &'a str,
@@ -259,7 +271,7 @@ fn put_order<A: Handle>(
 
 // Adds what the machine, or its history, answers.
 fn put_answer<R: Abort, A: Handle>(
-    asking: &Asking<'_, R, A>,
+    asking: &Asking<'_, '_, R, A>,
     text: &mut String,
     machine: &Machine<A>,
 ) -> Result<(), AllocError> {
@@ -279,7 +291,7 @@ fn put_answer<R: Abort, A: Handle>(
     Ok(())
 }
 
-impl<'a, R: Abort, A: Handle> Case for Asking<'a, R, A> {
+impl<'a, 's, R: Abort, A: Handle> Case for Asking<'a, 's, R, A> {
     type State = Machine<A>;
 
     type Answer = String;
@@ -355,11 +367,11 @@ const ORDER: &str = "serial order -- OpNo(2) OpNo(3) OpNo(1) OpNo(5)";
 
 // A machine that is made of another, or of its model or its events.
 #[derive(Drop)]
-struct Making<'a, R, A: Handle> {
-    asking: Asking<'a, R, A>,
+struct Making<'a, 's, R, A: Handle> {
+    asking: Asking<'a, 's, R, A>,
 }
 
-impl<'a, R: Abort, A: Handle> Case for Making<'a, R, A> {
+impl<'a, 's, R: Abort, A: Handle> Case for Making<'a, 's, R, A> {
     type State = Machine<A>;
 
     type Answer = Machine<A>;
@@ -399,6 +411,27 @@ impl<'a, R: Abort, A: Handle> Case for Making<'a, R, A> {
     }
 }
 
+// What a machine is asked, each allocation refused. Returns how many were.
+fn refuse_answer<'a, 's, R: Abort, A: Handle, B: Allocator>(
+    on: &'a Setting<'s, R, A>,
+    heap: &Refusing<B>,
+    model: &'a Model<A>,
+    (events, call): (&'a [Event<A>], &'a str),
+    due: &str,
+) -> u64 {
+    let asking = Asking {
+        on,
+        model,
+        events,
+        call,
+    };
+    if matches!(call, "copy" | "run" | "new") {
+        refuse(on.rt, heap, &Making { asking }, due)
+    } else {
+        refuse(on.rt, heap, &asking, due)
+    }
+}
+
 // Asks a machine what the lines say, each allocation refused. Returns how many were.
 fn refuse_answers<R: Abort, A: Handle, B: Allocator>(
     on: &Setting<'_, R, A>,
@@ -410,17 +443,7 @@ fn refuse_answers<R: Abort, A: Handle, B: Allocator>(
     let (events, mut refused) = (events_of(on.rt, on.alloc, &model, events), 0u64);
     for line in lines.lines() {
         let (call, due) = asked_and_answer(on.rt, line);
-        let case = Asking {
-            on,
-            model: &model,
-            events: events.as_slice(),
-            call,
-        };
-        let more = if matches!(call, "copy" | "run" | "new") {
-            refuse(on.rt, heap, &Making { asking: case }, due)
-        } else {
-            refuse(on.rt, heap, &case, due)
-        };
+        let more = refuse_answer(&*on, heap, &model, (events.as_slice(), call), due);
         refused = refused.wrapping_add(more);
     }
     drop(events);

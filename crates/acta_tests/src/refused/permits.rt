@@ -54,13 +54,13 @@ fn make<A: Handle>(permits: &mut Permits<A>, change: Change) -> Result<(), Alloc
 
 // After some changes, one more.
 #[derive(Drop)]
-struct Changing<'a, R, A: Handle> {
-    on: &'a Setting<'a, R, A>,
+struct Changing<'a, 's, R, A: Handle> {
+    on: &'a Setting<'s, R, A>,
     before: &'a [Change],
     change: Change,
 }
 
-impl<'a, R: Abort, A: Handle> Changing<'a, R, A> {
+impl<'a, 's, R: Abort, A: Handle> Changing<'a, 's, R, A> {
     // Adds what a transaction was permitted.
     fn put_given(&self, text: &mut String, permits: &Permits<A>, t: u16) {
         let given = made(self.on.rt, permits.given_to(TxnId(t)), "permits");
@@ -71,7 +71,7 @@ impl<'a, R: Abort, A: Handle> Changing<'a, R, A> {
     }
 }
 
-impl<'a, R: Abort, A: Handle> Case for Changing<'a, R, A> {
+impl<'a, 's, R: Abort, A: Handle> Case for Changing<'a, 's, R, A> {
     type State = Permits<A>;
 
     type Answer = ();
@@ -103,12 +103,12 @@ impl<'a, R: Abort, A: Handle> Case for Changing<'a, R, A> {
 
 // What permits are asked.
 #[derive(Drop)]
-struct Asking<'a, R, A: Handle> {
-    changing: Changing<'a, R, A>,
+struct Asking<'a, 's, R, A: Handle> {
+    changing: Changing<'a, 's, R, A>,
     call: &'a str,
 }
 
-impl<'a, R: Abort, A: Handle> Case for Asking<'a, R, A> {
+impl<'a, 's, R: Abort, A: Handle> Case for Asking<'a, 's, R, A> {
     type State = Permits<A>;
 
     type Answer = String;
@@ -167,23 +167,47 @@ const ANSWERS: [(&str, &str); 3] = [
     ("copy", " true"),
 ];
 
+// One change more, each allocation refused. Returns how many were.
+fn refuse_change<'a, 's, R: Abort, A: Handle, B: Allocator>(
+    on: &'a Setting<'s, R, A>,
+    heap: &Refusing<B>,
+    before: &'a [Change],
+    change: Change,
+    due: &str,
+) -> u64 {
+    refuse(on.rt, heap, &Changing { on, before, change }, due)
+}
+
+// What permits are asked after some changes, each allocation refused. Returns how many were.
+fn refuse_answer<'a, 's, R: Abort, A: Handle, B: Allocator>(
+    on: &'a Setting<'s, R, A>,
+    heap: &Refusing<B>,
+    before: &'a [Change],
+    call: &'a str,
+    due: &str,
+) -> u64 {
+    // (the last change has no part in it)
+    let change = Change {
+        txn: TxnId(0),
+        given: None,
+    };
+    let changing = Changing { on, before, change };
+    refuse(on.rt, heap, &Asking { changing, call }, due)
+}
+
 fn refuse_all<R: Abort, A: Handle, B: Allocator>(on: &Setting<'_, R, A>, heap: &Refusing<B>) {
     let (mut changes, mut refused) = (Vec::new(on.other), 0u64);
     for line in CHANGES.lines() {
         let (said, due) = asked_and_answer(on.rt, line);
         let change = change_of(on.rt, said);
-        let before = changes.as_slice();
-        let case = Changing { on, before, change };
-        refused = refused.wrapping_add(refuse(on.rt, heap, &case, due));
+        let more = refuse_change(&*on, heap, changes.as_slice(), change, due);
+        refused = refused.wrapping_add(more);
         made(on.rt, changes.push(change), line);
     }
+    let before = changes.get(..GIVEN).unwrap_or(&[]);
     for (call, due) in ANSWERS {
-        let (before, change) = (
-            &changes[..GIVEN.min(changes.len())],
-            change_of(on.rt, "ended 6"),
-        );
-        let changing = Changing { on, before, change };
-        refused = refused.wrapping_add(refuse(on.rt, heap, &Asking { changing, call }, due));
+        let more = refuse_answer(&*on, heap, before, call, due);
+        refused = refused.wrapping_add(more);
     }
     at_least(on.rt, refused, 15, "permits");
 }

@@ -77,13 +77,13 @@ fn mark_of(fate: Fate) -> &'static str {
 
 // A table that was changed as the events before do is changed as one more does.
 #[derive(Drop)]
-struct Changing<'a, R, A: Handle> {
-    on: &'a Setting<'a, R, A>,
+struct Changing<'a, 's, R, A: Handle> {
+    on: &'a Setting<'s, R, A>,
     before: &'a [Event<A>],
     event: &'a Event<A>,
 }
 
-impl<'a, R: Abort, A: Handle> Case for Changing<'a, R, A> {
+impl<'a, 's, R: Abort, A: Handle> Case for Changing<'a, 's, R, A> {
     type State = OpTable<A>;
 
     type Answer = ();
@@ -115,6 +115,16 @@ impl<'a, R: Abort, A: Handle> Case for Changing<'a, R, A> {
     }
 }
 
+// One change more, each allocation refused. Returns how many were.
+fn refuse_change<'a, 's, R: Abort, A: Handle, B: Allocator>(
+    on: &'a Setting<'s, R, A>,
+    heap: &Refusing<B>,
+    (before, event): (&'a [Event<A>], &'a Event<A>),
+    due: &str,
+) -> u64 {
+    refuse(on.rt, heap, &Changing { on, before, event }, due)
+}
+
 // The changes of the lines, one after another. Returns how many allocations were refused.
 fn refuse_changes<R: Abort, A: Handle, B: Allocator>(
     on: &Setting<'_, R, A>,
@@ -126,12 +136,8 @@ fn refuse_changes<R: Abort, A: Handle, B: Allocator>(
     for line in lines.lines() {
         let (said, due) = asked_and_answer(on.rt, line);
         let event = event_of(on.rt, on.alloc, &model, said);
-        let case = Changing {
-            on,
-            before: before.as_slice(),
-            event: &event,
-        };
-        refused = refused.wrapping_add(refuse(on.rt, heap, &case, due));
+        let more = refuse_change(&*on, heap, (before.as_slice(), &event), due);
+        refused = refused.wrapping_add(more);
         made(on.rt, before.push(event), line);
     }
     drop(before);

@@ -13,8 +13,8 @@ use std::process::Abort;
 
 // A call that starts from nothing.
 #[derive(Drop)]
-struct Making<'a, R, A: Allocator> {
-    on: &'a Setting<'a, R, A>,
+struct Making<'a, 's, R, A: Allocator> {
+    on: &'a Setting<'s, R, A>,
     call: &'a str,
 }
 
@@ -80,7 +80,7 @@ fn put_made<A: Allocator + Copy>(
     Ok(())
 }
 
-impl<'a, R: Abort, A: Allocator + Copy> Case for Making<'a, R, A> {
+impl<'a, 's, R: Abort, A: Allocator + Copy> Case for Making<'a, 's, R, A> {
     type State = ();
 
     type Answer = String;
@@ -114,13 +114,23 @@ event -- Delegate
 start edges -- 2
 items -- [120]";
 
+// A call, each allocation refused. Returns how many were.
+fn refuse_call<'a, 's, R: Abort, A: Allocator + Copy, B: Allocator>(
+    on: &'a Setting<'s, R, A>,
+    heap: &Refusing<B>,
+    call: &'a str,
+    due: &str,
+) -> u64 {
+    refuse(on.rt, heap, &Making { on, call }, due)
+}
+
 fn refuse_calls<R: Abort, A: Allocator + Copy, B: Allocator>(
     on: &Setting<'_, R, A>,
     heap: &Refusing<B>,
 ) {
     for line in CALLS.lines() {
         let (call, due) = asked_and_answer(on.rt, line);
-        let refused = refuse(on.rt, heap, &Making { on, call }, due);
+        let refused = refuse_call(&*on, heap, call, due);
         at_least(on.rt, refused, 2, line);
     }
 }

@@ -29,13 +29,13 @@ fn walked<'a, A: Handle>(
 
 // A walk before the last item of a list takes that item.
 #[derive(Drop)]
-struct Stepping<'a, R, A: Handle> {
-    on: &'a Setting<'a, R, A>,
+struct Stepping<'a, 's, R, A: Handle> {
+    on: &'a Setting<'s, R, A>,
     model: &'a Model<A>,
     kept: &'a [Kept<A>],
 }
 
-impl<'a, R: Abort, A: Handle> Case for Stepping<'a, R, A> {
+impl<'a, 's, R: Abort, A: Handle> Case for Stepping<'a, 's, R, A> {
     type State = Walk<'a, A>;
 
     type Answer = ();
@@ -56,6 +56,17 @@ impl<'a, R: Abort, A: Handle> Case for Stepping<'a, R, A> {
     fn read(&self, walk: &Walk<'a, A>) -> String {
         of_walk(self.on.rt, self.on.other, walk)
     }
+}
+
+// One step to the last item, each allocation refused. Returns how many were.
+fn refuse_step<'a, 's, R: Abort, A: Handle, B: Allocator>(
+    on: &'a Setting<'s, R, A>,
+    heap: &Refusing<B>,
+    model: &'a Model<A>,
+    kept: &'a [Kept<A>],
+    due: &str,
+) -> u64 {
+    refuse(on.rt, heap, &Stepping { on, model, kept }, due)
 }
 
 // What a walk answers that has taken all items of the list.
@@ -82,13 +93,9 @@ fn refuse_steps<R: Abort, A: Handle, B: Allocator>(
     for line in lines.lines() {
         let event = event_of(on.rt, on.alloc, &model, line);
         made(on.rt, kept.push(Kept { event, ret: None }), line);
-        let case = Stepping {
-            on,
-            model: &model,
-            kept: kept.as_slice(),
-        };
-        let due = at_end(on, &model, kept.as_slice());
-        refused = refused.wrapping_add(refuse(on.rt, heap, &case, due.as_str()));
+        let due = at_end(&*on, &model, kept.as_slice());
+        let more = refuse_step(&*on, heap, &model, kept.as_slice(), due.as_str());
+        refused = refused.wrapping_add(more);
     }
     drop(kept);
     drop(model);
@@ -164,8 +171,8 @@ fn steps_of_walks(rt: HostRuntime) {
 
 // What a walk to the end of a list is asked.
 #[derive(Drop)]
-struct Asking<'a, R, A: Handle> {
-    on: &'a Setting<'a, R, A>,
+struct Asking<'a, 's, R, A: Handle> {
+    on: &'a Setting<'s, R, A>,
     model: &'a Model<A>,
     kept: &'a [Kept<A>],
     call: &'a str,
@@ -173,7 +180,7 @@ struct Asking<'a, R, A: Handle> {
 
 // Adds what the walk answers.
 fn put_answer<R: Abort, A: Handle>(
-    asking: &Asking<'_, R, A>,
+    asking: &Asking<'_, '_, R, A>,
     text: &mut String,
     walk: &Walk<'_, A>,
 ) -> Result<(), AllocError> {
@@ -195,7 +202,7 @@ fn put_answer<R: Abort, A: Handle>(
     Ok(())
 }
 
-impl<'a, R: Abort, A: Handle> Case for Asking<'a, R, A> {
+impl<'a, 's, R: Abort, A: Handle> Case for Asking<'a, 's, R, A> {
     type State = Walk<'a, A>;
 
     type Answer = String;
@@ -252,18 +259,30 @@ value -- 3
 no value --
 return -- Some(Value(10))";
 
+// What a walk is asked, each allocation refused. Returns how many were.
+fn refuse_answer<'a, 's, R: Abort, A: Handle, B: Allocator>(
+    on: &'a Setting<'s, R, A>,
+    heap: &Refusing<B>,
+    model: &'a Model<A>,
+    (kept, call): (&'a [Kept<A>], &'a str),
+    due: &str,
+) -> u64 {
+    let case = Asking {
+        on,
+        model,
+        kept,
+        call,
+    };
+    refuse(on.rt, heap, &case, due)
+}
+
 fn refuse_answers<R: Abort, A: Handle, B: Allocator>(on: &Setting<'_, R, A>, heap: &Refusing<B>) {
     let model = model_of(on.rt, on.alloc, LENDING);
     let (kept, mut refused) = (items_of(on.rt, on.alloc, &model, ITEMS), 0u64);
     for line in ANSWERS.lines() {
         let (call, due) = asked_and_answer(on.rt, line);
-        let case = Asking {
-            on,
-            model: &model,
-            kept: kept.as_slice(),
-            call,
-        };
-        refused = refused.wrapping_add(refuse(on.rt, heap, &case, due));
+        let more = refuse_answer(&*on, heap, &model, (kept.as_slice(), call), due);
+        refused = refused.wrapping_add(more);
     }
     at_least(on.rt, refused, 25, ANSWERS);
     drop(kept);
