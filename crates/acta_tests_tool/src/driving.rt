@@ -84,7 +84,7 @@ const ONE: &str = "\
 1 commit 1
 ";
 
-// Returns how many events a verdict is on, which has no faults and no debts.
+// Returns the number of events that the line of a verdict has. The verdict has no faults and no debts.
 fn length_of(rt: &impl Abort, line: Option<&str>) -> u64 {
     let line = line.expect(rt, "a verdict");
     let length = line.strip_prefix("front ").expect(rt, line);
@@ -92,7 +92,7 @@ fn length_of(rt: &impl Abort, line: Option<&str>) -> u64 {
     made(rt, length.parse::<u64>(), line)
 }
 
-// The two verdicts of the watcher follow the entries, and the second is on no fewer events than the first.
+// Two verdicts follow the entries, and the second is about no fewer events than the first.
 #[test]
 fn one_watched_worker(rt: HostRuntime) {
     let command = Command::Drive {

@@ -11,7 +11,7 @@ pub fn made<T, E: Debug>(rt: &impl Abort, called: Result<T, E>, line: &str) -> T
     called.expect(rt, line)
 }
 
-/// Returns the two parts of a line, before and after the first of these words.
+/// Returns the two parts of a line, before and after the first place of the word.
 pub fn parted<'a>(rt: &impl Abort, line: &'a str, word: &str) -> (&'a str, &'a str) {
     line.split_once(word).expect(rt, line)
 }

@@ -48,7 +48,7 @@ fn serve<R: Threads + Sync, B: Allocator + Send + Sync>(
     draw_tool(heap, &drawing, screen, model, &mut input, &mut output)
 }
 
-// A run of `explain` or `draw`, and its output. The state is what the run has written.
+// A run of `explain` or `draw`, and the output that it should have. Its state is the output.
 #[derive(Drop)]
 struct Explaining<'a, R, B: Allocator> {
     rt: &'a R,
@@ -75,7 +75,7 @@ impl<'a, R: Threads + Sync + Abort, B: Allocator + Send + Sync> Case for Explain
         }
     }
 
-    // The exit status, where the output is the due one.
+    // The exit status. The output is compared as bytes.
     fn tell(&self, answer: &Outcome, output: &Vec<u8>) -> String {
         tells(self.rt, output.as_slice(), self.due, self.input);
         status(self.rt, self.other, *answer)

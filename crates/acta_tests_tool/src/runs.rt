@@ -41,7 +41,7 @@ struct Row<'a> {
     output: Vec<u8>,
 }
 
-// A run of a case. The state is what the run has written.
+// A run of a case. Its state is the output.
 #[derive(Drop)]
 struct Running<'a, R, B: Allocator> {
     rt: &'a R,
