@@ -1,4 +1,5 @@
-//! Readers and writers that fail, and a reader without end.
+//! Readers and writers that fail, a reader without end, and the longest input. No contract says that `Metered` reads
+//! once for each read of its own and passes each error on, nor that `Watched` does so with writes.
 
 use crate::expecting::{counts, holds, made, tells};
 use acta_models::Standard;
@@ -9,12 +10,7 @@ use std::io::{ErrorKind, Read, Write};
 use std::process::Abort;
 use std::thread::Threads;
 
-// The text of the model that is run.
-fn text() -> &'static [u8] {
-    Standard::Atomic.text().as_bytes()
-}
-
-// The run of a model's text over this reader and writer.
+// Runs flat transactions, or the text of another model, over a reader and a writer.
 fn run<T: Threads + Sync, R: Read, W: Write>(
     rt: &T,
     alloc: Global,
@@ -32,12 +28,15 @@ fn run<T: Threads + Sync, R: Read, W: Write>(
     run_tool(rt, alloc, &args, text, &mut input, &mut output)
 }
 
-/// Gives its bytes in pieces, or one byte at each read without end, fails at one read, and counts the reads.
+fn text() -> &'static [u8] {
+    Standard::Atomic.text().as_bytes()
+}
+
+// A reader that gives its bytes in pieces, fails at one read, and counts the reads.
 #[derive(Drop)]
 struct Pieces<'a> {
     rest: &'a [u8],
     piece: usize,
-    is_unending: bool,
     fails_at: u32,
     reads: u32,
 }
@@ -48,15 +47,6 @@ impl<'a> Read for Pieces<'a> {
         if self.reads == self.fails_at {
             return Err(io::Error::from(ErrorKind::Other));
         }
-        if self.is_unending {
-            return match buf {
-                [] => Ok(0),
-                [first, ..] => {
-                    *first = b'#';
-                    Ok(1)
-                }
-            };
-        }
         let n = self.piece.min(self.rest.len()).min(buf.len());
         let (front, rest) = self.rest.split_at(n);
         buf[..n].copy_from_slice(front);
@@ -65,7 +55,63 @@ impl<'a> Read for Pieces<'a> {
     }
 }
 
-/// Fails at every write, or takes every write and fails at the flush, and counts the writes.
+// Reads a line in pieces of 2 bytes, where this read fails. The run ends so, after so many reads.
+fn fail_at(
+    rt: &(impl Threads + Sync + Abort),
+    alloc: Global,
+    fails_at: u32,
+    (due, reads, written): (Outcome, u32, &[u8]),
+) {
+    let mut input = Pieces {
+        rest: b"begin 1 flat\n",
+        piece: 2,
+        fails_at,
+        reads: 0,
+    };
+    let mut output = Vec::new(alloc);
+    let ended = run(rt, alloc, text(), &mut input, &mut output);
+    holds(rt, ended == due, "a read that fails");
+    counts(rt, u64::from(input.reads), u64::from(reads), "reads");
+    tells(rt, output.as_slice(), written, "a read that fails");
+}
+
+// The line takes seven reads, and the eighth finds its end. No read follows the one that fails.
+#[test]
+fn each_read_fails_in_turn(rt: HostRuntime) {
+    for fails_at in 1..9u32 {
+        let due = (Outcome::Unread(ReadFault::Device), fails_at, b"".as_slice());
+        fail_at(&rt, rt.alloc(), fails_at, due);
+    }
+    let due = (Outcome::Done, 8, b"ok 1\n".as_slice());
+    fail_at(&rt, rt.alloc(), 9, due);
+}
+
+// A reader that fills each buffer with whatever is in it, without end, and counts the reads.
+#[derive(Drop)]
+struct Endless {
+    reads: u32,
+}
+
+impl Read for Endless {
+    fn read(&mut self, buf: &mut [u8]) -> io::Result<usize> {
+        self.reads = self.reads.saturating_add(1);
+        Ok(buf.len())
+    }
+}
+
+// The run reads as much as an input may have, in buffers of 4,096 bytes, and then once more.
+#[test]
+fn a_reader_without_end(rt: HostRuntime) {
+    let mut input = Endless { reads: 0 };
+    let mut output = Vec::new(rt.alloc());
+    let ended = run(&rt, rt.alloc(), text(), &mut input, &mut output);
+    let too_much = Outcome::Unread(ReadFault::TooMuch);
+    holds(&rt, ended == too_much, "a reader without end");
+    counts(&rt, u64::from(input.reads), 4_097, "reads");
+    holds(&rt, output.is_empty(), "a reader without end");
+}
+
+// A writer that fails at every write, or takes every write and fails at the flush, and counts the writes.
 #[derive(Drop)]
 struct Stuck {
     takes: bool,
@@ -91,96 +137,45 @@ impl Write for Stuck {
     }
 }
 
-const LINE: &[u8] = b"begin 1 flat\n";
-
-// The line is read in pieces of so many bytes, or without end, where this read fails: the run ends so, behind so many
-// reads, and this is told.
-fn expect(
-    rt: &(impl Threads + Sync + Abort),
-    alloc: Global,
-    (piece, is_unending, fails_at): (usize, bool, u32),
-    (due, reads, told): (Outcome, u32, &[u8]),
-    row: &str,
-) {
-    let mut input = Pieces {
-        rest: LINE,
-        piece,
-        is_unending,
-        fails_at,
-        reads: 0,
-    };
-    let mut output = Vec::new(alloc);
-    let ended = run(rt, alloc, text(), &mut input, &mut output);
-    holds(rt, ended == due, row);
-    counts(rt, u64::from(input.reads), u64::from(reads), row);
-    tells(rt, output.as_slice(), told, row);
-}
-
-// Each read fails in turn, of 13 bytes in pieces of 2, and a read that gives none; then none fails.
-#[test]
-fn each_read_fails_in_turn(rt: HostRuntime) {
-    for fails_at in 1..9u32 {
-        let due = (Outcome::Unread(ReadFault::Device), fails_at, b"".as_slice());
-        expect(
-            &rt,
-            rt.alloc(),
-            (2, false, fails_at),
-            due,
-            "a read that fails",
-        );
-    }
-    let due = (Outcome::Done, 8, b"ok 1\n".as_slice());
-    expect(&rt, rt.alloc(), (2, false, 9), due, "no read that fails");
-}
-
-#[test]
-fn a_reader_without_end(rt: HostRuntime) {
-    let due = (
-        Outcome::Unread(ReadFault::TooMuch),
-        16_777_217,
-        b"".as_slice(),
-    );
-    expect(&rt, rt.alloc(), (1, true, 0), due, "a reader without end");
-}
-
-// A writer that takes a write, or takes none, is written to once.
-fn is_stuck(rt: &(impl Threads + Sync + Abort), alloc: Global, takes: bool, row: &str) {
-    let mut input = LINE;
+// The run writes once, and then no more.
+fn is_stuck(rt: &(impl Threads + Sync + Abort), alloc: Global, takes: bool, writer: &str) {
+    let mut input = b"begin 1 flat\n".as_slice();
     let mut output = Stuck { takes, writes: 0 };
     let ended = run(rt, alloc, text(), &mut input, &mut output);
-    holds(rt, ended == Outcome::Unwritten, row);
-    counts(rt, u64::from(output.writes), 1, row);
+    holds(rt, ended == Outcome::Unwritten, writer);
+    counts(rt, u64::from(output.writes), 1, writer);
 }
 
 #[test]
 fn writers(rt: HostRuntime) {
-    is_stuck(&rt, rt.alloc(), false, "a writer that takes no write");
-    is_stuck(&rt, rt.alloc(), true, "a writer that takes a write");
+    is_stuck(&rt, rt.alloc(), false, "a writer that fails at a write");
+    is_stuck(&rt, rt.alloc(), true, "a writer that fails at a flush");
 }
 
-// How the run of the text over this input ends. Nothing is told.
+// Runs a model's text on an input. The run ends so, and has written nothing.
 fn ends(
     rt: &(impl Threads + Sync + Abort),
     alloc: Global,
-    text: &[u8],
-    mut input: &[u8],
-) -> Outcome {
+    (text, mut input): (&[u8], &[u8]),
+    due: Outcome,
+    row: &str,
+) {
     let mut output = Vec::new(alloc);
     let ended = run(rt, alloc, text, &mut input, &mut output);
-    holds(rt, output.is_empty(), "a long input");
-    ended
+    holds(rt, ended == due, row);
+    holds(rt, output.is_empty(), row);
 }
 
-// The longest input is answered, and one byte more is not; nor is a model that is as long.
+// An input or a model that is one byte longer is too long.
 #[test]
 fn the_longest_input(rt: HostRuntime) {
     let too_much = Outcome::Unread(ReadFault::TooMuch);
     let mut bytes = made(&rt, vec![in rt.alloc(); b'#'; 16_777_216], "a long input");
-    let ended = ends(&rt, rt.alloc(), text(), bytes.as_slice());
-    holds(&rt, ended == Outcome::Done, "the longest input");
+    let long = (text(), bytes.as_slice());
+    ends(&rt, rt.alloc(), long, Outcome::Done, "the longest input");
     made(&rt, bytes.push(b'#'), "a longer input");
-    let ended = ends(&rt, rt.alloc(), text(), bytes.as_slice());
-    holds(&rt, ended == too_much, "a longer input");
-    let ended = ends(&rt, rt.alloc(), bytes.as_slice(), b"");
-    holds(&rt, ended == too_much, "a longer model");
+    let longer = (text(), bytes.as_slice());
+    ends(&rt, rt.alloc(), longer, too_much, "a longer input");
+    let model = (bytes.as_slice(), b"".as_slice());
+    ends(&rt, rt.alloc(), model, too_much, "a longer model");
 }

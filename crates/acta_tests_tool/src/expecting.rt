@@ -1,36 +1,51 @@
-//! Rows taken apart, what is found at a row held against what is due there, and what a call gave that must not fail,
-//! each in a function of its own: where a test ends nothing is dropped, so who expects it is proved sooner. (Each crate
-//! of tests has its own, since no library may abort.)
+//! Assertions of the tests, each in a function of its own. A test that fails ends there without dropping anything, so
+//! the function that asserts is proved sooner. (Each crate of tests has its own, since no library may abort.)
 
+use refusing::{Case, Refusing, refuse_each};
+use std::alloc::Allocator;
 use std::fmt::Debug;
 use std::process::Abort;
 
-/// What the call at this row gave. A call that fails ends the test.
-pub fn made<T, E: Debug>(rt: &impl Abort, called: Result<T, E>, row: &str) -> T {
-    called.expect(rt, row)
+/// Returns the result of the call at this line. A call that fails ends the test.
+pub fn made<T, E: Debug>(rt: &impl Abort, called: Result<T, E>, line: &str) -> T {
+    called.expect(rt, line)
 }
 
-/// What stands before the mark of a row, and behind it.
-pub fn parted<'a>(rt: &impl Abort, row: &'a str, mark: &str) -> (&'a str, &'a str) {
-    row.split_once(mark).expect(rt, row)
+/// Returns the two parts of a line, before and after the first place of the word.
+pub fn parted<'a>(rt: &impl Abort, line: &'a str, word: &str) -> (&'a str, &'a str) {
+    line.split_once(word).expect(rt, line)
 }
 
-/// The number that a word is.
-pub fn number(rt: &impl Abort, word: &str) -> u64 {
-    word.parse().ok().expect(rt, word)
+/// Asserts that the condition holds.
+pub fn holds(rt: &impl Abort, is_so: bool, line: &str) {
+    assert!(rt; is_so, "at {line}");
 }
 
-/// It is so at the row.
-pub fn holds(rt: &impl Abort, is_so: bool, row: &str) {
-    assert!(rt; is_so, "at {row}");
+/// Asserts that the bytes are the expected ones.
+pub fn tells(rt: &impl Abort, found: &[u8], due: &[u8], line: &str) {
+    assert_eq!(rt; found, due, "at {line}");
 }
 
-/// What is told is what is due at the row.
-pub fn tells(rt: &impl Abort, told: &[u8], due: &[u8], row: &str) {
-    assert_eq!(rt; told, due, "at {row}");
+/// Asserts that the number is the expected one.
+pub fn counts(rt: &impl Abort, found: u64, due: u64, line: &str) {
+    assert_eq!(rt; found, due, "at {line}");
 }
 
-/// So many are what is due at the row.
-pub fn counts(rt: &impl Abort, count: u64, due: u64, row: &str) {
-    assert_eq!(rt; count, due, "at {row}");
+/// Refuses each allocation of the call of a case, which answers `due`. Returns how many allocations were refused.
+pub fn refuse<B: Allocator, C: Case>(
+    rt: &impl Abort,
+    heap: &Refusing<B>,
+    case: &C,
+    due: &str,
+    line: &str,
+) -> u64 {
+    made(rt, refuse_each(heap, case, due), line)
+}
+
+/// Asserts that at least so many allocations were refused.
+pub fn at_least(rt: &impl Abort, refused: u64, least: u64, calls: &str) {
+    assert!(rt;
+        refused >= least,
+        "only {refused} refused allocations of {calls}"
+    );
 }

@@ -1,12 +1,13 @@
-//! Tests of what reaches the program: texts, lines, command lines and whole runs, as text; hostile bytes, readers and
-//! writers that fail, and each refused allocation. The values that they expect were computed by hand.
+//! Tests of the libraries beneath the program, for mistakes that neither a contract nor a case of `cases/` excludes.
+//! They refuse each allocation of a call or of a whole run, use readers and writers that fail, damage images, and run
+//! several workers.
 //!
-//! A helper that owns a model, an event or a case gives it to `drop` at its end: who lets it go by itself lets go of
-//! each of its parts, and each is proved there.
+//! A helper that owns a model, an event or a case gives it to `drop` at its end: otherwise each of its parts is dropped
+//! there, and each drop is proved there.
 #![tactic(auto)]
 
 #[cfg(test)]
-mod debugging;
+mod calls;
 #[cfg(test)]
 mod devices;
 #[cfg(test)]
@@ -14,24 +15,8 @@ mod driving;
 #[cfg(test)]
 mod expecting;
 #[cfg(test)]
-mod explaining;
+mod explained;
 #[cfg(test)]
 mod images;
 #[cfg(test)]
-mod judging;
-#[cfg(test)]
-mod lines;
-#[cfg(test)]
-mod permits;
-#[cfg(test)]
-mod refusals;
-#[cfg(test)]
-mod running;
-#[cfg(test)]
-mod serializing;
-#[cfg(test)]
-mod texts;
-#[cfg(test)]
-mod tour;
-#[cfg(test)]
-mod tracing;
+mod runs;

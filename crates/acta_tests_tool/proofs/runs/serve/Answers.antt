@@ -1,5 +1,5 @@
 -- Any thread may give a block back: it is one of the allocator inside.
-use Rattle.acta_tests_tool.proofs.running.serve.Goals as goal
+use Rattle.acta_tests_tool.proofs.runs.serve.Goals as goal
 
 pub drive_tool-requires-frees-A-Allocator : goal.drive_tool-requires-frees-A-Allocator
 drive_tool-requires-frees-A-Allocator g c κs within = record { frees = λ r τ p. c.type_bounds.frees-B-Allocator.frees r.now.inner τ p }

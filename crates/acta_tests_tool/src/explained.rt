@@ -1,0 +1,191 @@
+//! Runs of `explain` and `draw`, each allocation refused in turn; and events that no line can have, explained.
+
+use crate::expecting::{at_least, made, refuse, tells};
+use crate::runs::status;
+use acta_draw::{Choice, Drawing, Form, Screen, draw_tool};
+use acta_explain::{Spoken, Telling, explain_tool};
+use acta_lang::assemble;
+use acta_models::Standard;
+use acta_table::{ClassId, Event, ObjId, Op, TxnId};
+use acta_tool::{Metered, ModelName, Outcome, ReadFault, Watched};
+use refusing::{Case, Refusing};
+use std::alloc::{Allocator, Global};
+use std::process::Abort;
+use std::thread::Threads;
+
+// A command, on the model of recoverable transactions.
+#[derive(Clone, Copy, PartialEq, Eq, Debug)]
+enum Ask {
+    Explain,
+    Judge,
+    Draw,
+    DrawSvg,
+}
+
+// Runs a command on an input.
+fn serve<R: Threads + Sync, B: Allocator + Send + Sync>(
+    rt: &R,
+    heap: &Refusing<B>,
+    ask: Ask,
+    input: &str,
+    output: &mut Vec<u8>,
+) -> Outcome {
+    let model = Standard::Recoverable.text().as_bytes();
+    let name = ModelName::Standard(Standard::Recoverable);
+    let mut input = Metered::new(input.as_bytes());
+    let mut output = Watched::new(output);
+    let form = match ask {
+        Ask::Explain | Ask::Judge => {
+            let is_judged = ask == Ask::Judge;
+            return explain_tool(rt, heap, is_judged, name, model, &mut input, &mut output);
+        }
+        Ask::Draw => Form::Text { width: Some(100) },
+        Ask::DrawSvg => Form::Svg,
+    };
+    let choice = Choice::ALL;
+    let drawing = Drawing { form, choice };
+    let screen = Screen::PLAIN;
+    draw_tool(heap, &drawing, screen, model, &mut input, &mut output)
+}
+
+// A run of `explain` or `draw`, and the output that it should have. Its state is the output.
+#[derive(Drop)]
+struct Explaining<'a, R, B: Allocator> {
+    rt: &'a R,
+    other: Global,
+    heap: &'a Refusing<B>,
+    ask: Ask,
+    input: &'a str,
+    due: &'a [u8],
+}
+
+impl<'a, R: Threads + Sync + Abort, B: Allocator + Send + Sync> Case for Explaining<'a, R, B> {
+    type State = Vec<u8>;
+
+    type Answer = Outcome;
+
+    fn start(&self) -> Vec<u8> {
+        Vec::new(self.other)
+    }
+
+    fn call(&self, output: &mut Vec<u8>) -> Option<Outcome> {
+        match serve(self.rt, self.heap, self.ask, self.input, output) {
+            Outcome::Unread(ReadFault::Memory) => None,
+            ended => Some(ended),
+        }
+    }
+
+    // The exit status. The output is compared as bytes.
+    fn tell(&self, answer: &Outcome, output: &Vec<u8>) -> String {
+        tells(self.rt, output.as_slice(), self.due, self.input);
+        status(self.rt, self.other, *answer)
+    }
+
+    fn read(&self, output: &Vec<u8>) -> String {
+        let length = output.len();
+        made(self.rt, format!(in self.other; "{length}"), "a length")
+    }
+}
+
+// Refuses each allocation of a run, at least so many, and compares the output with that of a run with all its memory.
+fn refuse_run<R: Threads + Sync + Abort, B: Allocator + Send + Sync>(
+    rt: &R,
+    other: Global,
+    heap: &Refusing<B>,
+    (ask, input): (Ask, &str),
+    (due, least): (&str, u64),
+) {
+    let mut output = Vec::new(other);
+    serve(rt, heap, ask, input, &mut output);
+    let case = Explaining {
+        rt,
+        other,
+        heap,
+        ask,
+        input,
+        due: output.as_slice(),
+    };
+    let refused = refuse(rt, heap, &case, due, input);
+    at_least(rt, refused, least, input);
+}
+
+// The last event is refused, since its transaction waits for another.
+const EVENTS: &str = "\
+begin 1 loose
+begin 2 loose
+do 1 x write 5
+do 2 x read
+commit 2
+";
+
+// A history that breaks an axiom.
+const KEPT: &str = "\
+begin 1 loose
+do 1 x read = 9
+";
+
+// The second line is faulty.
+const FAULTY: &str = "\
+begin 1 loose
+begn 2 loose
+";
+
+#[test]
+fn explained(rt: HostRuntime) {
+    let heap = Refusing::new(rt.alloc());
+    refuse_run(&rt, rt.alloc(), &heap, (Ask::Explain, EVENTS), ("0", 50));
+}
+
+#[test]
+fn judged(rt: HostRuntime) {
+    let heap = Refusing::new(rt.alloc());
+    refuse_run(&rt, rt.alloc(), &heap, (Ask::Judge, KEPT), ("0", 20));
+    refuse_run(&rt, rt.alloc(), &heap, (Ask::Judge, FAULTY), ("1", 20));
+}
+
+#[test]
+fn faults(rt: HostRuntime) {
+    let heap = Refusing::new(rt.alloc());
+    refuse_run(&rt, rt.alloc(), &heap, (Ask::Explain, FAULTY), ("1", 20));
+    refuse_run(&rt, rt.alloc(), &heap, (Ask::Draw, FAULTY), ("1", 20));
+}
+
+#[test]
+fn drawn(rt: HostRuntime) {
+    let heap = Refusing::new(rt.alloc());
+    refuse_run(&rt, rt.alloc(), &heap, (Ask::Draw, EVENTS), ("0", 50));
+}
+
+#[test]
+fn drawn_as_svg(rt: HostRuntime) {
+    let heap = Refusing::new(rt.alloc());
+    refuse_run(&rt, rt.alloc(), &heap, (Ask::DrawSvg, EVENTS), ("0", 50));
+}
+
+// Explains an event of a class or an object that the model lacks, which no line can have.
+fn explain_lacking(rt: &impl Abort, alloc: Global, event: Event<Global>, due: &str) {
+    let model = made(rt, assemble(alloc, Standard::Atomic.text().as_bytes()), due);
+    let mut telling = made(rt, Telling::new(alloc, model), due);
+    let (line, bytes) = (1, b"".as_slice());
+    made(rt, telling.take(Spoken { line, bytes }, event), due);
+    let rows = telling.chronicle().rows();
+    let reason = rows.first().map_or("", |row| row.reason.as_str());
+    tells(rt, reason.as_bytes(), due.as_bytes(), due);
+    drop(telling);
+}
+
+#[test]
+fn events_that_no_line_can_have(rt: HostRuntime) {
+    explain_lacking(
+        &rt,
+        rt.alloc(),
+        Event::Begin(TxnId(1), ClassId(200)),
+        "BadClass: the model has no class at position 200.\nNo later event can admit it.",
+    );
+    explain_lacking(
+        &rt,
+        rt.alloc(),
+        Event::Operate(TxnId(1), ObjId(200), Op::Read),
+        "BadObject: the model has no object at position 200.\nNo later event can admit it.",
+    );
+}

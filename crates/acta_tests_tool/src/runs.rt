@@ -1,0 +1,248 @@
+//! Runs of the tool, each allocation refused in turn. Where an allocation is refused, the run ends for want of memory
+//! or of a thread and has written nothing, or it does without that memory and writes its whole output.
+
+mod table;
+
+use crate::expecting::{at_least, made, refuse, tells};
+use acta_locked::DriveError;
+use acta_tool::{
+    Args, Command, Metered, ModelName, Outcome, ReadFault, Watched, drive_tool, exit_status, parse,
+    run_tool,
+};
+use refusing::{Case, Refusing};
+use std::alloc::{Allocator, Global};
+use std::process::Abort;
+use std::sync::Wait;
+use std::thread::Threads;
+
+/// Runs a command on the bytes of a model and of an input.
+pub fn serve<R: Threads + Wait + Sync, B: Allocator + Send + Sync>(
+    rt: &R,
+    heap: &Refusing<B>,
+    args: &Args<'_>,
+    model: &[u8],
+    input: &[u8],
+    output: &mut Vec<u8>,
+) -> Outcome {
+    let mut input = Metered::new(input);
+    let mut output = Watched::new(output);
+    match args.command {
+        Command::Drive { .. } => drive_tool(rt, heap, args, model, &mut input, &mut output),
+        _ => run_tool(rt, heap, args, model, &mut input, &mut output),
+    }
+}
+
+// A case of the table, as far as it has been read.
+#[derive(Drop)]
+struct Row<'a> {
+    command: &'a str,
+    model: Vec<u8>,
+    input: Vec<u8>,
+    output: Vec<u8>,
+}
+
+// A run of a case. Its state is the output.
+#[derive(Drop)]
+struct Running<'a, R, B: Allocator> {
+    rt: &'a R,
+    other: Global,
+    heap: &'a Refusing<B>,
+    args: &'a Args<'a>,
+    row: &'a Row<'a>,
+}
+
+// Returns the bytes of the model that the command names.
+fn model_of<'a>(args: &Args<'_>, row: &'a Row<'_>) -> &'a [u8] {
+    match args.model {
+        ModelName::Standard(name) => name.text().as_bytes(),
+        ModelName::Path(_) => row.model.as_slice(),
+    }
+}
+
+// Whether the run ended for want of memory or of a thread.
+fn is_short(ended: Outcome) -> bool {
+    matches!(
+        ended,
+        Outcome::Unread(ReadFault::Memory)
+            | Outcome::Undriven(DriveError::Memory | DriveError::NoThread)
+    )
+}
+
+impl<'a, R: Threads + Wait + Sync + Abort, B: Allocator + Send + Sync> Case for Running<'a, R, B> {
+    type State = Vec<u8>;
+
+    type Answer = Outcome;
+
+    fn start(&self) -> Vec<u8> {
+        Vec::new(self.other)
+    }
+
+    fn call(&self, output: &mut Vec<u8>) -> Option<Outcome> {
+        let (args, model) = (self.args, model_of(self.args, self.row));
+        let input = self.row.input.as_slice();
+        let ended = serve(self.rt, self.heap, args, model, input, output);
+        if is_short(ended) { None } else { Some(ended) }
+    }
+
+    // The exit status. The output is compared as bytes, since an image is no text.
+    fn tell(&self, answer: &Outcome, output: &Vec<u8>) -> String {
+        let (rt, command) = (self.rt, self.row.command);
+        tells(rt, output.as_slice(), self.row.output.as_slice(), command);
+        status(rt, self.other, *answer)
+    }
+
+    fn read(&self, output: &Vec<u8>) -> String {
+        let length = output.len();
+        made(self.rt, format!(in self.other; "{length}"), "a length")
+    }
+}
+
+/// Returns the exit status of a run, as text.
+pub fn status(rt: &impl Abort, alloc: Global, ended: Outcome) -> String {
+    let number = exit_status(&Ok(ended));
+    made(rt, format!(in alloc; "{number}"), "a status")
+}
+
+// Returns the words of a command line, with the program's name before them.
+fn words(rt: &impl Abort, alloc: Global, line: &str) -> Vec<String> {
+    let mut words = Vec::new(alloc);
+    let name = made(rt, String::from_str(alloc, "acta"), line);
+    made(rt, words.push(name), line);
+    for word in line.split(' ') {
+        let word = made(rt, String::from_str(alloc, word), line);
+        made(rt, words.push(word), line);
+    }
+    words
+}
+
+// Refuses each allocation of the run of a case, which ends with this status. Returns how many were refused.
+fn refuse_row<R: Threads + Wait + Sync + Abort, B: Allocator + Send + Sync>(
+    rt: &R,
+    other: Global,
+    heap: &Refusing<B>,
+    row: &Row<'_>,
+    due: &str,
+) -> u64 {
+    let words = words(rt, other, row.command);
+    match parse(other, words.as_slice()) {
+        Ok(args) => {
+            let args = &args;
+            let case = Running {
+                rt,
+                other,
+                heap,
+                args,
+                row,
+            };
+            refuse(rt, heap, &case, due, row.command)
+        }
+        Err(_) => rt.panic("a command line of the table is wrong"),
+    }
+}
+
+// Begins the case of a command line.
+fn begin<'a>(row: &mut Row<'a>, command: &'a str) {
+    row.command = command;
+    row.model.clear();
+    row.input.clear();
+    row.output.clear();
+}
+
+// Adds a line to a text.
+fn add(rt: &impl Abort, text: &mut Vec<u8>, line: &str) {
+    made(rt, text.extend_from_slice(line.as_bytes()), line);
+    made(rt, text.push(b'\n'), line);
+}
+
+// Adds bytes that are written as pairs of hexadecimal digits, with blanks between them.
+fn add_bytes(rt: &impl Abort, bytes: &mut Vec<u8>, line: &str) {
+    let mut high: Option<u32> = None;
+    for c in line.chars() {
+        match (c.to_digit(16), high) {
+            (Some(digit), Some(first)) => {
+                let [byte, ..] = first.wrapping_mul(16).wrapping_add(digit).to_le_bytes();
+                made(rt, bytes.push(byte), line);
+                high = None;
+            }
+            (Some(digit), None) => high = Some(digit),
+            (None, _) => {}
+        }
+    }
+}
+
+// Adds a line to the part of the case that its mark names.
+fn put(rt: &impl Abort, row: &mut Row<'_>, (mark, rest): (&str, &str), line: &str) {
+    match mark {
+        "%" => add(rt, &mut row.model, rest),
+        "&" => add_bytes(rt, &mut row.model, rest),
+        "|" => add(rt, &mut row.input, rest),
+        "=" => add_bytes(rt, &mut row.output, rest),
+        ">" => add(rt, &mut row.output, rest),
+        "" | "#" => {}
+        _ => add(rt, &mut row.output, line),
+    }
+}
+
+// Refuses each allocation of each case. At least so many are refused.
+fn refuse_rows<R: Threads + Wait + Sync + Abort, B: Allocator + Send + Sync>(
+    rt: &R,
+    other: Global,
+    heap: &Refusing<B>,
+    (cases, least): (&str, u64),
+) {
+    let mut refused = 0u64;
+    let mut row = Row {
+        command: "",
+        model: Vec::new(other),
+        input: Vec::new(other),
+        output: Vec::new(other),
+    };
+    for line in cases.lines() {
+        let (mark, rest) = line.split_once(' ').unwrap_or((line, ""));
+        match mark {
+            "$" => begin(&mut row, rest),
+            "status" => {
+                refused = refused.wrapping_add(refuse_row(rt, other, heap, &row, rest));
+            }
+            _ => put(rt, &mut row, (mark, rest), line),
+        }
+    }
+    at_least(rt, refused, least, row.command);
+    drop(row);
+}
+
+#[test]
+fn runs(rt: HostRuntime) {
+    let heap = Refusing::new(rt.alloc());
+    refuse_rows(&rt, rt.alloc(), &heap, (table::RUNS, 100));
+}
+
+#[test]
+fn kept_and_traces(rt: HostRuntime) {
+    let heap = Refusing::new(rt.alloc());
+    refuse_rows(&rt, rt.alloc(), &heap, (table::KEPT_AND_TRACES, 100));
+}
+
+#[test]
+fn histories(rt: HostRuntime) {
+    let heap = Refusing::new(rt.alloc());
+    refuse_rows(&rt, rt.alloc(), &heap, (table::HISTORIES, 100));
+}
+
+#[test]
+fn debuggers(rt: HostRuntime) {
+    let heap = Refusing::new(rt.alloc());
+    refuse_rows(&rt, rt.alloc(), &heap, (table::DEBUGGERS, 100));
+}
+
+#[test]
+fn models(rt: HostRuntime) {
+    let heap = Refusing::new(rt.alloc());
+    refuse_rows(&rt, rt.alloc(), &heap, (table::MODELS, 50));
+}
+
+#[test]
+fn drives(rt: HostRuntime) {
+    let heap = Refusing::new(rt.alloc());
+    refuse_rows(&rt, rt.alloc(), &heap, (table::DRIVES, 50));
+}
