@@ -6,6 +6,9 @@ use std::alloc::Allocator;
 use std::fmt::Debug;
 use std::process::Abort;
 
+/// More allocations than any run makes.
+pub const MOST: u64 = 10_000;
+
 /// Returns the result of the call at this line. A call that fails ends the test.
 pub fn made<T, E: Debug>(rt: &impl Abort, called: Result<T, E>, line: &str) -> T {
     called.expect(rt, line)

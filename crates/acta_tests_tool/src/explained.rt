@@ -1,14 +1,14 @@
 //! Runs of `explain` and `draw`, each allocation refused in turn; and events that no line can have, explained.
 
-use crate::expecting::{at_least, made, refuse, tells};
-use crate::runs::status;
+use crate::expecting::{MOST, at_least, holds, made, tells};
+use crate::runs::ends;
 use acta_draw::{Choice, Drawing, Form, Screen, draw_tool};
 use acta_explain::{Spoken, Telling, explain_tool};
 use acta_lang::assemble;
 use acta_models::Standard;
 use acta_table::{ClassId, Event, ObjId, Op, TxnId};
 use acta_tool::{Metered, ModelName, Outcome, ReadFault, Watched};
-use refusing::{Case, Refusing};
+use refusing::Refusing;
 use std::alloc::{Allocator, Global};
 use std::process::Abort;
 use std::thread::Threads;
@@ -48,65 +48,46 @@ fn serve<R: Threads + Sync, B: Allocator + Send + Sync>(
     draw_tool(heap, &drawing, screen, model, &mut input, &mut output)
 }
 
-// A run of `explain` or `draw`, and the output that it should have. Its state is the output.
-#[derive(Drop)]
-struct Explaining<'a, R, B: Allocator> {
-    rt: &'a R,
-    other: Global,
-    heap: &'a Refusing<B>,
-    ask: Ask,
-    input: &'a str,
-    due: &'a [u8],
-}
-
-impl<'a, R: Threads + Sync + Abort, B: Allocator + Send + Sync> Case for Explaining<'a, R, B> {
-    type State = Vec<u8>;
-
-    type Answer = Outcome;
-
-    fn start(&self) -> Vec<u8> {
-        Vec::new(self.other)
+// Runs a command, its nth allocation refused: the output is the due one, or nothing where memory ran out. Returns whether
+// that allocation came.
+fn refuse_one<R: Threads + Sync + Abort, B: Allocator + Send + Sync>(
+    rt: &R,
+    (heap, other): (&Refusing<B>, Global),
+    (ask, input): (Ask, &str),
+    (output_due, due): (&[u8], &str),
+    nth: u64,
+) -> bool {
+    let mut output = Vec::new(other);
+    heap.refuse(nth);
+    let ended = serve(rt, heap, ask, input, &mut output);
+    let was_refused = !heap.is_waiting();
+    heap.refuse(0);
+    if ended == Outcome::Unread(ReadFault::Memory) {
+        holds(rt, was_refused && output.is_empty(), input);
+    } else {
+        tells(rt, output.as_slice(), output_due, input);
+        ends(rt, ended, due, input);
     }
-
-    fn call(&self, output: &mut Vec<u8>) -> Option<Outcome> {
-        match serve(self.rt, self.heap, self.ask, self.input, output) {
-            Outcome::Unread(ReadFault::Memory) => None,
-            ended => Some(ended),
-        }
-    }
-
-    // The exit status. The output is compared as bytes.
-    fn tell(&self, answer: &Outcome, output: &Vec<u8>) -> String {
-        tells(self.rt, output.as_slice(), self.due, self.input);
-        status(self.rt, self.other, *answer)
-    }
-
-    fn read(&self, output: &Vec<u8>) -> String {
-        let length = output.len();
-        made(self.rt, format!(in self.other; "{length}"), "a length")
-    }
+    was_refused
 }
 
 // Refuses each allocation of a run, at least so many, and compares the output with that of a run with all its memory.
 fn refuse_run<R: Threads + Sync + Abort, B: Allocator + Send + Sync>(
     rt: &R,
-    other: Global,
-    heap: &Refusing<B>,
+    (heap, other): (&Refusing<B>, Global),
     (ask, input): (Ask, &str),
     (due, least): (&str, u64),
 ) {
     let mut output = Vec::new(other);
     serve(rt, heap, ask, input, &mut output);
-    let case = Explaining {
-        rt,
-        other,
-        heap,
-        ask,
-        input,
-        due: output.as_slice(),
-    };
-    let refused = refuse(rt, heap, &case, due, input);
-    at_least(rt, refused, least, input);
+    let output_due = (output.as_slice(), due);
+    for nth in 1..MOST {
+        if !refuse_one(rt, (heap, other), (ask, input), output_due, nth) {
+            at_least(rt, nth.wrapping_sub(1), least, input);
+            return;
+        }
+    }
+    rt.panic("a run makes too many allocations")
 }
 
 // The last event is refused, since its transaction waits for another.
@@ -133,33 +114,33 @@ begn 2 loose
 #[test]
 fn explained(rt: HostRuntime) {
     let heap = Refusing::new(rt.alloc());
-    refuse_run(&rt, rt.alloc(), &heap, (Ask::Explain, EVENTS), ("0", 50));
+    refuse_run(&rt, (&heap, rt.alloc()), (Ask::Explain, EVENTS), ("0", 50));
 }
 
 #[test]
 fn judged(rt: HostRuntime) {
     let heap = Refusing::new(rt.alloc());
-    refuse_run(&rt, rt.alloc(), &heap, (Ask::Judge, KEPT), ("0", 20));
-    refuse_run(&rt, rt.alloc(), &heap, (Ask::Judge, FAULTY), ("1", 20));
+    refuse_run(&rt, (&heap, rt.alloc()), (Ask::Judge, KEPT), ("0", 20));
+    refuse_run(&rt, (&heap, rt.alloc()), (Ask::Judge, FAULTY), ("1", 20));
 }
 
 #[test]
 fn faults(rt: HostRuntime) {
     let heap = Refusing::new(rt.alloc());
-    refuse_run(&rt, rt.alloc(), &heap, (Ask::Explain, FAULTY), ("1", 20));
-    refuse_run(&rt, rt.alloc(), &heap, (Ask::Draw, FAULTY), ("1", 20));
+    refuse_run(&rt, (&heap, rt.alloc()), (Ask::Explain, FAULTY), ("1", 20));
+    refuse_run(&rt, (&heap, rt.alloc()), (Ask::Draw, FAULTY), ("1", 20));
 }
 
 #[test]
 fn drawn(rt: HostRuntime) {
     let heap = Refusing::new(rt.alloc());
-    refuse_run(&rt, rt.alloc(), &heap, (Ask::Draw, EVENTS), ("0", 50));
+    refuse_run(&rt, (&heap, rt.alloc()), (Ask::Draw, EVENTS), ("0", 50));
 }
 
 #[test]
 fn drawn_as_svg(rt: HostRuntime) {
     let heap = Refusing::new(rt.alloc());
-    refuse_run(&rt, rt.alloc(), &heap, (Ask::DrawSvg, EVENTS), ("0", 50));
+    refuse_run(&rt, (&heap, rt.alloc()), (Ask::DrawSvg, EVENTS), ("0", 50));
 }
 
 // Explains an event of a class or an object that the model lacks, which no line can have.

@@ -3,13 +3,13 @@
 
 mod table;
 
-use crate::expecting::{at_least, made, refuse, tells};
+use crate::expecting::{MOST, at_least, holds, made, tells};
 use acta_locked::DriveError;
 use acta_tool::{
     Args, Command, Metered, ModelName, Outcome, ReadFault, Watched, drive_tool, exit_status, parse,
     run_tool,
 };
-use refusing::{Case, Refusing};
+use refusing::Refusing;
 use std::alloc::{Allocator, Global};
 use std::process::Abort;
 use std::sync::Wait;
@@ -41,16 +41,6 @@ struct Row<'a> {
     output: Vec<u8>,
 }
 
-// A run of a case. Its state is the output.
-#[derive(Drop)]
-struct Running<'a, R, B: Allocator> {
-    rt: &'a R,
-    other: Global,
-    heap: &'a Refusing<B>,
-    args: &'a Args<'a>,
-    row: &'a Row<'a>,
-}
-
 // Returns the bytes of the model that the command names.
 fn model_of<'a>(args: &Args<'_>, row: &'a Row<'_>) -> &'a [u8] {
     match args.model {
@@ -68,41 +58,6 @@ fn is_short(ended: Outcome) -> bool {
     )
 }
 
-impl<'a, R: Threads + Wait + Sync + Abort, B: Allocator + Send + Sync> Case for Running<'a, R, B> {
-    type State = Vec<u8>;
-
-    type Answer = Outcome;
-
-    fn start(&self) -> Vec<u8> {
-        Vec::new(self.other)
-    }
-
-    fn call(&self, output: &mut Vec<u8>) -> Option<Outcome> {
-        let (args, model) = (self.args, model_of(self.args, self.row));
-        let input = self.row.input.as_slice();
-        let ended = serve(self.rt, self.heap, args, model, input, output);
-        if is_short(ended) { None } else { Some(ended) }
-    }
-
-    // The exit status. The output is compared as bytes, since an image is no text.
-    fn tell(&self, answer: &Outcome, output: &Vec<u8>) -> String {
-        let (rt, command) = (self.rt, self.row.command);
-        tells(rt, output.as_slice(), self.row.output.as_slice(), command);
-        status(rt, self.other, *answer)
-    }
-
-    fn read(&self, output: &Vec<u8>) -> String {
-        let length = output.len();
-        made(self.rt, format!(in self.other; "{length}"), "a length")
-    }
-}
-
-/// Returns the exit status of a run, as text.
-pub fn status(rt: &impl Abort, alloc: Global, ended: Outcome) -> String {
-    let number = exit_status(&Ok(ended));
-    made(rt, format!(in alloc; "{number}"), "a status")
-}
-
 // Returns the words of a command line, with the program's name before them.
 fn words(rt: &impl Abort, alloc: Global, line: &str) -> Vec<String> {
     let mut words = Vec::new(alloc);
@@ -115,29 +70,49 @@ fn words(rt: &impl Abort, alloc: Global, line: &str) -> Vec<String> {
     words
 }
 
-// Refuses each allocation of the run of a case, which ends with this status. Returns how many were refused.
+// Runs a case, its nth allocation refused. Returns whether that allocation came.
+fn refuse_one<R: Threads + Wait + Sync + Abort, B: Allocator + Send + Sync>(
+    rt: &R,
+    (heap, other): (&Refusing<B>, Global),
+    args: &Args<'_>,
+    (row, due): (&Row<'_>, &str),
+    nth: u64,
+) -> bool {
+    let (model, input, mut output) = (model_of(args, row), row.input.as_slice(), Vec::new(other));
+    heap.refuse(nth);
+    let ended = serve(rt, heap, args, model, input, &mut output);
+    let was_refused = !heap.is_waiting();
+    heap.refuse(0);
+    if is_short(ended) {
+        holds(rt, was_refused && output.is_empty(), row.command);
+    } else {
+        tells(rt, output.as_slice(), row.output.as_slice(), row.command);
+        ends(rt, ended, due, row.command);
+    }
+    was_refused
+}
+
+/// Asserts that a run ends with this exit status.
+pub fn ends(rt: &impl Abort, ended: Outcome, due: &str, line: &str) {
+    let is_due = Some(exit_status(&Ok(ended))) == due.parse().ok();
+    holds(rt, is_due, line);
+}
+
+// Refuses each allocation of a case, which ends with this status. Returns how many were refused.
 fn refuse_row<R: Threads + Wait + Sync + Abort, B: Allocator + Send + Sync>(
     rt: &R,
-    other: Global,
-    heap: &Refusing<B>,
+    (heap, other): (&Refusing<B>, Global),
     row: &Row<'_>,
     due: &str,
 ) -> u64 {
     let words = words(rt, other, row.command);
-    match parse(other, words.as_slice()) {
-        Ok(args) => {
-            let args = &args;
-            let case = Running {
-                rt,
-                other,
-                heap,
-                args,
-                row,
-            };
-            refuse(rt, heap, &case, due, row.command)
+    let args = made(rt, parse(other, words.as_slice()), row.command);
+    for nth in 1..MOST {
+        if !refuse_one(rt, (heap, other), &args, (row, due), nth) {
+            return nth.wrapping_sub(1);
         }
-        Err(_) => rt.panic("a command line of the table is wrong"),
     }
+    rt.panic("a run makes too many allocations")
 }
 
 // Begins the case of a command line.
@@ -202,7 +177,7 @@ fn refuse_rows<R: Threads + Wait + Sync + Abort, B: Allocator + Send + Sync>(
         match mark {
             "$" => begin(&mut row, rest),
             "status" => {
-                refused = refused.wrapping_add(refuse_row(rt, other, heap, &row, rest));
+                refused = refused.wrapping_add(refuse_row(rt, (heap, other), &row, rest));
             }
             _ => put(rt, &mut row, (mark, rest), line),
         }

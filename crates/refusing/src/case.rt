@@ -125,21 +125,9 @@ pub fn refuse_each<B: Allocator, C: Case>(
     case: &C,
     due: &str,
 ) -> Result<u64, Wrong> {
-    refuse_some(heap, case, due, (MOST, 1))
-}
-
-/// The same of the first allocations, and then of each of so many.
-pub fn refuse_some<B: Allocator, C: Case>(
-    heap: &Refusing<B>,
-    case: &C,
-    due: &str,
-    (first, step): (u64, u64),
-) -> Result<u64, Wrong> {
-    let mut nth = 0u64;
-    for refused in 0..MOST {
-        nth = nth.wrapping_add(if refused < first { 1 } else { step });
+    for nth in 1..MOST {
         if !refuse_anew(heap, case, due, nth)? {
-            return Ok(refused);
+            return Ok(nth.wrapping_sub(1));
         }
     }
     Err(Wrong::Endless)

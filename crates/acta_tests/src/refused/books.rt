@@ -341,29 +341,32 @@ fn refuse_drive<A: Handle + Send + Sync, R: Threads + Wait + Sync + Abort, B: Al
     rt.panic("a drive makes too many allocations")
 }
 
-// The allocator may be shared by threads, since the one inside it may.
-fn refuse_among_threads<R: Threads + Wait + Sync + Abort, B: Allocator + Send + Sync>(
+// The verdict with an allocator that threads may share, since they may share the one inside it.
+fn refuse_shared_verdict<B: Allocator + Send + Sync>(
+    rt: &(impl Threads + Sync + Abort),
+    other: Global,
+    heap: &Refusing<B>,
+) -> u64 {
+    refuse_verdict(rt, (heap, heap, other))
+}
+
+// A drive with such an allocator.
+fn refuse_shared_drive<R: Threads + Wait + Sync + Abort, B: Allocator + Send + Sync>(
     rt: &R,
     other: Global,
     heap: &Refusing<B>,
-) {
-    at_least(rt, refuse_verdict(rt, (heap, heap, other)), 8, "a verdict");
-    at_least(
-        rt,
-        refuse_drive(rt, (heap, heap, other), (0, " 4")),
-        8,
-        "a drive",
-    );
-    at_least(
-        rt,
-        refuse_drive(rt, (heap, heap, other), (3, " 4 3")),
-        12,
-        "a watched drive",
-    );
+    due: (u8, &str),
+) -> u64 {
+    refuse_drive(rt, (heap, heap, other), due)
 }
 
 #[test]
 fn verdicts_on_books_and_driven_runs(rt: HostRuntime) {
     let heap = Refusing::new(rt.alloc());
-    refuse_among_threads(&rt, rt.alloc(), &heap);
+    let refused = refuse_shared_verdict(&rt, rt.alloc(), &heap);
+    at_least(&rt, refused, 8, "a verdict");
+    let refused = refuse_shared_drive(&rt, rt.alloc(), &heap, (0, " 4"));
+    at_least(&rt, refused, 8, "a drive");
+    let refused = refuse_shared_drive(&rt, rt.alloc(), &heap, (3, " 4 3"));
+    at_least(&rt, refused, 12, "a watched drive");
 }

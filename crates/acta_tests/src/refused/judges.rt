@@ -112,37 +112,43 @@ fn refuse_commits<A: Handle + Send + Sync, B: Allocator>(
     rt.panic("a verdict makes too many allocations")
 }
 
-// The allocator may be shared by threads, since the one inside it may.
-fn refuse_all<R: Threads + Sync + Abort, B: Allocator + Send + Sync>(
-    rt: &R,
-    other: Global,
-    heap: &Refusing<B>,
+// The lists with an allocator that threads may share, since they may share the one inside it.
+fn refuse_shared_lists<B: Allocator + Send + Sync>(
+    rt: &(impl Threads + Sync + Abort),
+    (heap, other): (&Refusing<B>, Global),
+    lists: (&str, &str),
+    parts: usize,
 ) {
-    for list in by_model() {
-        refuse_lists(rt, (heap, heap, other), list, 0);
-    }
-    for list in with_two() {
-        refuse_lists(rt, (heap, heap, other), list, 0);
-        refuse_lists(rt, (heap, heap, other), list, 3);
-    }
+    refuse_lists(rt, (heap, heap, other), lists, parts);
 }
 
 #[test]
 fn verdicts_on_lists(rt: HostRuntime) {
     let heap = Refusing::new(rt.alloc());
-    refuse_all(&rt, rt.alloc(), &heap);
+    for lists in by_model() {
+        refuse_shared_lists(&rt, (&heap, rt.alloc()), lists, 0);
+    }
+    for lists in with_two() {
+        refuse_shared_lists(&rt, (&heap, rt.alloc()), lists, 0);
+        refuse_shared_lists(&rt, (&heap, rt.alloc()), lists, 3);
+    }
 }
 
-// The same.
-fn refuse_many<R: Threads + Sync + Abort, B: Allocator + Send + Sync>(rt: &R, heap: &Refusing<B>) {
-    let refused = refuse_commits(rt, (heap, heap), 256, (MOST, 1));
-    at_least(rt, refused, 80, "256 commits");
-    let refused = refuse_commits(rt, (heap, heap), 4_096, (48, 128));
-    at_least(rt, refused, 50, "4,096 commits");
+// The commits with such an allocator.
+fn refuse_shared_commits<B: Allocator + Send + Sync>(
+    rt: &(impl Threads + Sync + Abort),
+    heap: &Refusing<B>,
+    times: u32,
+    some: (u64, u64),
+) -> u64 {
+    refuse_commits(rt, (heap, heap), times, some)
 }
 
 #[test]
 fn verdicts_on_many_faults(rt: HostRuntime) {
     let heap = Refusing::new(rt.alloc());
-    refuse_many(&rt, &heap);
+    let refused = refuse_shared_commits(&rt, &heap, 256, (MOST, 1));
+    at_least(&rt, refused, 80, "256 commits");
+    let refused = refuse_shared_commits(&rt, &heap, 4_096, (48, 128));
+    at_least(&rt, refused, 50, "4,096 commits");
 }

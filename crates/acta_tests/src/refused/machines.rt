@@ -1,6 +1,8 @@
 //! Events that machines take, and what machines and models are asked, each allocation refused in turn.
 
-use crate::calls::{copy_of, new_machine, places_of, run_on, serial_of, take, why};
+use crate::calls::{
+    closed_wait, copy_of, new_machine, owed_by, places_of, run_on, serial_of, take, why,
+};
 use crate::expecting::made;
 use crate::models::{PARTING, PERMITTING, event_of, events_of, model_of};
 use crate::refused::{Setting, asked_and_answer, at_least, call_and_answer, refuse};
@@ -269,26 +271,79 @@ fn put_order<A: Handle>(
     Ok(())
 }
 
-// Adds what the machine, or its history, answers.
-fn put_answer<R: Abort, A: Handle>(
-    asking: &Asking<'_, '_, R, A>,
+// Adds the elements of the set.
+fn put_elements<A: Handle>(
+    rt: &impl Abort,
     text: &mut String,
     machine: &Machine<A>,
 ) -> Result<(), AllocError> {
-    let rt = asking.on.rt;
-    match asking.call {
-        "value" => put_value(rt, text, machine.value(ObjId(3))?.as_ref()),
-        "owed" => put(rt, text, &machine.owed()?.as_slice()),
-        "cycle" => put(rt, text, &machine.closed_wait(TxnId(1))?.is_some()),
-        "places" => {
-            let places = places_of(asking.on.alloc, asking.model, machine.history())?;
-            put(rt, text, &places.start(TxnId(1)));
-        }
-        "model copy" => put(rt, text, &asking.model.copy()?.classes().len()),
-        "serial order" => put_order(rt, text, machine)?,
-        _ => put_set(rt, text, machine, asking.call)?,
-    }
+    let value = machine.value(ObjId(3))?;
+    put_value(rt, text, value.as_ref());
     Ok(())
+}
+
+// Adds the debts.
+fn put_owed<A: Handle>(
+    rt: &impl Abort,
+    text: &mut String,
+    machine: &Machine<A>,
+) -> Result<(), AllocError> {
+    let owed = owed_by(machine)?;
+    put(rt, text, &owed.as_slice());
+    Ok(())
+}
+
+// Adds whether transaction 1 waits in a cycle.
+fn put_cycle<A: Handle>(
+    rt: &impl Abort,
+    text: &mut String,
+    machine: &Machine<A>,
+) -> Result<(), AllocError> {
+    let cycle = closed_wait(machine, TxnId(1))?;
+    put(rt, text, &cycle.is_some());
+    Ok(())
+}
+
+// Adds where transaction 1 starts, by the places of the history.
+fn put_start<A: Handle>(
+    rt: &impl Abort,
+    alloc: A,
+    text: &mut String,
+    machine: &Machine<A>,
+) -> Result<(), AllocError> {
+    let places = places_of(alloc, machine.model(), machine.history())?;
+    put(rt, text, &places.start(TxnId(1)));
+    Ok(())
+}
+
+// Adds how many classes a copy of the model has.
+fn put_classes<A: Handle>(
+    rt: &impl Abort,
+    text: &mut String,
+    machine: &Machine<A>,
+) -> Result<(), AllocError> {
+    let model = machine.model().copy()?;
+    put(rt, text, &model.classes().len());
+    Ok(())
+}
+
+// Adds what the machine, or its history, answers.
+fn put_answer<A: Handle>(
+    rt: &impl Abort,
+    alloc: A,
+    text: &mut String,
+    machine: &Machine<A>,
+    call: &str,
+) -> Result<(), AllocError> {
+    match call {
+        "value" => put_elements(rt, text, machine),
+        "owed" => put_owed(rt, text, machine),
+        "cycle" => put_cycle(rt, text, machine),
+        "places" => put_start(rt, alloc, text, machine),
+        "model copy" => put_classes(rt, text, machine),
+        "serial order" => put_order(rt, text, machine),
+        _ => put_set(rt, text, machine, call),
+    }
 }
 
 impl<'a, 's, R: Abort, A: Handle> Case for Asking<'a, 's, R, A> {
@@ -302,7 +357,8 @@ impl<'a, 's, R: Abort, A: Handle> Case for Asking<'a, 's, R, A> {
 
     fn call(&self, machine: &mut Machine<A>) -> Option<String> {
         let mut text = String::new(self.on.other);
-        put_answer(self, &mut text, machine).ok()?;
+        let (rt, alloc) = (self.on.rt, self.on.alloc);
+        put_answer(rt, alloc, &mut text, machine, self.call).ok()?;
         Some(text)
     }
 

@@ -32,9 +32,9 @@ fn delegation<A: Allocator + Copy>(alloc: A) -> Result<Kept<A>, AllocError> {
     Ok(Kept { event, ret: None })
 }
 
-// How many operations a kept delegation names.
-fn named_in<A: Allocator>(kept: &Kept<A>) -> usize {
-    match &kept.event {
+// How many operations a delegation names.
+fn named_in<A: Allocator>(event: &Event<A>) -> usize {
+    match event {
         Event::Delegate(_, _, ops) => ops.as_slice().len(),
         _ => 0,
     }
@@ -53,30 +53,45 @@ fn start_edges<A: Allocator + Copy>(alloc: A) -> Result<StartEdges<A>, AllocErro
     StartEdges::of(alloc, &[later, earlier, later])
 }
 
-// Adds what the call gives, or a copy of that.
-fn put_made<A: Allocator + Copy>(
+// Adds the element of a copy of a set.
+fn put_element<A: Allocator + Copy>(
+    rt: &impl Abort,
+    alloc: A,
+    text: &mut String,
+) -> Result<(), AllocError> {
+    let copied = with_element(alloc)?.copy()?;
+    put_value(rt, text, Some(&copied));
+    Ok(())
+}
+
+// Adds the returns of a replay.
+fn put_replay<A: Allocator + Copy>(
+    rt: &impl Abort,
+    alloc: A,
+    text: &mut String,
+) -> Result<(), AllocError> {
+    let replayed = replay(alloc, &Kind::Elements, &[Op::Insert(3), Op::Has(3)])?;
+    put(rt, text, &replayed.rets.as_slice());
+    Ok(())
+}
+
+// Adds how many a copy of something has.
+fn put_count<A: Allocator + Copy>(
     rt: &impl Abort,
     alloc: A,
     text: &mut String,
     call: &str,
 ) -> Result<(), AllocError> {
-    match call {
-        "element" => put_value(rt, text, Some(&with_element(alloc)?.copy()?)),
-        "replay" => {
-            let replayed = replay(alloc, &Kind::Elements, &[Op::Insert(3), Op::Has(3)])?;
-            put(rt, text, &replayed.rets.as_slice());
-        }
-        "kept item" => put(rt, text, &named_in(&delegation(alloc)?.copy()?)),
-        "event" => {
-            let event = delegation(alloc)?.event.copy()?;
-            put(rt, text, &event.kind());
-        }
-        "start edges" => put(rt, text, &start_edges(alloc)?.copy()?.as_slice().len()),
-        _ => {
-            let items = Items::of(Vec::from_slice(alloc, b"x")?).copy()?;
-            put(rt, text, &items.as_slice());
-        }
-    }
+    let count = match call {
+        "kept item" => named_in(&delegation(alloc)?.copy()?.event),
+        "event" => named_in(&delegation(alloc)?.event.copy()?),
+        "start edges" => start_edges(alloc)?.copy()?.as_slice().len(),
+        _ => Items::of(Vec::from_slice(alloc, b"x")?)
+            .copy()?
+            .as_slice()
+            .len(),
+    };
+    put(rt, text, &count);
     Ok(())
 }
 
@@ -89,7 +104,13 @@ impl<'a, 's, R: Abort, A: Allocator + Copy> Case for Making<'a, 's, R, A> {
 
     fn call(&self, _state: &mut ()) -> Option<String> {
         let mut text = String::new(self.on.other);
-        put_made(self.on.rt, self.on.alloc, &mut text, self.call).ok()?;
+        let (rt, alloc) = (self.on.rt, self.on.alloc);
+        let made = match self.call {
+            "element" => put_element(rt, alloc, &mut text),
+            "replay" => put_replay(rt, alloc, &mut text),
+            _ => put_count(rt, alloc, &mut text, self.call),
+        };
+        made.ok()?;
         Some(text)
     }
 
@@ -110,9 +131,9 @@ const CALLS: &str = "\
 element -- 3
 replay -- [Flag(true), Flag(true)]
 kept item -- 3
-event -- Delegate
+event -- 3
 start edges -- 2
-items -- [120]";
+items -- 1";
 
 // A call, each allocation refused. Returns how many were.
 fn refuse_call<'a, 's, R: Abort, A: Allocator + Copy, B: Allocator>(

@@ -178,28 +178,78 @@ struct Asking<'a, 's, R, A: Handle> {
     call: &'a str,
 }
 
+// Adds how many items are ahead of a new walk, or in front of a copy.
+fn put_made<R: Abort, A: Handle>(
+    asking: &Asking<'_, '_, R, A>,
+    text: &mut String,
+    walk: &Walk<'_, A>,
+) -> Result<(), AllocError> {
+    let items = if asking.call == "new" {
+        walk_of(asking.on.alloc, asking.model, asking.kept)?
+            .ahead()
+            .len()
+    } else {
+        walk.copy()?.front().len()
+    };
+    put(asking.on.rt, text, &items);
+    Ok(())
+}
+
+// Adds the value of an object.
+fn put_state<A: Handle>(
+    rt: &impl Abort,
+    text: &mut String,
+    walk: &Walk<'_, A>,
+    object: ObjId,
+) -> Result<(), AllocError> {
+    let value = walk.value(object)?;
+    put_value(rt, text, value.as_ref());
+    Ok(())
+}
+
+// Adds a set of operations that the walk answers.
+fn put_set<A: Handle>(
+    rt: &impl Abort,
+    text: &mut String,
+    walk: &Walk<'_, A>,
+    call: &str,
+) -> Result<(), AllocError> {
+    let (t, n) = (TxnId(3), ObjId(1));
+    let ops = match call {
+        "access set" => walk.access_set(TxnId(1))?,
+        "conflict set" => walk.conflict_set(t)?,
+        "conflicts of a get" => walk.conflicting(t, n, &Op::Get)?,
+        _ => walk.conflicting(t, n, &Op::Add(1))?,
+    };
+    put(rt, text, &ops.as_slice());
+    Ok(())
+}
+
+// Adds the return that is due of a `get`.
+fn put_return<A: Handle>(
+    rt: &impl Abort,
+    text: &mut String,
+    walk: &Walk<'_, A>,
+) -> Result<(), AllocError> {
+    let due = walk.return_due(ObjId(1), &Op::Get)?;
+    put(rt, text, &due);
+    Ok(())
+}
+
 // Adds what the walk answers.
 fn put_answer<R: Abort, A: Handle>(
     asking: &Asking<'_, '_, R, A>,
     text: &mut String,
     walk: &Walk<'_, A>,
 ) -> Result<(), AllocError> {
-    let (rt, t, n) = (asking.on.rt, TxnId(3), ObjId(1));
+    let rt = asking.on.rt;
     match asking.call {
-        "new" => {
-            let walk = walk_of(asking.on.alloc, asking.model, asking.kept)?;
-            put(rt, text, &walk.ahead().len());
-        }
-        "copy" => put(rt, text, &walk.copy()?.front().len()),
-        "access set" => put(rt, text, &walk.access_set(TxnId(1))?.as_slice()),
-        "conflict set" => put(rt, text, &walk.conflict_set(t)?.as_slice()),
-        "conflicts of a get" => put(rt, text, &walk.conflicting(t, n, &Op::Get)?.as_slice()),
-        "conflicts of an add" => put(rt, text, &walk.conflicting(t, n, &Op::Add(1))?.as_slice()),
-        "value" => put_value(rt, text, walk.value(ObjId(3))?.as_ref()),
-        "no value" => put_value(rt, text, walk.value(ObjId(4))?.as_ref()),
-        _ => put(rt, text, &walk.return_due(n, &Op::Get)?),
+        "new" | "copy" => put_made(asking, text, walk),
+        "value" => put_state(rt, text, walk, ObjId(3)),
+        "no value" => put_state(rt, text, walk, ObjId(4)),
+        "return" => put_return(rt, text, walk),
+        _ => put_set(rt, text, walk, asking.call),
     }
-    Ok(())
 }
 
 impl<'a, 's, R: Abort, A: Handle> Case for Asking<'a, 's, R, A> {

@@ -1,5 +1,5 @@
 -- Any thread may give a block back: it is one of the allocator inside.
-use Rattle.acta_tests.proofs.judging.refusals.refuse_repeated.Goals as goal
+use Rattle.acta_tests.proofs.refused.judges.refuse_shared_commits.Goals as goal
 
 pub refuse_commits-requires-frees-A-Allocator : goal.refuse_commits-requires-frees-A-Allocator
 refuse_commits-requires-frees-A-Allocator g c κs within = record { frees = λ r τ p. c.type_bounds.frees-B-Allocator.frees r.now.inner τ p }

@@ -1,5 +1,0 @@
--- Any thread may give a block back: it is one of the allocator inside.
-use Rattle.acta_tests.proofs.driving.refusals.refuse_drives.Goals as goal
-
-pub drive_each-requires-frees-A-Allocator : goal.drive_each-requires-frees-A-Allocator
-drive_each-requires-frees-A-Allocator g c κs within = record { frees = λ r τ p. c.type_bounds.frees-B-Allocator.frees r.now.inner τ p }
