@@ -1,7 +1,8 @@
 //! What the words of a command line of `explain` ask for.
 
 use crate::hints::nearest;
-use crate::tables::{CODES, Table, push_meant};
+use crate::prose::{Prose, put};
+use crate::tables::{CODES, Table, put_meant};
 use acta_tool::{ModelName, UsageFault, model_named};
 use clap::error::ErrorKind;
 use clap::{Arg, ArgAction, ArgMatches, Command};
@@ -82,37 +83,44 @@ fn usage(surface: &mut Command<'_>, kind: ErrorKind, text: &str) -> UsageFault {
     }
 }
 
-// What one table says by a word.
-fn told_by(alloc: Global, tables: &[Table], word: &str) -> Result<Option<String>, AllocError> {
-    let mut text = String::new(alloc);
-    let mut is_found = false;
+// The names of the entries of the tables.
+fn names_of(alloc: Global, tables: &[Table]) -> Result<Vec<&'static str>, AllocError> {
+    let mut names = Vec::new(alloc);
     for table in tables {
-        is_found |= push_meant(&mut text, alloc, *table, word)?;
+        for place in 0..table.len() {
+            if let Some(entry) = table.entry(place) {
+                names.push(entry.name)?;
+            }
+        }
     }
-    Ok(if is_found { Some(text) } else { None })
+    Ok(names)
 }
 
 // That no entry of the tables has this number or name, and which name was perhaps meant.
 fn unknown(alloc: Global, tables: &[Table], word: &str) -> Result<String, AllocError> {
-    let mut names = Vec::new(alloc);
-    for table in tables {
-        for entry in table.entries(alloc)?.iter() {
-            names.push(entry.name)?;
-        }
-    }
-    let title = if tables.len() == 1 {
-        tables.first().map_or("code", |one| one.title())
-    } else {
-        "code"
+    let names = names_of(alloc, tables)?;
+    let title = match tables {
+        [one] => one.title(),
+        _ => "code",
     };
-    match nearest(alloc, word.as_bytes(), &names)? {
-        Some(meant) => {
-            format!(in alloc;
-                "no {title} has the number or the name {word:?}: did you mean {meant:?}?"
-            )
+    let prose = put!(Prose::new(alloc); "no ", title, " has the number or the name ",
+        format_args!("{word:?}"));
+    let prose = match nearest(alloc, word.as_bytes(), &names) {
+        Ok(Some(meant)) => put!(prose; ": did you mean ", format_args!("{meant:?}?")),
+        Ok(None) => prose,
+        Err(_) => prose.fail(),
+    };
+    prose.done()
+}
+
+// Whether an entry of the tables has this number or name.
+fn is_known(tables: &[Table], word: &str) -> bool {
+    for table in tables {
+        if table.knows(word) {
+            return true;
         }
-        None => format!(in alloc; "no {title} has the number or the name {word:?}"),
     }
+    false
 }
 
 // What the tables say by each of the words.
@@ -122,17 +130,19 @@ fn words_told(
     tables: &[Table],
     words: &[&str],
 ) -> Result<String, UsageFault> {
-    let mut text = String::new(alloc);
     for word in words {
-        match told_by(alloc, tables, word)? {
-            Some(told) => text.push_str(told.as_str())?,
-            None => {
-                let said = unknown(alloc, tables, word)?;
-                return Err(usage(surface, ErrorKind::InvalidValue, said.as_str()));
-            }
+        if !is_known(tables, word) {
+            let said = unknown(alloc, tables, word)?;
+            return Err(usage(surface, ErrorKind::InvalidValue, said.as_str()));
         }
     }
-    Ok(text)
+    let mut prose = Prose::new(alloc);
+    for word in words {
+        for table in tables {
+            prose = put_meant(prose, *table, word);
+        }
+    }
+    Ok(prose.done()?)
 }
 
 // What the matches ask for.

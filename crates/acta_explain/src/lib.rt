@@ -18,6 +18,7 @@ mod listing;
 mod outline;
 mod phrases;
 mod placed;
+mod prose;
 mod reasons;
 mod report;
 mod run;

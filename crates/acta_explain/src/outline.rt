@@ -1,6 +1,7 @@
 //! What the lines of a text of a model declare before one of them, by their first words: which names are taken, which
 //! class is open, and what it has said.
 
+use crate::phrases::name_text;
 use crate::placed::placed_words;
 use acta_words::Lines;
 use std::alloc::{AllocError, Allocator};
@@ -26,10 +27,12 @@ pub struct Outline<'a, A: Allocator> {
 
 // The line that declares the name, of those that these do.
 fn line_of(named: &[Named<'_>], name: &[u8]) -> Option<usize> {
-    named
-        .iter()
-        .find(|one| one.name == name)
-        .map(|one| one.line)
+    for one in named {
+        if one.name == name {
+            return Some(one.line);
+        }
+    }
+    None
 }
 
 impl<'a, A: Allocator> Outline<'a, A> {
@@ -56,16 +59,32 @@ impl<'a, A: Allocator> Outline<'a, A> {
     // Adds what one more line declares, of these two first words.
     fn add(&mut self, line: usize, first: &'a [u8], name: &'a [u8]) -> Result<(), AllocError> {
         let named = Named { name, line };
-        if first == b"object".as_slice() {
-            self.objects.push(named)?;
-        } else if first == b"class".as_slice() {
-            self.classes.push(named)?;
-            self.open = Some(named);
-            self.said.clear();
-        } else if first == b"end".as_slice() {
-            self.open = None;
-        } else {
-            self.said.push(Named { name: first, line })?;
+        match name_text(first) {
+            "object" => self.objects.push(named)?,
+            "class" => {
+                self.open = Some(named);
+                self.said.clear();
+                self.classes.push(named)?;
+            }
+            "end" => self.open = None,
+            _ => self.said.push(Named { name: first, line })?,
+        }
+        Ok(())
+    }
+}
+
+impl<'a, A: Allocator + Copy> Outline<'a, A> {
+    // Adds what the lines of the text declare that stand before the line of this number.
+    fn add_before(&mut self, alloc: A, text: &'a [u8], line: usize) -> Result<(), AllocError> {
+        for (place, bytes) in Lines::of(text).take(line.saturating_sub(1)).enumerate() {
+            let words = placed_words(alloc, bytes)?;
+            let name = match words.get(1) {
+                Some(second) => second.word,
+                None => b"",
+            };
+            if let Some(first) = words.first() {
+                self.add(place.saturating_add(1), first.word, name)?;
+            }
         }
         Ok(())
     }
@@ -83,16 +102,11 @@ pub fn outline_before<'a, A: Allocator + Copy>(
         open: None,
         said: Vec::new(alloc),
     };
-    for (place, bytes) in Lines::of(text).enumerate() {
-        let number = place.saturating_add(1);
-        if number >= line {
-            break;
-        }
-        let words = placed_words(alloc, bytes)?;
-        if let Some(first) = words.first() {
-            let name = words.get(1).map_or(b"".as_slice(), |second| second.word);
-            outline.add(number, first.word, name)?;
+    match outline.add_before(alloc, text, line) {
+        Ok(()) => Ok(outline),
+        Err(e) => {
+            drop(outline);
+            Err(e)
         }
     }
-    Ok(outline)
 }
