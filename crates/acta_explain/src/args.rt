@@ -1,7 +1,8 @@
 //! What the words of a command line of `explain` ask for.
 
 use crate::hints::nearest;
-use crate::prose::{Prose, put};
+use crate::prose::Prose;
+use crate::put;
 use crate::tables::{CODES, Table, put_meant};
 use acta_tool::{ModelName, UsageFault, model_named};
 use clap::error::ErrorKind;

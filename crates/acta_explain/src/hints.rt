@@ -1,6 +1,7 @@
 //! The word that was perhaps meant: one letter off a known one.
 
-use crate::prose::{Prose, put};
+use crate::prose::Prose;
+use crate::put;
 use std::alloc::{AllocError, Allocator};
 use strsim::osa_distance;
 

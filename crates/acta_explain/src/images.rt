@@ -1,6 +1,7 @@
 //! What is wrong with an image: which field stands at the offset, and what it may hold.
 
-use crate::prose::{Prose, put};
+use crate::prose::Prose;
+use crate::put;
 use acta_image::ImageFault;
 use acta_machine::Handle;
 

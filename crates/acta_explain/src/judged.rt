@@ -12,7 +12,8 @@ use crate::phrases::{
     class_at, class_of, name_text, put_formed_edge, put_line, put_may, put_operation, put_row,
     put_starts,
 };
-use crate::prose::{Prose, put};
+use crate::prose::Prose;
+use crate::put;
 use crate::spoken::{Spoken, spoken_in};
 use crate::telling::MOST_TOLD;
 use acta_axioms::{Axiom, Fault, Walk};

@@ -2,7 +2,8 @@
 //! the reason, each of its lines behind a bar.
 
 use crate::chronicle::Row;
-use crate::prose::{Prose, put};
+use crate::prose::Prose;
+use crate::put;
 use std::alloc::Allocator;
 
 /// The widths of the columns.

@@ -32,6 +32,7 @@ pub use args::{Asked, called, is_asked, parse};
 pub use chronicle::{Chronicle, Life, Row};
 pub use hints::nearest;
 pub use images::{Field, field_at};
+pub use prose::Prose;
 pub use reasons::NEVER;
 pub use report::{explain, explain_tool, write_words};
 pub use spoken::{Spoken, spoken_in};

@@ -1,6 +1,7 @@
 //! Lists in a sentence.
 
-use crate::prose::{Prose, put};
+use crate::prose::Prose;
+use crate::put;
 use acta_table::{OpNo, TxnId};
 use std::alloc::Allocator;
 

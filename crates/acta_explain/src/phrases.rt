@@ -1,7 +1,8 @@
 //! How transactions, classes, operations and edges are named in a sentence.
 
 use crate::chronicle::{Chronicle, Row};
-use crate::prose::{Prose, put};
+use crate::prose::Prose;
+use crate::put;
 use acta_table::{
     Class, ClassId, Edge, Event, EventKind, Kind, Kinds, Model, ObjId, Op, OpNo, Starts, Status,
     TxnId,

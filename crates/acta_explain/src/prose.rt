@@ -56,11 +56,10 @@ impl<A: Allocator> Prose<A> {
     }
 }
 
-/// Adds pieces to a text, in order.
+/// Adds pieces to a text, in order: `put!(prose; "edge ", number)`.
+#[macro_export]
 macro_rules! put {
     ($prose:expr; $($piece:expr),+) => {
         $prose $(.put($piece))+
     };
 }
-
-pub(crate) use put;

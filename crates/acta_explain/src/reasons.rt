@@ -8,7 +8,8 @@ use crate::phrases::{
     kind_words, name_text, object_text, operation_word, put_edge, put_formed_edge, put_may,
     put_operation, put_row, put_standing, put_starts,
 };
-use crate::prose::{Prose, put};
+use crate::prose::Prose;
+use crate::put;
 use acta_machine::{Barring, Clash, FormFault, Handle, Lack, Machine, NumberedOp, Reason};
 use acta_table::{
     AtCommit, Class, ClassId, Dep, Edge, Event, EventKind, Fate, Missing, Model, ObjId, Op, OpNo,

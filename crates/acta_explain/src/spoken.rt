@@ -1,7 +1,8 @@
 //! The lines of an input that say something, as they stand there.
 
 use crate::phrases::name_text;
-use crate::prose::{Prose, put};
+use crate::prose::Prose;
+use crate::put;
 use acta_words::{Lines, has_words, words_of};
 use std::alloc::{AllocError, Allocator};
 

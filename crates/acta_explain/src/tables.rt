@@ -1,6 +1,7 @@
 //! What is told of a rule, an axiom or a code that is asked for by its number or its name.
 
-use crate::prose::{Prose, put};
+use crate::prose::Prose;
+use crate::put;
 use crate::words::{
     AXIOMS, Entry, IMAGE_FAULTS, LINE_CODES, MODEL_FAULTS, RULES, TEXT_CODES, axiom_entry,
     image_entry, line_entry, model_entry, rule_entry, text_entry,

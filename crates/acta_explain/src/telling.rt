@@ -3,7 +3,8 @@
 use crate::chronicle::{Chronicle, Row, row_of};
 use crate::listing::{MOST_LISTED, put_more};
 use crate::phrases::{put_line, put_numbered_edge};
-use crate::prose::{Prose, put};
+use crate::prose::Prose;
+use crate::put;
 use crate::reasons::Refused;
 use crate::spoken::Spoken;
 use acta_machine::{Formed, Handle, Machine};
