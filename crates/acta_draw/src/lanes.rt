@@ -44,14 +44,28 @@ pub struct Reach {
 }
 
 impl Reach {
+    // Whether the lane has begun at the row, or before it.
+    fn has_begun(self, row: usize) -> bool {
+        match self.began {
+            Some(began) => began <= row,
+            None => false,
+        }
+    }
+
     /// Whether the lane is open just behind the row: it has begun, and hasn't ended.
     pub fn is_open_behind(self, row: usize) -> bool {
-        self.began.is_some_and(|began| began <= row) && self.ended.is_none_or(|ended| row < ended)
+        match self.ended {
+            Some(ended) => self.has_begun(row) && row < ended,
+            None => self.has_begun(row),
+        }
     }
 
     /// Whether the lane is open at the row, the rows of its start and of its end included.
     pub fn is_open_at(self, row: usize) -> bool {
-        self.began.is_some_and(|began| began <= row) && self.ended.is_none_or(|ended| row <= ended)
+        match self.ended {
+            Some(ended) => self.has_begun(row) && row <= ended,
+            None => self.has_begun(row),
+        }
     }
 }
 

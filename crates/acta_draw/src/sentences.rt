@@ -87,7 +87,7 @@ fn put_formed<A: Handle>(mut prose: Prose<A>, lanes: &Lanes<A>, row: &Row) -> Pr
     let formed = lanes.formed(row);
     let mut number = row.edges_before as u64;
     let mut gap = "";
-    for edge in formed.iter().take(MOST_NAMED) {
+    for edge in formed.get(..MOST_NAMED).unwrap_or(formed) {
         number = number.saturating_add(1);
         prose = put_edge(prose.put(gap), number, edge);
         gap = "; ";

@@ -96,8 +96,12 @@ pub fn text_width(text: &str, height: usize) -> usize {
 
 // Whether an edge that the row formed has no arrow, since a lane of it isn't drawn.
 fn lacks_arrows<A: Handle>(lanes: &Lanes<A>, picked: &Picked<A>, row: &Row) -> bool {
-    lanes.formed(row).iter().any(|edge| picked.column(edge.j).is_none()
-        || picked.column(edge.i).is_none())
+    for edge in lanes.formed(row) {
+        if picked.column(edge.j).is_none() || picked.column(edge.i).is_none() {
+            return true;
+        }
+    }
+    false
 }
 
 // What is told below the event of a row: why it was refused, or the edges where they are not all drawn.

@@ -115,17 +115,24 @@ impl<'a, A: Handle> Scene<'a, A> {
         let mut place = 0u32;
         for (item, line) in self.kept.iter().zip(lines) {
             place = place.saturating_add(1);
-            if is_off(faults, place) {
-                let ret = due_next(walk)?;
-                self.due.push(Due { place, ret })?;
-            }
-            if !walk.ahead().is_empty() {
-                walk.step()?;
-            }
+            self.step(walk, is_off(faults, place), place)?;
             self.chronicle.note(&item.event, walk.edges().len())?;
             self.push_row(*line)?;
         }
         self.edges.extend_from_slice(walk.edges())
+    }
+
+    // Goes one place further, and notes what its operation should return, where it returns something else.
+    fn step(&mut self, walk: &mut Walk<'a, A>, is_off: bool, place: u32) -> Result<(), AllocError> {
+        if is_off {
+            let ret = due_next(walk)?;
+            self.due.push(Due { place, ret })?;
+        }
+        if walk.ahead().is_empty() {
+            Ok(())
+        } else {
+            walk.step()
+        }
     }
 
     // Puts the row of a kept line behind the others.
@@ -348,6 +355,22 @@ fn stopped<A: Handle>(alloc: A, model: &Model<A>, stop: &Stop<'_>) -> Result<Rep
     Ok(refusal(put_stop(Prose::new(alloc), alloc, model, stop).done()?))
 }
 
+// What is told of the verdict on kept items, and of the lines that say them.
+fn verdict_text<A: Handle>(
+    alloc: A,
+    model: &Model<A>,
+    kept: &[Kept<A>],
+    lines: &[Spoken<'_>],
+    verdict: &Verdict<A>,
+) -> Result<String<A>, AllocError>
+    requires { length kept.now ≤ MOST_EVENTS }
+{
+    let scene = scene_of(alloc, model, kept, lines, verdict.faults.as_slice())?;
+    let text = scene.verdict(verdict);
+    drop(scene);
+    text
+}
+
 // What is told of kept items, and of the lines that say them.
 fn explain_kept<A: Handle + Send + Sync, R: Threads + Sync>(
     rt: &R,
@@ -363,9 +386,10 @@ fn explain_kept<A: Handle + Send + Sync, R: Threads + Sync>(
     }
     match judge(rt, alloc, model, kept) {
         Ok(verdict) => {
-            let scene = scene_of(alloc, model, kept, lines, verdict.faults.as_slice())?;
+            let text = verdict_text(alloc, model, kept, lines, &verdict);
+            drop(verdict);
             Ok(Report {
-                text: scene.verdict(&verdict)?.into_bytes(),
+                text: text?.into_bytes(),
                 is_refused: false,
             })
         }
@@ -387,7 +411,7 @@ pub fn explain_judged<A: Handle + Send + Sync, R: Threads + Sync>(
         Some(bad) => stopped(alloc, model, &Stop::of(input, bad, true)),
         None => {
             let lines = spoken_in(alloc, input)?;
-            explain_kept(rt, alloc, model, read.said.as_slice(), &lines)
+            explain_kept(rt, alloc, model, read.said.as_slice(), lines.as_slice())
         }
     }
 }

@@ -28,7 +28,7 @@ mod telling;
 mod texts;
 mod words;
 
-pub use args::{Asked, called, is_asked, parse};
+pub use args::{Asked, called, flag, is_asked, model_arg, option, parse, with_arg};
 pub use chronicle::{Chronicle, Life, Row};
 pub use hints::nearest;
 pub use images::{Field, field_at};

@@ -8,6 +8,11 @@ use std::alloc::Allocator;
 /// The most items of a list that are told one by one.
 pub const MOST_LISTED: usize = 12;
 
+/// The first items of a list, those that are told one by one.
+pub fn first_listed<T>(items: &[T]) -> &[T] {
+    items.get(..MOST_LISTED).unwrap_or(items)
+}
+
 /// Adds the words in backquotes, with `, ` between them.
 pub fn put_quoted<A: Allocator>(mut prose: Prose<A>, words: &[&str]) -> Prose<A> {
     let mut gap = "`";
@@ -21,7 +26,7 @@ pub fn put_quoted<A: Allocator>(mut prose: Prose<A>, words: &[&str]) -> Prose<A>
 /// Adds the first numbers of operations, and how many more there are.
 pub fn put_operations<A: Allocator>(mut prose: Prose<A>, ops: &[OpNo]) -> Prose<A> {
     let mut gap = "";
-    for op in ops.iter().take(MOST_LISTED) {
+    for op in first_listed(ops) {
         prose = put!(prose; gap, op.0);
         gap = ", ";
     }
@@ -31,7 +36,7 @@ pub fn put_operations<A: Allocator>(mut prose: Prose<A>, ops: &[OpNo]) -> Prose<
 /// Adds a chain of transactions, with an arrow from each to the next; of a long one the front, and its length.
 pub fn put_chain<A: Allocator>(mut prose: Prose<A>, txns: &[TxnId]) -> Prose<A> {
     let mut gap = "";
-    for txn in txns.iter().take(MOST_LISTED) {
+    for txn in first_listed(txns) {
         prose = put!(prose; gap, txn.0);
         gap = " -> ";
     }

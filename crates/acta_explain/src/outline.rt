@@ -60,34 +60,50 @@ impl<'a, A: Allocator> Outline<'a, A> {
     fn add(&mut self, line: usize, first: &'a [u8], name: &'a [u8]) -> Result<(), AllocError> {
         let named = Named { name, line };
         match name_text(first) {
-            "object" => self.objects.push(named)?,
+            "object" => push_named(&mut self.objects, named),
             "class" => {
                 self.open = Some(named);
                 self.said.clear();
-                self.classes.push(named)?;
+                push_named(&mut self.classes, named)
             }
-            "end" => self.open = None,
-            _ => self.said.push(Named { name: first, line })?,
+            "end" => {
+                self.open = None;
+                Ok(())
+            }
+            _ => push_named(&mut self.said, Named { name: first, line }),
+        }
+    }
+}
+
+impl<'a, A: Allocator + Copy> Outline<'a, A> {
+    // Adds what the line of this number declares.
+    fn add_line(&mut self, alloc: A, line: usize, bytes: &'a [u8]) -> Result<(), AllocError> {
+        let words = placed_words(alloc, bytes)?;
+        match words.as_slice() {
+            [] => Ok(()),
+            [first] => self.add(line, first.word, b""),
+            [first, second, ..] => self.add(line, first.word, second.word),
+        }
+    }
+
+    // Adds what the lines of the text declare that stand before the line of this number.
+    fn add_before(&mut self, alloc: A, text: &'a [u8], line: usize) -> Result<(), AllocError> {
+        let mut number = 0usize;
+        for bytes in Lines::of(text).take(line.saturating_sub(1)) {
+            number = number.saturating_add(1);
+            self.add_line(alloc, number, bytes)?;
         }
         Ok(())
     }
 }
 
-impl<'a, A: Allocator + Copy> Outline<'a, A> {
-    // Adds what the lines of the text declare that stand before the line of this number.
-    fn add_before(&mut self, alloc: A, text: &'a [u8], line: usize) -> Result<(), AllocError> {
-        for (place, bytes) in Lines::of(text).take(line.saturating_sub(1)).enumerate() {
-            let words = placed_words(alloc, bytes)?;
-            let name = match words.get(1) {
-                Some(second) => second.word,
-                None => b"",
-            };
-            if let Some(first) = words.first() {
-                self.add(place.saturating_add(1), first.word, name)?;
-            }
-        }
-        Ok(())
-    }
+// Puts what a line declares behind the others.
+fn push_named<'a, A: Allocator>(
+    list: &mut Vec<Named<'a>, A>,
+    named: Named<'a>,
+) -> Result<(), AllocError> {
+    list.push(named)?;
+    Ok(())
 }
 
 /// What the lines of the text declare that stand before the line of this number. `Err` where there is no memory.

@@ -21,10 +21,10 @@ impl<'a> Spoken<'a> {
         let Ok(words) = words_of(alloc, self.bytes) else {
             return prose.fail();
         };
-        let mut gap = "";
+        let mut is_first = true;
         for word in words.iter() {
-            prose = put!(prose; gap, name_text(word));
-            gap = " ";
+            prose = put!(prose; if is_first { "" } else { " " }, name_text(word));
+            is_first = false;
         }
         prose
     }

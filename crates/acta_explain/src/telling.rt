@@ -1,7 +1,7 @@
 //! A run that is told event by event: a machine, and what was told of each event so far.
 
 use crate::chronicle::{Chronicle, Row, row_of};
-use crate::listing::{MOST_LISTED, put_more};
+use crate::listing::{first_listed, put_more};
 use crate::phrases::{put_line, put_numbered_edge};
 use crate::prose::Prose;
 use crate::put;
@@ -201,7 +201,7 @@ impl<A: Handle> Telling<A> {
         let edges = self.machine.edges();
         let new = edges.get(formed.edges_before..).unwrap_or(&[]);
         let mut number = formed.edges_before as u64;
-        for edge in new.iter().take(MOST_LISTED) {
+        for edge in first_listed(new) {
             number = number.saturating_add(1);
             prose = put_numbered_edge(prose.put(gap), number, edge);
             gap = "; ";

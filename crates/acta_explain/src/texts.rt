@@ -3,7 +3,6 @@
 
 use crate::faults::is_among;
 use crate::hints::put_hint;
-use crate::listing::put_quoted;
 use crate::outline::{Outline, PARTS, outline_before};
 use crate::phrases::name_text;
 use crate::placed::{Placed, column_behind, placed_words, put_shown};
@@ -13,7 +12,6 @@ use crate::words::KIND_WORDS;
 use acta_lang::{AsmFault, Code};
 use acta_machine::Handle;
 use acta_words::Lines;
-use std::alloc::AllocError;
 
 // A line that is faulty, with what the lines before it declare.
 #[derive(Drop)]
@@ -248,15 +246,16 @@ impl<'a, A: Handle> BadText<'a, A> {
         }
     }
 
-    // The parts that the class that is closed lacks.
-    fn lacking(&self) -> Result<Vec<&'static str, A>, AllocError> {
-        let mut parts = Vec::new(self.alloc);
+    // Adds the parts that the class that is closed lacks.
+    fn put_lacking(&self, mut prose: Prose<A>) -> Prose<A> {
+        let mut is_first = true;
         for part in PARTS {
             if self.before.said(part.as_bytes()).is_none() {
-                parts.push(part)?;
+                prose = put!(prose; if is_first { "`" } else { ", `" }, part, "`");
+                is_first = false;
             }
         }
-        Ok(parts)
+        prose
     }
 
     fn put_missing_part(&self, prose: Prose<A>) -> Prose<A> {
@@ -268,11 +267,7 @@ impl<'a, A: Handle> BadText<'a, A> {
         };
         let prose = put!(prose; "\nclass `", name_text(open.name), "`, which line ", open.line,
             " begins, lacks ");
-        let prose = match self.lacking() {
-            Ok(parts) => put_quoted(prose, parts.as_slice()),
-            Err(_) => prose.fail(),
-        };
-        prose.put(
+        self.put_lacking(prose).put(
             "\nexpected a line of each of `starts`, `may`, `scope`, `policy`, `commit` and `delegation` before its `end`",
         )
     }
