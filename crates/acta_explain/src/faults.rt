@@ -53,7 +53,7 @@ impl<'a> Stop<'a> {
 }
 
 // What stands at a place of a line of an event.
-#[derive(Clone, Copy, PartialEq, Eq)]
+#[derive(Clone, Copy)]
 enum Part {
     Txn,
     Class,
@@ -282,7 +282,7 @@ fn event_culprit<'a, A: Handle>(
     let Some((parts, form)) = form_of(first.word, words.get(3)) else {
         return Some(wrong_event(*first));
     };
-    for (part, placed) in parts.iter().zip(words.iter().skip(1)) {
+    for (part, placed) in parts.iter().zip(words.get(1..).unwrap_or(&[])) {
         if fault_at(*part) == fault && !is_good(model, *part, placed.word) {
             return Some(wrong_word(*part, *placed));
         }
@@ -419,6 +419,19 @@ fn push_objects<'a, A: Handle>(
     Ok(())
 }
 
+// Puts the words that would do behind others.
+fn push_known<'a, A: Handle>(
+    names: &mut Vec<&'a str, A>,
+    model: &'a Model<A>,
+    known: Known,
+) -> Result<(), AllocError> {
+    match known {
+        Known::Classes => push_classes(names, model),
+        Known::Objects => push_objects(names, model),
+        Known::Words(words) => names.extend_from_slice(words),
+    }
+}
+
 // What is wrong with the line, in lines.
 fn stop_text<A: Handle>(
     alloc: A,
@@ -426,15 +439,12 @@ fn stop_text<A: Handle>(
     stop: &Stop<'_>,
 ) -> Result<String<A>, AllocError> {
     let words = placed_words(alloc, stop.bytes)?;
-    let culprit = find_culprit(model, &words, stop);
+    let culprit = find_culprit(model, words.as_slice(), stop);
+    drop(words);
     let mut known = Vec::new(alloc);
-    match culprit.known {
-        Known::Classes => push_classes(&mut known, model)?,
-        Known::Objects => push_objects(&mut known, model)?,
-        Known::Words(words) => known.extend_from_slice(words)?,
-    }
+    push_known(&mut known, model, culprit.known)?;
     let name = Prose::new(alloc).put(stop.fault.name());
-    put_culprit(name, alloc, culprit, &known).done()
+    put_culprit(name, alloc, culprit, known.as_slice()).done()
 }
 
 /// Adds the line that says nothing, as `run` does, and behind it what is wrong with it.

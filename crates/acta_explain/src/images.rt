@@ -6,7 +6,7 @@ use acta_image::ImageFault;
 use acta_machine::Handle;
 
 /// A field of an image.
-#[derive(Clone, Copy, PartialEq, Eq, Debug)]
+#[derive(Clone, Copy)]
 pub enum Field {
     Magic,
     Version,

@@ -97,6 +97,24 @@ fn take_all<A: Handle>(
     Ok(())
 }
 
+// What is told of a run of these events, which the lines of the input say, up to the faulty one.
+fn run_text<A: Handle>(
+    alloc: A,
+    model: Model<A>,
+    events: Vec<Event<A>, A>,
+    input: &[u8],
+    stop: Option<BadLine>,
+) -> Result<String<A>, AllocError> {
+    let lines = spoken_in(alloc, input)?;
+    let mut told = Telling::new(alloc, model)?;
+    let text = match take_all(&mut told, events, lines) {
+        Ok(()) => put_told(Prose::new(alloc), alloc, &told, input, stop).done(),
+        Err(e) => Err(e),
+    };
+    drop(told);
+    text
+}
+
 /// What is told of a run of the event lines of the input, which is refused where a line is faulty. `Err` where there is
 /// no memory.
 pub fn explain_run<A: Handle>(
@@ -111,16 +129,9 @@ pub fn explain_run<A: Handle>(
         model: &model,
     };
     let Input { said, stop } = read_lines(alloc, &reader, input)?;
-    let lines = spoken_in(alloc, input)?;
-    let mut told = Telling::new(alloc, model)?;
-    if take_all(&mut told, said, lines).is_err() {
-        drop(told);
-        return Err(AllocError);
-    }
-    let prose = put_told(Prose::new(alloc), alloc, &told, input, stop);
-    drop(told);
+    let text = run_text(alloc, model, said, input, stop)?;
     Ok(Report {
-        text: prose.done()?.into_bytes(),
+        text: text.into_bytes(),
         is_refused: stop.is_some(),
     })
 }

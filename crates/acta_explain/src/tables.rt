@@ -10,7 +10,7 @@ use acta_words::read_u16;
 use std::alloc::Allocator;
 
 /// The tables of words.
-#[derive(Clone, Copy, PartialEq, Eq, Debug)]
+#[derive(Clone, Copy)]
 pub enum Table {
     Rules,
     Axioms,

@@ -107,12 +107,11 @@ impl<A: Handle> Telling<A> {
         if self.is_untold(&formed.answer) {
             return Ok(None);
         }
-        let row = self.row(spoken, event, &formed)?;
         if let Answer::Admitted { .. } = formed.answer {
             self.refused.clear();
             self.chronicle.note(event, self.machine.edges().len())?;
         }
-        self.chronicle.push(row)?;
+        self.push_row(spoken, event, &formed)?;
         Ok(Some(formed))
     }
 
@@ -130,21 +129,22 @@ impl<A: Handle> Telling<A> {
         is_untold
     }
 
-    // What is told of the event.
-    fn row(
+    // Puts what is told of the event behind the other rows.
+    fn push_row(
         &mut self,
         spoken: Spoken<'_>,
         event: &Event<A>,
         formed: &Formed,
-    ) -> Result<Row<A>, AllocError> {
+    ) -> Result<(), AllocError> {
         let alloc = self.alloc;
-        row_of(
+        let row = row_of(
             spoken.line,
             spoken.put_words(Prose::new(alloc), alloc),
             put_line(Prose::new(alloc), answer_line(alloc, &formed.answer)),
             self.put_formed(Prose::new(alloc), formed),
             self.put_reason(Prose::new(alloc), event, &formed.answer),
-        )
+        )?;
+        self.chronicle.push(row)
     }
 
     // Notes a refused event, whose row is the last, for where it comes again.
