@@ -3,7 +3,7 @@
 use crate::hints::nearest;
 use crate::prose::Prose;
 use crate::put;
-use crate::tables::{CODES, Table, put_meant};
+use crate::tables::{CODES, MOST_ENTRIES, Table, put_meant};
 use acta_tool::{ModelName, UsageFault, model_named};
 use clap::error::ErrorKind;
 use clap::{Arg, ArgAction, ArgMatches, Command};
@@ -102,7 +102,7 @@ fn usage(surface: &mut Command<'_>, kind: ErrorKind, text: &str) -> UsageFault {
 fn names_of(alloc: Global, tables: &[Table]) -> Result<Vec<&'static str>, AllocError> {
     let mut names = Vec::new(alloc);
     for table in tables {
-        for place in 0..table.len() {
+        for place in 0..MOST_ENTRIES {
             if let Some(entry) = table.entry(place) {
                 names.push(entry.name)?;
             }

@@ -144,36 +144,31 @@ fn are_operations(word: &[u8]) -> bool {
     true
 }
 
-// Whether the model has a class of this name.
-fn has_class<A: Handle>(model: &Model<A>, name: &[u8]) -> bool {
-    for class in model.classes() {
-        if class.name.as_slice() == name {
-            return true;
-        }
-    }
-    false
-}
-
-// Whether the model has an object of this name.
-fn has_object<A: Handle>(model: &Model<A>, name: &[u8]) -> bool {
-    for object in model.objects() {
-        if object.name.as_slice() == name {
-            return true;
-        }
-    }
-    false
+// The names that the model has.
+#[derive(Clone, Copy)]
+struct Names<'a> {
+    classes: &'a [&'a str],
+    objects: &'a [&'a str],
 }
 
 // Whether the word may stand at such a place.
-fn is_good<A: Handle>(model: &Model<A>, part: Part, word: &[u8]) -> bool {
+fn is_good(names: Names<'_>, part: Part, word: &[u8]) -> bool {
     match part {
         Part::Txn => read_u16(word).is_some(),
         Part::Int => read_i32(word).is_some(),
         Part::Ops => are_operations(word),
-        Part::Kind => is_among(word, &KIND_WORDS),
-        Part::Op => is_among(word, &OPERATIONS),
-        Part::Class => has_class(model, word),
-        Part::Object => has_object(model, word),
+        _ => is_among(word, known_at(names, part)),
+    }
+}
+
+// The words that would do at such a place, where they can be listed.
+fn known_at<'a>(names: Names<'a>, part: Part) -> &'a [&'a str] {
+    match part {
+        Part::Class => names.classes,
+        Part::Object => names.objects,
+        Part::Kind => &KIND_WORDS,
+        Part::Op => &OPERATIONS,
+        _ => &[],
     }
 }
 
@@ -200,25 +195,6 @@ fn expected_at(part: Part) -> &'static str {
     }
 }
 
-// The words that would do at a place.
-#[derive(Clone, Copy)]
-enum Known {
-    Classes,
-    Objects,
-    Words(&'static [&'static str]),
-}
-
-// The words that would do at such a place, where they can be listed.
-fn known_at(part: Part) -> Known {
-    match part {
-        Part::Class => Known::Classes,
-        Part::Object => Known::Objects,
-        Part::Kind => Known::Words(&KIND_WORDS),
-        Part::Op => Known::Words(&OPERATIONS),
-        _ => Known::Words(&[]),
-    }
-}
-
 // What is wrong: at which column, with which word, what was expected in its place, a form behind that, and which words
 // would do.
 #[derive(Clone, Copy)]
@@ -227,7 +203,9 @@ struct Culprit<'a> {
     word: Option<&'a [u8]>,
     expected: &'static str,
     form: &'static str,
-    known: Known,
+    known: &'a [&'a str],
+    // Whether these words are names of the model.
+    are_names: bool,
 }
 
 // A first word that is no event.
@@ -242,39 +220,48 @@ fn wrong_event(first: Placed<'_>) -> Culprit<'_> {
         word: Some(first.word),
         expected,
         form,
-        known: Known::Words(&EVENTS),
+        known: &EVENTS,
+        are_names: false,
     }
 }
 
 // A word that is wrong at such a place.
-fn wrong_word(part: Part, placed: Placed<'_>) -> Culprit<'_> {
+fn wrong_word<'a>(names: Names<'a>, part: Part, placed: Placed<'a>) -> Culprit<'a> {
     Culprit {
         column: placed.column,
         word: Some(placed.word),
         expected: expected_at(part),
         form: "",
-        known: known_at(part),
+        known: known_at(names, part),
+        are_names: matches!(part, Part::Class | Part::Object),
     }
 }
 
-// Too few words or too many for a line of this form.
-fn wrong_count<'a>(form: &'static str, count: usize, words: &[Placed<'a>]) -> Culprit<'a> {
-    let (column, word) = match words.get(count) {
+// A word too much, or one too few, where this is expected.
+fn wrong_count<'a>(
+    extra: Option<&Placed<'a>>,
+    column: usize,
+    expected: &'static str,
+    form: &'static str,
+    known: &'a [&'a str],
+) -> Culprit<'a> {
+    let (column, word) = match extra {
         Some(extra) => (extra.column, Some(extra.word)),
-        None => (column_behind(words), None),
+        None => (column, None),
     };
     Culprit {
         column,
         word,
-        expected: "",
+        expected,
         form,
-        known: Known::Words(&[]),
+        known,
+        are_names: false,
     }
 }
 
 // What is wrong with the words of an event by this fault, if it is theirs.
-fn event_culprit<'a, A: Handle>(
-    model: &Model<A>,
+fn event_culprit<'a>(
+    names: Names<'a>,
     words: &[Placed<'a>],
     fault: LineFault,
 ) -> Option<Culprit<'a>> {
@@ -283,39 +270,24 @@ fn event_culprit<'a, A: Handle>(
         return Some(wrong_event(*first));
     };
     for (part, placed) in parts.iter().zip(words.get(1..).unwrap_or(&[])) {
-        if fault_at(*part) == fault && !is_good(model, *part, placed.word) {
-            return Some(wrong_word(*part, *placed));
+        if fault_at(*part) == fault && !is_good(names, *part, placed.word) {
+            return Some(wrong_word(names, *part, *placed));
         }
     }
     let count = parts.len().saturating_add(1);
     if fault == LineFault::Arity && words.len() != count {
-        return Some(wrong_count(form, count, words));
+        return Some(wrong_count(words.get(count), column_behind(words), "", form, &[]));
     }
     None
 }
 
 // The word that is wrong behind a `=`.
-fn wrong_return<'a>(words: &[Placed<'a>]) -> Option<Placed<'a>> {
+fn wrong_return<'w, 'a>(words: &'w [Placed<'a>]) -> Option<&'w Placed<'a>> {
     match words {
         [one] if is_among(one.word, &RETURNS) || read_i64(one.word).is_some() => None,
-        [one] => Some(*one),
-        [_, second, ..] => Some(*second),
+        [one] => Some(one),
+        [_, second, ..] => Some(second),
         [] => None,
-    }
-}
-
-// What is wrong with the words behind a `=`, which stands at this column.
-fn return_culprit<'a>(column: usize, words: &[Placed<'a>]) -> Culprit<'a> {
-    let (column, word) = match wrong_return(words) {
-        Some(wrong) => (wrong.column, Some(wrong.word)),
-        None => (column.saturating_add(1), None),
-    };
-    Culprit {
-        column,
-        word,
-        expected: "one word behind the `=`: done, yes, no or a whole number",
-        form: "",
-        known: Known::Words(&RETURNS),
     }
 }
 
@@ -330,18 +302,14 @@ fn count_before_sign(words: &[Placed<'_>]) -> usize {
 }
 
 // What is wrong with the line.
-fn find_culprit<'a, A: Handle>(
-    model: &Model<A>,
-    words: &[Placed<'a>],
-    stop: &Stop<'a>,
-) -> Culprit<'a> {
+fn find_culprit<'a>(names: Names<'a>, words: &[Placed<'a>], stop: &Stop<'a>) -> Culprit<'a> {
     let sign = if stop.is_kept {
         count_before_sign(words)
     } else {
         words.len()
     };
     let event = words.get(..sign).unwrap_or(&[]);
-    if let Some(culprit) = event_culprit(model, event, stop.fault) {
+    if let Some(culprit) = event_culprit(names, event, stop.fault) {
         return culprit;
     }
     let column = match words.get(sign) {
@@ -349,51 +317,41 @@ fn find_culprit<'a, A: Handle>(
         None => 1,
     };
     if event.is_empty() {
-        return Culprit {
-            column,
-            word: None,
-            expected: "an event before the `=`",
-            form: "",
-            known: Known::Words(&[]),
-        };
+        return wrong_count(None, column, "an event before the `=`", "", &[]);
     }
-    return_culprit(column, words.get(sign.saturating_add(1)..).unwrap_or(&[]))
+    let wrong = wrong_return(words.get(sign.saturating_add(1)..).unwrap_or(&[]));
+    let expected = "one word behind the `=`: done, yes, no or a whole number";
+    wrong_count(wrong, column.saturating_add(1), expected, "", &RETURNS)
 }
 
 // What is told where a line ends in a carriage return.
 const CARRIAGE_RETURN: &str =
     "\nthe line ends in CR LF; here a line ends in LF alone, and the CR belongs to the last word";
 
-// Adds what was expected in the place of the culprit, where these are the words that would do.
-fn put_expected<A: Handle>(prose: Prose<A>, culprit: Culprit<'_>, known: &[&str]) -> Prose<A> {
+// Adds what was expected in the place of the culprit.
+fn put_expected<A: Handle>(prose: Prose<A>, culprit: Culprit<'_>) -> Prose<A> {
     let prose = put!(prose; "\nexpected ", culprit.expected);
-    let is_named = matches!(culprit.known, Known::Classes | Known::Objects);
     if !culprit.form.is_empty() {
         put!(prose; "`", culprit.form, "`")
-    } else if is_named && !known.is_empty() {
-        put_quoted(prose.put(": "), known)
+    } else if culprit.are_names && !culprit.known.is_empty() {
+        put_quoted(prose.put(": "), culprit.known)
     } else {
         prose
     }
 }
 
-// Adds what is told of the culprit, in lines, where these are the words that would do.
-fn put_culprit<A: Handle>(
-    prose: Prose<A>,
-    alloc: A,
-    culprit: Culprit<'_>,
-    known: &[&str],
-) -> Prose<A> {
+// Adds what is told of the culprit, in lines.
+fn put_culprit<A: Handle>(prose: Prose<A>, alloc: A, culprit: Culprit<'_>) -> Prose<A> {
     let prose = put!(prose; ", at column ", culprit.column);
     let Some(word) = culprit.word else {
-        return put_expected(prose.put(", where the line lacks a word"), culprit, known);
+        return put_expected(prose.put(", where the line lacks a word"), culprit);
     };
     let prose = put_shown(prose.put(": `"), word).put("`");
-    let prose = put_expected(prose, culprit, known);
+    let prose = put_expected(prose, culprit);
     if word.last() == Some(&b'\r') {
         prose.put(CARRIAGE_RETURN)
     } else {
-        put_hint(prose, alloc, word, known)
+        put_hint(prose, alloc, word, culprit.known)
     }
 }
 
@@ -419,19 +377,6 @@ fn push_objects<'a, A: Handle>(
     Ok(())
 }
 
-// Puts the words that would do behind others.
-fn push_known<'a, A: Handle>(
-    names: &mut Vec<&'a str, A>,
-    model: &'a Model<A>,
-    known: Known,
-) -> Result<(), AllocError> {
-    match known {
-        Known::Classes => push_classes(names, model),
-        Known::Objects => push_objects(names, model),
-        Known::Words(words) => names.extend_from_slice(words),
-    }
-}
-
 // What is wrong with the line, in lines.
 fn stop_text<A: Handle>(
     alloc: A,
@@ -439,12 +384,17 @@ fn stop_text<A: Handle>(
     stop: &Stop<'_>,
 ) -> Result<String<A>, AllocError> {
     let words = placed_words(alloc, stop.bytes)?;
-    let culprit = find_culprit(model, words.as_slice(), stop);
-    drop(words);
-    let mut known = Vec::new(alloc);
-    push_known(&mut known, model, culprit.known)?;
+    let mut classes = Vec::new(alloc);
+    push_classes(&mut classes, model)?;
+    let mut objects = Vec::new(alloc);
+    push_objects(&mut objects, model)?;
+    let names = Names {
+        classes: classes.as_slice(),
+        objects: objects.as_slice(),
+    };
+    let culprit = find_culprit(names, words.as_slice(), stop);
     let name = Prose::new(alloc).put(stop.fault.name());
-    put_culprit(name, alloc, culprit, known.as_slice()).done()
+    put_culprit(name, alloc, culprit).done()
 }
 
 /// Adds the line that says nothing, as `run` does, and behind it what is wrong with it.

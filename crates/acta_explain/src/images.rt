@@ -195,14 +195,8 @@ fn put_field<A: Handle>(prose: Prose<A>, bytes: &[u8], offset: usize) -> Prose<A
     put!(prose; ", at offset ", at, ": ", what, "\nexpected ", holds)
 }
 
-/// Adds what is wrong with the image, in lines.
-pub fn put_image_fault<A: Handle>(
-    prose: Prose<A>,
-    path: &str,
-    bytes: &[u8],
-    fault: ImageFault,
-) -> Prose<A> {
-    let prose = put!(prose; fault.name(), " in ", path);
+/// Adds where and what is wrong with the image.
+pub fn put_image_fault<A: Handle>(prose: Prose<A>, bytes: &[u8], fault: ImageFault) -> Prose<A> {
     match fault {
         ImageFault::Magic => put_field(prose, bytes, 0),
         ImageFault::Version => put_field(prose, bytes, 4),

@@ -22,29 +22,25 @@ use acta_tool::{
 use std::alloc::{AllocError, Global};
 use std::thread::Threads;
 
-// The name of a model, as it stands on the command line.
-fn path_of<A: Handle>(alloc: A, name: ModelName<'_>) -> Result<String<A>, AllocError> {
-    let path = Prose::new(alloc);
-    let path = match name {
-        ModelName::Standard(standard) => put!(path; "@", standard.name()),
-        ModelName::Path(name) => path.put(name),
-    };
-    path.done()
-}
-
-// What is wrong with bytes that mean no model.
+// What is wrong with bytes that mean no model, in lines.
 fn fault_text<A: Handle>(
     alloc: A,
     name: ModelName<'_>,
     bytes: &[u8],
     fault: NoModel,
 ) -> Result<String<A>, AllocError> {
-    let path = path_of(alloc, name)?;
-    let path = path.as_str();
     let prose = Prose::new(alloc);
     let prose = match fault {
-        NoModel::Text(fault) => put_text_fault(prose, alloc, path, bytes, fault),
-        NoModel::Image(fault) => put_image_fault(prose, path, bytes, fault),
+        NoModel::Text(fault) => put!(prose; fault.code.name(), ", at "),
+        NoModel::Image(fault) => put!(prose; fault.name(), " in "),
+    };
+    let prose = match name {
+        ModelName::Standard(standard) => put!(prose; "@", standard.name()),
+        ModelName::Path(path) => prose.put(path),
+    };
+    let prose = match fault {
+        NoModel::Text(fault) => put_text_fault(prose, alloc, bytes, fault),
+        NoModel::Image(fault) => put_image_fault(prose, bytes, fault),
     };
     prose.done()
 }

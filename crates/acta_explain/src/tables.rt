@@ -20,6 +20,9 @@ pub enum Table {
     ModelFaults,
 }
 
+/// The most entries that a table has.
+pub const MOST_ENTRIES: usize = RULES.len();
+
 /// The tables in which codes are looked for.
 pub const CODES: [Table; 4] = [
     Table::LineCodes,
@@ -41,18 +44,6 @@ impl Table {
         }
     }
 
-    /// How many entries the table has.
-    pub fn len(self) -> usize {
-        match self {
-            Table::Rules => RULES.len(),
-            Table::Axioms => AXIOMS.len(),
-            Table::LineCodes => LINE_CODES.len(),
-            Table::TextCodes => TEXT_CODES.len(),
-            Table::ImageFaults => IMAGE_FAULTS.len(),
-            Table::ModelFaults => MODEL_FAULTS.len(),
-        }
-    }
-
     /// The entry at this place of the table, from 0.
     pub fn entry(self, place: usize) -> Option<Entry> {
         match self {
@@ -67,7 +58,7 @@ impl Table {
 
     /// Whether an entry of the table has this number or name.
     pub fn knows(self, word: &str) -> bool {
-        for place in 0..self.len() {
+        for place in 0..MOST_ENTRIES {
             if let Some(entry) = self.entry(place) {
                 if is_meant(&entry, word) {
                     return true;
@@ -97,7 +88,7 @@ fn put_entry<A: Allocator>(prose: Prose<A>, table: Table, entry: &Entry) -> Pros
 
 /// Adds what the table says by this word, the number or the name of an entry.
 pub fn put_meant<A: Allocator>(mut prose: Prose<A>, table: Table, word: &str) -> Prose<A> {
-    for place in 0..table.len() {
+    for place in 0..MOST_ENTRIES {
         if let Some(entry) = table.entry(place) {
             if is_meant(&entry, word) {
                 prose = put_entry(prose, table, &entry);

@@ -330,31 +330,27 @@ impl<'a, A: Handle> BadText<'a, A> {
     }
 }
 
-/// Adds what is wrong with the text, which stands at this path, in lines.
+/// Adds where and what is wrong with the text.
 pub fn put_text_fault<A: Handle>(
     prose: Prose<A>,
     alloc: A,
-    path: &str,
     text: &[u8],
     fault: AsmFault,
 ) -> Prose<A> {
     let bytes = Lines::of(text)
         .nth(fault.line.saturating_sub(1))
         .unwrap_or(b"".as_slice());
-    let prose = put!(prose; fault.code.name(), ", at ", path, ", line ", fault.line);
-    match (
+    let (Ok(words), Ok(before)) = (
         placed_words(alloc, bytes),
         outline_before(alloc, text, fault.line),
-    ) {
-        (Ok(words), Ok(before)) => {
-            let bad = BadText {
-                alloc,
-                bytes,
-                words,
-                before,
-            };
-            bad.put_code(prose, fault.code)
-        }
-        _ => prose.fail(),
-    }
+    ) else {
+        return prose.fail();
+    };
+    let bad = BadText {
+        alloc,
+        bytes,
+        words,
+        before,
+    };
+    bad.put_code(put!(prose; ", line ", fault.line), fault.code)
 }
