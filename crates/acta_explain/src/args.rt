@@ -128,14 +128,12 @@ fn unknown(alloc: Global, tables: &[Table], word: &str) -> Result<String, AllocE
     prose.done()
 }
 
-// Whether an entry of the tables has this number or name.
-fn is_known(tables: &[Table], word: &str) -> bool {
+// Adds what the tables say by the word.
+fn put_told(mut prose: Prose<Global>, tables: &[Table], word: &str) -> Prose<Global> {
     for table in tables {
-        if table.knows(word) {
-            return true;
-        }
+        prose = put_meant(prose, *table, word);
     }
-    false
+    prose
 }
 
 // What the tables say by each of the words.
@@ -146,16 +144,14 @@ fn words_asked<'a>(
     words: &[&str],
 ) -> Result<Asked<'a>, UsageFault> {
     for word in words {
-        if !is_known(tables, word) {
+        if put_told(Prose::new(alloc), tables, word).done()?.is_empty() {
             let said = unknown(alloc, tables, word)?;
             return Err(usage(surface, ErrorKind::InvalidValue, said.as_str()));
         }
     }
     let mut prose = Prose::new(alloc);
     for word in words {
-        for table in tables {
-            prose = put_meant(prose, *table, word);
-        }
+        prose = put_told(prose, tables, word);
     }
     Ok(Asked::Words(prose.done()?))
 }

@@ -55,18 +55,6 @@ impl Table {
             Table::ModelFaults => Some(model_entry(*MODEL_FAULTS.get(place)?)),
         }
     }
-
-    /// Whether an entry of the table has this number or name.
-    pub fn knows(self, word: &str) -> bool {
-        for place in 0..MOST_ENTRIES {
-            if let Some(entry) = self.entry(place) {
-                if is_meant(&entry, word) {
-                    return true;
-                }
-            }
-        }
-        false
-    }
 }
 
 // Whether the entry is asked for by this word, its number or its name.
