@@ -2,7 +2,7 @@
 
 use crate::choice::Choice;
 use crate::layout::{LEAST_WIDTH, MOST_WIDTH};
-use acta_explain::{called, flag, model_arg, option, with_arg};
+use acta_explain::{called, flag, model_arg, option, usage, with_arg};
 use acta_table::{MOST_EVENTS, TxnId};
 use acta_tool::{ModelName, UsageFault, model_named};
 use acta_words::read_u16;
@@ -85,14 +85,6 @@ fn surface<'a>(alloc: Global, name: &str) -> Result<Command<'a>, AllocError> {
     with_arg(command, width)
 }
 
-// A fault of the command line.
-fn usage(surface: &mut Command<'_>, text: &str) -> UsageFault {
-    match surface.error(ErrorKind::InvalidValue, text) {
-        Ok(error) => UsageFault::Usage(error),
-        Err(e) => UsageFault::Memory(e),
-    }
-}
-
 // The transactions that are listed so, with commas between them, each once; nothing where it is no such list.
 fn txns_listed(alloc: Global, list: &str) -> Result<Option<Vec<TxnId>>, AllocError> {
     let mut txns: Vec<TxnId> = Vec::new(alloc);
@@ -127,6 +119,7 @@ fn txns_asked(
         Some(txns) => Ok(Some(txns)),
         None => Err(usage(
             surface,
+            ErrorKind::InvalidValue,
             "--txns takes numbers of transactions, from 1 to 16383, with commas between them",
         )),
     }
@@ -142,7 +135,10 @@ fn choice_asked(
     let from = number_given(matches, "from").unwrap_or(1);
     let to = number_given(matches, "to");
     match to {
-        Some(to) if to < from => Err(usage(surface, "--to is a place before --from")),
+        Some(to) if to < from => {
+            let said = "--to is a place before --from";
+            Err(usage(surface, ErrorKind::InvalidValue, said))
+        },
         _ => Ok(Choice { txns, from, to }),
     }
 }

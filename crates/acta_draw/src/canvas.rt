@@ -1,7 +1,6 @@
 //! A line of characters on which marks and ties are put, in colours or without.
 
-use crate::layout::digits;
-use acta_explain::Prose;
+use acta_explain::{Prose, digits};
 use std::alloc::{AllocError, Allocator};
 
 /// The colour of a character.

@@ -3,7 +3,6 @@
 use crate::arrows::Arrow;
 use crate::choice::{Choice, Picked};
 use crate::lanes::{Lanes, Row};
-use crate::layout::digits;
 use crate::legend::{height, put_legend};
 use crate::marks::{Deed, Mark, Marked, Tie, has_lane};
 use crate::markup::{
@@ -13,7 +12,7 @@ use crate::markup::{
 use crate::sentences::{line_text, put_debt, put_debt_note, put_left_out, put_title};
 use crate::sheet::{MARGIN, MIDDLE, NEXT_WORDS, PLACE_X, ROW, Sheet, Strip, TOP};
 use crate::wrapping::put_cut;
-use acta_explain::{Prose, put};
+use acta_explain::{Prose, digits, put};
 use acta_machine::Handle;
 use acta_script::owed_line;
 use acta_table::{Owed, TxnId};

@@ -3,14 +3,14 @@
 use crate::canvas::{Canvas, Ink};
 use crate::choice::{Choice, Picked};
 use crate::lanes::{Lanes, Row};
-use crate::layout::{Layout, PLACE, digits, most_lanes};
+use crate::layout::{Layout, PLACE, most_lanes};
 use crate::marks::{Mark, Marked, Tie, has_lane};
 use crate::screen::Screen;
 use crate::sentences::{
     event_width, glyph, line_text, put_debt_note, put_event, put_left_out, put_note,
 };
-use crate::wrapping::{pad, put_cut, put_list, wrapped};
-use acta_explain::{Prose, Row as ToldRow, put};
+use crate::wrapping::{put_cut, put_list, wrapped};
+use acta_explain::{Prose, Row as ToldRow, digits, put};
 use acta_machine::Handle;
 use acta_script::owed_line;
 use acta_table::{Edge, Owed, TxnId};
@@ -159,7 +159,7 @@ impl<'a, A: Handle> Page<'a, A> {
     // Adds the label of a line, and the lanes behind it.
     fn put_front(&self, text: Prose<A>, label: &str) -> Prose<A> {
         let front = PLACE.saturating_sub(2);
-        let text = pad(text, front.saturating_sub(label.width()));
+        let text = text.pad(front.saturating_sub(label.width()));
         self.canvas.put_to(put!(text; label, "  "), self.is_colored)
     }
 
@@ -195,7 +195,7 @@ impl<'a, A: Handle> Page<'a, A> {
         };
         let text = put_cut(text, event, layout.told);
         let text = if is_beside {
-            pad(text, indent.saturating_sub(wide))
+            text.pad(indent.saturating_sub(wide))
         } else {
             text.put("\n")
         };
@@ -218,7 +218,7 @@ impl<'a, A: Handle> Page<'a, A> {
         for line in notes {
             if !is_first {
                 self.put_open(row, true);
-                text = pad(self.put_front(text, ""), indent);
+                text = self.put_front(text, "").pad(indent);
             }
             is_first = false;
             text = self.put_rest(text, line.as_str(), ink);
@@ -262,7 +262,7 @@ impl<'a, A: Handle> Page<'a, A> {
     fn put_place(&self, text: Prose<A>, row: &Row) -> Prose<A> {
         if row.is_admitted() {
             let front = PLACE.saturating_sub(2);
-            let text = pad(text, front.saturating_sub(digits(row.place as usize)));
+            let text = text.pad(front.saturating_sub(digits(row.place as usize)));
             self.canvas
                 .put_to(put!(text; row.place, "  "), self.is_colored)
         } else if has_lane(row.deed.actor()) {

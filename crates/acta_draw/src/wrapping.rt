@@ -10,14 +10,6 @@ const MORE: &str = "..";
 // A blank at which a text is parted only where it has to be.
 const FIXED: char = '\u{a0}';
 
-/// Adds so many blanks.
-pub fn pad<A: Allocator>(mut prose: Prose<A>, count: usize) -> Prose<A> {
-    for _ in 0..count {
-        prose = prose.put(' ');
-    }
-    prose
-}
-
 /// Adds the front of a text, at most so wide; where something is left out it ends in two dots.
 pub fn put_cut<A: Allocator>(mut prose: Prose<A>, text: &str, width: usize) -> Prose<A> {
     if text.width() <= width {

@@ -90,8 +90,8 @@ pub fn called(alloc: Global, words: &[String], command: &str) -> Result<String, 
     format!(in alloc; "{program} {command}")
 }
 
-// A fault of the command line.
-fn usage(surface: &mut Command<'_>, kind: ErrorKind, text: &str) -> UsageFault {
+/// A fault of the command line.
+pub fn usage(surface: &mut Command<'_>, kind: ErrorKind, text: &str) -> UsageFault {
     match surface.error(kind, text) {
         Ok(error) => UsageFault::Usage(error),
         Err(e) => UsageFault::Memory(e),

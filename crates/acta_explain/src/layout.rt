@@ -33,8 +33,8 @@ fn widened(width: usize, most: usize, length: usize) -> usize {
     }
 }
 
-// How many digits a number has.
-fn digits(number: usize) -> usize {
+/// How many digits a number has.
+pub fn digits(number: usize) -> usize {
     match number.checked_ilog10() {
         Some(log) => (log as usize).saturating_add(1),
         None => 1,
@@ -58,30 +58,25 @@ impl Columns {
     }
 }
 
-// Adds so many spaces.
-fn pad<A: Allocator>(mut prose: Prose<A>, count: usize) -> Prose<A> {
-    for _ in 0..count {
-        prose = prose.put(' ');
-    }
-    prose
-}
-
 // Adds a text, and spaces up to this width, and two more.
 fn put_cell<A: Allocator>(prose: Prose<A>, cell: &str, width: usize) -> Prose<A> {
-    pad(prose.put(cell), width.saturating_sub(cell.len())).put("  ")
+    prose
+        .put(cell)
+        .pad(width.saturating_sub(cell.len()))
+        .put("  ")
 }
 
 /// Adds lines, each behind so many spaces and a bar.
 pub fn put_barred<A: Allocator>(mut prose: Prose<A>, indent: usize, lines: &str) -> Prose<A> {
     for line in lines.lines() {
-        prose = put!(pad(prose, indent); "| ", line, "\n");
+        prose = put!(prose.pad(indent); "| ", line, "\n");
     }
     prose
 }
 
 /// Adds a row, and its reason below it.
 pub fn put_row<A: Allocator>(prose: Prose<A>, columns: Columns, row: &Row<A>) -> Prose<A> {
-    let prose = pad(prose, columns.number.saturating_sub(digits(row.line)));
+    let prose = prose.pad(columns.number.saturating_sub(digits(row.line)));
     let prose = put_cell(
         put!(prose; row.line, "  "),
         row.event.as_str(),
@@ -98,6 +93,6 @@ pub fn put_row<A: Allocator>(prose: Prose<A>, columns: Columns, row: &Row<A>) ->
 
 /// Adds a debt below the events. By what it is owed comes next.
 pub fn put_debt<A: Allocator>(prose: Prose<A>, columns: Columns, debt: &str) -> Prose<A> {
-    let prose = pad(prose, columns.number.saturating_add(2));
+    let prose = prose.pad(columns.number.saturating_add(2));
     put_cell(prose, debt, columns.event.max(DEBT))
 }

@@ -28,10 +28,11 @@ mod telling;
 mod texts;
 mod words;
 
-pub use args::{Asked, called, flag, is_asked, model_arg, option, parse, with_arg};
+pub use args::{Asked, called, flag, is_asked, model_arg, option, parse, usage, with_arg};
 pub use chronicle::{Chronicle, Life, Row};
 pub use hints::nearest;
 pub use images::{Field, field_at};
+pub use layout::digits;
 pub use prose::Prose;
 pub use reasons::NEVER;
 pub use report::{explain, explain_tool, write_words};

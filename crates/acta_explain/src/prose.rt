@@ -28,6 +28,14 @@ impl<A: Allocator> Prose<A> {
         self
     }
 
+    /// Adds so many spaces.
+    pub fn pad(mut self, count: usize) -> Prose<A> {
+        for _ in 0..count {
+            self = self.put(' ');
+        }
+        self
+    }
+
     /// Notes that memory ran out for a piece.
     pub fn fail(mut self) -> Prose<A> {
         self.has_failed = true;
