@@ -144,31 +144,35 @@ fn are_operations(word: &[u8]) -> bool {
     true
 }
 
-// The names that the model has.
+// The words that would do at a place.
 #[derive(Clone, Copy)]
-struct Names<'a> {
-    classes: &'a [&'a str],
-    objects: &'a [&'a str],
+enum Known {
+    Classes,
+    Objects,
+    Words(&'static [&'static str]),
 }
 
-// Whether the word may stand at such a place.
-fn is_good(names: Names<'_>, part: Part, word: &[u8]) -> bool {
+// The words that would do at such a place, where they can be listed.
+fn known_at(part: Part) -> Known {
+    match part {
+        Part::Class => Known::Classes,
+        Part::Object => Known::Objects,
+        Part::Kind => Known::Words(&KIND_WORDS),
+        Part::Op => Known::Words(&OPERATIONS),
+        _ => Known::Words(&[]),
+    }
+}
+
+// Whether the word may stand at such a place, where the model has these classes and objects.
+fn is_good(classes: &[&str], objects: &[&str], part: Part, word: &[u8]) -> bool {
     match part {
         Part::Txn => read_u16(word).is_some(),
         Part::Int => read_i32(word).is_some(),
         Part::Ops => are_operations(word),
-        _ => is_among(word, known_at(names, part)),
-    }
-}
-
-// The words that would do at such a place, where they can be listed.
-fn known_at<'a>(names: Names<'a>, part: Part) -> &'a [&'a str] {
-    match part {
-        Part::Class => names.classes,
-        Part::Object => names.objects,
-        Part::Kind => &KIND_WORDS,
-        Part::Op => &OPERATIONS,
-        _ => &[],
+        Part::Kind => is_among(word, &KIND_WORDS),
+        Part::Op => is_among(word, &OPERATIONS),
+        Part::Class => is_among(word, classes),
+        Part::Object => is_among(word, objects),
     }
 }
 
@@ -203,9 +207,7 @@ struct Culprit<'a> {
     word: Option<&'a [u8]>,
     expected: &'static str,
     form: &'static str,
-    known: &'a [&'a str],
-    // Whether these words are names of the model.
-    are_names: bool,
+    known: Known,
 }
 
 // A first word that is no event.
@@ -220,30 +222,28 @@ fn wrong_event(first: Placed<'_>) -> Culprit<'_> {
         word: Some(first.word),
         expected,
         form,
-        known: &EVENTS,
-        are_names: false,
+        known: Known::Words(&EVENTS),
     }
 }
 
 // A word that is wrong at such a place.
-fn wrong_word<'a>(names: Names<'a>, part: Part, placed: Placed<'a>) -> Culprit<'a> {
+fn wrong_word(part: Part, placed: Placed<'_>) -> Culprit<'_> {
     Culprit {
         column: placed.column,
         word: Some(placed.word),
         expected: expected_at(part),
         form: "",
-        known: known_at(names, part),
-        are_names: matches!(part, Part::Class | Part::Object),
+        known: known_at(part),
     }
 }
 
 // A word too much, or one too few, where this is expected.
 fn wrong_count<'a>(
-    extra: Option<&Placed<'a>>,
+    extra: Option<Placed<'a>>,
     column: usize,
     expected: &'static str,
     form: &'static str,
-    known: &'a [&'a str],
+    known: &'static [&'static str],
 ) -> Culprit<'a> {
     let (column, word) = match extra {
         Some(extra) => (extra.column, Some(extra.word)),
@@ -254,14 +254,14 @@ fn wrong_count<'a>(
         word,
         expected,
         form,
-        known,
-        are_names: false,
+        known: Known::Words(known),
     }
 }
 
 // What is wrong with the words of an event by this fault, if it is theirs.
 fn event_culprit<'a>(
-    names: Names<'a>,
+    classes: &[&str],
+    objects: &[&str],
     words: &[Placed<'a>],
     fault: LineFault,
 ) -> Option<Culprit<'a>> {
@@ -270,23 +270,29 @@ fn event_culprit<'a>(
         return Some(wrong_event(*first));
     };
     for (part, placed) in parts.iter().zip(words.get(1..).unwrap_or(&[])) {
-        if fault_at(*part) == fault && !is_good(names, *part, placed.word) {
-            return Some(wrong_word(names, *part, *placed));
+        if fault_at(*part) == fault && !is_good(classes, objects, *part, placed.word) {
+            return Some(wrong_word(*part, *placed));
         }
     }
     let count = parts.len().saturating_add(1);
     if fault == LineFault::Arity && words.len() != count {
-        return Some(wrong_count(words.get(count), column_behind(words), "", form, &[]));
+        return Some(wrong_count(
+            words.get(count).copied(),
+            column_behind(words),
+            "",
+            form,
+            &[],
+        ));
     }
     None
 }
 
 // The word that is wrong behind a `=`.
-fn wrong_return<'w, 'a>(words: &'w [Placed<'a>]) -> Option<&'w Placed<'a>> {
+fn wrong_return<'a>(words: &[Placed<'a>]) -> Option<Placed<'a>> {
     match words {
         [one] if is_among(one.word, &RETURNS) || read_i64(one.word).is_some() => None,
-        [one] => Some(one),
-        [_, second, ..] => Some(second),
+        [one] => Some(*one),
+        [_, second, ..] => Some(*second),
         [] => None,
     }
 }
@@ -302,14 +308,19 @@ fn count_before_sign(words: &[Placed<'_>]) -> usize {
 }
 
 // What is wrong with the line.
-fn find_culprit<'a>(names: Names<'a>, words: &[Placed<'a>], stop: &Stop<'a>) -> Culprit<'a> {
+fn find_culprit<'a>(
+    classes: &[&str],
+    objects: &[&str],
+    words: &[Placed<'a>],
+    stop: &Stop<'a>,
+) -> Culprit<'a> {
     let sign = if stop.is_kept {
         count_before_sign(words)
     } else {
         words.len()
     };
     let event = words.get(..sign).unwrap_or(&[]);
-    if let Some(culprit) = event_culprit(names, event, stop.fault) {
+    if let Some(culprit) = event_culprit(classes, objects, event, stop.fault) {
         return culprit;
     }
     let column = match words.get(sign) {
@@ -328,30 +339,36 @@ fn find_culprit<'a>(names: Names<'a>, words: &[Placed<'a>], stop: &Stop<'a>) -> 
 const CARRIAGE_RETURN: &str =
     "\nthe line ends in CR LF; here a line ends in LF alone, and the CR belongs to the last word";
 
-// Adds what was expected in the place of the culprit.
-fn put_expected<A: Handle>(prose: Prose<A>, culprit: Culprit<'_>) -> Prose<A> {
+// Adds what was expected in the place of the culprit, where these are the words that would do.
+fn put_expected<A: Handle>(prose: Prose<A>, culprit: Culprit<'_>, known: &[&str]) -> Prose<A> {
     let prose = put!(prose; "\nexpected ", culprit.expected);
+    let are_names = matches!(culprit.known, Known::Classes | Known::Objects);
     if !culprit.form.is_empty() {
         put!(prose; "`", culprit.form, "`")
-    } else if culprit.are_names && !culprit.known.is_empty() {
-        put_quoted(prose.put(": "), culprit.known)
+    } else if are_names && !known.is_empty() {
+        put_quoted(prose.put(": "), known)
     } else {
         prose
     }
 }
 
-// Adds what is told of the culprit, in lines.
-fn put_culprit<A: Handle>(prose: Prose<A>, alloc: A, culprit: Culprit<'_>) -> Prose<A> {
+// Adds what is told of the culprit, in lines, where these are the words that would do.
+fn put_culprit<A: Handle>(
+    prose: Prose<A>,
+    alloc: A,
+    culprit: Culprit<'_>,
+    known: &[&str],
+) -> Prose<A> {
     let prose = put!(prose; ", at column ", culprit.column);
     let Some(word) = culprit.word else {
-        return put_expected(prose.put(", where the line lacks a word"), culprit);
+        return put_expected(prose.put(", where the line lacks a word"), culprit, known);
     };
     let prose = put_shown(prose.put(": `"), word).put("`");
-    let prose = put_expected(prose, culprit);
+    let prose = put_expected(prose, culprit, known);
     if word.last() == Some(&b'\r') {
         prose.put(CARRIAGE_RETURN)
     } else {
-        put_hint(prose, alloc, word, culprit.known)
+        put_hint(prose, alloc, word, known)
     }
 }
 
@@ -388,13 +405,14 @@ fn stop_text<A: Handle>(
     push_classes(&mut classes, model)?;
     let mut objects = Vec::new(alloc);
     push_objects(&mut objects, model)?;
-    let names = Names {
-        classes: classes.as_slice(),
-        objects: objects.as_slice(),
-    };
-    let culprit = find_culprit(names, words.as_slice(), stop);
+    let culprit = find_culprit(&classes, &objects, &words, stop);
     let name = Prose::new(alloc).put(stop.fault.name());
-    put_culprit(name, alloc, culprit).done()
+    let told = match culprit.known {
+        Known::Classes => put_culprit(name, alloc, culprit, &classes),
+        Known::Objects => put_culprit(name, alloc, culprit, &objects),
+        Known::Words(words) => put_culprit(name, alloc, culprit, words),
+    };
+    told.done()
 }
 
 /// Adds the line that says nothing, as `run` does, and behind it what is wrong with it.
