@@ -2,13 +2,13 @@
 
 use crate::choice::Choice;
 use crate::layout::{LEAST_WIDTH, MOST_WIDTH};
-use acta_explain::called;
+use acta_explain::{called, flag, model_arg, option, usage, with_arg};
 use acta_table::{MOST_EVENTS, TxnId};
 use acta_tool::{ModelName, UsageFault, model_named};
 use acta_words::read_u16;
 use clap::builder::ValueParser;
 use clap::error::ErrorKind;
-use clap::{Arg, ArgAction, ArgMatches, Command};
+use clap::{Arg, ArgMatches, Command};
 use std::alloc::{AllocError, Global};
 
 /// The form of a picture.
@@ -55,76 +55,34 @@ fn number<'a>(
     most: usize,
     help: &'a str,
 ) -> Arg<'a> {
-    Arg::new(alloc, id)
-        .long(id)
-        .value_name(value)
-        .action(ArgAction::Set)
-        .value_parser(ValueParser::Unsigned(least as u64, most as u64))
-        .help(help)
+    let numbers = ValueParser::Unsigned(least as u64, most as u64);
+    option(alloc, id, value, help).value_parser(numbers)
 }
 
 // The command line that is taken.
 fn surface<'a>(alloc: Global, name: &str) -> Result<Command<'a>, AllocError> {
-    Command::new(alloc, "acta_tool draw")
-        .bin_name(name)?
+    let command = Command::new(alloc, "acta_tool draw")
         .no_binary_name(true)
         .about(
             "Draws the history of the event lines of the standard input on MODEL: a lane for each transaction, a row for each event",
         )
         .after_help(LEGEND)
-        .arg(
-            Arg::new(alloc, "MODEL")
-                .required(true)
-                .action(ArgAction::Set)
-                .help(
-                    "A file with the model's text or image, or one of @atomic, @nested, @split_join, @recoverable, @contingent",
-                ),
-        )?
-        .arg(
-            Arg::new(alloc, "svg")
-                .long("svg")
-                .action(ArgAction::SetTrue)
-                .help("Draws an SVG, which a browser shows"),
-        )?
-        .arg(
-            Arg::new(alloc, "txns")
-                .long("txns")
-                .value_name("T,T..")
-                .action(ArgAction::Set)
-                .help("Draws only these transactions, in this order"),
-        )?
-        .arg(number(
-            alloc,
-            "from",
-            "PLACE",
-            1,
-            MOST_EVENTS,
-            "Draws only from this place on",
-        ))?
-        .arg(number(
-            alloc,
-            "to",
-            "PLACE",
-            1,
-            MOST_EVENTS,
-            "Draws only up to this place",
-        ))?
-        .arg(number(
-            alloc,
-            "width",
-            "COLUMNS",
-            LEAST_WIDTH,
-            MOST_WIDTH,
-            "How wide a text may be: else COLUMNS of the environment tells, or it is 100",
-        ))
-}
-
-// A fault of the command line.
-fn usage(surface: &mut Command<'_>, text: &str) -> UsageFault {
-    match surface.error(ErrorKind::InvalidValue, text) {
-        Ok(error) => UsageFault::Usage(error),
-        Err(e) => UsageFault::Memory(e),
-    }
+        .bin_name(name);
+    let command = with_arg(command, model_arg(alloc).required(true));
+    let help = "Draws an SVG, which a browser shows";
+    let command = with_arg(command, flag(alloc, "svg", help));
+    let help = "Draws only these transactions, in this order";
+    let command = with_arg(command, option(alloc, "txns", "T,T..", help));
+    let help = "Draws only from this place on";
+    let command = with_arg(
+        command,
+        number(alloc, "from", "PLACE", 1, MOST_EVENTS, help),
+    );
+    let help = "Draws only up to this place";
+    let command = with_arg(command, number(alloc, "to", "PLACE", 1, MOST_EVENTS, help));
+    let help = "How wide a text may be: else COLUMNS of the environment tells, or it is 100";
+    let width = number(alloc, "width", "COLUMNS", LEAST_WIDTH, MOST_WIDTH, help);
+    with_arg(command, width)
 }
 
 // The transactions that are listed so, with commas between them, each once; nothing where it is no such list.
@@ -148,30 +106,41 @@ fn number_given(matches: &ArgMatches<'_>, id: &str) -> Option<u32> {
     matches.get_one::<u32>(id)
 }
 
+// The transactions that are asked for; nothing where none are named.
+fn txns_asked(
+    alloc: Global,
+    surface: &mut Command<'_>,
+    list: Option<&str>,
+) -> Result<Option<Vec<TxnId>>, UsageFault> {
+    let Some(list) = list else {
+        return Ok(None);
+    };
+    match txns_listed(alloc, list)? {
+        Some(txns) => Ok(Some(txns)),
+        None => Err(usage(
+            surface,
+            ErrorKind::InvalidValue,
+            "--txns takes numbers of transactions, from 1 to 16383, with commas between them",
+        )),
+    }
+}
+
 // Which lanes and places the matches ask for.
 fn choice_asked(
     alloc: Global,
     surface: &mut Command<'_>,
     matches: &ArgMatches<'_>,
 ) -> Result<Choice, UsageFault> {
-    let txns = match matches.get_str("txns") {
-        Some(list) => match txns_listed(alloc, list)? {
-            Some(txns) => Some(txns),
-            None => {
-                return Err(usage(
-                    surface,
-                    "--txns takes numbers of transactions, from 1 to 16383, with commas between them",
-                ));
-            }
-        },
-        None => None,
-    };
+    let txns = txns_asked(alloc, surface, matches.get_str("txns"))?;
     let from = number_given(matches, "from").unwrap_or(1);
     let to = number_given(matches, "to");
-    if to.is_some_and(|to| to < from) {
-        return Err(usage(surface, "--to is a place before --from"));
+    match to {
+        Some(to) if to < from => {
+            let said = "--to is a place before --from";
+            Err(usage(surface, ErrorKind::InvalidValue, said))
+        },
+        _ => Ok(Choice { txns, from, to }),
     }
-    Ok(Choice { txns, from, to })
 }
 
 // What the matches ask for.
@@ -184,15 +153,13 @@ fn asked_by<'a>(
     let form = if matches.get_flag("svg") {
         Form::Svg
     } else {
-        Form::Text {
-            width: number_given(matches, "width").map(|width| width as usize),
-        }
+        let width = match number_given(matches, "width") {
+            Some(width) => Some(width as usize),
+            None => None,
+        };
+        Form::Text { width }
     };
-    let named = match matches.get_str("MODEL") {
-        Some(model) => model_named(model),
-        None => None,
-    };
-    match named {
+    match model_named(matches.get_str("MODEL").unwrap_or("@")) {
         Some(model) => {
             let drawing = Drawing { form, choice };
             Ok(Asked { drawing, model })
@@ -201,13 +168,12 @@ fn asked_by<'a>(
     }
 }
 
-/// What the words ask for; the first is the program's name, and the second `draw`. `Usage` where they are no such
-/// command line or ask for help, with the text of `clap`; `UnknownModel` where no standard model has the name after the
-/// `@`; `Memory` where there is none.
-pub fn parse<'a>(alloc: Global, words: &'a [String]) -> Result<Asked<'a>, UsageFault> {
-    let name = called(alloc, words, "draw")?;
-    let mut surface = surface(alloc, name.as_str()).map_err(UsageFault::Memory)?;
-    let words = words.get(2..).unwrap_or(&[]);
+// What the words behind `draw` ask for.
+fn asked_on<'a>(
+    alloc: Global,
+    mut surface: Command<'a>,
+    words: &'a [String],
+) -> Result<Asked<'a>, UsageFault> {
     let asked = match surface.try_get_matches_from_mut(words) {
         Ok(matches) => asked_by(alloc, &mut surface, &matches),
         Err(e) => match e.kind() {
@@ -217,6 +183,17 @@ pub fn parse<'a>(alloc: Global, words: &'a [String]) -> Result<Asked<'a>, UsageF
     };
     drop(surface);
     asked
+}
+
+/// What the words ask for; the first is the program's name, and the second `draw`. `Usage` where they are no such
+/// command line or ask for help, with the text of `clap`; `UnknownModel` where no standard model has the name after the
+/// `@`; `Memory` where there is none.
+pub fn parse<'a>(alloc: Global, words: &'a [String]) -> Result<Asked<'a>, UsageFault> {
+    let name = called(alloc, words, "draw")?;
+    match surface(alloc, name.as_str()) {
+        Ok(surface) => asked_on(alloc, surface, words.get(2..).unwrap_or(&[])),
+        Err(e) => Err(UsageFault::Memory(e)),
+    }
 }
 
 /// Whether the words ask for a picture: the second is `draw`.

@@ -19,50 +19,59 @@ pub struct Arrow<A: Handle> {
 
 // Writes an edge more to an arrow.
 fn add_edge<A: Handle>(arrow: &mut Arrow<A>, number: u64, edge: &Edge) -> Result<(), AllocError> {
-    if !arrow.label.is_empty() {
-        arrow.label.push_str(", ")?;
-        arrow.title.push('\n')?;
-    }
+    let (comma, feed) = if arrow.label.is_empty() {
+        ("", "")
+    } else {
+        (", ", "\n")
+    };
     let kind = edge.kind.word();
     let j = edge.j.0;
     let i = edge.i.0;
     let formula = edge.kind.sentence();
-    write!(arrow.label, "{kind} {number}")?;
+    write!(arrow.label, "{comma}{kind} {number}")?;
     write!(
         arrow.title,
-        "edge {number}: {kind} {j} on {i}, of J = {j} on I = {i}. {formula}"
+        "{feed}edge {number}: {kind} {j} on {i}, of J = {j} on I = {i}. {formula}"
     )
 }
 
-/// The arrows of the row between lanes that are drawn. `Err` where there is no memory.
-pub fn arrows<A: Handle>(
+// Puts a new arrow for the edge behind the others, where the last is between others.
+fn begin_arrow<A: Handle>(
+    arrows: &mut Vec<Arrow<A>, A>,
+    alloc: A,
+    edge: &Edge,
+) -> Result<(), AllocError> {
+    if let Some(last) = arrows.last() {
+        if last.j == edge.j && last.i == edge.i {
+            return Ok(());
+        }
+    }
+    arrows.push(Arrow {
+        j: edge.j,
+        i: edge.i,
+        label: String::new(alloc),
+        title: String::new(alloc),
+    })?;
+    Ok(())
+}
+
+/// Puts the arrows of the row between lanes that are drawn behind others. `Err` where there is no memory.
+pub fn push_arrows<A: Handle>(
+    arrows: &mut Vec<Arrow<A>, A>,
     lanes: &Lanes<A>,
     picked: &Picked<A>,
     row: &Row,
-) -> Result<Vec<Arrow<A>, A>, AllocError> {
-    let alloc = lanes.allocator();
-    let mut arrows: Vec<Arrow<A>, A> = Vec::new(alloc);
+) -> Result<(), AllocError> {
     let mut number = row.edges_before as u64;
     for edge in lanes.formed(row) {
         number = number.saturating_add(1);
         if picked.column(edge.j).is_none() || picked.column(edge.i).is_none() {
             continue;
         }
-        let is_new = match arrows.last() {
-            Some(last) => last.j != edge.j || last.i != edge.i,
-            None => true,
-        };
-        if is_new {
-            arrows.push(Arrow {
-                j: edge.j,
-                i: edge.i,
-                label: String::new(alloc),
-                title: String::new(alloc),
-            })?;
-        }
+        begin_arrow(arrows, lanes.allocator(), edge)?;
         if let Some(arrow) = arrows.last_mut() {
             add_edge(arrow, number, edge)?;
         }
     }
-    Ok(arrows)
+    Ok(())
 }

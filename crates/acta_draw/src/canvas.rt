@@ -1,5 +1,6 @@
 //! A line of characters on which marks and ties are put, in colours or without.
 
+use acta_explain::{Prose, digits};
 use std::alloc::{AllocError, Allocator};
 
 /// The colour of a character.
@@ -68,12 +69,16 @@ impl<A: Allocator> Canvas<A> {
         }
     }
 
-    /// Puts a text from the column on, as far as the line goes.
-    pub fn put_text(&mut self, column: usize, text: &str, ink: Ink) {
-        let mut at = column;
-        for glyph in text.chars() {
-            self.put(at, glyph, ink);
-            at = at.saturating_add(1);
+    /// Puts a number from the column on, as far as the line goes.
+    pub fn put_number(&mut self, column: usize, number: u32, ink: Ink) {
+        let count = digits(number as usize);
+        let mut rest = number;
+        for place in 0..count {
+            let at = column
+                .saturating_add(count.saturating_sub(place))
+                .saturating_sub(1);
+            self.put(at, char::from_digit(rest % 10, 10).unwrap_or('0'), ink);
+            rest /= 10;
         }
     }
 
@@ -87,26 +92,22 @@ impl<A: Allocator> Canvas<A> {
         }
     }
 
-    /// Writes the line, in colours where it is to be coloured. `Err` where there is no memory.
-    pub fn push_to<B: Allocator>(
-        &self,
-        text: &mut String<B>,
-        is_colored: bool,
-    ) -> Result<(), AllocError> {
+    /// Adds the line to a text, in colours where it is to be coloured.
+    pub fn put_to<B: Allocator>(&self, mut text: Prose<B>, is_colored: bool) -> Prose<B> {
         let mut ink = Ink::Plain;
         for cell in self.cells.iter() {
             if is_colored && cell.ink != ink {
-                text.push_str(Ink::Plain.escape())?;
+                text = text.put(Ink::Plain.escape());
                 if cell.ink != Ink::Plain {
-                    text.push_str(cell.ink.escape())?;
+                    text = text.put(cell.ink.escape());
                 }
                 ink = cell.ink;
             }
-            text.push(cell.glyph)?;
+            text = text.put(cell.glyph);
         }
         if ink != Ink::Plain {
-            text.push_str(Ink::Plain.escape())?;
+            text = text.put(Ink::Plain.escape());
         }
-        Ok(())
+        text
     }
 }

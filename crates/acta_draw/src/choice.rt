@@ -27,12 +27,18 @@ impl Choice {
 
     // Whether a row at this place is wanted. A refused event is at the place that it would have had.
     fn has_place(&self, place: u32) -> bool {
-        self.from <= place && self.to.is_none_or(|to| place <= to)
+        match self.to {
+            Some(to) => self.from <= place && place <= to,
+            None => self.from <= place,
+        }
     }
 
     // Whether what stands behind the last of so many places is wanted.
     fn has_end(&self, places: usize) -> bool {
-        self.to.is_none_or(|to| places <= to as usize)
+        match self.to {
+            Some(to) => places <= to as usize,
+            None => true,
+        }
     }
 }
 
@@ -132,20 +138,31 @@ impl<A: Handle> Picked<A> {
     /// The lanes and the rows of the choice, at most so many lanes. `Err` where there is no memory.
     pub fn of(lanes: &Lanes<A>, choice: &Choice, most: usize) -> Result<Picked<A>, AllocError> {
         let alloc = lanes.allocator();
-        let all = wanted(lanes, choice)?;
-        let nowhere: Option<usize> = None;
         let mut picked = Picked {
             lanes: Vec::new(alloc),
             rows: Vec::new(alloc),
             has_end: choice.has_end(places(lanes)),
             wanted: 0,
-            columns: vec![in alloc; nowhere; TABLE_SIZE]?,
+            columns: Vec::new(alloc),
         };
-        for txn in all.as_slice() {
-            picked.add_lane(*txn, most)?;
+        match picked.pick(lanes, choice, most) {
+            Ok(()) => Ok(picked),
+            Err(e) => {
+                drop(picked);
+                Err(e)
+            }
         }
-        picked.pick_rows(lanes, choice)?;
-        Ok(picked)
+    }
+
+    // Picks the lanes, at most so many, and the rows.
+    fn pick(&mut self, lanes: &Lanes<A>, choice: &Choice, most: usize) -> Result<(), AllocError> {
+        let nowhere: Option<usize> = None;
+        self.columns = vec![in lanes.allocator(); nowhere; TABLE_SIZE]?;
+        let all = wanted(lanes, choice)?;
+        for txn in all.as_slice() {
+            self.add_lane(*txn, most)?;
+        }
+        self.pick_rows(lanes, choice)
     }
 
     // Gives the transaction a lane behind the others, where it has none and there is room.
@@ -177,16 +194,23 @@ impl<A: Handle> Picked<A> {
     // Whether something of the row is on a lane. One that no transaction can do is of no lane, and is drawn.
     fn touches(&self, row: &Row, formed: &[Edge]) -> bool {
         let actor = row.deed.actor();
-        let partner = if row.is_admitted() {
-            row.deed.partner()
-        } else {
-            None
-        };
-        !has_lane(actor)
-            || self.column(actor).is_some()
-            || partner.is_some_and(|partner| self.column(partner).is_some())
-            || formed.iter().any(|edge| self.column(edge.i).is_some()
-                || self.column(edge.j).is_some())
+        if !has_lane(actor) || self.column(actor).is_some() {
+            return true;
+        }
+        match row.deed.partner() {
+            Some(partner) if row.is_admitted() && self.column(partner).is_some() => true,
+            _ => self.has_edge(formed),
+        }
+    }
+
+    // Whether one of the edges is of a transaction that has a lane.
+    fn has_edge(&self, edges: &[Edge]) -> bool {
+        for edge in edges {
+            if self.column(edge.i).is_some() || self.column(edge.j).is_some() {
+                return true;
+            }
+        }
+        false
     }
 }
 

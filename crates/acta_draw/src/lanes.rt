@@ -44,14 +44,28 @@ pub struct Reach {
 }
 
 impl Reach {
+    // Whether the lane has begun at the row, or before it.
+    fn has_begun(self, row: usize) -> bool {
+        match self.began {
+            Some(began) => began <= row,
+            None => false,
+        }
+    }
+
     /// Whether the lane is open just behind the row: it has begun, and hasn't ended.
     pub fn is_open_behind(self, row: usize) -> bool {
-        self.began.is_some_and(|began| began <= row) && self.ended.is_none_or(|ended| row < ended)
+        match self.ended {
+            Some(ended) => self.has_begun(row) && row < ended,
+            None => self.has_begun(row),
+        }
     }
 
     /// Whether the lane is open at the row, the rows of its start and of its end included.
     pub fn is_open_at(self, row: usize) -> bool {
-        self.began.is_some_and(|began| began <= row) && self.ended.is_none_or(|ended| row <= ended)
+        match self.ended {
+            Some(ended) => self.has_begun(row) && row <= ended,
+            None => self.has_begun(row),
+        }
     }
 }
 
@@ -83,20 +97,34 @@ impl<A: Handle> Lanes<A> {
     ) -> Result<Lanes<A>, AllocError> {
         let Input { said, stop } = read;
         let lines = spoken_in(alloc, input)?;
+        let telling = Telling::new(alloc, model)?;
         let mut lanes = Lanes {
             alloc,
-            telling: Telling::new(alloc, model)?,
+            telling,
             rows: Vec::new(alloc),
             owed: Vec::new(alloc),
             stop,
         };
-        for (event, line) in said.into_iter().zip(lines) {
-            lanes.take(line, event)?;
-        }
-        if lanes.stop.is_none() {
-            lanes.owed = lanes.telling.machine().owed()?;
+        if lanes.take_all(said, lines).is_err() {
+            drop(lanes);
+            return Err(AllocError);
         }
         Ok(lanes)
+    }
+
+    // Takes all events, each of which its line says.
+    fn take_all(
+        &mut self,
+        events: Vec<Event<A>, A>,
+        lines: Vec<Spoken<'_>, A>,
+    ) -> Result<(), AllocError> {
+        for (event, line) in events.into_iter().zip(lines) {
+            self.take(line, event)?;
+        }
+        if self.stop.is_none() {
+            self.owed = self.telling.machine().owed()?;
+        }
+        Ok(())
     }
 
     // Takes an event, and notes its row, if it is told.

@@ -2,6 +2,7 @@
 
 use crate::choice::Picked;
 use crate::lanes::Lanes;
+use acta_explain::digits;
 use acta_machine::Handle;
 use acta_table::LAST_TXN;
 
@@ -29,14 +30,6 @@ const USUAL_TOLD: usize = 48;
 const MOST_OF_EVENT: usize = 36;
 
 const LEAST_NOTE: usize = 24;
-
-/// How many digits a number has.
-pub fn digits(number: usize) -> usize {
-    match number.checked_ilog10() {
-        Some(log) => (log as usize).saturating_add(1),
-        None => 1,
-    }
-}
 
 /// The widths of the columns of a text.
 #[derive(Clone, Copy)]

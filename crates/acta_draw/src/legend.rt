@@ -3,12 +3,12 @@
 ghost use Rattle.std.specs.Prelude.{◌<◌};
 
 use crate::marks::Mark;
-use crate::markup::{push_circle, push_text};
+use crate::markup::{put_circle, put_text};
 use crate::sheet::MARGIN;
-use crate::svg::push_mark;
+use crate::svg::put_mark;
+use acta_explain::{Prose, put};
 use acta_machine::Handle;
 use acta_table::{OpNo, TxnId};
-use std::alloc::AllocError;
 
 // What stands in the place of a mark in an entry.
 #[derive(Clone, Copy)]
@@ -55,49 +55,28 @@ pub fn height(width: usize) -> usize {
         .saturating_add(MARGIN)
 }
 
-// Writes the sign of an entry, in the middle of which is this point.
-fn push_sign<A: Handle>(
-    out: &mut String<A>,
-    alloc: A,
-    sign: Sign,
-    x: usize,
-    y: usize,
-) -> Result<(), AllocError> {
+// Adds the sign of an entry, in the middle of which is this point.
+fn put_sign<A: Handle>(out: Prose<A>, sign: Sign, x: usize, y: usize) -> Prose<A> {
     let from = x.saturating_sub(12);
     let to = x.saturating_add(12);
-    match sign {
-        Sign::Mark(mark) => push_mark(out, alloc, mark, TxnId(1), x, y),
-        Sign::Tie => write!(
-            out,
-            "<path class=\"tie\" d=\"M{from} {y}H{to}\" marker-end=\"url(#acta-draw-tie)\"/>\n"
-        ),
-        Sign::Permit => write!(
-            out,
-            "<path class=\"permit\" d=\"M{from} {y}H{to}\" marker-end=\"url(#acta-draw-tie)\"/>\n"
-        ),
-        Sign::Edge => {
-            push_circle(out, "foot", from, y, 3)?;
-            write!(
-                out,
-                "<path class=\"edge\" d=\"M{from} {y}H{to}\" marker-end=\"url(#acta-draw-edge)\"/>\n"
-            )
-        }
-    }
+    let (class, head, out) = match sign {
+        Sign::Mark(mark) => return put_mark(out, mark, TxnId(1), x, y),
+        Sign::Tie => ("tie", "tie", out),
+        Sign::Permit => ("permit", "tie", out),
+        Sign::Edge => ("edge", "edge", put_circle(out, "foot", from, y, 3)),
+    };
+    put!(out; "<path class=\"", class, "\" d=\"M", from, " ", y, "H", to,
+        "\" marker-end=\"url(#acta-draw-", head, ")\"/>\n")
 }
 
-/// Writes the legend, from this height on. `Err` where there is no memory.
-pub fn push_legend<A: Handle>(
-    out: &mut String<A>,
-    alloc: A,
-    width: usize,
-    top: usize,
-) -> Result<(), AllocError> {
+/// Adds the legend, from this height on.
+pub fn put_legend<A: Handle>(mut out: Prose<A>, width: usize, top: usize) -> Prose<A> {
     let right = width.saturating_sub(MARGIN + ENTRY);
     let mut x = MARGIN;
     let mut y = top;
     for (sign, says) in ENTRIES {
-        push_sign(out, alloc, sign, x.saturating_add(14), y)?;
-        push_text(out, "note", x.saturating_add(34), y.saturating_add(4), says)?;
+        out = put_sign(out, sign, x.saturating_add(14), y);
+        out = put_text(out, "note", x.saturating_add(34), y.saturating_add(4), says);
         if x.saturating_add(ENTRY) <= right {
             x = x.saturating_add(ENTRY);
         } else {
@@ -105,5 +84,5 @@ pub fn push_legend<A: Handle>(
             y = y.saturating_add(LINE);
         }
     }
-    Ok(())
+    out
 }

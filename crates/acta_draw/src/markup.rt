@@ -1,6 +1,7 @@
 //! The elements of an SVG. Texts are escaped here, and nowhere else.
 
-use std::alloc::{AllocError, Allocator};
+use acta_explain::{Prose, put};
+use std::alloc::Allocator;
 
 /// How the parts of a picture look.
 pub const STYLE: &str = "\
@@ -34,122 +35,114 @@ pub const STYLE: &str = "\
 .acta-draw .foot{fill:#8250df}
 ";
 
-/// Writes a text with what has a meaning in markup escaped. `Err` where there is no memory.
-pub fn push_escaped<A: Allocator>(out: &mut String<A>, text: &str) -> Result<(), AllocError> {
-    for c in text.chars() {
-        match c {
-            '&' => out.push_str("&amp;")?,
-            '<' => out.push_str("&lt;")?,
-            '>' => out.push_str("&gt;")?,
-            '"' => out.push_str("&quot;")?,
-            c => out.push(c)?,
+/// What ends a group.
+pub const END_OF_GROUP: &str = "</g>\n";
+
+/// What ends a text.
+pub const END_OF_TEXT: &str = "</text>\n";
+
+/// What ends a picture.
+pub const END: &str = "</svg>\n";
+
+// Whether something in the text has a meaning in markup.
+fn has_markup(text: &str) -> bool {
+    for byte in text.as_bytes() {
+        if matches!(*byte, b'&' | b'<' | b'>' | b'"') {
+            return true;
         }
     }
-    Ok(())
+    false
 }
 
-/// Writes what begins a picture of this size. `Err` where there is no memory.
-pub fn push_open<A: Allocator>(
-    out: &mut String<A>,
-    width: usize,
-    height: usize,
-) -> Result<(), AllocError> {
-    write!(
-        out,
-        "<svg xmlns=\"http://www.w3.org/2000/svg\" class=\"acta-draw\" width=\"{width}\" height=\"{height}\" viewBox=\"0 0 {width} {height}\">\n<style>\n"
-    )?;
-    out.push_str(STYLE)?;
-    out.push_str("</style>\n")?;
-    out.push_str("<defs>\n")?;
-    push_head(out, "acta-draw-tie", "#424a53")?;
-    push_head(out, "acta-draw-edge", "#8250df")?;
-    out.push_str("</defs>\n")?;
-    write!(
-        out,
-        "<rect width=\"{width}\" height=\"{height}\" fill=\"#fff\"/>\n"
-    )
+/// Adds a text with what has a meaning in markup escaped.
+pub fn put_escaped<A: Allocator>(mut out: Prose<A>, text: &str) -> Prose<A> {
+    if !has_markup(text) {
+        return out.put(text);
+    }
+    for c in text.chars() {
+        out = match c {
+            '&' => out.put("&amp;"),
+            '<' => out.put("&lt;"),
+            '>' => out.put("&gt;"),
+            '"' => out.put("&quot;"),
+            c => out.put(c),
+        };
+    }
+    out
 }
 
-// Writes the head of the arrows of this colour.
-fn push_head<A: Allocator>(out: &mut String<A>, id: &str, color: &str) -> Result<(), AllocError> {
-    write!(
-        out,
-        "<marker id=\"{id}\" viewBox=\"0 0 8 8\" refX=\"8\" refY=\"4\" markerWidth=\"8\" markerHeight=\"8\" markerUnits=\"userSpaceOnUse\" orient=\"auto\"><path d=\"M0 0L8 4L0 8z\" style=\"fill:{color}\"/></marker>\n"
-    )
+/// Adds what begins a picture of this size.
+pub fn put_open<A: Allocator>(out: Prose<A>, width: usize, height: usize) -> Prose<A> {
+    let out =
+        put!(out; "<svg xmlns=\"http://www.w3.org/2000/svg\" class=\"acta-draw\" width=\"", width,
+        "\" height=\"", height, "\" viewBox=\"0 0 ", width, " ", height, "\">\n<style>\n", STYLE,
+        "</style>\n<defs>\n");
+    let out = put_head(out, "acta-draw-tie", "#424a53");
+    let out = put_head(out, "acta-draw-edge", "#8250df");
+    put!(out; "</defs>\n<rect width=\"", width, "\" height=\"", height, "\" fill=\"#fff\"/>\n")
 }
 
-/// Writes what ends a picture. `Err` where there is no memory.
-pub fn push_close<A: Allocator>(out: &mut String<A>) -> Result<(), AllocError> {
-    out.push_str("</svg>\n")
+// Adds the head of the arrows of this colour.
+fn put_head<A: Allocator>(out: Prose<A>, id: &str, color: &str) -> Prose<A> {
+    put!(out; "<marker id=\"", id,
+        "\" viewBox=\"0 0 8 8\" refX=\"8\" refY=\"4\" markerWidth=\"8\" markerHeight=\"8\" markerUnits=\"userSpaceOnUse\" orient=\"auto\"><path d=\"M0 0L8 4L0 8z\" style=\"fill:",
+        color, "\"/></marker>\n")
 }
 
-/// Begins a group that this says in words. `Err` where there is no memory.
-pub fn push_titled<A: Allocator>(out: &mut String<A>, title: &str) -> Result<(), AllocError> {
-    out.push_str("<g><title>")?;
-    push_escaped(out, title)?;
-    out.push_str("</title>")
+/// Begins a group that this says in words.
+pub fn put_titled<A: Allocator>(out: Prose<A>, title: &str) -> Prose<A> {
+    put_escaped(out.put("<g><title>"), title).put("</title>")
 }
 
-/// Ends a group. `Err` where there is no memory.
-pub fn push_ended<A: Allocator>(out: &mut String<A>) -> Result<(), AllocError> {
-    out.push_str("</g>\n")
+/// Begins a text at a point.
+pub fn put_text_at<A: Allocator>(out: Prose<A>, class: &str, x: usize, y: usize) -> Prose<A> {
+    put!(out; "<text class=\"", class, "\" x=\"", x, "\" y=\"", y, "\">")
 }
 
-/// Writes a text at a point. `Err` where there is no memory.
-pub fn push_text<A: Allocator>(
-    out: &mut String<A>,
+/// Adds a text at a point.
+pub fn put_text<A: Allocator>(
+    out: Prose<A>,
     class: &str,
     x: usize,
     y: usize,
     text: &str,
-) -> Result<(), AllocError> {
-    write!(out, "<text class=\"{class}\" x=\"{x}\" y=\"{y}\">")?;
-    push_escaped(out, text)?;
-    out.push_str("</text>\n")
+) -> Prose<A> {
+    put_escaped(put_text_at(out, class, x, y), text).put(END_OF_TEXT)
 }
 
-/// Writes a line between two points. `Err` where there is no memory.
-pub fn push_line<A: Allocator>(
-    out: &mut String<A>,
+/// Adds a line between two points.
+pub fn put_line<A: Allocator>(
+    out: Prose<A>,
     class: &str,
     from: (usize, usize),
     to: (usize, usize),
-) -> Result<(), AllocError> {
-    let (x1, y1) = from;
-    let (x2, y2) = to;
-    write!(
-        out,
-        "<line class=\"{class}\" x1=\"{x1}\" y1=\"{y1}\" x2=\"{x2}\" y2=\"{y2}\"/>\n"
-    )
+) -> Prose<A> {
+    put!(out; "<line class=\"", class, "\" x1=\"", from.0, "\" y1=\"", from.1, "\" x2=\"", to.0,
+        "\" y2=\"", to.1, "\"/>\n")
 }
 
-/// Writes a circle. `Err` where there is no memory.
-pub fn push_circle<A: Allocator>(
-    out: &mut String<A>,
+/// Adds a circle.
+pub fn put_circle<A: Allocator>(
+    out: Prose<A>,
     class: &str,
     x: usize,
     y: usize,
     radius: usize,
-) -> Result<(), AllocError> {
-    write!(
-        out,
-        "<circle class=\"{class}\" cx=\"{x}\" cy=\"{y}\" r=\"{radius}\"/>"
-    )
+) -> Prose<A> {
+    put!(out; "<circle class=\"", class, "\" cx=\"", x, "\" cy=\"", y, "\" r=\"", radius, "\"/>")
 }
 
-/// Writes a box round a point, with corners of this radius. `Err` where there is no memory.
-pub fn push_box<A: Allocator>(
-    out: &mut String<A>,
+/// Adds a box round a point, with corners of this radius.
+pub fn put_box<A: Allocator>(
+    out: Prose<A>,
     class: &str,
     middle: (usize, usize),
     size: (usize, usize),
     radius: usize,
-) -> Result<(), AllocError> {
+) -> Prose<A> {
     let (width, height) = size;
     let x = middle.0.saturating_sub(width / 2);
     let y = middle.1.saturating_sub(height / 2);
-    write!(
-        out,
-        "<rect class=\"{class}\" x=\"{x}\" y=\"{y}\" width=\"{width}\" height=\"{height}\" rx=\"{radius}\"/>"
-    )
+    put!(out; "<rect class=\"", class, "\" x=\"", x, "\" y=\"", y, "\" width=\"", width, "\" height=\"",
+        height, "\" rx=\"", radius, "\"/>")
 }

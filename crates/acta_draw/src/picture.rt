@@ -10,21 +10,16 @@ ghost use Rattle.acta_tool.specs.Output.{output_on, said_in, tool_output};
 use crate::args::{Drawing, Form};
 use crate::lanes::Lanes;
 use crate::screen::Screen;
+use crate::sentences::line_text;
 use crate::svg::{draw_svg, draw_words};
 use crate::text::draw_text;
 use acta_machine::Handle;
 use acta_table::Model;
 use acta_tool::{
-    BadLine, Command, EventLines, ModelError, NoModel, Outcome, ReadFault, Report, Sink, Source,
-    read_lines, read_model, read_within, refuse_line, refuse_model, write_report,
+    Command, EventLines, ModelError, NoModel, Outcome, ReadFault, Report, Sink, Source, read_lines,
+    read_model, read_within, refuse_line, refuse_model, write_report,
 };
 use std::alloc::AllocError;
-
-// The line that all commands tell of a line that is faulty.
-fn stop_line<A: Handle>(alloc: A, stop: BadLine) -> Result<String<A>, AllocError> {
-    let report = refuse_line(alloc, stop)?;
-    String::from_utf8_lossy(alloc, report.text.as_slice())
-}
 
 // The picture of the lanes, and behind it the line that is faulty, where one is.
 fn picture<A: Handle>(
@@ -33,20 +28,30 @@ fn picture<A: Handle>(
     drawing: &Drawing,
     screen: Screen,
 ) -> Result<String<A>, AllocError> {
-    let stop = match lanes.stop() {
-        Some(stop) => stop_line(alloc, stop)?,
-        None => String::new(alloc),
-    };
+    match lanes.stop() {
+        Some(stop) => {
+            let report = refuse_line(alloc, stop)?;
+            picture_to(lanes, drawing, screen, line_text(report.text.as_slice()))
+        }
+        None => picture_to(lanes, drawing, screen, ""),
+    }
+}
+
+// The picture of the lanes, and this line behind it.
+fn picture_to<A: Handle>(
+    lanes: &Lanes<A>,
+    drawing: &Drawing,
+    screen: Screen,
+    stop: &str,
+) -> Result<String<A>, AllocError> {
     match drawing.form {
-        Form::Svg => draw_svg(lanes, &drawing.choice, stop.as_str()),
+        Form::Svg => draw_svg(lanes, &drawing.choice, stop),
         Form::Text { width } => {
             let screen = Screen {
                 width: width.unwrap_or(screen.width),
                 ..screen
             };
-            let mut text = draw_text(lanes, &drawing.choice, screen)?;
-            text.push_str(stop.as_str())?;
-            Ok(text)
+            draw_text(lanes, &drawing.choice, screen, stop)
         }
     }
 }
@@ -59,9 +64,9 @@ fn no_model<A: Handle>(alloc: A, drawing: &Drawing, fault: NoModel) -> Result<Re
     match drawing.form {
         Form::Text { .. } => Ok(report),
         Form::Svg => {
-            let told = String::from_utf8_lossy(alloc, report.text.as_slice())?;
+            let told = line_text(report.text.as_slice());
             Ok(Report {
-                text: draw_words(alloc, told.as_str())?.into_bytes(),
+                text: draw_words(alloc, told)?.into_bytes(),
                 is_refused: true,
             })
         }
@@ -85,9 +90,10 @@ fn draw_run<A: Handle>(
     let read = read_lines(alloc, &reader, input)?;
     let is_refused = read.stop.is_some();
     let lanes = Lanes::of(alloc, model, read, input)?;
-    let text = picture(alloc, &lanes, drawing, screen)?;
+    let text = picture(alloc, &lanes, drawing, screen);
+    drop(lanes);
     Ok(Report {
-        text: text.into_bytes(),
+        text: text?.into_bytes(),
         is_refused,
     })
 }

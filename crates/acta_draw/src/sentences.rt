@@ -3,25 +3,23 @@
 use crate::choice::Picked;
 use crate::lanes::{Lanes, Row};
 use crate::marks::{Deed, Mark};
-use acta_explain::{MOST_TOLD, Row as ToldRow, rule_entry};
+use acta_explain::{MOST_TOLD, Prose, Row as ToldRow, put};
 use acta_machine::Handle;
-use acta_table::{Answer, Edge, Missing, Owed, TxnId};
-use std::alloc::{AllocError, Allocator};
+use acta_table::{Edge, Missing, Owed, TxnId};
+use std::alloc::Allocator;
 use unicode_width::UnicodeWidthStr;
 
 // The most edges that a note names.
 const MOST_NAMED: usize = 8;
 
-/// An edge in words: its kind, the one that depends and the one on which it depends. `Err` where there is no memory.
-pub fn push_edge<A: Allocator>(
-    text: &mut String<A>,
-    number: u64,
-    edge: &Edge,
-) -> Result<(), AllocError> {
-    let kind = edge.kind.word();
-    let j = edge.j.0;
-    let i = edge.i.0;
-    write!(text, "edge {number} ({kind} {j} on {i})")
+/// Adds an edge in words: its kind, the one that depends and the one on which it depends.
+pub fn put_edge<A: Allocator>(prose: Prose<A>, number: u64, edge: &Edge) -> Prose<A> {
+    put!(prose; "edge ", number, " (", edge.kind.word(), " ", edge.j.0, " on ", edge.i.0, ")")
+}
+
+/// A line of the program, as text.
+pub fn line_text(line: &[u8]) -> &str {
+    std::str::from_utf8(line).unwrap_or("")
 }
 
 // The words of a line behind so many.
@@ -44,18 +42,13 @@ pub fn returned<A: Allocator>(told: &ToldRow<A>) -> Option<&str> {
     }
 }
 
-/// The event of a row; behind an operation, and a `=`, what it returned. `Err` where there is no memory.
-pub fn event_text<A: Allocator + Clone>(
-    row: &Row,
-    told: &ToldRow<A>,
-) -> Result<String<A>, AllocError> {
-    let mut text = told.event.clone()?;
-    if row.op.is_some() {
-        if let Some(ret) = returned(told) {
-            write!(text, " = {ret}")?;
-        }
+/// Adds the event of a row; behind an operation, and a `=`, what it returned.
+pub fn put_event<A: Allocator>(prose: Prose<A>, row: &Row, told: &ToldRow<A>) -> Prose<A> {
+    let prose = prose.put(told.event.as_str());
+    match returned(told) {
+        Some(ret) if row.op.is_some() => put!(prose; " = ", ret),
+        _ => prose,
     }
-    Ok(text)
 }
 
 /// The width of that text.
@@ -67,204 +60,149 @@ pub fn event_width<A: Allocator>(row: &Row, told: &ToldRow<A>) -> usize {
     }
 }
 
-/// What is said where not all is drawn: how much is, and how more is chosen. `Err` where there is no memory.
-pub fn left_out<A: Handle>(lanes: &Lanes<A>, picked: &Picked<A>) -> Result<String<A>, AllocError> {
-    let mut text = String::new(lanes.allocator());
+/// Adds what is said where not all is drawn: how much is, and how more is chosen.
+pub fn put_left_out<A: Handle>(prose: Prose<A>, lanes: &Lanes<A>, picked: &Picked<A>) -> Prose<A> {
     let rows = picked.rows.len();
     let all = lanes.rows().len();
     let fit = picked.lanes.len();
     let wanted = picked.wanted;
-    if fit < wanted {
-        write!(
-            text,
-            "{fit} of {wanted} transactions fit, and {rows} of {all} events are of them; --txns 1,2,7 or --from N --to M (places) choose others."
-        )?;
+    let prose = if fit < wanted {
+        put!(prose; fit, " of ", wanted, " transactions fit, and ", rows, " of ", all,
+            " events are of them; --txns 1,2,7 or --from N --to M (places) choose others.")
     } else if rows < all {
-        write!(text, "{rows} of {all} events are drawn.")?;
-    }
+        put!(prose; rows, " of ", all, " events are drawn.")
+    } else {
+        prose
+    };
     let untold = lanes.untold();
-    if untold > 0 {
-        let gap = if text.is_empty() { "" } else { " " };
-        write!(
-            text,
-            "{gap}{untold} refused events more are not drawn: the first {MOST_TOLD} are."
-        )?;
+    if untold == 0 {
+        return prose;
     }
-    Ok(text)
+    let gap = if prose.is_empty() { "" } else { " " };
+    put!(prose; gap, untold, " refused events more are not drawn: the first ", MOST_TOLD, " are.")
 }
 
-// The edges that a row formed, by their numbers.
-fn push_formed<A: Handle>(
-    text: &mut String<A>,
-    lanes: &Lanes<A>,
-    row: &Row,
-) -> Result<(), AllocError> {
+// Adds the edges that a row formed, by their numbers.
+fn put_formed<A: Handle>(mut prose: Prose<A>, lanes: &Lanes<A>, row: &Row) -> Prose<A> {
     let formed = lanes.formed(row);
     let mut number = row.edges_before as u64;
-    for edge in formed.iter().take(MOST_NAMED) {
+    let mut gap = "";
+    for edge in formed.get(..MOST_NAMED).unwrap_or(formed) {
         number = number.saturating_add(1);
-        if !text.is_empty() {
-            text.push_str("; ")?;
-        }
-        push_edge(text, number, edge)?;
+        prose = put_edge(prose.put(gap), number, edge);
+        gap = "; ";
     }
     let more = formed.len().saturating_sub(MOST_NAMED);
     if more > 0 {
-        write!(text, "; and {more} more")?;
+        put!(prose; "; and ", more, " more")
+    } else {
+        prose
     }
-    Ok(())
 }
 
-/// What is told of a row behind its event: the edges that it formed, or why it was refused. `Err` where there is no
-/// memory.
-pub fn note<A: Handle>(lanes: &Lanes<A>, number: usize) -> Result<String<A>, AllocError> {
-    let mut text = String::new(lanes.allocator());
+/// Adds what is told of a row behind its event: the edges that it formed, or why it was refused.
+pub fn put_note<A: Handle>(prose: Prose<A>, lanes: &Lanes<A>, number: usize) -> Prose<A> {
     let (Some(row), Some(told)) = (lanes.rows().get(number), lanes.told(number)) else {
-        return Ok(text);
+        return prose;
     };
-    if row.is_admitted() {
-        push_formed(&mut text, lanes, row)?;
-        if text.is_empty() && matches!(row.deed, Deed::Depends(_, _)) {
-            text.push_str("in force already")?;
-        }
-    } else {
-        text.push_str("refused: ")?;
-        text.push_str(told.reason.lines().next().unwrap_or(""))?;
+    if !row.is_admitted() {
+        return put!(prose; "refused: ", told.reason.lines().next().unwrap_or(""));
     }
-    Ok(text)
+    if lanes.formed(row).is_empty() && matches!(row.deed, Deed::Depends(_, _)) {
+        return prose.put("in force already");
+    }
+    put_formed(prose, lanes, row)
 }
 
-/// The name of the rule by which the row was refused.
-pub fn rule_name(row: &Row) -> &'static str {
-    match row.answer {
-        Answer::Admitted { .. } => "",
-        Answer::Refused { rule, .. } => rule_entry(rule).name,
+/// Adds by which edge something is owed.
+pub fn put_debt_note<A: Handle>(prose: Prose<A>, lanes: &Lanes<A>, owed: &Owed) -> Prose<A> {
+    let number = owed.edge.0;
+    match lanes.edge(number) {
+        Some(edge) => put_edge(prose.put("by "), number, edge),
+        None => prose,
     }
 }
 
-/// By which edge something is owed. `Err` where there is no memory.
-pub fn debt_note<A: Handle>(lanes: &Lanes<A>, owed: &Owed) -> Result<String<A>, AllocError> {
-    let mut text = String::new(lanes.allocator());
-    if let Some(edge) = lanes.edge(owed.edge.0) {
-        text.push_str("by ")?;
-        push_edge(&mut text, owed.edge.0, edge)?;
-    }
-    Ok(text)
-}
-
-/// A debt in words. `Err` where there is no memory.
-pub fn push_debt<A: Handle>(
-    text: &mut String<A>,
-    lanes: &Lanes<A>,
-    owed: &Owed,
-) -> Result<(), AllocError> {
-    let txn = owed.txn.0;
+/// Adds a debt in words.
+pub fn put_debt<A: Handle>(prose: Prose<A>, lanes: &Lanes<A>, owed: &Owed) -> Prose<A> {
     let missing = match owed.missing {
-        Missing::Commit => "a commit",
-        Missing::Abort => "an abort",
+        Missing::Commit => " owes a commit in the end, ",
+        Missing::Abort => " owes an abort in the end, ",
     };
-    let by = debt_note(lanes, owed)?;
-    write!(text, "{txn} owes {missing} in the end, {by}")
+    put_debt_note(put!(prose; owed.txn.0, missing), lanes, owed)
 }
 
-// With which class a transaction starts.
-fn push_class<A: Handle>(
-    text: &mut String<A>,
-    lanes: &Lanes<A>,
-    t: TxnId,
-) -> Result<(), AllocError> {
+// Adds with which class a transaction starts.
+fn put_class<A: Handle>(prose: Prose<A>, lanes: &Lanes<A>, t: TxnId) -> Prose<A> {
     match lanes.class_name(t) {
-        Some(class) => write!(text, ", with the class {class}"),
-        None => Ok(()),
+        Some(class) => put!(prose; ", with the class ", class),
+        None => prose,
     }
 }
 
-// What an admitted row does, in words.
-fn push_deed<A: Handle>(
-    text: &mut String<A>,
+// Adds what an admitted row does, in words.
+fn put_deed<A: Handle>(
+    prose: Prose<A>,
     lanes: &Lanes<A>,
     row: &Row,
     told: &ToldRow<A>,
-) -> Result<(), AllocError> {
+) -> Prose<A> {
+    let event = told.event.as_str();
     match row.deed {
-        Deed::Begins(TxnId(t)) => {
-            write!(text, "{t} begins")?;
-            push_class(text, lanes, TxnId(t))
+        Deed::Begins(t) => put_class(put!(prose; t.0, " begins"), lanes, t),
+        Deed::Spawns(t, c) => put_class(put!(prose; t.0, " spawns ", c.0), lanes, c),
+        Deed::Splits(t, u) => {
+            let prose = put_class(put!(prose; t.0, " splits off ", u.0), lanes, u);
+            put_operations(prose, " and the operations ", words_behind(event, 4))
         }
-        Deed::Spawns(TxnId(t), TxnId(c)) => {
-            write!(text, "{t} spawns {c}")?;
-            push_class(text, lanes, TxnId(c))
+        Deed::Joins(t, u) => {
+            put!(prose; t.0, " joins ", u.0, ", has ended by it, and leaves it all that it held in progress")
         }
-        Deed::Splits(TxnId(t), TxnId(u)) => {
-            write!(text, "{t} splits off {u}")?;
-            push_class(text, lanes, TxnId(u))?;
-            let operations = words_behind(told.event.as_str(), 4);
-            push_operations(text, " and the operations ", operations)
+        Deed::Delegates(t, u) => {
+            let prose = put!(prose; t.0, " delegates to ", u.0);
+            put_operations(prose, " the operations ", words_behind(event, 3))
         }
-        Deed::Joins(TxnId(t), TxnId(u)) => {
-            write!(
-                text,
-                "{t} joins {u}, has ended by it, and leaves it all that it held in progress"
-            )
+        Deed::Permits(t, u) => {
+            put!(prose; t.0, " permits ", u.0, " to work on ", words_behind(event, 3), " beside it")
         }
-        Deed::Delegates(TxnId(t), TxnId(u)) => {
-            write!(text, "{t} delegates to {u}")?;
-            let operations = words_behind(told.event.as_str(), 3);
-            push_operations(text, " the operations ", operations)
+        Deed::Depends(j, i) => put!(prose; j.0, " comes to depend on ", i.0),
+        Deed::Operates(t) => {
+            let number = match row.op {
+                Some(op) => op.0,
+                None => 0,
+            };
+            put!(prose; "operation ", number, ": ", t.0, " does ", words_behind(event, 2),
+                ", which returns ", returned(told).unwrap_or("nothing"))
         }
-        Deed::Permits(TxnId(t), TxnId(u)) => {
-            let object = words_behind(told.event.as_str(), 3);
-            write!(text, "{t} permits {u} to work on {object} beside it")
+        Deed::Commits(t) => put!(prose; t.0, " commits"),
+        Deed::CommitsTo(t, parent) => {
+            put!(prose; t.0, " commits, and leaves its parent ", parent.0, " all that it held in progress")
         }
-        Deed::Depends(TxnId(j), TxnId(i)) => write!(text, "{j} comes to depend on {i}"),
-        Deed::Operates(TxnId(t)) => {
-            let operation = words_behind(told.event.as_str(), 2);
-            let ret = returned(told).unwrap_or("nothing");
-            let number = row.op.map_or(0, |op| op.0);
-            write!(
-                text,
-                "operation {number}: {t} does {operation}, which returns {ret}"
-            )
-        }
-        Deed::Commits(TxnId(t)) => write!(text, "{t} commits"),
-        Deed::CommitsTo(TxnId(t), TxnId(parent)) => write!(
-            text,
-            "{t} commits, and leaves its parent {parent} all that it held in progress"
-        ),
-        Deed::Aborts(TxnId(t)) => write!(text, "{t} aborts"),
+        Deed::Aborts(t) => put!(prose; t.0, " aborts"),
     }
 }
 
-// Operations, by their numbers; `-` is none.
-fn push_operations<A: Allocator>(
-    text: &mut String<A>,
-    front: &str,
-    operations: &str,
-) -> Result<(), AllocError> {
+// Adds operations, by their numbers; `-` is none.
+fn put_operations<A: Allocator>(prose: Prose<A>, front: &str, operations: &str) -> Prose<A> {
     match operations {
-        "-" => write!(text, ", and no operation"),
-        operations => write!(text, "{front}{operations}"),
+        "-" => prose.put(", and no operation"),
+        operations => put!(prose; front, operations),
     }
 }
 
-/// What a row is, in words: what happens, or what was refused and why, in lines. `Err` where there is no memory.
-pub fn title<A: Handle>(
+/// Adds what a row is, in words: what happens, or what was refused and why, in lines.
+pub fn put_title<A: Handle>(
+    prose: Prose<A>,
     lanes: &Lanes<A>,
     row: &Row,
     told: &ToldRow<A>,
-) -> Result<String<A>, AllocError> {
-    let mut text = String::new(lanes.allocator());
-    let line = told.line;
+) -> Prose<A> {
     if row.is_admitted() {
-        let place = row.place;
-        write!(text, "place {place} (line {line}): ")?;
-        push_deed(&mut text, lanes, row, told)?;
+        let prose = put!(prose; "place ", row.place, " (line ", told.line, "): ");
+        put_deed(prose, lanes, row, told)
     } else {
-        let event = told.event.as_str();
-        let reason = told.reason.as_str();
-        write!(text, "refused (line {line}): {event}\n{reason}")?;
+        put!(prose; "refused (line ", told.line, "): ", told.event.as_str(), "\n", told.reason.as_str())
     }
-    Ok(text)
 }
 
 /// The character of a mark in a text. An operation's number stands behind it.

@@ -1,12 +1,12 @@
 //! Where the parts of an SVG are: the lanes, the rows, and what stands beside them.
 
-use crate::arrows::{Arrow, arrows};
+use crate::arrows::{Arrow, push_arrows};
 use crate::choice::Picked;
 use crate::lanes::{Lanes, Row};
 use crate::marks::Deed;
-use crate::sentences::{event_text, note};
-use crate::wrapping::cut;
-use acta_explain::Row as ToldRow;
+use crate::sentences::{put_event, put_note};
+use crate::wrapping::put_cut;
+use acta_explain::{Prose, Row as ToldRow};
 use acta_machine::Handle;
 use acta_table::TxnId;
 use std::alloc::AllocError;
@@ -96,8 +96,12 @@ pub fn text_width(text: &str, height: usize) -> usize {
 
 // Whether an edge that the row formed has no arrow, since a lane of it isn't drawn.
 fn lacks_arrows<A: Handle>(lanes: &Lanes<A>, picked: &Picked<A>, row: &Row) -> bool {
-    lanes.formed(row).iter().any(|edge| picked.column(edge.j).is_none()
-        || picked.column(edge.i).is_none())
+    for edge in lanes.formed(row) {
+        if picked.column(edge.j).is_none() || picked.column(edge.i).is_none() {
+            return true;
+        }
+    }
+    false
 }
 
 // What is told below the event of a row: why it was refused, or the edges where they are not all drawn.
@@ -107,12 +111,12 @@ fn words_below<A: Handle>(
     number: usize,
     row: &Row,
 ) -> Result<String<A>, AllocError> {
+    let note = Prose::new(lanes.allocator());
     let is_again = matches!(row.deed, Deed::Depends(_, _)) && lanes.formed(row).is_empty();
     if !row.is_admitted() || is_again || lacks_arrows(lanes, picked, row) {
-        let note = note(lanes, number)?;
-        cut(lanes.allocator(), note.as_str(), MOST_TOLD)
+        put_note(note, lanes, number).done()
     } else {
-        Ok(String::new(lanes.allocator()))
+        note.done()
     }
 }
 
@@ -126,17 +130,30 @@ impl<A: Handle> Strip<A> {
         told: &ToldRow<A>,
         top: usize,
     ) -> Result<Strip<A>, AllocError> {
-        let event = event_text(row, told)?;
+        let alloc = lanes.allocator();
+        let event = put_event(Prose::new(alloc), row, told).done()?;
+        let (event, lacks_event) = put_cut(Prose::new(alloc), event.as_str(), MOST_TOLD).parts();
         let mut strip = Strip {
             number,
-            event: cut(lanes.allocator(), event.as_str(), MOST_TOLD)?,
-            note: words_below(lanes, picked, number, row)?,
-            arrows: arrows(lanes, picked, row)?,
+            event,
+            note: String::new(alloc),
+            arrows: Vec::new(alloc),
             y: top.saturating_add(MIDDLE),
             end: 0,
         };
+        if lacks_event || strip.fill(lanes, picked, row).is_err() {
+            drop(strip);
+            return Err(AllocError);
+        }
         strip.end = top.saturating_add(strip.height(row));
         Ok(strip)
+    }
+
+    // Makes what is told below its event, and its arrows.
+    fn fill(&mut self, lanes: &Lanes<A>, picked: &Picked<A>, row: &Row) -> Result<(), AllocError> {
+        let note = words_below(lanes, picked, self.number, row)?;
+        self.note = put_cut(Prose::new(lanes.allocator()), note.as_str(), MOST_TOLD).done()?;
+        push_arrows(&mut self.arrows, lanes, picked, row)
     }
 
     // Its height.
@@ -176,15 +193,24 @@ impl<A: Handle> Sheet<A> {
             rows_end: TOP,
             width: 0,
         };
-        for number in picked.rows.iter() {
-            if let (Some(row), Some(told)) = (lanes.rows().get(*number), lanes.told(*number)) {
-                let strip = Strip::of(lanes, picked, *number, row, told, sheet.rows_end)?;
-                sheet.rows_end = strip.end;
-                sheet.strips.push(strip)?;
-            }
+        if sheet.add_strips(lanes, picked).is_err() {
+            drop(sheet);
+            return Err(AllocError);
         }
         sheet.spread(lanes, picked);
         Ok(sheet)
+    }
+
+    // Puts the rows that are picked below one another.
+    fn add_strips(&mut self, lanes: &Lanes<A>, picked: &Picked<A>) -> Result<(), AllocError> {
+        for number in picked.rows.iter() {
+            if let (Some(row), Some(told)) = (lanes.rows().get(*number), lanes.told(*number)) {
+                let strip = Strip::of(lanes, picked, *number, row, told, self.rows_end)?;
+                self.rows_end = strip.end;
+                self.strips.push(strip)?;
+            }
+        }
+        Ok(())
     }
 
     // Finds how far apart the lanes are, and where what is told begins and ends.

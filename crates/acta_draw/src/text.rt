@@ -3,18 +3,21 @@
 use crate::canvas::{Canvas, Ink};
 use crate::choice::{Choice, Picked};
 use crate::lanes::{Lanes, Row};
-use crate::layout::{Layout, PLACE, digits, most_lanes};
+use crate::layout::{Layout, PLACE, most_lanes};
 use crate::marks::{Mark, Marked, Tie, has_lane};
 use crate::screen::Screen;
-use crate::sentences::{debt_note, event_text, event_width, glyph, left_out, note};
-use crate::wrapping::{cut, list_of, pad, wrapped};
+use crate::sentences::{
+    event_width, glyph, line_text, put_debt_note, put_event, put_left_out, put_note,
+};
+use crate::wrapping::{put_cut, put_list, wrapped};
+use acta_explain::{Prose, Row as ToldRow, digits, put};
 use acta_machine::Handle;
 use acta_script::owed_line;
 use acta_table::{Edge, Owed, TxnId};
 use std::alloc::AllocError;
 use unicode_width::UnicodeWidthStr;
 
-// A text that grows, and what it is a picture of.
+// What a text is a picture of, and the line that is put together.
 #[derive(Drop)]
 struct Page<'a, A: Handle> {
     lanes: &'a Lanes<A>,
@@ -23,7 +26,6 @@ struct Page<'a, A: Handle> {
     width: usize,
     is_colored: bool,
     canvas: Canvas<A>,
-    text: String<A>,
 }
 
 // The colour of a mark.
@@ -71,21 +73,19 @@ impl<'a, A: Handle> Page<'a, A> {
     }
 
     // Puts a mark on its lane.
-    fn put_mark(&mut self, marked: Marked) -> Result<(), AllocError> {
+    fn put_mark(&mut self, marked: Marked) {
         let Some(column) = self.column(marked.txn) else {
-            return Ok(());
+            return;
         };
         let ink = ink(marked.mark);
         match marked.mark {
             Mark::Met => {}
             Mark::Operation(op) => {
-                let number = op.0;
-                let label = format!(in self.lanes.allocator(); "*{number}")?;
-                self.canvas.put_text(column, label.as_str(), ink);
+                self.canvas.put(column, '*', ink);
+                self.canvas.put_number(column.saturating_add(1), op.0, ink);
             }
             mark => self.canvas.put(column, glyph(mark), ink),
         }
-        Ok(())
     }
 
     // Puts a tie between two lanes, with its head at the second.
@@ -129,22 +129,21 @@ impl<'a, A: Handle> Page<'a, A> {
     }
 
     // Puts all that a row is on the lanes.
-    fn put_row(&mut self, number: usize, row: &Row) -> Result<(), AllocError> {
+    fn put_row(&mut self, number: usize, row: &Row) {
         self.put_open(number, false);
         let figure = row.figure();
-        self.put_mark(figure.actor)?;
+        self.put_mark(figure.actor);
         match figure.partner {
             Some((partner, tie)) => {
-                self.put_mark(partner)?;
-                if partner.mark == Mark::Met && tie == Tie::Depends {
+                self.put_mark(partner);
+                let has_head = matches!(partner.mark, Mark::Met);
+                if has_head && matches!(tie, Tie::Depends) {
                     self.put_end(partner.txn);
                 }
-                let has_head = partner.mark == Mark::Met;
                 self.put_tie(figure.actor.txn, partner.txn, tie, has_head);
             }
             None => self.put_edges(figure.actor.txn, self.lanes.formed(row)),
         }
-        Ok(())
     }
 
     // Puts the end of an arrow on a lane that may not have begun.
@@ -157,151 +156,207 @@ impl<'a, A: Handle> Page<'a, A> {
 
 // The lines.
 impl<'a, A: Handle> Page<'a, A> {
-    // Writes the label of a line, and the lanes behind it.
-    fn push_front(&mut self, label: &str) -> Result<(), AllocError> {
+    // Adds the label of a line, and the lanes behind it.
+    fn put_front(&self, text: Prose<A>, label: &str) -> Prose<A> {
         let front = PLACE.saturating_sub(2);
-        pad(&mut self.text, front.saturating_sub(label.width()))?;
-        self.text.push_str(label)?;
-        self.text.push_str("  ")?;
-        self.canvas.push_to(&mut self.text, self.is_colored)
+        let text = text.pad(front.saturating_sub(label.width()));
+        self.canvas.put_to(put!(text; label, "  "), self.is_colored)
     }
 
-    // Writes the rest of a line, in this colour, and ends it.
-    fn push_rest(&mut self, rest: &str, ink: Ink) -> Result<(), AllocError> {
+    // Adds the rest of a line, in this colour, and ends it.
+    fn put_rest(&self, text: Prose<A>, rest: &str, ink: Ink) -> Prose<A> {
         if self.is_colored && ink != Ink::Plain {
-            self.text.push_str(ink.escape())?;
-            self.text.push_str(rest)?;
-            self.text.push_str(Ink::Plain.escape())?;
+            put!(text; ink.escape(), rest, Ink::Plain.escape(), "\n")
         } else {
-            self.text.push_str(rest)?;
+            put!(text; rest, "\n")
         }
-        self.text.push('\n')
     }
 
-    // Writes an event and what is told behind it, at the line whose lanes are put; what doesn't fit stands below, beside
+    // Adds an event and what is told behind it, at the line whose lanes are put; what doesn't fit stands below, beside
     // the lanes that are open behind the row.
-    fn push_told(
+    fn put_told(
         &mut self,
+        text: Prose<A>,
         row: usize,
         event: &str,
         note: &str,
         ink: Ink,
-    ) -> Result<(), AllocError> {
-        let alloc = self.lanes.allocator();
+    ) -> Prose<A> {
         let layout = self.layout;
-        let event = cut(alloc, event, layout.told)?;
         if note.is_empty() {
-            return self.push_rest(event.as_str(), Ink::Plain);
+            return put_cut(text, event, layout.told).put("\n");
         }
-        let is_beside = layout.note > 0 && event.as_str().width() <= layout.event;
-        let width = if is_beside {
-            layout.note
+        let wide = event.width().min(layout.told);
+        let is_beside = layout.note > 0 && wide <= layout.event;
+        let (width, indent) = if is_beside {
+            (layout.note, layout.event.saturating_add(2))
         } else {
-            layout.told.saturating_sub(2)
+            (layout.told.saturating_sub(2), 2)
         };
-        let indent = if is_beside {
-            layout.event.saturating_add(2)
+        let text = put_cut(text, event, layout.told);
+        let text = if is_beside {
+            text.pad(indent.saturating_sub(wide))
         } else {
-            2
+            text.put("\n")
         };
-        let notes = wrapped(alloc, note, width)?;
-        let mut is_first = is_beside;
-        self.text.push_str(event.as_str())?;
-        if is_beside {
-            let gap = indent.saturating_sub(event.as_str().width());
-            pad(&mut self.text, gap)?;
-        } else {
-            self.text.push('\n')?;
+        match wrapped(self.lanes.allocator(), note, width) {
+            Ok(notes) => self.put_notes(text, row, notes.as_slice(), (is_beside, indent), ink),
+            Err(_) => text.fail(),
         }
-        for line in notes.iter() {
-            if !is_first {
-                self.put_open(row, true);
-                self.push_front("")?;
-                pad(&mut self.text, indent)?;
-            }
-            is_first = false;
-            self.push_rest(line.as_str(), ink)?;
-        }
-        Ok(())
     }
 
-    // Writes the line of the numbers of the lanes.
-    fn push_header(&mut self) -> Result<(), AllocError> {
+    // Adds the lines of what is told behind an event, so far from the lanes; the first may stand beside the event.
+    fn put_notes(
+        &mut self,
+        mut text: Prose<A>,
+        row: usize,
+        notes: &[String<A>],
+        (is_beside, indent): (bool, usize),
+        ink: Ink,
+    ) -> Prose<A> {
+        let mut is_first = is_beside;
+        for line in notes {
+            if !is_first {
+                self.put_open(row, true);
+                text = self.put_front(text, "").pad(indent);
+            }
+            is_first = false;
+            text = self.put_rest(text, line.as_str(), ink);
+        }
+        text
+    }
+
+    // Adds the line of the numbers of the lanes.
+    fn put_header(&mut self, text: Prose<A>) -> Prose<A> {
         self.canvas.clear();
         let mut column = 0usize;
         for t in self.picked.lanes.iter() {
-            let number = t.0;
-            let label = format!(in self.lanes.allocator(); "{number}")?;
-            self.canvas.put_text(column, label.as_str(), Ink::Plain);
+            self.canvas.put_number(column, u32::from(t.0), Ink::Plain);
             column = column.saturating_add(self.layout.lane);
         }
-        self.push_front("place")?;
-        self.push_rest("event", Ink::Plain)
+        self.put_front(text, "place").put("event\n")
     }
 
-    // Writes a row.
-    fn push_row(&mut self, number: usize) -> Result<(), AllocError> {
+    // Adds a row.
+    fn put_line(&mut self, text: Prose<A>, number: usize) -> Prose<A> {
         let lanes = self.lanes;
-        let alloc = lanes.allocator();
         let (Some(row), Some(told)) = (lanes.rows().get(number), lanes.told(number)) else {
-            return Ok(());
+            return text;
         };
-        self.put_row(number, row)?;
-        let place = row.place;
+        self.put_row(number, row);
+        let text = self.put_place(text, row);
+        match words_of(lanes, number, row, told) {
+            Ok((event, note)) => {
+                let ink = if row.is_admitted() {
+                    Ink::Edge
+                } else {
+                    Ink::Bad
+                };
+                self.put_told(text, number, event.as_str(), note.as_str(), ink)
+            }
+            Err(_) => text.fail(),
+        }
+    }
+
+    // Adds the place of a row, and the lanes behind it.
+    fn put_place(&self, text: Prose<A>, row: &Row) -> Prose<A> {
         if row.is_admitted() {
-            let label = format!(in alloc; "{place}")?;
-            self.push_front(label.as_str())?;
+            let front = PLACE.saturating_sub(2);
+            let text = text.pad(front.saturating_sub(digits(row.place as usize)));
+            self.canvas
+                .put_to(put!(text; row.place, "  "), self.is_colored)
         } else if has_lane(row.deed.actor()) {
-            self.push_front("-")?;
+            self.put_front(text, "-")
         } else {
             // (a number that no transaction has is of no lane)
-            self.push_front("x -")?;
-        }
-        let event = event_text(row, told)?;
-        let note = note(lanes, number)?;
-        if row.is_admitted() {
-            let edges = list_of(alloc, note.as_str())?;
-            self.push_told(number, event.as_str(), edges.as_str(), Ink::Edge)
-        } else {
-            self.push_told(number, event.as_str(), note.as_str(), Ink::Bad)
+            self.put_front(text, "x -")
         }
     }
 
-    // Writes a debt.
-    fn push_debt(&mut self, owed: &Owed) -> Result<(), AllocError> {
+    // Adds a debt.
+    fn put_debt(&mut self, text: Prose<A>, owed: &Owed) -> Prose<A> {
         let lanes = self.lanes;
+        let alloc = lanes.allocator();
         if self.column(owed.txn).is_none() {
-            return Ok(());
+            return text;
         }
         let last = lanes.rows().len();
         self.put_open(last, true);
         self.put_mark(Marked {
             txn: owed.txn,
             mark: Mark::Owes,
-        })?;
-        self.push_front("")?;
-        let line = owed_line(lanes.allocator(), owed)?;
-        let line = String::from_utf8_lossy(lanes.allocator(), line.as_slice())?;
-        let note = debt_note(lanes, owed)?;
-        self.push_told(last, line.as_str(), note.as_str(), Ink::Edge)
+        });
+        let text = self.put_front(text, "");
+        let Ok(line) = owed_line(alloc, owed) else {
+            return text.fail();
+        };
+        match put_debt_note(Prose::new(alloc), lanes, owed).done() {
+            Ok(note) => {
+                self.put_told(
+                    text,
+                    last,
+                    line_text(line.as_slice()),
+                    note.as_str(),
+                    Ink::Edge,
+                )
+            }
+            Err(_) => text.fail(),
+        }
     }
 
-    // Writes what stands behind the rows: what is owed, and what was left out.
-    fn push_end(&mut self) -> Result<(), AllocError> {
+    // Adds what stands behind the rows: what is owed, and what was left out.
+    fn put_ending(&mut self, mut text: Prose<A>) -> Prose<A> {
         if self.picked.has_end {
             for owed in self.lanes.owed() {
-                self.push_debt(owed)?;
+                text = self.put_debt(text, owed);
             }
         }
-        let alloc = self.lanes.allocator();
-        let said = left_out(self.lanes, self.picked)?;
-        if !said.is_empty() {
-            for line in wrapped(alloc, said.as_str(), self.width)?.iter() {
-                self.push_rest(line.as_str(), Ink::Plain)?;
+        match left_out(self.lanes, self.picked, self.width) {
+            Ok(lines) => {
+                for line in lines.iter() {
+                    text = put!(text; line.as_str(), "\n");
+                }
+                text
             }
+            Err(_) => text.fail(),
         }
-        Ok(())
     }
+}
+
+// The event of a row, and what is told behind it, in which no edge is parted.
+fn words_of<A: Handle>(
+    lanes: &Lanes<A>,
+    number: usize,
+    row: &Row,
+    told: &ToldRow<A>,
+) -> Result<(String<A>, String<A>), AllocError> {
+    let alloc = lanes.allocator();
+    let note = put_note(Prose::new(alloc), lanes, number).done()?;
+    let (event, lacks_event) = put_event(Prose::new(alloc), row, told).parts();
+    let (note, lacks_note) = if row.is_admitted() {
+        put_list(Prose::new(alloc), note.as_str()).parts()
+    } else {
+        (note, false)
+    };
+    if lacks_event || lacks_note {
+        Err(AllocError)
+    } else {
+        Ok((event, note))
+    }
+}
+
+// The lines that say what was left out, of at most this width.
+fn left_out<A: Handle>(
+    lanes: &Lanes<A>,
+    picked: &Picked<A>,
+    width: usize,
+) -> Result<Vec<String<A>, A>, AllocError> {
+    let alloc = lanes.allocator();
+    let said = put_left_out(Prose::new(alloc), lanes, picked).done()?;
+    if said.is_empty() {
+        return Ok(Vec::new(alloc));
+    }
+    wrapped(alloc, said.as_str(), width)
 }
 
 // The width of the widest event of the rows that are picked.
@@ -325,11 +380,13 @@ fn longest<A: Handle>(lanes: &Lanes<A>, picked: &Picked<A>) -> usize {
     longest
 }
 
-/// The picture of the lanes that are chosen, as a text. `Err` where there is no memory.
+/// The picture of the lanes that are chosen, as a text, with the line behind it that stopped the run, if one did. `Err`
+/// where there is no memory.
 pub fn draw_text<A: Handle>(
     lanes: &Lanes<A>,
     choice: &Choice,
     screen: Screen,
+    stop: &str,
 ) -> Result<String<A>, AllocError> {
     let alloc = lanes.allocator();
     let picked = Picked::of(lanes, choice, most_lanes(lanes, screen.width))?;
@@ -341,13 +398,10 @@ pub fn draw_text<A: Handle>(
         width: screen.width,
         is_colored: screen.is_colored,
         canvas: Canvas::new(alloc, layout.lanes)?,
-        text: String::new(alloc),
     };
-    page.push_header()?;
+    let mut text = page.put_header(Prose::new(alloc));
     for number in picked.rows.iter() {
-        page.push_row(*number)?;
+        text = page.put_line(text, *number);
     }
-    page.push_end()?;
-    let Page { text, .. } = page;
-    Ok(text)
+    page.put_ending(text).put(stop).done()
 }

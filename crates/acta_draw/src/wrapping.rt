@@ -1,5 +1,6 @@
 //! Texts that fit a width: cut, or parted into lines.
 
+use acta_explain::Prose;
 use std::alloc::{AllocError, Allocator};
 use unicode_width::UnicodeWidthStr;
 
@@ -9,40 +10,26 @@ const MORE: &str = "..";
 // A blank at which a text is parted only where it has to be.
 const FIXED: char = '\u{a0}';
 
-/// Writes so many blanks. `Err` where there is no memory.
-pub fn pad<A: Allocator>(text: &mut String<A>, count: usize) -> Result<(), AllocError> {
-    for _ in 0..count {
-        text.push(' ')?;
-    }
-    Ok(())
-}
-
-/// The front of a text, at most so wide; where something is left out it ends in two dots. `Err` where there is no
-/// memory.
-pub fn cut<A: Allocator>(alloc: A, text: &str, width: usize) -> Result<String<A>, AllocError> {
+/// Adds the front of a text, at most so wide; where something is left out it ends in two dots.
+pub fn put_cut<A: Allocator>(mut prose: Prose<A>, text: &str, width: usize) -> Prose<A> {
     if text.width() <= width {
-        return String::from_str(alloc, text);
+        return prose.put(text);
     }
-    let mut front: String<A> = String::new(alloc);
     for c in text.chars().take(width.saturating_sub(MORE.len())) {
-        front.push(c)?;
+        prose = prose.put(c);
     }
-    front.push_str(MORE)?;
-    Ok(front)
+    prose.put(MORE)
 }
 
-/// A list with a `;` between two of its parts, none of which is to be parted. `Err` where there is no memory.
-pub fn list_of<A: Allocator>(alloc: A, list: &str) -> Result<String<A>, AllocError> {
-    let mut text: String<A> = String::new(alloc);
-    for part in list.split("; ") {
-        if !text.is_empty() {
-            text.push_str("; ")?;
-        }
-        for c in part.chars() {
-            text.push(if c == ' ' { FIXED } else { c })?;
-        }
+/// Adds a list with a `;` between two of its parts, none of which is to be parted.
+pub fn put_list<A: Allocator>(mut prose: Prose<A>, list: &str) -> Prose<A> {
+    let mut before = ';';
+    for c in list.chars() {
+        // (the blank behind a `;` is where it may be parted)
+        prose = prose.put(if c == ' ' && before != ';' { FIXED } else { c });
+        before = c;
     }
-    Ok(text)
+    prose
 }
 
 // Lines that grow, each at most so wide.
@@ -57,12 +44,20 @@ struct Wrapping<A: Allocator> {
 impl<A: Allocator + Copy> Wrapping<A> {
     // Puts a word behind the others, in a line of its own where it doesn't fit beside them.
     fn add(&mut self, word: &str) -> Result<(), AllocError> {
-        let word = cut(self.alloc, word, self.width)?;
+        if word.width() <= self.width {
+            return self.add_fitting(word);
+        }
+        let word = put_cut(Prose::new(self.alloc), word, self.width).done()?;
+        self.add_fitting(word.as_str())
+    }
+
+    // The same of a word that fits a line.
+    fn add_fitting(&mut self, word: &str) -> Result<(), AllocError> {
         let wide = self
             .line
             .as_str()
             .width()
-            .saturating_add(word.as_str().width())
+            .saturating_add(word.width())
             .saturating_add(1);
         if !self.line.is_empty() {
             if wide > self.width {
@@ -72,8 +67,22 @@ impl<A: Allocator + Copy> Wrapping<A> {
                 self.line.push(' ')?;
             }
         }
-        for c in word.as_str().chars() {
+        for c in word.chars() {
             self.line.push(if c == FIXED { ' ' } else { c })?;
+        }
+        Ok(())
+    }
+
+    // Puts the words of the text behind the others, parted where they have to be.
+    fn add_all(&mut self, text: &str) -> Result<(), AllocError> {
+        for word in text.split(' ') {
+            if word.width() <= self.width {
+                self.add(word)?;
+                continue;
+            }
+            for part in word.split(FIXED) {
+                self.add(part)?;
+            }
         }
         Ok(())
     }
@@ -92,14 +101,9 @@ pub fn wrapped<A: Allocator + Copy>(
         lines: Vec::new(alloc),
         line: String::new(alloc),
     };
-    for word in text.split(' ') {
-        if word.width() <= width {
-            wrapping.add(word)?;
-            continue;
-        }
-        for part in word.split(FIXED) {
-            wrapping.add(part)?;
-        }
+    if wrapping.add_all(text).is_err() {
+        drop(wrapping);
+        return Err(AllocError);
     }
     let Wrapping {
         mut lines,

@@ -1,6 +1,7 @@
 //! What was told so far, and by which line each operation, each edge and each transaction came about: what a reason
 //! refers to. Where an input is told line by line, a line is a row.
 
+use crate::prose::Prose;
 use acta_table::{ClassId, Event, OpNo, TABLE_SIZE, TxnId};
 use std::alloc::{AllocError, Allocator};
 
@@ -17,6 +18,32 @@ pub struct Row<A: Allocator> {
     pub formed: String<A>,
     /// Why it is refused, in lines.
     pub reason: String<A>,
+}
+
+/// The row of a line with this number, of which this is told. `Err` where memory ran out for it.
+pub fn row_of<A: Allocator>(
+    line: usize,
+    event: Prose<A>,
+    answer: Prose<A>,
+    formed: Prose<A>,
+    reason: Prose<A>,
+) -> Result<Row<A>, AllocError> {
+    let (event, lacks_event) = event.parts();
+    let (answer, lacks_answer) = answer.parts();
+    let (formed, lacks_formed) = formed.parts();
+    let (reason, lacks_reason) = reason.parts();
+    let row = Row {
+        line,
+        event,
+        answer,
+        formed,
+        reason,
+    };
+    if lacks_event || lacks_answer || lacks_formed || lacks_reason {
+        drop(row);
+        return Err(AllocError);
+    }
+    Ok(row)
 }
 
 /// How one transaction began and ended, by the rows of the events, and what it began with.
@@ -128,15 +155,13 @@ impl<A: Allocator> Chronicle<A> {
 
     /// The row by which the operation of this number was done.
     pub fn of_operation(&self, op: OpNo) -> Option<&Row<A>> {
-        let place = (op.0 as usize).checked_sub(1)?;
-        let row = self.operations.get(place)?;
+        let row = self.operations.get((op.0 as usize).wrapping_sub(1))?;
         self.rows.get(*row)
     }
 
     /// The row by which the edge of this number was formed.
     pub fn of_edge(&self, number: u64) -> Option<&Row<A>> {
-        let place = (number as usize).checked_sub(1)?;
-        let row = self.edges.get(place)?;
+        let row = self.edges.get((number as usize).wrapping_sub(1))?;
         self.rows.get(*row)
     }
 

@@ -1,10 +1,14 @@
 //! What is wrong with a line of an input: where, with which word, what stands there in a good line, and which word was
 //! perhaps meant.
 
-use crate::hints::hint_line;
-use crate::phrases::{name_text, text_of};
-use crate::placed::{Placed, placed_words, shown};
-use crate::words::{KIND_WORDS, line_entry};
+use crate::hints::put_hint;
+use crate::layout::put_barred;
+use crate::listing::put_quoted;
+use crate::phrases::name_text;
+use crate::placed::{Placed, column_behind, placed_words, put_shown};
+use crate::prose::Prose;
+use crate::put;
+use crate::words::KIND_WORDS;
 use acta_machine::Handle;
 use acta_script::LineFault;
 use acta_table::Model;
@@ -49,7 +53,7 @@ impl<'a> Stop<'a> {
 }
 
 // What stands at a place of a line of an event.
-#[derive(Clone, Copy, PartialEq, Eq)]
+#[derive(Clone, Copy)]
 enum Part {
     Txn,
     Class,
@@ -73,107 +77,112 @@ const OPERATIONS: [&str; 8] = [
 const EVENT: &str =
     "an event: begin, spawn, split, join, delegate, form, do, commit, abort or permit";
 
+// The same where the word is an operation, whose form comes next.
+const OPERATION: &str =
+    "an event: begin, spawn, split, join, delegate, form, do, commit, abort or permit\nan operation is written ";
+
 const RETURNS: [&str; 3] = ["done", "yes", "no"];
 
-// What stands behind the first word of an event, and the form of its line.
-fn form_of(word: &[u8]) -> Option<(&'static [Part], &'static str)> {
-    let word = name_text(word);
-    match word {
-        "begin" => Some((&[Part::Txn, Part::Class], "begin T CLASS")),
-        "spawn" => Some((&[Part::Txn, Part::Txn, Part::Class], "spawn T C CLASS")),
-        "split" => {
-            Some((
-                &[Part::Txn, Part::Txn, Part::Class, Part::Ops],
-                "split T U CLASS OPS",
-            ))
-        }
-        "join" => Some((&[Part::Txn, Part::Txn], "join T U")),
-        "delegate" => Some((&[Part::Txn, Part::Txn, Part::Ops], "delegate T U OPS")),
-        "form" => Some((&[Part::Kind, Part::Txn, Part::Txn], "form KIND J I")),
-        "commit" => Some((&[Part::Txn], "commit T")),
-        "abort" => Some((&[Part::Txn], "abort T")),
-        "permit" => Some((&[Part::Txn, Part::Txn, Part::Object], "permit T U OBJECT")),
-        _ => None,
+// What stands behind the first word of an event, and the form of its line. The operation of a `do` is the word at its
+// place, which may be missing.
+fn form_of(word: &[u8], op: Option<&Placed<'_>>) -> Option<(&'static [Part], &'static str)> {
+    Some(match name_text(word) {
+        "do" => form_of_operation(match op {
+            Some(op) => op.word,
+            None => b"",
+        }),
+        "begin" => (&[Part::Txn, Part::Class], "begin T CLASS"),
+        "spawn" => (&[Part::Txn, Part::Txn, Part::Class], "spawn T C CLASS"),
+        "split" => (
+            &[Part::Txn, Part::Txn, Part::Class, Part::Ops],
+            "split T U CLASS OPS",
+        ),
+        "join" => (&[Part::Txn, Part::Txn], "join T U"),
+        "delegate" => (&[Part::Txn, Part::Txn, Part::Ops], "delegate T U OPS"),
+        "form" => (&[Part::Kind, Part::Txn, Part::Txn], "form KIND J I"),
+        "commit" => (&[Part::Txn], "commit T"),
+        "abort" => (&[Part::Txn], "abort T"),
+        "permit" => (&[Part::Txn, Part::Txn, Part::Object], "permit T U OBJECT"),
+        _ => return None,
+    })
+}
+
+const ASKS: &[Part] = &[Part::Txn, Part::Object, Part::Op];
+
+const ASKS_BY_INT: &[Part] = &[Part::Txn, Part::Object, Part::Op, Part::Int];
+
+// The same of an operation, by its word.
+fn form_of_operation(op: &[u8]) -> (&'static [Part], &'static str) {
+    match name_text(op) {
+        "read" => (ASKS, "do T OBJECT read"),
+        "get" => (ASKS, "do T OBJECT get"),
+        "size" => (ASKS, "do T OBJECT size"),
+        "write" => (ASKS_BY_INT, "do T OBJECT write INT"),
+        "add" => (ASKS_BY_INT, "do T OBJECT add INT"),
+        "insert" => (ASKS_BY_INT, "do T OBJECT insert INT"),
+        "remove" => (ASKS_BY_INT, "do T OBJECT remove INT"),
+        "has" => (ASKS_BY_INT, "do T OBJECT has INT"),
+        _ => (ASKS, "do T OBJECT OP"),
     }
 }
 
-// The same of an operation, by its word, which may be missing.
-fn form_of_operation(op: Option<&[u8]>) -> (&'static [Part], &'static str) {
-    match name_text(op.unwrap_or(b"")) {
-        "read" => (&[Part::Txn, Part::Object, Part::Op], "do T OBJECT read"),
-        "get" => (&[Part::Txn, Part::Object, Part::Op], "do T OBJECT get"),
-        "size" => (&[Part::Txn, Part::Object, Part::Op], "do T OBJECT size"),
-        "write" => {
-            (
-                &[Part::Txn, Part::Object, Part::Op, Part::Int],
-                "do T OBJECT write INT",
-            )
-        }
-        "add" => (
-            &[Part::Txn, Part::Object, Part::Op, Part::Int],
-            "do T OBJECT add INT",
-        ),
-        "insert" => {
-            (
-                &[Part::Txn, Part::Object, Part::Op, Part::Int],
-                "do T OBJECT insert INT",
-            )
-        }
-        "remove" => {
-            (
-                &[Part::Txn, Part::Object, Part::Op, Part::Int],
-                "do T OBJECT remove INT",
-            )
-        }
-        "has" => (
-            &[Part::Txn, Part::Object, Part::Op, Part::Int],
-            "do T OBJECT has INT",
-        ),
-        _ => (&[Part::Txn, Part::Object, Part::Op], "do T OBJECT OP"),
-    }
-}
-
-// Whether the word is one of these.
-fn is_among(word: &[u8], words: &[&str]) -> bool {
-    words.iter().any(|one| one.as_bytes() == word)
+/// Whether the word is one of these.
+pub fn is_among(word: &[u8], words: &[&str]) -> bool {
+    words.contains(&name_text(word))
 }
 
 // Whether the word is a list of operations.
 fn are_operations(word: &[u8]) -> bool {
-    word == b"-".as_slice()
-        || word
-            .split(|byte| *byte == b',')
-            .all(|one| read_u32(one).is_some())
+    if word == b"-".as_slice() {
+        return true;
+    }
+    for one in name_text(word).split(',') {
+        if read_u32(one.as_bytes()).is_none() {
+            return false;
+        }
+    }
+    true
 }
 
-// The fault of a line with this word at such a place, where it has one.
-fn fault_at<A: Handle>(model: &Model<A>, part: Part, word: &[u8]) -> Option<LineFault> {
-    let (is_good, fault) = match part {
-        Part::Txn => (read_u16(word).is_some(), LineFault::Number),
-        Part::Int => (read_i32(word).is_some(), LineFault::Number),
-        Part::Ops => (are_operations(word), LineFault::Number),
-        Part::Kind => (is_among(word, &KIND_WORDS), LineFault::Word),
-        Part::Op => (is_among(word, &OPERATIONS), LineFault::Word),
-        Part::Class => {
-            (
-                model
-                    .classes()
-                    .iter()
-                    .any(|class| class.name.as_slice() == word),
-                LineFault::Name,
-            )
-        }
-        Part::Object => {
-            (
-                model
-                    .objects()
-                    .iter()
-                    .any(|object| object.name.as_slice() == word),
-                LineFault::Name,
-            )
-        }
-    };
-    if is_good { None } else { Some(fault) }
+// The words that would do at a place.
+#[derive(Clone, Copy)]
+enum Known {
+    Classes,
+    Objects,
+    Words(&'static [&'static str]),
+}
+
+// The words that would do at such a place, where they can be listed.
+fn known_at(part: Part) -> Known {
+    match part {
+        Part::Class => Known::Classes,
+        Part::Object => Known::Objects,
+        Part::Kind => Known::Words(&KIND_WORDS),
+        Part::Op => Known::Words(&OPERATIONS),
+        _ => Known::Words(&[]),
+    }
+}
+
+// Whether the word may stand at such a place, where the model has these classes and objects.
+fn is_good(classes: &[&str], objects: &[&str], part: Part, word: &[u8]) -> bool {
+    match part {
+        Part::Txn => read_u16(word).is_some(),
+        Part::Int => read_i32(word).is_some(),
+        Part::Ops => are_operations(word),
+        Part::Kind => is_among(word, &KIND_WORDS),
+        Part::Op => is_among(word, &OPERATIONS),
+        Part::Class => is_among(word, classes),
+        Part::Object => is_among(word, objects),
+    }
+}
+
+// The fault of a line with a wrong word at such a place.
+fn fault_at(part: Part) -> LineFault {
+    match part {
+        Part::Txn | Part::Int | Part::Ops => LineFault::Number,
+        Part::Kind | Part::Op => LineFault::Word,
+        Part::Class | Part::Object => LineFault::Name,
+    }
 }
 
 // What is expected at such a place.
@@ -190,264 +199,241 @@ fn expected_at(part: Part) -> &'static str {
     }
 }
 
-// What is wrong: at which column, with which word, what was expected in its place, and which words would do.
-#[derive(Drop)]
-struct Culprit<'a, A: Handle> {
+// What is wrong: at which column, with which word, what was expected in its place, a form behind that, and which words
+// would do.
+#[derive(Clone, Copy)]
+struct Culprit<'a> {
     column: usize,
     word: Option<&'a [u8]>,
-    expected: String<A>,
-    known: Vec<&'a str, A>,
-}
-
-// The words, as words that would do.
-fn listed<'a, A: Handle>(alloc: A, words: &[&'static str]) -> Result<Vec<&'a str, A>, AllocError> {
-    let mut known: Vec<&'a str, A> = Vec::new(alloc);
-    for word in words {
-        known.push(*word)?;
-    }
-    Ok(known)
-}
-
-// The names of the classes of the model.
-fn class_names<'a, A: Handle>(
-    alloc: A,
-    model: &'a Model<A>,
-) -> Result<Vec<&'a str, A>, AllocError> {
-    let mut known: Vec<&'a str, A> = Vec::new(alloc);
-    for class in model.classes() {
-        known.push(name_text(class.name.as_slice()))?;
-    }
-    Ok(known)
-}
-
-// The names of the objects of the model.
-fn object_names<'a, A: Handle>(
-    alloc: A,
-    model: &'a Model<A>,
-) -> Result<Vec<&'a str, A>, AllocError> {
-    let mut known: Vec<&'a str, A> = Vec::new(alloc);
-    for object in model.objects() {
-        known.push(name_text(object.name.as_slice()))?;
-    }
-    Ok(known)
-}
-
-// The words that would do at such a place, where they can be listed.
-fn names<'a, A: Handle>(
-    alloc: A,
-    model: &'a Model<A>,
-    part: Part,
-) -> Result<Vec<&'a str, A>, AllocError> {
-    match part {
-        Part::Class => class_names(alloc, model),
-        Part::Object => object_names(alloc, model),
-        Part::Kind => listed(alloc, &KIND_WORDS),
-        Part::Op => listed(alloc, &OPERATIONS),
-        _ => Ok(Vec::new(alloc)),
-    }
-}
-
-// What is expected at such a place, with the names that the model has.
-fn expected<A: Handle>(alloc: A, part: Part, known: &[&str]) -> Result<String<A>, AllocError> {
-    let text = expected_at(part);
-    if part != Part::Class && part != Part::Object || known.is_empty() {
-        return String::from_str(alloc, text);
-    }
-    let names = crate::listing::quoted(alloc, known)?;
-    format!(in alloc; "{text}: {names}")
-}
-
-// A word that is wrong at such a place.
-fn wrong_word<'a, A: Handle>(
-    alloc: A,
-    model: &'a Model<A>,
-    part: Part,
-    placed: Placed<'a>,
-) -> Result<Culprit<'a, A>, AllocError> {
-    let known = names(alloc, model, part)?;
-    Ok(Culprit {
-        column: placed.column,
-        word: Some(placed.word),
-        expected: expected(alloc, part, &known)?,
-        known,
-    })
-}
-
-// The column behind the last of these words.
-fn column_behind(words: &[Placed<'_>]) -> usize {
-    match words.last() {
-        Some(last) => last.column.saturating_add(last.word.len()),
-        None => 1,
-    }
+    expected: &'static str,
+    form: &'static str,
+    known: Known,
 }
 
 // A first word that is no event.
-fn wrong_event<'a, A: Handle>(alloc: A, first: Placed<'a>) -> Result<Culprit<'a, A>, AllocError> {
-    let mut expected = String::from_str(alloc, EVENT)?;
-    if is_among(first.word, &OPERATIONS) {
-        let (_, form) = form_of_operation(Some(first.word));
-        write!(expected, "\nan operation is written `{form}`")?;
-    }
-    Ok(Culprit {
+fn wrong_event(first: Placed<'_>) -> Culprit<'_> {
+    let (expected, form) = if is_among(first.word, &OPERATIONS) {
+        (OPERATION, form_of_operation(first.word).1)
+    } else {
+        (EVENT, "")
+    };
+    Culprit {
         column: first.column,
         word: Some(first.word),
         expected,
-        known: listed(alloc, &EVENTS)?,
-    })
+        form,
+        known: Known::Words(&EVENTS),
+    }
 }
 
-// Too few words or too many for a line of this form.
-fn wrong_count<'a, A: Handle>(
-    alloc: A,
-    form: &str,
-    count: usize,
-    words: &[Placed<'a>],
-) -> Result<Culprit<'a, A>, AllocError> {
-    let extra = words.get(count);
-    let column = match extra {
-        Some(extra) => extra.column,
-        None => column_behind(words),
+// A word that is wrong at such a place.
+fn wrong_word(part: Part, placed: Placed<'_>) -> Culprit<'_> {
+    Culprit {
+        column: placed.column,
+        word: Some(placed.word),
+        expected: expected_at(part),
+        form: "",
+        known: known_at(part),
+    }
+}
+
+// A word too much, or one too few, where this is expected.
+fn wrong_count<'a>(
+    extra: Option<Placed<'a>>,
+    column: usize,
+    expected: &'static str,
+    form: &'static str,
+    known: &'static [&'static str],
+) -> Culprit<'a> {
+    let (column, word) = match extra {
+        Some(extra) => (extra.column, Some(extra.word)),
+        None => (column, None),
     };
-    Ok(Culprit {
+    Culprit {
         column,
-        word: extra.map(|extra| extra.word),
-        expected: format!(in alloc; "`{form}`")?,
-        known: Vec::new(alloc),
-    })
+        word,
+        expected,
+        form,
+        known: Known::Words(known),
+    }
 }
 
 // What is wrong with the words of an event by this fault, if it is theirs.
-fn event_culprit<'a, A: Handle>(
-    alloc: A,
-    model: &'a Model<A>,
+fn event_culprit<'a>(
+    classes: &[&str],
+    objects: &[&str],
     words: &[Placed<'a>],
     fault: LineFault,
-) -> Result<Option<Culprit<'a, A>>, AllocError> {
-    let Some(first) = words.first() else {
-        return Ok(None);
+) -> Option<Culprit<'a>> {
+    let first = words.first()?;
+    let Some((parts, form)) = form_of(first.word, words.get(3)) else {
+        return Some(wrong_event(*first));
     };
-    let (parts, form) = if first.word == b"do".as_slice() {
-        form_of_operation(words.get(3).map(|op| op.word))
-    } else {
-        match form_of(first.word) {
-            Some(form) => form,
-            None => return Ok(Some(wrong_event(alloc, *first)?)),
-        }
-    };
-    for (part, placed) in parts.iter().zip(words.iter().skip(1)) {
-        if fault_at(model, *part, placed.word) == Some(fault) {
-            return Ok(Some(wrong_word(alloc, model, *part, *placed)?));
+    for (part, placed) in parts.iter().zip(words.get(1..).unwrap_or(&[])) {
+        if fault_at(*part) == fault && !is_good(classes, objects, *part, placed.word) {
+            return Some(wrong_word(*part, *placed));
         }
     }
     let count = parts.len().saturating_add(1);
     if fault == LineFault::Arity && words.len() != count {
-        return Ok(Some(wrong_count(alloc, form, count, words)?));
+        return Some(wrong_count(
+            words.get(count).copied(),
+            column_behind(words),
+            "",
+            form,
+            &[],
+        ));
     }
-    Ok(None)
+    None
 }
 
-// What is wrong with the words behind a `=`, which stands at this column.
-fn return_culprit<'a, A: Handle>(
-    alloc: A,
-    column: usize,
-    words: &[Placed<'a>],
-) -> Result<Culprit<'a, A>, AllocError> {
-    let wrong = match words {
+// The word that is wrong behind a `=`.
+fn wrong_return<'a>(words: &[Placed<'a>]) -> Option<Placed<'a>> {
+    match words {
         [one] if is_among(one.word, &RETURNS) || read_i64(one.word).is_some() => None,
-        [one] => Some(one),
-        [_, second, ..] => Some(second),
+        [one] => Some(*one),
+        [_, second, ..] => Some(*second),
         [] => None,
-    };
-    Ok(Culprit {
-        column: match wrong {
-            Some(wrong) => wrong.column,
-            None => column.saturating_add(1),
-        },
-        word: wrong.map(|wrong| wrong.word),
-        expected: String::from_str(
-            alloc,
-            "one word behind the `=`: done, yes, no or a whole number",
-        )?,
-        known: listed(alloc, &RETURNS)?,
-    })
+    }
+}
+
+// How many words stand before the `=` of a kept line.
+fn count_before_sign(words: &[Placed<'_>]) -> usize {
+    for (place, placed) in words.iter().enumerate() {
+        if placed.word == b"=".as_slice() {
+            return place;
+        }
+    }
+    words.len()
 }
 
 // What is wrong with the line.
-fn find_culprit<'a, A: Handle>(
-    alloc: A,
-    model: &'a Model<A>,
+fn find_culprit<'a>(
+    classes: &[&str],
+    objects: &[&str],
     words: &[Placed<'a>],
     stop: &Stop<'a>,
-) -> Result<Culprit<'a, A>, AllocError> {
-    let sign = words
-        .iter()
-        .position(|placed| stop.is_kept && placed.word == b"=".as_slice())
-        .unwrap_or(words.len());
+) -> Culprit<'a> {
+    let sign = if stop.is_kept {
+        count_before_sign(words)
+    } else {
+        words.len()
+    };
     let event = words.get(..sign).unwrap_or(&[]);
-    if let Some(culprit) = event_culprit(alloc, model, event, stop.fault)? {
-        return Ok(culprit);
+    if let Some(culprit) = event_culprit(classes, objects, event, stop.fault) {
+        return culprit;
     }
-    let column = words.get(sign).map_or(1, |placed| placed.column);
+    let column = match words.get(sign) {
+        Some(placed) => placed.column,
+        None => 1,
+    };
     if event.is_empty() {
-        return Ok(Culprit {
-            column,
-            word: None,
-            expected: String::from_str(alloc, "an event before the `=`")?,
-            known: Vec::new(alloc),
-        });
+        return wrong_count(None, column, "an event before the `=`", "", &[]);
     }
-    let behind = words.get(sign.saturating_add(1)..).unwrap_or(&[]);
-    return_culprit(alloc, column, behind)
+    let wrong = wrong_return(words.get(sign.saturating_add(1)..).unwrap_or(&[]));
+    let expected = "one word behind the `=`: done, yes, no or a whole number";
+    wrong_count(wrong, column.saturating_add(1), expected, "", &RETURNS)
 }
 
 // What is told where a line ends in a carriage return.
 const CARRIAGE_RETURN: &str =
     "\nthe line ends in CR LF; here a line ends in LF alone, and the CR belongs to the last word";
 
-// What is told of the culprit, in lines.
-fn culprit_text<A: Handle>(
-    alloc: A,
-    stop: &Stop<'_>,
-    culprit: &Culprit<'_, A>,
-) -> Result<String<A>, AllocError> {
-    let entry = line_entry(stop.fault);
-    let name = entry.name;
-    let column = culprit.column;
-    let expected = &culprit.expected;
-    let Some(word) = culprit.word else {
-        return format!(in alloc;
-            "{name}, at column {column}, where the line lacks a word\nexpected {expected}"
-        );
-    };
-    let hint = if word.last() == Some(&b'\r') {
-        String::from_str(alloc, CARRIAGE_RETURN)?
+// Adds what was expected in the place of the culprit, where these are the words that would do.
+fn put_expected<A: Handle>(prose: Prose<A>, culprit: Culprit<'_>, known: &[&str]) -> Prose<A> {
+    let prose = put!(prose; "\nexpected ", culprit.expected);
+    let are_names = matches!(culprit.known, Known::Classes | Known::Objects);
+    if !culprit.form.is_empty() {
+        put!(prose; "`", culprit.form, "`")
+    } else if are_names && !known.is_empty() {
+        put_quoted(prose.put(": "), known)
     } else {
-        hint_line(alloc, word, &culprit.known)?
-    };
-    let word = shown(alloc, word)?;
-    format!(in alloc; "{name}, at column {column}: `{word}`\nexpected {expected}{hint}")
+        prose
+    }
 }
 
-/// Writes the line that says nothing, as `run` does, and behind it what is wrong with it. `Err` where there is no memory.
-pub fn push_stop<A: Handle>(
-    text: &mut String<A>,
+// Adds what is told of the culprit, in lines, where these are the words that would do.
+fn put_culprit<A: Handle>(
+    prose: Prose<A>,
+    alloc: A,
+    culprit: Culprit<'_>,
+    known: &[&str],
+) -> Prose<A> {
+    let prose = put!(prose; ", at column ", culprit.column);
+    let Some(word) = culprit.word else {
+        return put_expected(prose.put(", where the line lacks a word"), culprit, known);
+    };
+    let prose = put_shown(prose.put(": `"), word).put("`");
+    let prose = put_expected(prose, culprit, known);
+    if word.last() == Some(&b'\r') {
+        prose.put(CARRIAGE_RETURN)
+    } else {
+        put_hint(prose, alloc, word, known)
+    }
+}
+
+// Puts the names of the classes of the model behind others.
+fn push_classes<'a, A: Handle>(
+    known: &mut Vec<&'a str, A>,
+    model: &'a Model<A>,
+) -> Result<(), AllocError> {
+    for class in model.classes() {
+        known.push(name_text(class.name.as_slice()))?;
+    }
+    Ok(())
+}
+
+// Puts the names of the objects of the model behind others.
+fn push_objects<'a, A: Handle>(
+    known: &mut Vec<&'a str, A>,
+    model: &'a Model<A>,
+) -> Result<(), AllocError> {
+    for object in model.objects() {
+        known.push(name_text(object.name.as_slice()))?;
+    }
+    Ok(())
+}
+
+// What is wrong with the line, in lines.
+fn stop_text<A: Handle>(
     alloc: A,
     model: &Model<A>,
     stop: &Stop<'_>,
-) -> Result<(), AllocError> {
-    text.push_str(text_of(alloc, refuse_line(alloc, stop.bad_line())?.text.as_slice())?.as_str())?;
+) -> Result<String<A>, AllocError> {
     let words = placed_words(alloc, stop.bytes)?;
-    let culprit = find_culprit(alloc, model, &words, stop)?;
-    let told = culprit_text(alloc, stop, &culprit)?;
-    push_lines(text, told.as_str())
+    let mut classes = Vec::new(alloc);
+    push_classes(&mut classes, model)?;
+    let mut objects = Vec::new(alloc);
+    push_objects(&mut objects, model)?;
+    let culprit = find_culprit(&classes, &objects, &words, stop);
+    let name = Prose::new(alloc).put(stop.fault.name());
+    let told = match culprit.known {
+        Known::Classes => put_culprit(name, alloc, culprit, &classes),
+        Known::Objects => put_culprit(name, alloc, culprit, &objects),
+        Known::Words(words) => put_culprit(name, alloc, culprit, words),
+    };
+    told.done()
 }
 
-/// Writes lines, each behind a bar. `Err` where there is no memory.
-pub fn push_lines<A: Handle>(text: &mut String<A>, lines: &str) -> Result<(), AllocError> {
-    for line in lines.lines() {
-        text.push_str("    | ")?;
-        text.push_str(line)?;
-        text.push('\n')?;
+/// Adds the line that says nothing, as `run` does, and behind it what is wrong with it.
+pub fn put_stop<A: Handle>(
+    prose: Prose<A>,
+    alloc: A,
+    model: &Model<A>,
+    stop: &Stop<'_>,
+) -> Prose<A> {
+    match (
+        refuse_line(alloc, stop.bad_line()),
+        stop_text(alloc, model, stop),
+    ) {
+        (Ok(report), Ok(told)) => {
+            put_lines(prose.put(name_text(report.text.as_slice())), told.as_str())
+        }
+        _ => prose.fail(),
     }
-    Ok(())
+}
+
+/// Adds lines, each behind a bar.
+pub fn put_lines<A: Handle>(prose: Prose<A>, lines: &str) -> Prose<A> {
+    put_barred(prose, 4, lines)
 }

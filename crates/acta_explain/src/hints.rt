@@ -1,5 +1,7 @@
 //! The word that was perhaps meant: one letter off a known one.
 
+use crate::prose::Prose;
+use crate::put;
 use std::alloc::{AllocError, Allocator};
 use strsim::osa_distance;
 
@@ -19,7 +21,7 @@ pub fn nearest<'a, A: Allocator + Copy>(
     let Ok(word) = std::str::from_utf8(word) else {
         return Ok(None);
     };
-    if known.iter().any(|one| *one == word) {
+    if known.contains(&word) {
         return Ok(None);
     }
     for one in known {
@@ -35,14 +37,16 @@ pub fn nearest<'a, A: Allocator + Copy>(
     Ok(None)
 }
 
-/// The hint at the word that was perhaps meant, as a line; empty where there is none. `Err` where there is no memory.
-pub fn hint_line<A: Allocator + Copy>(
+/// Adds the hint at the word that was perhaps meant, as a line, where there is one.
+pub fn put_hint<A: Allocator + Copy>(
+    prose: Prose<A>,
     alloc: A,
     word: &[u8],
     known: &[&str],
-) -> Result<String<A>, AllocError> {
-    match nearest(alloc, word, known)? {
-        Some(meant) => format!(in alloc; "\ndid you mean `{meant}`?"),
-        None => Ok(String::new(alloc)),
+) -> Prose<A> {
+    match nearest(alloc, word, known) {
+        Ok(Some(meant)) => put!(prose; "\ndid you mean `", meant, "`?"),
+        Ok(None) => prose,
+        Err(_) => prose.fail(),
     }
 }

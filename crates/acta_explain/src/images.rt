@@ -1,12 +1,12 @@
 //! What is wrong with an image: which field stands at the offset, and what it may hold.
 
-use crate::words::{image_entry, model_entry};
+use crate::prose::Prose;
+use crate::put;
 use acta_image::ImageFault;
 use acta_machine::Handle;
-use std::alloc::AllocError;
 
 /// A field of an image.
-#[derive(Clone, Copy, PartialEq, Eq, Debug)]
+#[derive(Clone, Copy)]
 pub enum Field {
     Magic,
     Version,
@@ -188,52 +188,31 @@ pub fn field_at(bytes: &[u8], offset: usize) -> (Field, usize) {
     (walk.found.unwrap_or(Field::End), walk.at)
 }
 
-// What is told of a field: its offset, what it is and what it may hold.
-fn field_text<A: Handle>(
-    alloc: A,
-    name: &str,
-    bytes: &[u8],
-    offset: usize,
-) -> Result<String<A>, AllocError> {
+// Adds what is told of a field: its offset, what it is and what it may hold.
+fn put_field<A: Handle>(prose: Prose<A>, bytes: &[u8], offset: usize) -> Prose<A> {
     let (field, at) = field_at(bytes, offset);
     let (what, holds) = field.words();
-    format!(in alloc; "{name}, at offset {at}: {what}\nexpected {holds}")
+    put!(prose; ", at offset ", at, ": ", what, "\nexpected ", holds)
 }
 
-/// What is wrong with the image, in lines. `Err` where there is no memory.
-pub fn image_fault<A: Handle>(
-    alloc: A,
-    path: &str,
-    bytes: &[u8],
-    fault: ImageFault,
-) -> Result<String<A>, AllocError> {
-    let entry = image_entry(fault);
-    let name = entry.name;
-    let name = format!(in alloc; "{name} in {path}")?;
+/// Adds where and what is wrong with the image.
+pub fn put_image_fault<A: Handle>(prose: Prose<A>, bytes: &[u8], fault: ImageFault) -> Prose<A> {
     match fault {
-        ImageFault::Magic => field_text(alloc, name.as_str(), bytes, 0),
-        ImageFault::Version => field_text(alloc, name.as_str(), bytes, 4),
+        ImageFault::Magic => put_field(prose, bytes, 0),
+        ImageFault::Version => put_field(prose, bytes, 4),
         ImageFault::Truncated => {
-            let length = bytes.len();
-            let field = field_text(alloc, name.as_str(), bytes, usize::MAX)?;
-            format!(in alloc;
-                "{field}\nthe image ends inside it or before it, after {length} bytes"
-            )
+            put!(put_field(prose, bytes, usize::MAX);
+                "\nthe image ends inside it or before it, after ", bytes.len(), " bytes")
         }
-        ImageFault::BadField(offset) => field_text(alloc, name.as_str(), bytes, offset),
+        ImageFault::BadField(offset) => put_field(prose, bytes, offset),
         ImageFault::Trailing(offset) => {
-            let left = bytes.len().saturating_sub(offset);
-            format!(in alloc;
-                "{name}, at offset {offset}: behind the last field\nexpected nothing; bytes that are left: {left}"
-            )
+            put!(prose; ", at offset ", offset,
+                ": behind the last field\nexpected nothing; bytes that are left: ",
+                bytes.len().saturating_sub(offset))
         }
         ImageFault::Model(fault) => {
-            let model = model_entry(fault);
-            let fault = model.name;
-            let says = model.says;
-            format!(in alloc;
-                "{name}: all fields are good, and what they say makes no model\n{fault}: {says}"
-            )
+            put!(prose; ": all fields are good, and what they say makes no model\n", fault.name(),
+                ": ", fault.sentence())
         }
     }
 }

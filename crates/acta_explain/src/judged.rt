@@ -6,15 +6,16 @@ ghost use Rattle.acta_script.specs.Reading.{kept_of};
 ghost use Rattle.acta_table.specs.declared.limits.TheConstants.{MOST_EVENTS};
 ghost use Rattle.acta_tool.specs.Output.{judge_on, judged_on, said_in};
 
-use crate::chronicle::{Chronicle, Row};
-use crate::faults::{Stop, push_lines, push_stop};
+use crate::chronicle::{Chronicle, Row, row_of};
+use crate::faults::{Stop, put_lines, put_stop};
 use crate::phrases::{
-    class_of, may_line, name_text, numbered_edge_text, operation_text, row_text, starts_line,
-    text_of,
+    class_at, class_of, name_text, put_formed_edge, put_line, put_may, put_operation, put_row,
+    put_starts,
 };
+use crate::prose::Prose;
+use crate::put;
 use crate::spoken::{Spoken, spoken_in};
 use crate::telling::MOST_TOLD;
-use crate::words::{axiom_entry, rule_entry};
 use acta_axioms::{Axiom, Fault, Walk};
 use acta_judge::{Verdict, judge};
 use acta_machine::Handle;
@@ -24,9 +25,6 @@ use acta_table::{Edge, Event, Kept, LAST_TXN, MOST_EVENTS, Model, OpNo, Owed, Re
 use acta_tool::{KeptLines, Report, read_lines};
 use std::alloc::AllocError;
 use std::thread::Threads;
-
-// What a sentence is, or want of memory.
-type Told<A> = Result<String<A>, AllocError>;
 
 // A list of kept items, with what its places formed and what its operations should have returned.
 #[derive(Drop)]
@@ -44,17 +42,6 @@ struct Scene<'a, A: Handle> {
 struct Due {
     place: u32,
     ret: Option<Ret>,
-}
-
-// The row of a kept line.
-fn row_of<A: Handle>(alloc: A, spoken: Spoken<'_>) -> Result<Row<A>, AllocError> {
-    Ok(Row {
-        line: spoken.line,
-        event: spoken.text(alloc)?,
-        answer: String::new(alloc),
-        formed: String::new(alloc),
-        reason: String::new(alloc),
-    })
 }
 
 // Whether an operation at this place doesn't return what is due.
@@ -86,40 +73,81 @@ fn scene_of<'a, A: Handle>(
     alloc: A,
     model: &'a Model<A>,
     kept: &'a [Kept<A>],
-    lines: Vec<Spoken<'_>, A>,
+    lines: &[Spoken<'_>],
     faults: &[Fault],
 ) -> Result<Scene<'a, A>, AllocError>
     requires { length kept.now ≤ MOST_EVENTS }
 {
-    let mut walk = Walk::of(alloc, model, kept)?;
-    let mut chronicle = Chronicle::new(alloc)?;
-    let mut due = Vec::new(alloc);
-    let mut place = 0u32;
-    for (item, line) in kept.iter().zip(lines) {
-        place = place.saturating_add(1);
-        if is_off(faults, place) {
-            let ret = due_next(&walk)?;
-            due.push(Due { place, ret })?;
-        }
-        if !walk.ahead().is_empty() {
-            walk.step()?;
-        }
-        chronicle.note(&item.event, walk.edges().len())?;
-        chronicle.push(row_of(alloc, line)?)?;
-    }
-    let edges = Vec::from_slice(alloc, walk.edges())?;
-    drop(walk);
-    Ok(Scene {
+    let mut scene = Scene {
         alloc,
         model,
         kept,
-        chronicle,
-        edges,
-        due,
-    })
+        chronicle: Chronicle::new(alloc)?,
+        edges: Vec::new(alloc),
+        due: Vec::new(alloc),
+    };
+    let mut walk = match Walk::of(alloc, model, kept) {
+        Ok(walk) => walk,
+        Err(e) => {
+            drop(scene);
+            return Err(e);
+        }
+    };
+    let walked = scene.walk(&mut walk, lines, faults);
+    drop(walk);
+    match walked {
+        Ok(()) => Ok(scene),
+        Err(e) => {
+            drop(scene);
+            Err(e)
+        }
+    }
 }
 
 impl<'a, A: Handle> Scene<'a, A> {
+    // Notes what the items are, of which the lines say each, as a walk along them goes.
+    fn walk(
+        &mut self,
+        walk: &mut Walk<'a, A>,
+        lines: &[Spoken<'_>],
+        faults: &[Fault],
+    ) -> Result<(), AllocError> {
+        let mut place = 0u32;
+        for (item, line) in self.kept.iter().zip(lines) {
+            place = place.saturating_add(1);
+            self.step(walk, is_off(faults, place), place)?;
+            self.chronicle.note(&item.event, walk.edges().len())?;
+            self.push_row(*line)?;
+        }
+        self.edges.extend_from_slice(walk.edges())
+    }
+
+    // Goes one place further, and notes what its operation should return, where it returns something else.
+    fn step(&mut self, walk: &mut Walk<'a, A>, is_off: bool, place: u32) -> Result<(), AllocError> {
+        if is_off {
+            let ret = due_next(walk)?;
+            self.due.push(Due { place, ret })?;
+        }
+        if walk.ahead().is_empty() {
+            Ok(())
+        } else {
+            walk.step()
+        }
+    }
+
+    // Puts the row of a kept line behind the others.
+    fn push_row(&mut self, line: Spoken<'_>) -> Result<(), AllocError> {
+        let alloc = self.alloc;
+        let row = row_of(
+            line.line,
+            line.put_words(Prose::new(alloc), alloc),
+            Prose::new(alloc),
+            Prose::new(alloc),
+            Prose::new(alloc),
+        )?;
+        self.chronicle.push(row)
+    }
+
     // The event of a place.
     fn event(&self, place: u32) -> Option<&'a Event<A>> {
         let kept = self.kept.get((place as usize).checked_sub(1)?)?;
@@ -131,193 +159,171 @@ impl<'a, A: Handle> Scene<'a, A> {
         self.chronicle.rows().get((place as usize).checked_sub(1)?)
     }
 
-    // An edge, with its number and the line that forms it.
-    fn edge(&self, number: u64) -> Told<A> {
-        let Some(edge) = self.edges.get((number as usize).wrapping_sub(1)) else {
-            return format!(in self.alloc; "edge {number}");
-        };
-        let told = numbered_edge_text(self.alloc, number, edge)?;
-        match self.chronicle.of_edge(number) {
-            Some(row) => {
-                let row = row_text(self.alloc, row)?;
-                format!(in self.alloc; "{told}, formed at {row}")
-            }
-            None => Ok(told),
+    // Adds an edge, with its number and the line that forms it.
+    fn put_edge(&self, prose: Prose<A>, number: u64) -> Prose<A> {
+        match self.edges.get((number as usize).wrapping_sub(1)) {
+            Some(edge) => put_formed_edge(prose, &self.chronicle, number, edge),
+            None => put!(prose; "edge ", number),
         }
     }
 
-    // A transaction, with the lines by which it first began and ended.
-    fn txn(&self, number: u64) -> Told<A> {
-        let mut told = format!(in self.alloc; "transaction {number}")?;
-        let t = match u16::try_from(number) {
-            Ok(number) if 0 < number && number <= LAST_TXN => TxnId(number),
-            _ => return Ok(told),
+    // Adds a transaction, with the lines by which it first began and ended.
+    fn put_txn(&self, prose: Prose<A>, number: u64) -> Prose<A> {
+        let prose = put!(prose; "transaction ", number);
+        if number == 0 || number > LAST_TXN as u64 {
+            return prose;
+        }
+        let t = TxnId(number as u16);
+        let prose = match self.chronicle.of_begin(t) {
+            Some(row) => put!(prose; ", which begins at line ", row.line),
+            None => prose.put(", which never begins"),
         };
-        match self.chronicle.of_begin(t) {
-            Some(row) => {
-                let line = row.line;
-                write!(told, ", which begins at line {line}")?;
-            }
-            None => told.push_str(", which never begins")?,
+        match self.chronicle.of_end(t) {
+            Some(row) => put_row(prose.put("; it ends at "), row),
+            None => prose,
         }
-        if let Some(row) = self.chronicle.of_end(t) {
-            let row = row_text(self.alloc, row)?;
-            write!(told, "; it ends at {row}")?;
-        }
-        Ok(told)
     }
 
-    // What the operation of a place returns, and should.
-    fn off(&self, fault: &Fault) -> Told<A> {
+    // What the operation of a place should return.
+    fn due(&self, place: u32) -> Option<Ret> {
+        for due in self.due.iter() {
+            if due.place == place {
+                return due.ret;
+            }
+        }
+        None
+    }
+
+    // Adds what the operation of a place returns, and should.
+    fn put_off(&self, prose: Prose<A>, fault: &Fault) -> Prose<A> {
         if fault.by == 0 {
-            return String::from_str(self.alloc, "by a return of an event that is no operation");
+            return prose.put("a return of an event that is no operation");
         }
-        let number = fault.by;
-        let due = self
-            .due
-            .iter()
-            .find(|due| due.place == fault.place)
-            .and_then(|due| due.ret);
-        match due {
-            Some(ret) => {
-                let ret = return_text(self.alloc, ret)?;
-                format!(in self.alloc; "by operation {number}, which should return {ret}")
-            }
-            None => format!(in self.alloc; "by operation {number}"),
+        let prose = put!(prose; "operation ", fault.by);
+        match self.due(fault.place) {
+            Some(ret) => put_return(prose.put(", which should return "), ret),
+            None => prose,
         }
     }
 
-    // What breaks the axiom.
-    fn breaker(&self, fault: &Fault) -> Told<A> {
-        let told = match fault.broken {
-            Axiom::Return => return self.off(fault),
-            Axiom::Dependency(_) => self.edge(fault.by)?,
+    // Adds what breaks the axiom.
+    fn put_breaker(&self, prose: Prose<A>, fault: &Fault) -> Prose<A> {
+        let prose = prose.put("\nby ");
+        match fault.broken {
+            Axiom::Return => self.put_off(prose, fault),
+            Axiom::Dependency(_) => self.put_edge(prose, fault.by),
             Axiom::Responsible | Axiom::HandsWhole | Axiom::Conflict => {
                 let op = OpNo(u32::try_from(fault.by).unwrap_or(0));
-                operation_text(self.alloc, &self.chronicle, op)?
+                put_operation(prose, &self.chronicle, op)
             }
-            Axiom::Heir if fault.by == 0 => String::from_str(
-                self.alloc,
-                "a commit of one without a parent",
-            )?,
-            _ => self.txn(fault.by)?,
-        };
-        format!(in self.alloc; "by {told}")
+            Axiom::Heir if fault.by == 0 => prose.put("a commit of one without a parent"),
+            _ => self.put_txn(prose, fault.by),
+        }
     }
 
-    // What is wrong with the form of an event, by the rule on it that it breaks.
-    fn form(&self, event: &Event<A>) -> Told<A> {
+    // Adds what is wrong with the form of an event, by the rule on it that it breaks.
+    fn put_form(&self, prose: Prose<A>, event: &Event<A>) -> Prose<A> {
         match form_fault(self.model, event) {
             Some(fault) => {
-                let entry = rule_entry(fault.refusal().rule);
-                let name = entry.name;
-                let says = entry.says;
-                format!(in self.alloc; "\nrule {name}: {says}")
+                let rule = fault.refusal().rule;
+                put!(prose; "\nrule ", rule.name(), ": ", rule.sentence())
             }
-            None => Ok(String::new(self.alloc)),
+            None => prose,
         }
     }
 
-    // The `may` line of the class with which the transaction first began.
-    fn push_may(&self, told: &mut String<A>, t: TxnId) -> Result<(), AllocError> {
-        if let Some(class) = class_of(self.model, &self.chronicle, t) {
-            let name = name_text(class.name.as_slice());
-            let may = may_line(self.alloc, class.may)?;
-            let t = t.0;
-            write!(told, "\nclass `{name}` of {t} has `{may}`")?;
-        }
-        Ok(())
-    }
-
-    // What the classes allow that the event is of.
-    fn allowed(&self, event: &Event<A>) -> Told<A> {
-        let mut told = String::new(self.alloc);
-        if let Some(class) = event.class().and_then(|class| self.model.class(class)) {
-            let name = name_text(class.name.as_slice());
-            let starts = starts_line(self.alloc, class.starts)?;
-            write!(told, "\nclass `{name}` has `{starts}`")?;
-        }
-        if let Some(t) = event.acting() {
-            self.push_may(&mut told, t)?;
-        }
-        if let Event::Form(_, j, i) = event {
-            self.push_may(&mut told, *j)?;
-            self.push_may(&mut told, *i)?;
-        }
-        Ok(told)
-    }
-
-    // What is told more of a fault, by what its event is.
-    fn more(&self, fault: &Fault) -> Told<A> {
-        match (fault.broken, self.event(fault.place)) {
-            (Axiom::FormOfEvent, Some(event)) => self.form(event),
-            (Axiom::Allowed, Some(event)) => self.allowed(event),
-            _ => Ok(String::new(self.alloc)),
-        }
-    }
-
-    // What is told of a fault, in lines.
-    fn fault(&self, fault: &Fault) -> Told<A> {
-        let entry = axiom_entry(fault.broken);
-        let name = entry.name;
-        let says = entry.says;
-        let by = self.breaker(fault)?;
-        let more = self.more(fault)?;
-        match self.at(fault.place) {
-            Some(row) => {
-                let row = row_text(self.alloc, row)?;
-                format!(in self.alloc; "{name}, broken at {row}\n{by}{more}\n{says}")
+    // Adds the `may` line of the class with which the transaction first began.
+    fn put_may_of(&self, prose: Prose<A>, t: TxnId) -> Prose<A> {
+        match class_of(self.model, &self.chronicle, t) {
+            Some(class) => {
+                let name = name_text(class.name.as_slice());
+                let prose = put!(prose; "\nclass `", name, "` of ", t.0, " has `");
+                put_may(prose, class.may).put("`")
             }
-            None => format!(in self.alloc; "{name}\n{by}{more}\n{says}"),
+            None => prose,
         }
     }
 
-    // Writes a fault of a verdict, and what is told of it.
-    fn push_fault(&self, text: &mut String<A>, fault: &Fault) -> Result<(), AllocError> {
-        let line = fault_line(self.alloc, fault.broken.number(), fault.place, fault.by)?;
-        text.push_str(text_of(self.alloc, line.as_slice())?.as_str())?;
-        text.push('\n')?;
-        push_lines(text, self.fault(fault)?.as_str())
+    // Adds what the classes allow that the event is of.
+    fn put_allowed(&self, prose: Prose<A>, event: &Event<A>) -> Prose<A> {
+        let prose = match class_at(self.model, event.class()) {
+            Some(class) => {
+                let name = name_text(class.name.as_slice());
+                put_starts(put!(prose; "\nclass `", name, "` has `"), class.starts).put("`")
+            }
+            None => prose,
+        };
+        let prose = match event.acting() {
+            Some(t) => self.put_may_of(prose, t),
+            None => prose,
+        };
+        match event {
+            Event::Form(_, j, i) => self.put_may_of(self.put_may_of(prose, *j), *i),
+            _ => prose,
+        }
     }
 
-    // Writes a debt, and by which edge it is owed.
-    fn push_debt(&self, text: &mut String<A>, owed: &Owed) -> Result<(), AllocError> {
-        let line = text_of(self.alloc, owed_line(self.alloc, owed)?.as_slice())?;
-        let edge = self.edge(owed.edge.0)?;
-        writeln!(text, "{line}  by {edge}")
+    // Adds what is told of a fault, in lines.
+    fn put_told(&self, prose: Prose<A>, fault: &Fault) -> Prose<A> {
+        let prose = prose.put(fault.broken.name());
+        let prose = match self.at(fault.place) {
+            Some(row) => put_row(prose.put(", broken at "), row),
+            None => prose,
+        };
+        let prose = self.put_breaker(prose, fault);
+        let prose = match (fault.broken, self.event(fault.place)) {
+            (Axiom::FormOfEvent, Some(event)) => self.put_form(prose, event),
+            (Axiom::Allowed, Some(event)) => self.put_allowed(prose, event),
+            _ => prose,
+        };
+        put!(prose; "\n", fault.broken.sentence())
+    }
+
+    // Adds a fault of a verdict, and what is told of it.
+    fn put_fault(&self, prose: Prose<A>, fault: &Fault) -> Prose<A> {
+        let line = fault_line(self.alloc, fault.broken.number(), fault.place, fault.by);
+        let prose = put_line(prose, line).put("\n");
+        match self.put_told(Prose::new(self.alloc), fault).done() {
+            Ok(told) => put_lines(prose, told.as_str()),
+            Err(_) => prose.fail(),
+        }
+    }
+
+    // Adds a debt, and by which edge it is owed.
+    fn put_debt(&self, prose: Prose<A>, owed: &Owed) -> Prose<A> {
+        let prose = put_line(prose, owed_line(self.alloc, owed)).put("  by ");
+        self.put_edge(prose, owed.edge.0).put("\n")
     }
 
     // All that is told of a verdict. Of its faults the first are: a list can have one for each two of its operations.
-    fn verdict(&self, verdict: &Verdict<A>) -> Told<A> {
-        let mut text = String::new(self.alloc);
+    fn verdict(&self, verdict: &Verdict<A>) -> Result<String<A>, AllocError> {
+        let mut prose = Prose::new(self.alloc);
         let faults = verdict.faults.as_slice();
         for fault in faults.iter().take(MOST_TOLD) {
-            self.push_fault(&mut text, fault)?;
+            prose = self.put_fault(prose, fault);
         }
         let untold = faults.len().saturating_sub(MOST_TOLD);
         if untold > 0 {
-            writeln!(
-                text,
-                "and {untold} faults more: the first {MOST_TOLD} are told"
-            )?;
+            prose =
+                put!(prose; "and ", untold, " faults more: the first ", MOST_TOLD, " are told\n");
         }
         for owed in verdict.owed.as_slice() {
-            self.push_debt(&mut text, owed)?;
+            prose = self.put_debt(prose, owed);
         }
-        if text.is_empty() {
-            text.push_str("no fault, and nothing is owed\n")?;
+        if prose.is_empty() {
+            prose = prose.put("no fault, and nothing is owed\n");
         }
-        Ok(text)
+        prose.done()
     }
 }
 
-// The word of a return.
-fn return_text<A: Handle>(alloc: A, ret: Ret) -> Told<A> {
+// Adds the word of a return.
+fn put_return<A: Handle>(prose: Prose<A>, ret: Ret) -> Prose<A> {
     match ret {
-        Ret::Done => String::from_str(alloc, "done"),
-        Ret::Flag(true) => String::from_str(alloc, "yes"),
-        Ret::Flag(false) => String::from_str(alloc, "no"),
-        Ret::Value(value) => format!(in alloc; "{value}"),
+        Ret::Done => prose.put("done"),
+        Ret::Flag(true) => prose.put("yes"),
+        Ret::Flag(false) => prose.put("no"),
+        Ret::Value(value) => prose.put(value),
     }
 }
 
@@ -335,21 +341,34 @@ fn refusal<A: Handle>(text: String<A>) -> Report<A>
 fn too_long<A: Handle>(alloc: A) -> Result<Report<A>, AllocError>
     ensures { IfOk result (λ report. report.is_refused ≡ true) }
 {
-    let mut text = String::from_str(alloc, "judge fault 1\n")?;
-    push_lines(
-        &mut text,
+    let prose = put_lines(
+        Prose::new(alloc).put("judge fault 1\n"),
         "the lines that say something are more than 65,536, the most that are judged",
-    )?;
-    Ok(refusal(text))
+    );
+    Ok(refusal(prose.done()?))
 }
 
 // What is told of a line that is faulty.
 fn stopped<A: Handle>(alloc: A, model: &Model<A>, stop: &Stop<'_>) -> Result<Report<A>, AllocError>
     ensures { IfOk result (λ report. report.is_refused ≡ true) }
 {
-    let mut text = String::new(alloc);
-    push_stop(&mut text, alloc, model, stop)?;
-    Ok(refusal(text))
+    Ok(refusal(put_stop(Prose::new(alloc), alloc, model, stop).done()?))
+}
+
+// What is told of the verdict on kept items, and of the lines that say them.
+fn verdict_text<A: Handle>(
+    alloc: A,
+    model: &Model<A>,
+    kept: &[Kept<A>],
+    lines: &[Spoken<'_>],
+    verdict: &Verdict<A>,
+) -> Result<String<A>, AllocError>
+    requires { length kept.now ≤ MOST_EVENTS }
+{
+    let scene = scene_of(alloc, model, kept, lines, verdict.faults.as_slice())?;
+    let text = scene.verdict(verdict);
+    drop(scene);
+    text
 }
 
 // What is told of kept items, and of the lines that say them.
@@ -358,7 +377,7 @@ fn explain_kept<A: Handle + Send + Sync, R: Threads + Sync>(
     alloc: A,
     model: &Model<A>,
     kept: &[Kept<A>],
-    lines: Vec<Spoken<'_>, A>,
+    lines: &[Spoken<'_>],
 ) -> Result<Report<A>, AllocError>
     ensures { IfOk result (λ report. report.is_refused ≡ (judged_on model.now kept.now None).is_refused) }
 {
@@ -367,9 +386,10 @@ fn explain_kept<A: Handle + Send + Sync, R: Threads + Sync>(
     }
     match judge(rt, alloc, model, kept) {
         Ok(verdict) => {
-            let scene = scene_of(alloc, model, kept, lines, verdict.faults.as_slice())?;
+            let text = verdict_text(alloc, model, kept, lines, &verdict);
+            drop(verdict);
             Ok(Report {
-                text: scene.verdict(&verdict)?.into_bytes(),
+                text: text?.into_bytes(),
                 is_refused: false,
             })
         }
@@ -391,7 +411,7 @@ pub fn explain_judged<A: Handle + Send + Sync, R: Threads + Sync>(
         Some(bad) => stopped(alloc, model, &Stop::of(input, bad, true)),
         None => {
             let lines = spoken_in(alloc, input)?;
-            explain_kept(rt, alloc, model, read.said.as_slice(), lines)
+            explain_kept(rt, alloc, model, read.said.as_slice(), lines.as_slice())
         }
     }
 }

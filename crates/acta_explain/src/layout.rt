@@ -2,7 +2,9 @@
 //! the reason, each of its lines behind a bar.
 
 use crate::chronicle::Row;
-use std::alloc::{AllocError, Allocator};
+use crate::prose::Prose;
+use crate::put;
+use std::alloc::Allocator;
 
 /// The widths of the columns.
 #[derive(Clone, Copy)]
@@ -31,8 +33,8 @@ fn widened(width: usize, most: usize, length: usize) -> usize {
     }
 }
 
-// How many digits a number has.
-fn digits(number: usize) -> usize {
+/// How many digits a number has.
+pub fn digits(number: usize) -> usize {
     match number.checked_ilog10() {
         Some(log) => (log as usize).saturating_add(1),
         None => 1,
@@ -56,69 +58,41 @@ impl Columns {
     }
 }
 
-// Writes so many spaces.
-fn pad<A: Allocator>(text: &mut String<A>, count: usize) -> Result<(), AllocError> {
-    for _ in 0..count {
-        text.push(' ')?;
-    }
-    Ok(())
+// Adds a text, and spaces up to this width, and two more.
+fn put_cell<A: Allocator>(prose: Prose<A>, cell: &str, width: usize) -> Prose<A> {
+    prose
+        .put(cell)
+        .pad(width.saturating_sub(cell.len()))
+        .put("  ")
 }
 
-// Writes a text, and spaces up to this width, and two more.
-fn push_cell<A: Allocator>(
-    text: &mut String<A>,
-    cell: &str,
-    width: usize,
-) -> Result<(), AllocError> {
-    text.push_str(cell)?;
-    pad(text, width.saturating_sub(cell.len()))?;
-    text.push_str("  ")
-}
-
-/// Writes lines, each behind a bar. `Err` where there is no memory.
-pub fn push_barred<A: Allocator>(
-    text: &mut String<A>,
-    columns: Columns,
-    lines: &str,
-) -> Result<(), AllocError> {
+/// Adds lines, each behind so many spaces and a bar.
+pub fn put_barred<A: Allocator>(mut prose: Prose<A>, indent: usize, lines: &str) -> Prose<A> {
     for line in lines.lines() {
-        pad(text, columns.number.saturating_add(2))?;
-        text.push_str("  | ")?;
-        text.push_str(line)?;
-        text.push('\n')?;
+        prose = put!(prose.pad(indent); "| ", line, "\n");
     }
-    Ok(())
+    prose
 }
 
-/// Writes a row, and its reason below it. `Err` where there is no memory.
-pub fn push_row<A: Allocator>(
-    text: &mut String<A>,
-    columns: Columns,
-    row: &Row<A>,
-) -> Result<(), AllocError> {
-    pad(text, columns.number.saturating_sub(digits(row.line)))?;
-    let line = row.line;
-    write!(text, "{line}  ")?;
-    push_cell(text, row.event.as_str(), columns.event)?;
-    if row.formed.is_empty() {
-        text.push_str(row.answer.as_str())?;
+/// Adds a row, and its reason below it.
+pub fn put_row<A: Allocator>(prose: Prose<A>, columns: Columns, row: &Row<A>) -> Prose<A> {
+    let prose = prose.pad(columns.number.saturating_sub(digits(row.line)));
+    let prose = put_cell(
+        put!(prose; row.line, "  "),
+        row.event.as_str(),
+        columns.event,
+    );
+    let prose = if row.formed.is_empty() {
+        prose.put(row.answer.as_str())
     } else {
-        push_cell(text, row.answer.as_str(), columns.answer)?;
-        text.push_str(row.formed.as_str())?;
-    }
-    text.push('\n')?;
-    push_barred(text, columns, row.reason.as_str())
+        put_cell(prose, row.answer.as_str(), columns.answer).put(row.formed.as_str())
+    };
+    let indent = columns.number.saturating_add(4);
+    put_barred(prose.put("\n"), indent, row.reason.as_str())
 }
 
-/// Writes a debt, and by what it is owed, below the events. `Err` where there is no memory.
-pub fn push_debt<A: Allocator>(
-    text: &mut String<A>,
-    columns: Columns,
-    debt: &str,
-    by: &str,
-) -> Result<(), AllocError> {
-    pad(text, columns.number.saturating_add(2))?;
-    push_cell(text, debt, columns.event.max(DEBT))?;
-    text.push_str(by)?;
-    text.push('\n')
+/// Adds a debt below the events. By what it is owed comes next.
+pub fn put_debt<A: Allocator>(prose: Prose<A>, columns: Columns, debt: &str) -> Prose<A> {
+    let prose = prose.pad(columns.number.saturating_add(2));
+    put_cell(prose, debt, columns.event.max(DEBT))
 }

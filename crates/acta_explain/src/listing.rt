@@ -1,72 +1,53 @@
 //! Lists in a sentence.
 
+use crate::prose::Prose;
+use crate::put;
 use acta_table::{OpNo, TxnId};
-use std::alloc::{AllocError, Allocator};
+use std::alloc::Allocator;
 
 /// The most items of a list that are told one by one.
 pub const MOST_LISTED: usize = 12;
 
-/// The items, with `, ` between them, and the last word before the last. `Err` where there is no memory.
-pub fn alternatives<A: Allocator>(
-    alloc: A,
-    items: &[String<A>],
-    last_word: &str,
-) -> Result<String<A>, AllocError> {
-    let mut text = String::new(alloc);
-    for (i, item) in items.iter().enumerate() {
-        if i > 0 && i.saturating_add(1) == items.len() {
-            write!(text, " {last_word} ")?;
-        } else if i > 0 {
-            text.push_str(", ")?;
-        }
-        text.push_str(item.as_str())?;
-    }
-    Ok(text)
+/// The first items of a list, those that are told one by one.
+pub fn first_listed<T>(items: &[T]) -> &[T] {
+    items.get(..MOST_LISTED).unwrap_or(items)
 }
 
-/// The words in backquotes, with `, ` between them. `Err` where there is no memory.
-pub fn quoted<A: Allocator>(alloc: A, words: &[&str]) -> Result<String<A>, AllocError> {
-    let mut text = String::new(alloc);
-    for (i, word) in words.iter().enumerate() {
-        if i > 0 {
-            text.push_str(", ")?;
-        }
-        write!(text, "`{word}`")?;
+/// Adds the words in backquotes, with `, ` between them.
+pub fn put_quoted<A: Allocator>(mut prose: Prose<A>, words: &[&str]) -> Prose<A> {
+    let mut gap = "`";
+    for word in words {
+        prose = put!(prose; gap, *word, "`");
+        gap = ", `";
     }
-    Ok(text)
+    prose
 }
 
-/// The first numbers of operations, and how many more there are. `Err` where there is no memory.
-pub fn operations<A: Allocator>(alloc: A, ops: &[OpNo]) -> Result<String<A>, AllocError> {
-    let mut text = String::new(alloc);
-    for (i, op) in ops.iter().take(MOST_LISTED).enumerate() {
-        if i > 0 {
-            text.push_str(", ")?;
-        }
-        let number = op.0;
-        write!(text, "{number}")?;
+/// Adds the first numbers of operations, and how many more there are.
+pub fn put_operations<A: Allocator>(mut prose: Prose<A>, ops: &[OpNo]) -> Prose<A> {
+    let mut gap = "";
+    for op in first_listed(ops) {
+        prose = put!(prose; gap, op.0);
+        gap = ", ";
     }
-    if ops.len() > MOST_LISTED {
-        let more = ops.len() - MOST_LISTED;
-        write!(text, " and {more} more")?;
-    }
-    Ok(text)
+    put_more(prose, " and ", ops.len())
 }
 
-/// A chain of transactions, with an arrow from each to the next; of a long one the front, and its length. `Err` where
-/// there is no memory.
-pub fn chain<A: Allocator>(alloc: A, txns: &[TxnId]) -> Result<String<A>, AllocError> {
-    let mut text = String::new(alloc);
-    for (i, txn) in txns.iter().take(MOST_LISTED).enumerate() {
-        if i > 0 {
-            text.push_str(" -> ")?;
-        }
-        let number = txn.0;
-        write!(text, "{number}")?;
+/// Adds a chain of transactions, with an arrow from each to the next; of a long one the front, and its length.
+pub fn put_chain<A: Allocator>(mut prose: Prose<A>, txns: &[TxnId]) -> Prose<A> {
+    let mut gap = "";
+    for txn in first_listed(txns) {
+        prose = put!(prose; gap, txn.0);
+        gap = " -> ";
     }
-    if txns.len() > MOST_LISTED {
-        let more = txns.len() - MOST_LISTED;
-        write!(text, " -> .. and {more} more")?;
+    put_more(prose, " -> .. and ", txns.len())
+}
+
+/// Adds how many items more a list has than are told, where it has so many.
+pub fn put_more<A: Allocator>(prose: Prose<A>, front: &str, items: usize) -> Prose<A> {
+    if items > MOST_LISTED {
+        put!(prose; front, items - MOST_LISTED, " more")
+    } else {
+        prose
     }
-    Ok(text)
 }

@@ -1,6 +1,7 @@
 //! What the lines of a text of a model declare before one of them, by their first words: which names are taken, which
 //! class is open, and what it has said.
 
+use crate::phrases::name_text;
 use crate::placed::placed_words;
 use acta_words::Lines;
 use std::alloc::{AllocError, Allocator};
@@ -26,10 +27,12 @@ pub struct Outline<'a, A: Allocator> {
 
 // The line that declares the name, of those that these do.
 fn line_of(named: &[Named<'_>], name: &[u8]) -> Option<usize> {
-    named
-        .iter()
-        .find(|one| one.name == name)
-        .map(|one| one.line)
+    for one in named {
+        if one.name == name {
+            return Some(one.line);
+        }
+    }
+    None
 }
 
 impl<'a, A: Allocator> Outline<'a, A> {
@@ -56,19 +59,51 @@ impl<'a, A: Allocator> Outline<'a, A> {
     // Adds what one more line declares, of these two first words.
     fn add(&mut self, line: usize, first: &'a [u8], name: &'a [u8]) -> Result<(), AllocError> {
         let named = Named { name, line };
-        if first == b"object".as_slice() {
-            self.objects.push(named)?;
-        } else if first == b"class".as_slice() {
-            self.classes.push(named)?;
-            self.open = Some(named);
-            self.said.clear();
-        } else if first == b"end".as_slice() {
-            self.open = None;
-        } else {
-            self.said.push(Named { name: first, line })?;
+        match name_text(first) {
+            "object" => push_named(&mut self.objects, named),
+            "class" => {
+                self.open = Some(named);
+                self.said.clear();
+                push_named(&mut self.classes, named)
+            }
+            "end" => {
+                self.open = None;
+                Ok(())
+            }
+            _ => push_named(&mut self.said, Named { name: first, line }),
+        }
+    }
+}
+
+impl<'a, A: Allocator + Copy> Outline<'a, A> {
+    // Adds what the line of this number declares.
+    fn add_line(&mut self, alloc: A, line: usize, bytes: &'a [u8]) -> Result<(), AllocError> {
+        let words = placed_words(alloc, bytes)?;
+        match words.as_slice() {
+            [] => Ok(()),
+            [first] => self.add(line, first.word, b""),
+            [first, second, ..] => self.add(line, first.word, second.word),
+        }
+    }
+
+    // Adds what the lines of the text declare that stand before the line of this number.
+    fn add_before(&mut self, alloc: A, text: &'a [u8], line: usize) -> Result<(), AllocError> {
+        let mut number = 0usize;
+        for bytes in Lines::of(text).take(line.saturating_sub(1)) {
+            number = number.saturating_add(1);
+            self.add_line(alloc, number, bytes)?;
         }
         Ok(())
     }
+}
+
+// Puts what a line declares behind the others.
+fn push_named<'a, A: Allocator>(
+    list: &mut Vec<Named<'a>, A>,
+    named: Named<'a>,
+) -> Result<(), AllocError> {
+    list.push(named)?;
+    Ok(())
 }
 
 /// What the lines of the text declare that stand before the line of this number. `Err` where there is no memory.
@@ -83,16 +118,11 @@ pub fn outline_before<'a, A: Allocator + Copy>(
         open: None,
         said: Vec::new(alloc),
     };
-    for (place, bytes) in Lines::of(text).enumerate() {
-        let number = place.saturating_add(1);
-        if number >= line {
-            break;
-        }
-        let words = placed_words(alloc, bytes)?;
-        if let Some(first) = words.first() {
-            let name = words.get(1).map_or(b"".as_slice(), |second| second.word);
-            outline.add(number, first.word, name)?;
+    match outline.add_before(alloc, text, line) {
+        Ok(()) => Ok(outline),
+        Err(e) => {
+            drop(outline);
+            Err(e)
         }
     }
-    Ok(outline)
 }

@@ -1,10 +1,11 @@
 //! How transactions, classes, operations and edges are named in a sentence.
 
 use crate::chronicle::{Chronicle, Row};
-use acta_machine::NumberedEdge;
+use crate::prose::Prose;
+use crate::put;
 use acta_table::{
-    Class, ClassId, Dep, Edge, Event, EventKind, Kind, Kinds, Model, ObjId, Op, OpNo, Starts,
-    Status, TxnId,
+    Class, ClassId, Edge, Event, EventKind, Kind, Kinds, Model, ObjId, Op, OpNo, Starts, Status,
+    TxnId,
 };
 use std::alloc::{AllocError, Allocator};
 
@@ -91,31 +92,23 @@ const MAY: [EventKind; 9] = [
     EventKind::Permit,
 ];
 
-/// The `may` line of a class that may do these kinds of event. `Err` where there is no memory.
-pub fn may_line<A: Allocator>(alloc: A, may: Kinds) -> Result<String<A>, AllocError> {
-    let mut line = String::from_str(alloc, "may")?;
+/// Adds the `may` line of a class that may do these kinds of event.
+pub fn put_may<A: Allocator>(prose: Prose<A>, may: Kinds) -> Prose<A> {
+    let mut prose = prose.put("may");
     for kind in MAY {
         if may.has(kind) {
-            line.push(' ')?;
-            line.push_str(allowing_word(kind))?;
+            prose = put!(prose; " ", allowing_word(kind));
         }
     }
-    Ok(line)
+    prose
 }
 
-/// The `starts` line of a class whose transactions start so. `Err` where there is no memory.
-pub fn starts_line<A: Allocator>(alloc: A, starts: Starts) -> Result<String<A>, AllocError> {
-    let mut line = String::from_str(alloc, "starts")?;
-    if starts.begin {
-        line.push_str(" begin")?;
-    }
-    if starts.spawned {
-        line.push_str(" spawned")?;
-    }
-    if starts.split {
-        line.push_str(" split")?;
-    }
-    Ok(line)
+/// Adds the `starts` line of a class whose transactions start so.
+pub fn put_starts<A: Allocator>(prose: Prose<A>, starts: Starts) -> Prose<A> {
+    let begin = if starts.begin { " begin" } else { "" };
+    let spawned = if starts.spawned { " spawned" } else { "" };
+    let split = if starts.split { " split" } else { "" };
+    put!(prose; "starts", begin, spawned, split)
 }
 
 /// How a transaction stands, where it is told without a line.
@@ -134,93 +127,72 @@ pub fn has_ended(status: Status) -> bool {
     matches!(status, Status::Committed | Status::Aborted | Status::Joined)
 }
 
-/// An edge in words: its kind, the one that depends, and the one on which it depends. `Err` where there is no memory.
-pub fn edge_text<A: Allocator>(alloc: A, edge: &Edge) -> Result<String<A>, AllocError> {
-    let kind: Dep = edge.kind;
-    let word = kind.word();
-    let j = edge.j.0;
-    let i = edge.i.0;
-    format!(in alloc; "{word} {j} on {i}")
+/// Adds an edge in words: its kind, the one that depends, and the one on which it depends.
+pub fn put_edge<A: Allocator>(prose: Prose<A>, edge: &Edge) -> Prose<A> {
+    put!(prose; edge.kind.word(), " ", edge.j.0, " on ", edge.i.0)
 }
 
-/// The front of a text, as much as a sentence tells of an event. `Err` where there is no memory.
-pub fn brief<A: Allocator>(alloc: A, text: &str) -> Result<String<A>, AllocError> {
-    if text.len() <= MOST_OF_EVENT {
-        return String::from_str(alloc, text);
+/// Adds a row, as a sentence refers to it: the number of its line, and as much of its event as a sentence tells.
+pub fn put_row<A: Allocator>(prose: Prose<A>, row: &Row<A>) -> Prose<A> {
+    let mut prose = put!(prose; "line ", row.line, ": ");
+    if row.event.len() <= MOST_OF_EVENT {
+        return prose.put(row.event.as_str());
     }
-    let mut front: String<A> = String::new(alloc);
-    for c in text.chars().take(MOST_OF_EVENT) {
-        front.push(c)?;
+    for c in row.event.chars().take(MOST_OF_EVENT) {
+        prose = prose.put(c);
     }
-    front.push_str(" ..")?;
-    Ok(front)
+    prose.put(" ..")
 }
 
-/// A row, as a sentence refers to it: the number of its line and its event. `Err` where there is no memory.
-pub fn row_text<A: Allocator + Copy>(alloc: A, row: &Row<A>) -> Result<String<A>, AllocError> {
-    let line = row.line;
-    let event = brief(alloc, row.event.as_str())?;
-    format!(in alloc; "line {line}: {event}")
-}
-
-/// How the transaction stands, with the line by which it ended. `Err` where there is no memory.
-pub fn standing<A: Allocator + Copy>(
-    alloc: A,
+/// Adds how the transaction stands, with the line by which it ended.
+pub fn put_standing<A: Allocator>(
+    prose: Prose<A>,
     chronicle: &Chronicle<A>,
     t: TxnId,
     status: Status,
-) -> Result<String<A>, AllocError> {
-    let words = status_words(status);
+) -> Prose<A> {
+    let prose = prose.put(status_words(status));
     match chronicle.of_end(t) {
-        Some(row) if has_ended(status) => {
-            let line = row.line;
-            format!(in alloc; "{words} (line {line})")
-        }
-        _ => String::from_str(alloc, words),
+        Some(row) if has_ended(status) => put!(prose; " (line ", row.line, ")"),
+        _ => prose,
     }
 }
 
-/// The operation of this number, with the line by which it was done. `Err` where there is no memory.
-pub fn operation_text<A: Allocator + Copy>(
-    alloc: A,
+/// Adds the operation of this number, with the line by which it was done.
+pub fn put_operation<A: Allocator>(
+    prose: Prose<A>,
     chronicle: &Chronicle<A>,
     op: OpNo,
-) -> Result<String<A>, AllocError> {
-    let number = op.0;
+) -> Prose<A> {
+    let prose = put!(prose; "operation ", op.0);
     match chronicle.of_operation(op) {
-        Some(row) => {
-            let row = row_text(alloc, row)?;
-            format!(in alloc; "operation {number} ({row})")
-        }
-        None => format!(in alloc; "operation {number}"),
+        Some(row) => put_row(prose.put(" ("), row).put(")"),
+        None => prose,
     }
 }
 
-/// The edge, with its number. `Err` where there is no memory.
-pub fn numbered_edge_text<A: Allocator + Copy>(
-    alloc: A,
+/// Adds the edge, with its number.
+pub fn put_numbered_edge<A: Allocator>(prose: Prose<A>, number: u64, edge: &Edge) -> Prose<A> {
+    put_edge(put!(prose; "edge ", number, " ("), edge).put(")")
+}
+
+/// Adds the edge, with its number and the line by which it was formed.
+pub fn put_formed_edge<A: Allocator>(
+    prose: Prose<A>,
+    chronicle: &Chronicle<A>,
     number: u64,
     edge: &Edge,
-) -> Result<String<A>, AllocError> {
-    let words = edge_text(alloc, edge)?;
-    format!(in alloc; "edge {number} ({words})")
+) -> Prose<A> {
+    let prose = put_numbered_edge(prose, number, edge);
+    match chronicle.of_edge(number) {
+        Some(row) => put_row(prose.put(", formed at "), row),
+        None => prose,
+    }
 }
 
-/// The edge, with its number and the line by which it was formed. `Err` where there is no memory.
-pub fn formed_edge_text<A: Allocator + Copy>(
-    alloc: A,
-    chronicle: &Chronicle<A>,
-    edge: &NumberedEdge,
-) -> Result<String<A>, AllocError> {
-    let number = u64::from(edge.number);
-    let words = numbered_edge_text(alloc, number, &edge.edge)?;
-    match chronicle.of_edge(number) {
-        Some(row) => {
-            let row = row_text(alloc, row)?;
-            format!(in alloc; "{words}, formed at {row}")
-        }
-        None => Ok(words),
-    }
+/// The class of this number, where there is one.
+pub fn class_at<A: Allocator>(model: &Model<A>, class: Option<ClassId>) -> Option<&Class<A>> {
+    model.class(class?)
 }
 
 /// The class with which the transaction began.
@@ -261,10 +233,10 @@ pub fn first_named<A: Allocator>(event: &Event<A>) -> TxnId {
     }
 }
 
-/// The text that the bytes of a line are; what is no text in them is replaced. `Err` where there is no memory.
-pub fn text_of<A: Allocator>(alloc: A, bytes: &[u8]) -> Result<String<A>, AllocError> {
-    match std::str::from_utf8(bytes) {
-        Ok(text) => String::from_str(alloc, text),
-        Err(_) => String::from_utf8_lossy(alloc, bytes),
+/// Adds a line of the program, which is there where memory was.
+pub fn put_line<A: Allocator>(prose: Prose<A>, line: Result<Vec<u8, A>, AllocError>) -> Prose<A> {
+    match line {
+        Ok(line) => prose.put(name_text(line.as_slice())),
+        Err(_) => prose.fail(),
     }
 }

@@ -1,5 +1,6 @@
 //! The words of a line, each with its column.
 
+use crate::prose::Prose;
 use std::alloc::{AllocError, Allocator};
 
 /// A word of a line, and the column of its first byte, from 1.
@@ -46,23 +47,31 @@ pub fn placed_words<'a, A: Allocator>(
     Ok(words)
 }
 
+/// The column behind the last of these words.
+pub fn column_behind(words: &[Placed<'_>]) -> usize {
+    match words.last() {
+        Some(last) => last.column.saturating_add(last.word.len()),
+        None => 1,
+    }
+}
+
 // The most characters of a word that are shown.
 const MOST_SHOWN: usize = 40;
 
-/// The word as it is shown: printable characters as they are, others by a backslash and their number, and of a long
-/// word the front. `Err` where there is no memory.
-pub fn shown<A: Allocator>(alloc: A, word: &[u8]) -> Result<String<A>, AllocError> {
-    let mut text = String::new(alloc);
+/// Adds the word as it is shown: printable characters as they are, others by a backslash and their number, and of a long
+/// word the front.
+pub fn put_shown<A: Allocator>(mut prose: Prose<A>, word: &[u8]) -> Prose<A> {
     for byte in word.iter().take(MOST_SHOWN) {
-        match *byte {
-            b'\r' => text.push_str("\\r")?,
-            b'\t' => text.push_str("\\t")?,
-            b' '..=b'~' => text.push(char::from(*byte))?,
-            byte => write!(text, "\\x{byte:02x}")?,
-        }
+        prose = match *byte {
+            b'\r' => prose.put("\\r"),
+            b'\t' => prose.put("\\t"),
+            b' '..=b'~' => prose.put(char::from(*byte)),
+            byte => prose.put(format_args!("\\x{byte:02x}")),
+        };
     }
     if word.len() > MOST_SHOWN {
-        text.push_str("..")?;
+        prose.put("..")
+    } else {
+        prose
     }
-    Ok(text)
 }

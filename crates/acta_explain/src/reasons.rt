@@ -2,38 +2,30 @@
 //! that is sure. A reason is one line or a few, with line feeds between them.
 
 use crate::chronicle::Chronicle;
-use crate::listing::{alternatives, chain, operations};
+use crate::listing::{put_chain, put_operations};
 use crate::phrases::{
-    allowing_word, class_of, class_text, edge_text, event_word, first_named, formed_edge_text,
-    is_ancestor, kind_words, may_line, object_text, operation_text, operation_word, row_text,
-    standing, starts_line,
+    allowing_word, class_at, class_of, class_text, event_word, first_named, is_ancestor,
+    kind_words, name_text, object_text, operation_word, put_edge, put_formed_edge, put_may,
+    put_operation, put_row, put_standing, put_starts,
 };
-use crate::words::rule_entry;
-use acta_machine::{
-    Barring, Clash, FormFault, Handle, Lack, Machine, NumberedEdge, NumberedOp, Reason,
-};
+use crate::prose::Prose;
+use crate::put;
+use acta_machine::{Barring, Clash, FormFault, Handle, Lack, Machine, NumberedOp, Reason};
 use acta_table::{
-    AtCommit, Class, Dep, Event, EventKind, Fate, Missing, ObjId, Op, OpNo, Rule, Scope, Status,
-    TxnId,
+    AtCommit, Class, ClassId, Dep, Edge, Event, EventKind, Fate, Missing, Model, ObjId, Op, OpNo,
+    Rule, Scope, Status, TxnId,
 };
-use std::alloc::AllocError;
 
 /// What is told of an event for which there is no hope.
 pub const NEVER: &str = "No later event can admit it.";
 
-/// An event that a machine refuses, with the machine, and what was told of its run so far.
+/// An event that a machine with this model refuses, and what was told of its run so far.
 #[derive(Drop)]
 pub struct Refused<'a, A: Handle> {
-    pub alloc: A,
-    pub machine: &'a Machine<A>,
+    pub model: &'a Model<A>,
     pub chronicle: &'a Chronicle<A>,
     pub event: &'a Event<A>,
-    /// Whether it is looked for transactions that wait for one another, which takes a look at each edge.
-    pub looks_for_waits: bool,
 }
-
-// What a sentence is, or want of memory.
-type Told<A> = Result<String<A>, AllocError>;
 
 // How one that names itself is told.
 fn of_itself(kind: EventKind) -> &'static str {
@@ -73,578 +65,11 @@ fn payment(kind: Dep) -> Missing {
     }
 }
 
-/// The word of an event that is owed.
-pub fn missing_word(missing: Missing) -> &'static str {
+// The word of an event that is owed.
+fn missing_word(missing: Missing) -> &'static str {
     match missing {
         Missing::Commit => "commit",
         Missing::Abort => "abort",
-    }
-}
-
-/// By what of the one on which it depends an edge of the kind comes to owe something.
-pub fn cause_word(kind: Dep) -> &'static str {
-    match kind {
-        Dep::Scd | Dep::Ed => "committed",
-        _ => "aborted",
-    }
-}
-
-impl<'a, A: Handle> Refused<'a, A> {
-    /// Why it is refused, in lines. `Err` where there is no memory.
-    pub fn tell(&self, reason: &Reason) -> Told<A> {
-        match *reason {
-            Reason::Full => self.full(),
-            Reason::Form(fault) => self.form(fault),
-            Reason::NotInProgress { txn, status } => self.not_in_progress(txn, status),
-            Reason::AlreadyBegun { txn, status } => self.already_begun(txn, status),
-            Reason::NotInModel(lack) => self.not_in_model(lack),
-            Reason::PartnerNotInProgress { txn, status } => {
-                self.partner_not_in_progress(txn, status)
-            }
-            Reason::NotResponsible(op) => self.not_responsible(op),
-            Reason::PartialDelegation(op) => self.partial_delegation(op),
-            Reason::BadSet { number, operations } => self.bad_set(number, operations),
-            Reason::Conflict(op) => self.conflict(op),
-            Reason::FormTooLate { txn, status } => self.form_too_late(txn, status),
-            Reason::EdgesFull => self.edges_full(),
-            Reason::Barred(barring) => self.barred(&barring),
-            Reason::Clash(clash) => self.clash(&clash),
-            Reason::NoHeir { parent, status } => self.no_heir(parent, status),
-        }
-    }
-
-    fn full(&self) -> Told<A> {
-        String::from_str(
-            self.alloc,
-            "Full: 65,536 events are kept, as many as a history may have.\nNo later event can be admitted.",
-        )
-    }
-
-    fn form(&self, fault: FormFault) -> Told<A> {
-        match fault {
-            FormFault::BadNumber(number) => self.bad_number(number),
-            FormFault::BadClass(class) => {
-                let class = class.0;
-                format!(in self.alloc;
-                    "BadClass: the model has no class at position {class}.\n{NEVER}"
-                )
-            }
-            FormFault::BadObject(object) => {
-                let object = object.0;
-                format!(in self.alloc;
-                    "BadObject: the model has no object at position {object}.\n{NEVER}"
-                )
-            }
-            FormFault::BadOperation(object, op) => self.bad_operation(object, op),
-            FormFault::SameTransaction(txn) => self.same_transaction(txn),
-        }
-    }
-
-    fn bad_number(&self, number: u32) -> Told<A> {
-        format!(in self.alloc;
-            "BadNumber: no transaction has the number {number}; they are numbered from 1 to 16,383.\n{NEVER}"
-        )
-    }
-
-    fn bad_operation(&self, object: ObjId, op: Op) -> Told<A> {
-        let name = object_text(self.machine.model(), object);
-        let word = operation_word(op);
-        match self.machine.model().object(object) {
-            Some(found) => {
-                let (kind, has) = kind_words(found.kind);
-                format!(in self.alloc;
-                    "BadOperation: `{name}` is {kind}, which has {has}, and no `{word}`.\n{NEVER}"
-                )
-            }
-            None => { format!(in self.alloc; "BadOperation: the object has no `{word}`.\n{NEVER}") }
-        }
-    }
-
-    fn same_transaction(&self, txn: TxnId) -> Told<A> {
-        let txn = txn.0;
-        let itself = of_itself(self.event.kind());
-        format!(in self.alloc;
-            "SameTransaction: {txn} is named twice, and no transaction {itself}.\n{NEVER}"
-        )
-    }
-
-    // What is told of hope where one would have to be in progress that stands so.
-    fn once_begun(&self, txn: TxnId, status: Status) -> Told<A> {
-        let txn = txn.0;
-        match status {
-            Status::NotBegun => {
-                format!(in self.alloc; "It can be admitted only once {txn} has begun.")
-            }
-            _ => String::from_str(self.alloc, NEVER),
-        }
-    }
-
-    fn not_in_progress(&self, txn: TxnId, status: Status) -> Told<A> {
-        let stands = self.standing(txn, status)?;
-        let hope = self.once_begun(txn, status)?;
-        let txn = txn.0;
-        format!(in self.alloc; "NotInProgress: {txn} {stands}.\n{hope}")
-    }
-
-    fn already_begun(&self, txn: TxnId, status: Status) -> Told<A> {
-        let stands = self.standing(txn, status)?;
-        let number = txn.0;
-        match self.chronicle.of_begin(txn) {
-            Some(row) => {
-                let row = row_text(self.alloc, row)?;
-                format!(in self.alloc;
-                    "AlreadyBegun: {number} began ({row}), and {stands}. Each transaction starts once.\n{NEVER}"
-                )
-            }
-            None => {
-                format!(in self.alloc;
-                    "AlreadyBegun: {number} {stands}. Each transaction starts once.\n{NEVER}"
-                )
-            }
-        }
-    }
-
-    fn not_in_model(&self, lack: Lack) -> Told<A> {
-        match lack {
-            Lack::Start { class, kind } => {
-                let name = class_text(self.machine.model(), class);
-                let start = by_start(kind);
-                match self.machine.model().class(class) {
-                    Some(class) => {
-                        let starts = starts_line(self.alloc, class.starts)?;
-                        format!(in self.alloc;
-                            "NotInModel: class `{name}` has `{starts}`, so no transaction of it starts {start}.\n{NEVER}"
-                        )
-                    }
-                    None => {
-                        format!(in self.alloc;
-                            "NotInModel: no transaction of class `{name}` starts {start}.\n{NEVER}"
-                        )
-                    }
-                }
-            }
-            Lack::Doing { txn, class, kind } => {
-                let number = txn.0;
-                let word = allowing_word(kind);
-                match class.and_then(|class| self.machine.model().class(class)) {
-                    Some(found) => {
-                        let name = crate::phrases::name_text(found.name.as_slice());
-                        let may = may_line(self.alloc, found.may)?;
-                        format!(in self.alloc;
-                            "NotInModel: class `{name}` of {number} has `{may}`, and no `{word}`.\n{NEVER}"
-                        )
-                    }
-                    None => {
-                        format!(in self.alloc;
-                            "NotInModel: {number} has no class that has `{word}` in its `may`.\n{NEVER}"
-                        )
-                    }
-                }
-            }
-            Lack::Forming => {
-                format!(in self.alloc;
-                    "NotInModel: no class of the model has `form` in its `may`, so no edge is formed by an event of its own.\n{NEVER}"
-                )
-            }
-        }
-    }
-
-    fn partner_not_in_progress(&self, txn: TxnId, status: Status) -> Told<A> {
-        let stands = self.standing(txn, status)?;
-        let hope = self.once_begun(txn, status)?;
-        let partner = to_partner(self.event.kind());
-        let txn = txn.0;
-        format!(in self.alloc;
-            "PartnerNotInProgress: {txn} {stands}, and only one in progress is {partner}.\n{hope}"
-        )
-    }
-
-    fn not_responsible(&self, op: NumberedOp) -> Told<A> {
-        let done = operation_text(self.alloc, self.chronicle, op.number)?;
-        let number = op.number.0;
-        let holder = op.held.holder.0;
-        let t = first_named(self.event).0;
-        match op.held.fate {
-            Fate::InProgress => {
-                format!(in self.alloc;
-                    "NotResponsible: {done} is held by {holder}, and not by {t}, who hands over only what it holds in progress.\nIt can be admitted only once {t} holds operation {number}."
-                )
-            }
-            Fate::Committed => {
-                format!(in self.alloc;
-                    "NotResponsible: {done} is committed, and {t} hands over only what it holds in progress.\n{NEVER}"
-                )
-            }
-            Fate::Aborted => {
-                format!(in self.alloc;
-                    "NotResponsible: {done} is aborted, and {t} hands over only what it holds in progress.\n{NEVER}"
-                )
-            }
-        }
-    }
-
-    fn partial_delegation(&self, op: NumberedOp) -> Told<A> {
-        let done = operation_text(self.alloc, self.chronicle, op.number)?;
-        let t = first_named(self.event);
-        let class = self.class_name(t);
-        let held = self.machine.access_set(t)?;
-        let held = operations(self.alloc, held.as_slice())?;
-        let t = t.0;
-        format!(in self.alloc;
-            "PartialDelegation: {done} isn't named, and class `{class}` of {t} has `delegation whole`.\nName all that {t} holds in progress: {held}."
-        )
-    }
-
-    fn bad_set(&self, number: OpNo, operations: usize) -> Told<A> {
-        let number = number.0;
-        if number == 0 {
-            return format!(in self.alloc;
-                "BadSet: there is no operation 0; they are numbered from 1.\n{NEVER}"
-            );
-        }
-        if number > 65_536 {
-            return format!(in self.alloc;
-                "BadSet: there is no operation {number}; a history has at most 65,536.\n{NEVER}"
-            );
-        }
-        let t = first_named(self.event).0;
-        format!(in self.alloc;
-            "BadSet: there is no operation {number}; the last so far has the number {operations}.\nIt can be admitted only once there is an operation {number}, and {t} holds it."
-        )
-    }
-
-    fn form_too_late(&self, txn: TxnId, status: Status) -> Told<A> {
-        let Event::Form(kind, j, i) = self.event else {
-            let stands = self.standing(txn, status)?;
-            let txn = txn.0;
-            return format!(in self.alloc; "FormTooLate: {txn} {stands}.\n{NEVER}");
-        };
-        let edge = acta_table::Edge {
-            kind: *kind,
-            j: *j,
-            i: *i,
-        };
-        let edge = edge_text(self.alloc, &edge)?;
-        let number = txn.0;
-        if kind.is_begin_kind() {
-            let begun = match self.chronicle.of_begin(txn) {
-                Some(row) => {
-                    let row = row_text(self.alloc, row)?;
-                    format!(in self.alloc; "{number} has begun ({row})")?
-                }
-                None => format!(in self.alloc; "{number} has begun")?,
-            };
-            format!(in self.alloc;
-                "FormTooLate: an edge {edge} limits when {number} begins, and {begun}.\n{NEVER}"
-            )
-        } else {
-            let stands = self.standing(txn, status)?;
-            format!(in self.alloc;
-                "FormTooLate: {number} {stands}, and an edge {edge} is formed only before either of the two ends.\n{NEVER}"
-            )
-        }
-    }
-
-    fn edges_full(&self) -> Told<A> {
-        let edges = self.machine.edges().len();
-        let hope = match self.event {
-            Event::Operate(_, _, _) => {
-                "It can be admitted only once fewer transactions hold what conflicts with it."
-            }
-            _ => NEVER,
-        };
-        format!(in self.alloc;
-            "EdgesFull: {edges} edges are in force, and with those that it forms there would be more than 16,384. None goes away.\n{hope}"
-        )
-    }
-
-    fn no_heir(&self, parent: TxnId, status: Status) -> Told<A> {
-        let t = first_named(self.event);
-        let class = self.class_name(t);
-        let stands = self.standing(parent, status)?;
-        let hope = self.once_begun(parent, status)?;
-        let t = t.0;
-        let parent = parent.0;
-        format!(in self.alloc;
-            "NoHeir: class `{class}` of {t} has `commit toparent`, so its parent {parent} would get what {t} holds, and {parent} {stands}.\n{hope}"
-        )
-    }
-}
-
-// Conflicts.
-impl<'a, A: Handle> Refused<'a, A> {
-    fn conflict(&self, op: NumberedOp) -> Told<A> {
-        let done = operation_text(self.alloc, self.chronicle, op.number)?;
-        let holder = op.held.holder;
-        let number = op.number.0;
-        let t = first_named(self.event);
-        let class = self.class_name(t);
-        let because = self.because(t, holder)?;
-        let hope = self.release(t, holder, op.held.ob)?;
-        let hope = match hope {
-            Release::Ways(ways) => {
-                let holder = holder.0;
-                format!(in self.alloc;
-                    "\nOperation {number} no longer stands in its way once {holder} has {ways}."
-                )?
-            }
-            Release::Never(may) => {
-                let holder = holder.0;
-                format!(in self.alloc;
-                    "\n{holder} has `{may}`, so it never lets go of operation {number}.\n{NEVER}"
-                )?
-            }
-            Release::Unsaid => String::new(self.alloc),
-        };
-        let heir = self.heir(t, holder)?;
-        let holder = holder.0;
-        let t = t.0;
-        format!(in self.alloc;
-            "Conflict: {done} is in progress, held by {holder}, and conflicts with it.\nClass `{class}` of {t} has `policy refuse`{because}.{hope}{heir}"
-        )
-    }
-
-    // Why what an ancestor holds counts, where the holder is one.
-    fn because(&self, t: TxnId, holder: TxnId) -> Told<A> {
-        if is_ancestor(self.chronicle, holder, t) {
-            let holder = holder.0;
-            format!(in self.alloc;
-                ", and `scope others`, by which what its ancestor {holder} holds counts too"
-            )
-        } else {
-            Ok(String::new(self.alloc))
-        }
-    }
-
-    // Whether what this one holds would stand in the way of `t` no longer: it is `t`, or an ancestor that is left out.
-    fn is_spared(&self, t: TxnId, holder: TxnId) -> bool {
-        let scope = class_of(self.machine.model(), self.chronicle, t).map(|class| class.scope);
-        holder.0 == t.0
-            || matches!(scope, Some(Scope::NonAncestors)) && is_ancestor(self.chronicle, holder, t)
-    }
-
-    // The one to whom a commit of the holder would leave what it holds, where its class leaves it to parents.
-    fn heir_of(&self, holder: TxnId) -> Option<TxnId> {
-        let class = class_of(self.machine.model(), self.chronicle, holder)?;
-        if matches!(class.at_commit, AtCommit::ToParent) && class.may.has(EventKind::Commit) {
-            self.chronicle.life(holder).parent
-        } else {
-            None
-        }
-    }
-
-    // What becomes of the operation at a commit of its holder, where that doesn't let it go.
-    fn heir(&self, t: TxnId, holder: TxnId) -> Told<A> {
-        match self.heir_of(holder) {
-            Some(parent) if !self.is_spared(t, parent) => {
-                let holder = holder.0;
-                let parent = parent.0;
-                format!(in self.alloc; "\nAt a commit of {holder} its parent {parent} holds it.")
-            }
-            _ => Ok(String::new(self.alloc)),
-        }
-    }
-
-    // Whether a commit of the holder, of this class, lets go of what it holds, as far as `t` goes.
-    fn frees_at_commit(&self, t: TxnId, holder: TxnId, class: &Class<A>) -> bool {
-        class.may.has(EventKind::Commit)
-            && match class.at_commit {
-                AtCommit::Keeps => true,
-                AtCommit::ToParent => {
-                    self.heir_of(holder)
-                        .is_some_and(|parent| self.is_spared(t, parent))
-                }
-            }
-    }
-
-    // What the holder of an operation on the object can do, so that it no longer stands in the way of `t`.
-    fn release(&self, t: TxnId, holder: TxnId, object: ObjId) -> Result<Release<A>, AllocError> {
-        let Some(class) = class_of(self.machine.model(), self.chronicle, holder) else {
-            return Ok(Release::Unsaid);
-        };
-        let may = class.may;
-        let name = object_text(self.machine.model(), object);
-        let to = t.0;
-        let mut ways = Vec::new(self.alloc);
-        if self.frees_at_commit(t, holder, class) {
-            ways.push(String::from_str(self.alloc, "committed")?)?;
-        }
-        if may.has(EventKind::Abort) {
-            ways.push(String::from_str(self.alloc, "aborted")?)?;
-        }
-        if may.has(EventKind::Delegate) || may.has(EventKind::Join) {
-            ways.push(format!(in self.alloc; "handed it to {to}")?)?;
-        }
-        if may.has(EventKind::Permit) {
-            ways.push(format!(in self.alloc; "permitted {to} to work on `{name}`")?)?;
-        }
-        if !ways.is_empty() {
-            return Ok(Release::Ways(alternatives(self.alloc, &ways, "or")?));
-        }
-        if may.has(EventKind::Commit) || may.has(EventKind::Split) {
-            Ok(Release::Unsaid)
-        } else {
-            Ok(Release::Never(may_line(self.alloc, may)?))
-        }
-    }
-}
-
-// What would let go of an operation.
-#[derive(Drop)]
-enum Release<A: Handle> {
-    // One of these, of its holder.
-    Ways(String<A>),
-    // Nothing that its holder may do, whose class has this `may` line.
-    Never(String<A>),
-    // Nothing that is told.
-    Unsaid,
-}
-
-// Dependencies.
-impl<'a, A: Handle> Refused<'a, A> {
-    fn barred(&self, barring: &Barring) -> Told<A> {
-        let rule = rule_entry(barring.rule).name;
-        let edge = formed_edge_text(self.alloc, self.chronicle, &barring.by)?;
-        let why = match barring.rule {
-            Rule::BeginDep => self.awaits(barring, "begin", "begun", false)?,
-            Rule::SerialDep => {
-                let is_over = barring.i == Status::Joined;
-                self.awaits(barring, "begin", "committed or aborted", is_over)?
-            }
-            Rule::BeginOnCommit => {
-                let is_over = matches!(barring.i, Status::Aborted | Status::Joined);
-                self.awaits(barring, "begin", "committed", is_over)?
-            }
-            Rule::BeginOnAbort => {
-                let is_over = matches!(barring.i, Status::Committed | Status::Joined);
-                self.awaits(barring, "begin", "aborted", is_over)?
-            }
-            Rule::TerminationDep => self.awaits_end(barring)?,
-            Rule::OwesAbort | Rule::OwesCommit => self.owes(barring)?,
-            Rule::CommitOrder => self.commit_order(barring)?,
-            Rule::WeakBegin => self.weak_begin(barring)?,
-            _ => self.unpayable(barring)?,
-        };
-        format!(in self.alloc; "{rule}, by {edge}\n{why}")
-    }
-
-    // That the one that depends may do something only after the other has done something.
-    fn awaits(&self, barring: &Barring, what: &str, after: &str, is_over: bool) -> Told<A> {
-        let edge = barring.by.edge;
-        let stands = self.standing(edge.i, barring.i)?;
-        let hope = if is_over {
-            "\nNo later event can admit it."
-        } else {
-            ""
-        };
-        let j = edge.j.0;
-        let i = edge.i.0;
-        format!(in self.alloc; "{j} may {what} only after {i} has {after}; {i} {stands}.{hope}")
-    }
-
-    fn awaits_end(&self, barring: &Barring) -> Told<A> {
-        let is_over = barring.i == Status::Joined;
-        let awaits = self.awaits(barring, "commit or abort", "committed or aborted", is_over)?;
-        if is_over || !self.looks_for_waits {
-            return Ok(awaits);
-        }
-        match self.machine.closed_wait(barring.by.edge.j)? {
-            Some(waits) => {
-                let closed = self.closed(waits.as_slice())?;
-                format!(in self.alloc; "{awaits}\n{closed}")
-            }
-            None => Ok(awaits),
-        }
-    }
-
-    // That these wait for one another.
-    fn closed(&self, waits: &[TxnId]) -> Told<A> {
-        let told = chain(self.alloc, waits)?;
-        if waits.first() == waits.last() {
-            format!(in self.alloc;
-                "They wait for one another: {told}. None of them can commit or abort any more."
-            )
-        } else {
-            format!(in self.alloc;
-                "It waits for some that wait for one another: {told}. None of all these can commit or abort any more."
-            )
-        }
-    }
-
-    fn owes(&self, barring: &Barring) -> Told<A> {
-        let edge = barring.by.edge;
-        let stands = self.standing(edge.i, barring.i)?;
-        let missing = missing_word(payment(edge.kind));
-        let j = edge.j.0;
-        let i = edge.i.0;
-        let article = article(missing);
-        let word = event_word(self.event.kind());
-        format!(in self.alloc;
-            "{j} owes {article} {missing}, since {i} {stands}, and so may not {word}. Its {missing} would pay.\n{NEVER}"
-        )
-    }
-
-    fn commit_order(&self, barring: &Barring) -> Told<A> {
-        let edge = barring.by.edge;
-        let stands = self.standing(edge.j, barring.j)?;
-        let j = edge.j.0;
-        let i = edge.i.0;
-        format!(in self.alloc; "{i} may commit only before {j} does, and {j} {stands}.\n{NEVER}")
-    }
-
-    fn weak_begin(&self, barring: &Barring) -> Told<A> {
-        let edge = barring.by.edge;
-        let stands = self.standing(edge.j, barring.j)?;
-        let j = edge.j.0;
-        let i = edge.i.0;
-        let begun = match self.chronicle.of_begin(edge.j) {
-            Some(row) => {
-                let line = row.line;
-                format!(in self.alloc; " (line {line})")?
-            }
-            None => String::new(self.alloc),
-        };
-        format!(in self.alloc;
-            "{i} may commit only before {j} begins; {j} has begun{begun}, and {stands}.\n{NEVER}"
-        )
-    }
-
-    fn unpayable(&self, barring: &Barring) -> Told<A> {
-        let edge = barring.by.edge;
-        let stands = self.standing(edge.j, barring.j)?;
-        let missing = missing_word(payment(edge.kind));
-        let article = article(missing);
-        let cause = cause_noun(edge.kind);
-        let j = edge.j.0;
-        let i = edge.i.0;
-        format!(in self.alloc;
-            "By {cause} of {i}, {j} would owe {article} {missing}, which it can't do any more: {j} {stands}.\n{NEVER}"
-        )
-    }
-
-    fn clash(&self, clash: &Clash) -> Told<A> {
-        let j = clash.commit.edge.j;
-        let commit = formed_edge_text(self.alloc, self.chronicle, &clash.commit)?;
-        let abort = formed_edge_text(self.alloc, self.chronicle, &clash.abort)?;
-        let hope = if self.clears_by_commit(clash) {
-            let j = j.0;
-            format!(in self.alloc; "It can be admitted only once {j} has committed.")?
-        } else {
-            String::from_str(self.alloc, NEVER)?
-        };
-        let j = j.0;
-        format!(in self.alloc;
-            "Clash: {j} would owe both a commit and an abort:\na commit by {commit}\nan abort by {abort}\n{hope}"
-        )
-    }
-
-    // Whether a commit of the one that would owe both takes away this clash: its abort isn't owed yet, and by its edge
-    // it is not wanted of one that has committed.
-    fn clears_by_commit(&self, clash: &Clash) -> bool {
-        match self.event {
-            Event::Abort(t) => clash.abort.edge.kind == Dep::Wd && clash.abort.edge.i.0 == t.0,
-            _ => false,
-        }
     }
 }
 
@@ -661,17 +86,524 @@ fn cause_noun(kind: Dep) -> &'static str {
     }
 }
 
-// What all have in common.
+// Adds what is told of hope where one would have to be in progress that stands so.
+fn put_hope<A: Handle>(prose: Prose<A>, txn: TxnId, status: Status) -> Prose<A> {
+    match status {
+        Status::NotBegun => put!(prose; "It can be admitted only once ", txn.0, " has begun."),
+        _ => prose.put(NEVER),
+    }
+}
+
+// Adds why the set of a delegation or a split is bad: it names an operation of this number, where there are so many.
+fn put_bad_set<A: Handle>(
+    prose: Prose<A>,
+    number: OpNo,
+    operations: usize,
+    event: &Event<A>,
+) -> Prose<A> {
+    let number = number.0;
+    let prose = put!(prose; "BadSet: there is no operation ", number);
+    if number == 0 {
+        put!(prose; "; they are numbered from 1.\n", NEVER)
+    } else if number > 65_536 {
+        put!(prose; "; a history has at most 65,536.\n", NEVER)
+    } else {
+        put!(prose; "; the last so far has the number ", operations,
+            ".\nIt can be admitted only once there is an operation ", number, ", and ",
+            first_named(event).0, " holds it.")
+    }
+}
+
+// Adds that there is no room for the edges that the event forms, beside so many.
+fn put_edges_full<A: Handle>(prose: Prose<A>, edges: usize, event: &Event<A>) -> Prose<A> {
+    let hope = match event {
+        Event::Operate(_, _, _) =>
+            "It can be admitted only once fewer transactions hold what conflicts with it.",
+        _ => NEVER,
+    };
+    put!(prose; "EdgesFull: ", edges,
+        " edges are in force, and with those that it forms there would be more than 16,384. None goes away.\n",
+        hope)
+}
+
+// Adds whom a transaction waits for, where some wait for one another there.
+fn put_waits<A: Handle>(prose: Prose<A>, machine: &Machine<A>, t: TxnId) -> Prose<A> {
+    match machine.closed_wait(t) {
+        Ok(Some(waits)) => put_closed(prose, waits.as_slice()),
+        Ok(None) => prose,
+        Err(_) => prose.fail(),
+    }
+}
+
+// Adds that these wait for one another.
+fn put_closed<A: Handle>(prose: Prose<A>, waits: &[TxnId]) -> Prose<A> {
+    let (front, these) = if waits.first() == waits.last() {
+        ("\nThey wait for one another: ", "them")
+    } else {
+        (
+            "\nIt waits for some that wait for one another: ",
+            "all these",
+        )
+    };
+    let prose = put_chain(prose.put(front), waits);
+    put!(prose; ". None of ", these, " can commit or abort any more.")
+}
+
+// The ways in which an operation no longer stands in the way of another, by what its holder does: it commits, aborts,
+// hands the operation over, or permits to work beside it.
+type Ways = [bool; 4];
+
+// Adds these ways: each is something that the holder has done.
+fn put_ways<A: Handle>(mut prose: Prose<A>, ways: Ways, to: TxnId, object: &str) -> Prose<A> {
+    let mut left = ways.iter().filter(|is_open| **is_open).count();
+    for (way, is_open) in ways.iter().enumerate() {
+        if *is_open {
+            prose = match way {
+                0 => prose.put("committed"),
+                1 => prose.put("aborted"),
+                2 => put!(prose; "handed it to ", to.0),
+                _ => put!(prose; "permitted ", to.0, " to work on `", object, "`"),
+            };
+            left = left.saturating_sub(1);
+            prose = prose.put(match left {
+                0 => "",
+                1 => " or ",
+                _ => ", ",
+            });
+        }
+    }
+    prose
+}
+
 impl<'a, A: Handle> Refused<'a, A> {
-    fn standing(&self, t: TxnId, status: Status) -> Told<A> {
-        standing(self.alloc, self.chronicle, t, status)
+    /// Adds why it is refused, in lines. Whether it is looked for transactions that wait for one another, which takes a
+    /// look at each edge, is for the caller to say.
+    pub fn put_reason(
+        &self,
+        prose: Prose<A>,
+        machine: &Machine<A>,
+        looks_for_waits: bool,
+        reason: &Reason,
+    ) -> Prose<A> {
+        match *reason {
+            Reason::Full => prose.put(
+                "Full: 65,536 events are kept, as many as a history may have.\nNo later event can be admitted.",
+            ),
+            Reason::EdgesFull => put_edges_full(prose, machine.edges().len(), self.event),
+            Reason::PartialDelegation(op) => self.put_partial_delegation(prose, machine, op),
+            Reason::Barred(barring) => {
+                let prose = self.put_barred(prose, &barring);
+                let waits = matches!(barring.rule, Rule::TerminationDep)
+                    && !matches!(barring.i, Status::Joined);
+                if waits && looks_for_waits {
+                    put_waits(prose, machine, barring.by.edge.j)
+                } else {
+                    prose
+                }
+            }
+            _ => self.put_other(prose, reason),
+        }
+    }
+
+    // Adds why it is refused, where the machine isn't asked for more.
+    fn put_other(&self, prose: Prose<A>, reason: &Reason) -> Prose<A> {
+        match *reason {
+            Reason::Form(fault) => self.put_form(prose, fault),
+            Reason::NotInProgress { txn, status } => {
+                let prose = self.put_stands(prose.put("NotInProgress: "), txn, status);
+                put_hope(prose.put(".\n"), txn, status)
+            }
+            Reason::AlreadyBegun { txn, status } => self.put_already_begun(prose, txn, status),
+            Reason::NotInModel(lack) => self.put_not_in_model(prose, lack),
+            Reason::PartnerNotInProgress { txn, status } => {
+                let prose = self.put_stands(prose.put("PartnerNotInProgress: "), txn, status);
+                let partner = to_partner(self.event.kind());
+                let prose = put!(prose; ", and only one in progress is ", partner, ".\n");
+                put_hope(prose, txn, status)
+            }
+            Reason::NotResponsible(op) => self.put_not_responsible(prose, op),
+            Reason::BadSet { number, operations } => {
+                put_bad_set(prose, number, operations, self.event)
+            }
+            Reason::Conflict(op) => self.put_conflict(prose, op),
+            Reason::FormTooLate { txn, status } => self.put_form_too_late(prose, txn, status),
+            Reason::Clash(clash) => self.put_clash(prose, &clash),
+            Reason::NoHeir { parent, status } => self.put_no_heir(prose, parent, status),
+            _ => prose,
+        }
+    }
+
+    // Adds how a transaction stands.
+    fn put_stands(&self, prose: Prose<A>, t: TxnId, status: Status) -> Prose<A> {
+        put_standing(put!(prose; t.0, " "), self.chronicle, t, status)
     }
 
     // The name of the class with which the transaction began.
     fn class_name(&self, t: TxnId) -> &str {
-        match class_of(self.machine.model(), self.chronicle, t) {
-            Some(class) => crate::phrases::name_text(class.name.as_slice()),
+        match class_of(self.model, self.chronicle, t) {
+            Some(class) => name_text(class.name.as_slice()),
             None => "?",
         }
+    }
+
+    fn put_form(&self, prose: Prose<A>, fault: FormFault) -> Prose<A> {
+        match fault {
+            FormFault::BadNumber(number) => {
+                put!(prose; "BadNumber: no transaction has the number ", number,
+                    "; they are numbered from 1 to 16,383.\n", NEVER)
+            }
+            FormFault::BadClass(class) => {
+                put!(prose; "BadClass: the model has no class at position ", class.0, ".\n", NEVER)
+            }
+            FormFault::BadObject(object) => {
+                put!(prose; "BadObject: the model has no object at position ", object.0, ".\n", NEVER)
+            }
+            FormFault::BadOperation(object, op) => self.put_bad_operation(prose, object, op),
+            FormFault::SameTransaction(txn) => {
+                put!(prose; "SameTransaction: ", txn.0, " is named twice, and no transaction ",
+                    of_itself(self.event.kind()), ".\n", NEVER)
+            }
+        }
+    }
+
+    fn put_bad_operation(&self, prose: Prose<A>, object: ObjId, op: Op) -> Prose<A> {
+        let word = operation_word(op);
+        match self.model.object(object) {
+            Some(found) => {
+                let (kind, has) = kind_words(found.kind);
+                put!(prose; "BadOperation: `", name_text(found.name.as_slice()), "` is ", kind,
+                    ", which has ", has, ", and no `", word, "`.\n", NEVER)
+            }
+            None => put!(prose; "BadOperation: the object has no `", word, "`.\n", NEVER),
+        }
+    }
+
+    fn put_already_begun(&self, prose: Prose<A>, txn: TxnId, status: Status) -> Prose<A> {
+        let prose = put!(prose; "AlreadyBegun: ", txn.0, " ");
+        let prose = match self.chronicle.of_begin(txn) {
+            Some(row) => put_row(prose.put("began ("), row).put("), and "),
+            None => prose,
+        };
+        let prose = put_standing(prose, self.chronicle, txn, status);
+        put!(prose; ". Each transaction starts once.\n", NEVER)
+    }
+
+    fn put_not_in_model(&self, prose: Prose<A>, lack: Lack) -> Prose<A> {
+        match lack {
+            Lack::Start { class, kind } => self.put_no_start(prose, class, by_start(kind)),
+            Lack::Doing { txn, class, kind } => {
+                self.put_may_not(prose, txn, class, allowing_word(kind))
+            }
+            Lack::Forming =>
+                put!(prose; "NotInModel: no class of the model has `form` in its `may`, so no edge is formed by an event of its own.\n", NEVER),
+        }
+    }
+
+    // Adds that no transaction of the class starts so.
+    fn put_no_start(&self, prose: Prose<A>, class: ClassId, start: &str) -> Prose<A> {
+        let name = class_text(self.model, class);
+        let prose = match self.model.class(class) {
+            Some(class) => {
+                let prose = put!(prose; "NotInModel: class `", name, "` has `");
+                put_starts(prose, class.starts).put("`, so no transaction of it starts ")
+            }
+            None => put!(prose; "NotInModel: no transaction of class `", name, "` starts "),
+        };
+        put!(prose; start, ".\n", NEVER)
+    }
+
+    // Adds that the class of the transaction doesn't have the word in its `may`.
+    fn put_may_not(
+        &self,
+        prose: Prose<A>,
+        txn: TxnId,
+        class: Option<ClassId>,
+        word: &str,
+    ) -> Prose<A> {
+        let prose = prose.put("NotInModel: ");
+        match class_at(self.model, class) {
+            Some(class) => {
+                let name = name_text(class.name.as_slice());
+                let prose = put!(prose; "class `", name, "` of ", txn.0, " has `");
+                put!(put_may(prose, class.may); "`, and no `", word, "`.\n", NEVER)
+            }
+            None =>
+                put!(prose; txn.0, " has no class that has `", word, "` in its `may`.\n", NEVER),
+        }
+    }
+
+    fn put_not_responsible(&self, prose: Prose<A>, op: NumberedOp) -> Prose<A> {
+        let t = first_named(self.event).0;
+        let prose = put_operation(prose.put("NotResponsible: "), self.chronicle, op.number);
+        let ended = match op.held.fate {
+            Fate::InProgress => {
+                return put!(prose; " is held by ", op.held.holder.0, ", and not by ", t,
+                    ", who hands over only what it holds in progress.\nIt can be admitted only once ", t,
+                    " holds operation ", op.number.0, ".");
+            }
+            Fate::Committed => "committed",
+            Fate::Aborted => "aborted",
+        };
+        put!(prose; " is ", ended, ", and ", t, " hands over only what it holds in progress.\n", NEVER)
+    }
+
+    fn put_partial_delegation(
+        &self,
+        prose: Prose<A>,
+        machine: &Machine<A>,
+        op: NumberedOp,
+    ) -> Prose<A> {
+        let t = first_named(self.event);
+        let prose = put_operation(prose.put("PartialDelegation: "), self.chronicle, op.number);
+        let prose = put!(prose; " isn't named, and class `", self.class_name(t), "` of ", t.0,
+            " has `delegation whole`.\nName all that ", t.0, " holds in progress: ");
+        match machine.access_set(t) {
+            Ok(held) => put_operations(prose, held.as_slice()).put("."),
+            Err(_) => prose.fail(),
+        }
+    }
+
+    fn put_form_too_late(&self, prose: Prose<A>, txn: TxnId, status: Status) -> Prose<A> {
+        let prose = prose.put("FormTooLate: ");
+        let Event::Form(kind, j, i) = self.event else {
+            return put!(self.put_stands(prose, txn, status); ".\n", NEVER);
+        };
+        let edge = Edge {
+            kind: *kind,
+            j: *j,
+            i: *i,
+        };
+        if kind.is_begin_kind() {
+            let prose = put_edge(prose.put("an edge "), &edge);
+            let prose = put!(prose; " limits when ", txn.0, " begins, and ", txn.0, " has begun");
+            let prose = match self.chronicle.of_begin(txn) {
+                Some(row) => put_row(prose.put(" ("), row).put(")"),
+                None => prose,
+            };
+            put!(prose; ".\n", NEVER)
+        } else {
+            let prose = self.put_stands(prose, txn, status).put(", and an edge ");
+            put!(put_edge(prose, &edge); " is formed only before either of the two ends.\n", NEVER)
+        }
+    }
+
+    fn put_no_heir(&self, prose: Prose<A>, parent: TxnId, status: Status) -> Prose<A> {
+        let t = first_named(self.event);
+        let prose = put!(prose; "NoHeir: class `", self.class_name(t), "` of ", t.0,
+            " has `commit toparent`, so its parent ", parent.0, " would get what ", t.0, " holds, and ");
+        put_hope(
+            self.put_stands(prose, parent, status).put(".\n"),
+            parent,
+            status,
+        )
+    }
+}
+
+// Conflicts.
+impl<'a, A: Handle> Refused<'a, A> {
+    fn put_conflict(&self, prose: Prose<A>, op: NumberedOp) -> Prose<A> {
+        let holder = op.held.holder;
+        let t = first_named(self.event);
+        let prose = put_operation(prose.put("Conflict: "), self.chronicle, op.number);
+        let prose = put!(prose; " is in progress, held by ", holder.0,
+            ", and conflicts with it.\nClass `", self.class_name(t), "` of ", t.0, " has `policy refuse`");
+        // (why what an ancestor holds counts)
+        let prose = if is_ancestor(self.chronicle, holder, t) {
+            put!(prose; ", and `scope others`, by which what its ancestor ", holder.0, " holds counts too")
+        } else {
+            prose
+        };
+        self.put_heir(self.put_release(prose.put("."), t, op), t, holder)
+    }
+
+    // Adds what the holder of an operation can do, so that the operation no longer stands in the way of `t`.
+    fn put_release(&self, prose: Prose<A>, t: TxnId, op: NumberedOp) -> Prose<A> {
+        let holder = op.held.holder;
+        let Some(class) = class_of(self.model, self.chronicle, holder) else {
+            return prose;
+        };
+        let may = class.may;
+        let ways = [
+            self.frees_at_commit(t, holder, class),
+            may.has(EventKind::Abort),
+            may.has(EventKind::Delegate) || may.has(EventKind::Join),
+            may.has(EventKind::Permit),
+        ];
+        if ways.contains(&true) {
+            let name = object_text(self.model, op.held.ob);
+            let prose = put!(prose; "\nOperation ", op.number.0,
+                " no longer stands in its way once ", holder.0, " has ");
+            put_ways(prose, ways, t, name).put(".")
+        } else if may.has(EventKind::Commit) || may.has(EventKind::Split) {
+            prose
+        } else {
+            let prose = put_may(put!(prose; "\n", holder.0, " has `"), may);
+            put!(prose; "`, so it never lets go of operation ", op.number.0, ".\n", NEVER)
+        }
+    }
+
+    // Whether what this one holds would stand in the way of `t` no longer: it is `t`, or an ancestor that is left out.
+    fn is_exempt(&self, t: TxnId, holder: TxnId) -> bool {
+        holder.0 == t.0 || self.spares_ancestors(t) && is_ancestor(self.chronicle, holder, t)
+    }
+
+    // Whether the class of the transaction leaves out its ancestors.
+    fn spares_ancestors(&self, t: TxnId) -> bool {
+        match class_of(self.model, self.chronicle, t) {
+            Some(class) => matches!(class.scope, Scope::NonAncestors),
+            None => false,
+        }
+    }
+
+    // The one to whom a commit of the holder would leave what it holds, where its class leaves it to parents.
+    fn heir_of(&self, holder: TxnId) -> Option<TxnId> {
+        let class = class_of(self.model, self.chronicle, holder)?;
+        if matches!(class.at_commit, AtCommit::ToParent) && class.may.has(EventKind::Commit) {
+            self.chronicle.life(holder).parent
+        } else {
+            None
+        }
+    }
+
+    // Adds what becomes of the operation at a commit of its holder, where that doesn't let it go.
+    fn put_heir(&self, prose: Prose<A>, t: TxnId, holder: TxnId) -> Prose<A> {
+        match self.heir_of(holder) {
+            Some(parent) if !self.is_exempt(t, parent) => {
+                put!(prose; "\nAt a commit of ", holder.0, " its parent ", parent.0, " holds it.")
+            }
+            _ => prose,
+        }
+    }
+
+    // Whether a commit of the holder, of this class, lets go of what it holds, as far as `t` goes.
+    fn frees_at_commit(&self, t: TxnId, holder: TxnId, class: &Class<A>) -> bool {
+        if !class.may.has(EventKind::Commit) {
+            return false;
+        }
+        match class.at_commit {
+            AtCommit::Keeps => true,
+            AtCommit::ToParent => match self.heir_of(holder) {
+                Some(parent) => self.is_exempt(t, parent),
+                None => false,
+            },
+        }
+    }
+}
+
+// Dependencies.
+impl<'a, A: Handle> Refused<'a, A> {
+    fn put_barred(&self, prose: Prose<A>, barring: &Barring) -> Prose<A> {
+        let number = u64::from(barring.by.number);
+        let prose = put!(prose; barring.rule.name(), ", by ");
+        let prose = put_formed_edge(prose, self.chronicle, number, &barring.by.edge).put("\n");
+        match barring.rule {
+            Rule::BeginDep
+            | Rule::SerialDep
+            | Rule::BeginOnCommit
+            | Rule::BeginOnAbort
+            | Rule::TerminationDep => self.put_awaits(prose, barring),
+            Rule::OwesAbort | Rule::OwesCommit => self.put_owes(prose, barring),
+            Rule::CommitOrder | Rule::WeakBegin => self.put_too_late(prose, barring),
+            _ => self.put_unpayable(prose, barring),
+        }
+    }
+
+    // Adds that the one that depends may do something only after the other has done something.
+    fn put_awaits(&self, prose: Prose<A>, barring: &Barring) -> Prose<A> {
+        let edge = barring.by.edge;
+        let (before, after) = awaited(barring.rule);
+        let prose = put!(prose; edge.j.0, before, edge.i.0, after);
+        let prose = self.put_stands(prose, edge.i, barring.i).put(".");
+        if is_over(barring) {
+            put!(prose; "\n", NEVER)
+        } else {
+            prose
+        }
+    }
+
+    fn put_owes(&self, prose: Prose<A>, barring: &Barring) -> Prose<A> {
+        let edge = barring.by.edge;
+        let missing = missing_word(payment(edge.kind));
+        let prose = put!(prose; edge.j.0, " owes ", article(missing), " ", missing, ", since ");
+        let prose = self.put_stands(prose, edge.i, barring.i);
+        put!(prose; ", and so may not ", event_word(self.event.kind()), ". Its ", missing,
+            " would pay.\n", NEVER)
+    }
+
+    // Adds that one may commit only before another begins, or commits.
+    fn put_too_late(&self, prose: Prose<A>, barring: &Barring) -> Prose<A> {
+        let edge = barring.by.edge;
+        let prose = put!(prose; edge.i.0, " may commit only before ", edge.j.0);
+        let prose = if matches!(barring.rule, Rule::CommitOrder) {
+            put!(prose; " does, and ", edge.j.0, " ")
+        } else {
+            let prose = put!(prose; " begins; ", edge.j.0, " has begun");
+            match self.chronicle.of_begin(edge.j) {
+                Some(row) => put!(prose; " (line ", row.line, "), and "),
+                None => prose.put(", and "),
+            }
+        };
+        let prose = put_standing(prose, self.chronicle, edge.j, barring.j);
+        put!(prose; ".\n", NEVER)
+    }
+
+    fn put_unpayable(&self, prose: Prose<A>, barring: &Barring) -> Prose<A> {
+        let edge = barring.by.edge;
+        let missing = missing_word(payment(edge.kind));
+        let prose = put!(prose; "By ", cause_noun(edge.kind), " of ", edge.i.0, ", ", edge.j.0,
+            " would owe ", article(missing), " ", missing, ", which it can't do any more: ");
+        put!(self.put_stands(prose, edge.j, barring.j); ".\n", NEVER)
+    }
+
+    fn put_clash(&self, prose: Prose<A>, clash: &Clash) -> Prose<A> {
+        let (commit, abort) = (&clash.commit, &clash.abort);
+        let j = commit.edge.j.0;
+        let prose =
+            put!(prose; "Clash: ", j, " would owe both a commit and an abort:\na commit by ");
+        let number = u64::from(commit.number);
+        let prose = put_formed_edge(prose, self.chronicle, number, &commit.edge);
+        let number = u64::from(abort.number);
+        let prose = prose.put("\nan abort by ");
+        let prose = put_formed_edge(prose, self.chronicle, number, &abort.edge).put("\n");
+        if self.clears_by_commit(clash) {
+            put!(prose; "It can be admitted only once ", j, " has committed.")
+        } else {
+            prose.put(NEVER)
+        }
+    }
+
+    // Whether a commit of the one that would owe both takes away this clash: its abort isn't owed yet, and by its edge
+    // it is not wanted of one that has committed.
+    fn clears_by_commit(&self, clash: &Clash) -> bool {
+        match self.event {
+            Event::Abort(t) => {
+                matches!(clash.abort.edge.kind, Dep::Wd) && clash.abort.edge.i.0 == t.0
+            }
+            _ => false,
+        }
+    }
+}
+
+// What the one that depends may do only after the other has done what, by a rule on this.
+fn awaited(rule: Rule) -> (&'static str, &'static str) {
+    match rule {
+        Rule::BeginDep => (" may begin only after ", " has begun; "),
+        Rule::SerialDep => (" may begin only after ", " has committed or aborted; "),
+        Rule::BeginOnCommit => (" may begin only after ", " has committed; "),
+        Rule::BeginOnAbort => (" may begin only after ", " has aborted; "),
+        _ => (
+            " may commit or abort only after ",
+            " has committed or aborted; ",
+        ),
+    }
+}
+
+// Whether the other can't do any more what the one that depends waits for.
+fn is_over(barring: &Barring) -> bool {
+    match barring.rule {
+        Rule::SerialDep | Rule::TerminationDep => matches!(barring.i, Status::Joined),
+        Rule::BeginOnCommit => matches!(barring.i, Status::Aborted | Status::Joined),
+        Rule::BeginOnAbort => matches!(barring.i, Status::Committed | Status::Joined),
+        _ => false,
     }
 }

@@ -5,12 +5,14 @@ ghost use Rattle.acta_explain.specs.Statuses.{EndsAs, command_like};
 ghost use Rattle.acta_tool.specs.Outcome.{FailsBy, IsUnreadTooLong, KeepsUnread, WritesBy, is_undriven, reason_of};
 ghost use Rattle.acta_tool.specs.Output.{output_on, tool_output};
 
-use crate::faults::push_lines;
-use crate::images::image_fault;
+use crate::faults::put_lines;
+use crate::images::put_image_fault;
 use crate::judged::explain_judged;
-use crate::phrases::text_of;
+use crate::phrases::name_text;
+use crate::prose::Prose;
+use crate::put;
 use crate::run::explain_run;
-use crate::texts::text_fault;
+use crate::texts::put_text_fault;
 use acta_machine::Handle;
 use acta_table::Model;
 use acta_tool::{
@@ -20,15 +22,27 @@ use acta_tool::{
 use std::alloc::{AllocError, Global};
 use std::thread::Threads;
 
-// The name of a model, as it stands on the command line.
-fn path_of<A: Handle>(alloc: A, name: ModelName<'_>) -> Result<String<A>, AllocError> {
-    match name {
-        ModelName::Standard(standard) => {
-            let name = standard.name();
-            format!(in alloc; "@{name}")
-        }
-        ModelName::Path(path) => String::from_str(alloc, path),
-    }
+// What is wrong with bytes that mean no model, in lines.
+fn fault_text<A: Handle>(
+    alloc: A,
+    name: ModelName<'_>,
+    bytes: &[u8],
+    fault: NoModel,
+) -> Result<String<A>, AllocError> {
+    let prose = Prose::new(alloc);
+    let prose = match fault {
+        NoModel::Text(fault) => put!(prose; fault.code.name(), ", at "),
+        NoModel::Image(fault) => put!(prose; fault.name(), " in "),
+    };
+    let prose = match name {
+        ModelName::Standard(standard) => put!(prose; "@", standard.name()),
+        ModelName::Path(path) => prose.put(path),
+    };
+    let prose = match fault {
+        NoModel::Text(fault) => put_text_fault(prose, alloc, bytes, fault),
+        NoModel::Image(fault) => put_image_fault(prose, bytes, fault),
+    };
+    prose.done()
 }
 
 // What is told of bytes that mean no model: the line that all commands tell, and what is wrong with them.
@@ -40,16 +54,13 @@ fn explain_no_model<A: Handle>(
 ) -> Result<Report<A>, AllocError>
     ensures { IfOk result (λ report. report.is_refused ≡ true) }
 {
-    let path = path_of(alloc, name)?;
-    let line = refuse_model(alloc, fault)?;
-    let mut text = text_of(alloc, line.text.as_slice())?;
-    let told = match fault {
-        NoModel::Text(fault) => text_fault(alloc, path.as_str(), bytes, fault)?,
-        NoModel::Image(fault) => image_fault(alloc, path.as_str(), bytes, fault)?,
+    let told = fault_text(alloc, name, bytes, fault)?;
+    let text = match refuse_model(alloc, fault) {
+        Ok(line) => Prose::new(alloc).put(name_text(line.text.as_slice())),
+        Err(_) => Prose::new(alloc).fail(),
     };
-    push_lines(&mut text, told.as_str())?;
     Ok(Report {
-        text: text.into_bytes(),
+        text: put_lines(text, told.as_str()).done()?.into_bytes(),
         is_refused: true,
     })
 }

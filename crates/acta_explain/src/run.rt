@@ -5,79 +5,114 @@ ghost use Rattle.std.specs.Prelude.{◌≡◌, IfOk, is_some};
 ghost use Rattle.acta_script.specs.Reading.{event_of};
 ghost use Rattle.acta_tool.specs.Output.{said_in};
 
-use crate::chronicle::Chronicle;
-use crate::faults::{Stop, push_stop};
-use crate::layout::{Columns, push_debt, push_row};
-use crate::phrases::{numbered_edge_text, standing, text_of};
-use crate::spoken::spoken_in;
+use crate::faults::{Stop, put_stop};
+use crate::layout::{Columns, put_debt, put_row};
+use crate::phrases::{name_text, put_numbered_edge, put_standing};
+use crate::prose::Prose;
+use crate::put;
+use crate::spoken::{Spoken, spoken_in};
 use crate::telling::{MOST_TOLD, Telling};
-use acta_machine::{Handle, Machine};
+use acta_machine::Handle;
 use acta_script::owed_line;
-use acta_table::{Model, Owed};
-use acta_tool::{EventLines, Input, Report, read_lines};
+use acta_table::{Event, Model, Owed};
+use acta_tool::{BadLine, EventLines, Input, Report, read_lines};
 use std::alloc::AllocError;
 
-// By which edge something is owed, and why.
-fn debt_text<A: Handle>(
-    alloc: A,
-    machine: &Machine<A>,
-    chronicle: &Chronicle<A>,
-    owed: &Owed,
-) -> Result<String<A>, AllocError> {
-    let place = (owed.edge.0 as usize).wrapping_sub(1);
-    let Some(edge) = machine.edges().get(place) else {
-        return Ok(String::new(alloc));
-    };
-    let by = numbered_edge_text(alloc, owed.edge.0, edge)?;
-    let stands = standing(alloc, chronicle, edge.i, machine.status(edge.i))?;
-    let i = edge.i.0;
-    format!(in alloc; "by {by}: {i} {stands}")
-}
-
-// Writes what is owed, each debt with the edge by which it is.
-fn push_debts<A: Handle>(
-    text: &mut String<A>,
+// Adds a debt, with the edge by which it is owed, and how the one stands on which it depends.
+fn put_owed<A: Handle>(
+    prose: Prose<A>,
     alloc: A,
     told: &Telling<A>,
     columns: Columns,
+    owed: &Owed,
+) -> Prose<A> {
+    let Ok(line) = owed_line(alloc, owed) else {
+        return prose.fail();
+    };
+    let prose = put_debt(prose, columns, name_text(line.as_slice()));
+    let number = owed.edge.0;
+    let machine = told.machine();
+    match machine.edges().get((number as usize).wrapping_sub(1)) {
+        Some(edge) => {
+            let prose = put_numbered_edge(prose.put("by "), number, edge);
+            let prose = put!(prose; ": ", edge.i.0, " ");
+            put_standing(prose, told.chronicle(), edge.i, machine.status(edge.i)).put("\n")
+        }
+        None => prose.put("\n"),
+    }
+}
+
+// Adds what is owed.
+fn put_debts<A: Handle>(
+    mut prose: Prose<A>,
+    alloc: A,
+    told: &Telling<A>,
+    columns: Columns,
+) -> Prose<A> {
+    let Ok(debts) = told.machine().owed() else {
+        return prose.fail();
+    };
+    for owed in debts.as_slice() {
+        prose = put_owed(prose, alloc, told, columns, owed);
+    }
+    prose
+}
+
+// Adds the whole of what is told. `stop` is the faulty line of the input.
+fn put_told<A: Handle>(
+    mut prose: Prose<A>,
+    alloc: A,
+    told: &Telling<A>,
+    input: &[u8],
+    stop: Option<BadLine>,
+) -> Prose<A> {
+    let rows = told.chronicle().rows();
+    let columns = Columns::of(rows);
+    for row in rows {
+        prose = put_row(prose, columns, row);
+    }
+    let untold = told.untold();
+    if untold > 0 {
+        prose = put!(prose; "and ", untold, " refused events more: the first ", MOST_TOLD,
+            " are told\n");
+    }
+    match stop {
+        Some(bad) => {
+            let stop = Stop::of(input, bad, false);
+            put_stop(prose, alloc, told.machine().model(), &stop)
+        }
+        None => put_debts(prose, alloc, told, columns),
+    }
+}
+
+// Takes all events, each of which its line says.
+fn take_all<A: Handle>(
+    told: &mut Telling<A>,
+    events: Vec<Event<A>, A>,
+    lines: Vec<Spoken<'_>, A>,
 ) -> Result<(), AllocError> {
-    for owed in told.machine().owed()?.as_slice() {
-        let debt = text_of(alloc, owed_line(alloc, owed)?.as_slice())?;
-        let by = debt_text(alloc, told.machine(), told.chronicle(), owed)?;
-        push_debt(text, columns, debt.as_str(), by.as_str())?;
+    for (event, line) in events.into_iter().zip(lines) {
+        told.take(line, event)?;
     }
     Ok(())
 }
 
-// Writes how many refused events aren't told.
-fn push_untold<A: Handle>(text: &mut String<A>, untold: usize) -> Result<(), AllocError> {
-    if untold == 0 {
-        return Ok(());
-    }
-    writeln!(
-        text,
-        "and {untold} refused events more: the first {MOST_TOLD} are told"
-    )
-}
-
-// The whole of what is told.
-fn told_text<A: Handle>(
+// What is told of a run of these events, which the lines of the input say, up to the faulty one.
+fn run_text<A: Handle>(
     alloc: A,
-    told: &Telling<A>,
-    stop: Option<&Stop<'_>>,
+    model: Model<A>,
+    events: Vec<Event<A>, A>,
+    input: &[u8],
+    stop: Option<BadLine>,
 ) -> Result<String<A>, AllocError> {
-    let mut text = String::new(alloc);
-    let rows = told.chronicle().rows();
-    let columns = Columns::of(rows);
-    for row in rows {
-        push_row(&mut text, columns, row)?;
-    }
-    push_untold(&mut text, told.untold())?;
-    match stop {
-        Some(stop) => push_stop(&mut text, alloc, told.machine().model(), stop)?,
-        None => push_debts(&mut text, alloc, told, columns)?,
-    }
-    Ok(text)
+    let lines = spoken_in(alloc, input)?;
+    let mut told = Telling::new(alloc, model)?;
+    let text = match take_all(&mut told, events, lines) {
+        Ok(()) => put_told(Prose::new(alloc), alloc, &told, input, stop).done(),
+        Err(e) => Err(e),
+    };
+    drop(told);
+    text
 }
 
 /// What is told of a run of the event lines of the input, which is refused where a line is faulty. `Err` where there is
@@ -94,13 +129,7 @@ pub fn explain_run<A: Handle>(
         model: &model,
     };
     let Input { said, stop } = read_lines(alloc, &reader, input)?;
-    let lines = spoken_in(alloc, input)?;
-    let mut told = Telling::new(alloc, model)?;
-    for (event, line) in said.into_iter().zip(lines) {
-        told.take(line, event)?;
-    }
-    let bad = stop.map(|bad| Stop::of(input, bad, false));
-    let text = told_text(alloc, &told, bad.as_ref())?;
+    let text = run_text(alloc, model, said, input, stop)?;
     Ok(Report {
         text: text.into_bytes(),
         is_refused: stop.is_some(),

@@ -1,6 +1,8 @@
 //! The lines of an input that say something, as they stand there.
 
 use crate::phrases::name_text;
+use crate::prose::Prose;
+use crate::put;
 use acta_words::{Lines, has_words, words_of};
 use std::alloc::{AllocError, Allocator};
 
@@ -14,16 +16,17 @@ pub struct Spoken<'a> {
 }
 
 impl<'a> Spoken<'a> {
-    /// Its words, with single spaces between them. `Err` where there is no memory.
-    pub fn text<A: Allocator + Copy>(self, alloc: A) -> Result<String<A>, AllocError> {
-        let mut text = String::new(alloc);
-        for word in words_of(alloc, self.bytes)?.iter() {
-            if !text.is_empty() {
-                text.push(' ')?;
-            }
-            text.push_str(name_text(word))?;
+    /// Adds its words, with single spaces between them.
+    pub fn put_words<A: Allocator + Copy>(self, mut prose: Prose<A>, alloc: A) -> Prose<A> {
+        let Ok(words) = words_of(alloc, self.bytes) else {
+            return prose.fail();
+        };
+        let mut is_first = true;
+        for word in words.iter() {
+            prose = put!(prose; if is_first { "" } else { " " }, name_text(word));
+            is_first = false;
         }
-        Ok(text)
+        prose
     }
 }
 

@@ -1,14 +1,16 @@
 //! What is told of a rule, an axiom or a code that is asked for by its number or its name.
 
+use crate::prose::Prose;
+use crate::put;
 use crate::words::{
     AXIOMS, Entry, IMAGE_FAULTS, LINE_CODES, MODEL_FAULTS, RULES, TEXT_CODES, axiom_entry,
     image_entry, line_entry, model_entry, rule_entry, text_entry,
 };
 use acta_words::read_u16;
-use std::alloc::{AllocError, Allocator};
+use std::alloc::Allocator;
 
 /// The tables of words.
-#[derive(Clone, Copy, PartialEq, Eq, Debug)]
+#[derive(Clone, Copy)]
 pub enum Table {
     Rules,
     Axioms,
@@ -17,6 +19,9 @@ pub enum Table {
     ImageFaults,
     ModelFaults,
 }
+
+/// The most entries that a table has.
+pub const MOST_ENTRIES: usize = RULES.len();
 
 /// The tables in which codes are looked for.
 pub const CODES: [Table; 4] = [
@@ -39,30 +44,15 @@ impl Table {
         }
     }
 
-    /// The entries of the table, in order. `Err` where there is no memory.
-    pub fn entries<A: Allocator>(self, alloc: A) -> Result<Vec<Entry, A>, AllocError> {
+    /// The entry at this place of the table, from 0.
+    pub fn entry(self, place: usize) -> Option<Entry> {
         match self {
-            Table::Rules => RULES.iter().map(|rule| rule_entry(*rule)).collect(alloc),
-            Table::Axioms => AXIOMS
-                .iter()
-                .map(|axiom| axiom_entry(*axiom))
-                .collect(alloc),
-            Table::LineCodes => LINE_CODES
-                .iter()
-                .map(|code| line_entry(*code))
-                .collect(alloc),
-            Table::TextCodes => TEXT_CODES
-                .iter()
-                .map(|code| text_entry(*code))
-                .collect(alloc),
-            Table::ImageFaults => IMAGE_FAULTS
-                .iter()
-                .map(|fault| image_entry(*fault))
-                .collect(alloc),
-            Table::ModelFaults => MODEL_FAULTS
-                .iter()
-                .map(|fault| model_entry(*fault))
-                .collect(alloc),
+            Table::Rules => Some(rule_entry(*RULES.get(place)?)),
+            Table::Axioms => Some(axiom_entry(*AXIOMS.get(place)?)),
+            Table::LineCodes => Some(line_entry(*LINE_CODES.get(place)?)),
+            Table::TextCodes => Some(text_entry(*TEXT_CODES.get(place)?)),
+            Table::ImageFaults => Some(image_entry(*IMAGE_FAULTS.get(place)?)),
+            Table::ModelFaults => Some(model_entry(*MODEL_FAULTS.get(place)?)),
         }
     }
 }
@@ -73,39 +63,25 @@ fn is_meant(entry: &Entry, word: &str) -> bool {
         || read_u16(word.as_bytes()) == Some(u16::from(entry.number))
 }
 
-// Writes an entry: its number and its name, and what it says.
-fn push_entry<A: Allocator>(
-    text: &mut String<A>,
-    table: Table,
-    entry: &Entry,
-) -> Result<(), AllocError> {
-    let title = table.title();
-    let number = entry.number;
-    let name = entry.name;
-    let says = entry.says;
-    writeln!(text, "{title} {number}: {name}")?;
-    writeln!(text, "    {says}")?;
-    let by = entry.by;
-    if !by.is_empty() {
-        writeln!(text, "    The number told with it is that of {by}.")?;
+// Adds an entry: its number and its name, and what it says.
+fn put_entry<A: Allocator>(prose: Prose<A>, table: Table, entry: &Entry) -> Prose<A> {
+    let prose =
+        put!(prose; table.title(), " ", entry.number, ": ", entry.name, "\n    ", entry.says, "\n");
+    if entry.by.is_empty() {
+        prose
+    } else {
+        put!(prose; "    The number told with it is that of ", entry.by, ".\n")
     }
-    Ok(())
 }
 
-/// Writes what the table says by this word, the number or the name of an entry, and says whether there is one. `Err`
-/// where there is no memory.
-pub fn push_meant<A: Allocator + Copy>(
-    text: &mut String<A>,
-    alloc: A,
-    table: Table,
-    word: &str,
-) -> Result<bool, AllocError> {
-    let mut is_found = false;
-    for entry in table.entries(alloc)?.iter() {
-        if is_meant(entry, word) {
-            push_entry(text, table, entry)?;
-            is_found = true;
+/// Adds what the table says by this word, the number or the name of an entry.
+pub fn put_meant<A: Allocator>(mut prose: Prose<A>, table: Table, word: &str) -> Prose<A> {
+    for place in 0..MOST_ENTRIES {
+        if let Some(entry) = table.entry(place) {
+            if is_meant(&entry, word) {
+                prose = put_entry(prose, table, &entry);
+            }
         }
     }
-    Ok(is_found)
+    prose
 }

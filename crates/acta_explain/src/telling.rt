@@ -1,13 +1,15 @@
 //! A run that is told event by event: a machine, and what was told of each event so far.
 
-use crate::chronicle::{Chronicle, Row};
-use crate::listing::MOST_LISTED;
-use crate::phrases::{numbered_edge_text, text_of};
+use crate::chronicle::{Chronicle, Row, row_of};
+use crate::listing::{first_listed, put_more};
+use crate::phrases::{put_line, put_numbered_edge};
+use crate::prose::Prose;
+use crate::put;
 use crate::reasons::Refused;
 use crate::spoken::Spoken;
 use acta_machine::{Formed, Handle, Machine};
 use acta_script::answer_line;
-use acta_table::{Answer, Edge, Event, Model, Rule};
+use acta_table::{Answer, Event, Model, Rule};
 use std::alloc::AllocError;
 
 /// The most refused events that are told of a run, and the most faults of a verdict. Behind them they are counted, so
@@ -43,10 +45,18 @@ pub struct Telling<A: Handle> {
 impl<A: Handle> Telling<A> {
     /// Nothing has happened yet. `Err` where there is no memory.
     pub fn new(alloc: A, model: Model<A>) -> Result<Telling<A>, AllocError> {
+        let Ok(chronicle) = Chronicle::new(alloc) else {
+            drop(model);
+            return Err(AllocError);
+        };
+        let Ok(machine) = Machine::new(alloc, model) else {
+            drop(chronicle);
+            return Err(AllocError);
+        };
         Ok(Telling {
             alloc,
-            machine: Machine::new(alloc, model)?,
-            chronicle: Chronicle::new(alloc)?,
+            machine,
+            chronicle,
             refused: Vec::new(alloc),
             refused_told: 0,
             untold: 0,
@@ -76,20 +86,32 @@ impl<A: Handle> Telling<A> {
         spoken: Spoken<'_>,
         event: Event<A>,
     ) -> Result<Option<Formed>, AllocError> {
-        let formed = self.machine.take_forming(&event)?;
+        let told = self.tell(spoken, &event);
+        match told {
+            Ok(
+                Some(
+                    Formed {
+                        answer: Answer::Refused { .. },
+                        ..
+                    },
+                ),
+            ) => self.remember(event)?,
+            _ => drop(event),
+        }
+        told
+    }
+
+    // Takes the event that the line says, and tells it, as `take` does.
+    fn tell(&mut self, spoken: Spoken<'_>, event: &Event<A>) -> Result<Option<Formed>, AllocError> {
+        let formed = self.machine.take_forming(event)?;
         if self.is_untold(&formed.answer) {
             return Ok(None);
         }
-        let answer = answer_line(self.alloc, &formed.answer)?;
-        let row = Row {
-            line: spoken.line,
-            event: spoken.text(self.alloc)?,
-            answer: text_of(self.alloc, answer.as_slice())?,
-            formed: self.formed_text(&formed)?,
-            reason: self.reason(&event, &formed.answer)?,
-        };
-        self.note(event, &formed.answer)?;
-        self.chronicle.push(row)?;
+        if let Answer::Admitted { .. } = formed.answer {
+            self.refused.clear();
+            self.chronicle.note(event, self.machine.edges().len())?;
+        }
+        self.push_row(spoken, event, &formed)?;
         Ok(Some(formed))
     }
 
@@ -107,15 +129,28 @@ impl<A: Handle> Telling<A> {
         is_untold
     }
 
-    // Notes what later rows refer to: what an admitted event began, ended or formed; or a refused one, for where it
-    // comes again.
-    fn note(&mut self, event: Event<A>, answer: &Answer) -> Result<(), AllocError> {
-        if let Answer::Admitted { .. } = answer {
-            self.refused.clear();
-            let edges = self.machine.edges().len();
-            self.chronicle.note(&event, edges)?;
-        } else if self.refused.len() < MOST_REFUSED && self.refused_before(&event).is_none() {
-            let row = self.chronicle.rows().len();
+    // Puts what is told of the event behind the other rows.
+    fn push_row(
+        &mut self,
+        spoken: Spoken<'_>,
+        event: &Event<A>,
+        formed: &Formed,
+    ) -> Result<(), AllocError> {
+        let alloc = self.alloc;
+        let row = row_of(
+            spoken.line,
+            spoken.put_words(Prose::new(alloc), alloc),
+            put_line(Prose::new(alloc), answer_line(alloc, &formed.answer)),
+            self.put_formed(Prose::new(alloc), formed),
+            self.put_reason(Prose::new(alloc), event, &formed.answer),
+        )?;
+        self.chronicle.push(row)
+    }
+
+    // Notes a refused event, whose row is the last, for where it comes again.
+    fn remember(&mut self, event: Event<A>) -> Result<(), AllocError> {
+        if self.refused.len() < MOST_REFUSED && self.refused_before(&event).is_none() {
+            let row = self.chronicle.rows().len().saturating_sub(1);
             self.refused.push(Again { event, row })?;
         }
         Ok(())
@@ -123,64 +158,54 @@ impl<A: Handle> Telling<A> {
 
     // The row by which the event was refused since the last that was admitted.
     fn refused_before(&self, event: &Event<A>) -> Option<&Row<A>> {
-        let again = self
-            .refused
-            .iter()
-            .find(|again| again.event.is_same(event))?;
-        self.chronicle.rows().get(again.row)
+        for again in self.refused.iter() {
+            if again.event.is_same(event) {
+                return self.chronicle.rows().get(again.row);
+            }
+        }
+        None
     }
 
-    // Why the event is refused, in lines; nothing where it was admitted.
-    fn reason(&mut self, event: &Event<A>, answer: &Answer) -> Result<String<A>, AllocError> {
+    // Adds why the event is refused, in lines; nothing where it was admitted.
+    fn put_reason(&mut self, prose: Prose<A>, event: &Event<A>, answer: &Answer) -> Prose<A> {
         let Answer::Refused { rule, .. } = answer else {
-            return Ok(String::new(self.alloc));
+            return prose;
         };
         if let Some(told) = self.refused_before(event) {
-            return told.reason.clone();
+            return prose.put(told.reason.as_str());
         }
-        let Some(reason) = self.machine.why(event)? else {
-            return Ok(String::new(self.alloc));
-        };
         let looks = self.machine.edges().len();
-        let refused = Refused {
-            alloc: self.alloc,
-            machine: &self.machine,
-            chronicle: &self.chronicle,
-            event,
-            looks_for_waits: looks <= self.looks_left,
-        };
-        let told = refused.tell(&reason)?;
+        let looks_for_waits = looks <= self.looks_left;
         if *rule == Rule::TerminationDep {
             self.looks_left = self.looks_left.saturating_sub(looks);
         }
-        Ok(told)
+        let refused = Refused {
+            model: self.machine.model(),
+            chronicle: &self.chronicle,
+            event,
+        };
+        match self.machine.why(event) {
+            Ok(Some(reason)) => refused.put_reason(prose, &self.machine, looks_for_waits, &reason),
+            Ok(None) => prose,
+            Err(_) => prose.fail(),
+        }
     }
 
-    // The operation that was done, and the edges that were formed, in words.
-    fn formed_text(&self, formed: &Formed) -> Result<String<A>, AllocError> {
-        let mut text = String::new(self.alloc);
-        if let Some(op) = formed.op {
-            let number = op.0;
-            write!(text, "operation {number}")?;
+    // Adds the operation that was done, and the edges that were formed.
+    fn put_formed(&self, prose: Prose<A>, formed: &Formed) -> Prose<A> {
+        let mut prose = match formed.op {
+            Some(op) => put!(prose; "operation ", op.0),
+            None => prose,
+        };
+        let mut gap = if prose.is_empty() { "" } else { "; " };
+        let edges = self.machine.edges();
+        let new = edges.get(formed.edges_before..).unwrap_or(&[]);
+        let mut number = formed.edges_before as u64;
+        for edge in first_listed(new) {
+            number = number.saturating_add(1);
+            prose = put_numbered_edge(prose.put(gap), number, edge);
+            gap = "; ";
         }
-        let edges: &[Edge] = self.machine.edges();
-        for (place, edge) in edges
-            .iter()
-            .enumerate()
-            .skip(formed.edges_before)
-            .take(MOST_LISTED)
-        {
-            if !text.is_empty() {
-                text.push_str("; ")?;
-            }
-            let number = (place as u64).saturating_add(1);
-            text.push_str(numbered_edge_text(self.alloc, number, edge)?.as_str())?;
-        }
-        let new = edges.len().saturating_sub(formed.edges_before);
-        if new > MOST_LISTED {
-            let more = new - MOST_LISTED;
-            write!(text, "; and {more} more")?;
-        }
-        Ok(text)
+        put_more(prose, "; and ", new.len())
     }
 }

@@ -1,18 +1,17 @@
 //! What is wrong with a text of a model: where, with which word, what stands there in a good text, and which word was
 //! perhaps meant.
 
-use crate::hints::hint_line;
+use crate::faults::is_among;
+use crate::hints::put_hint;
 use crate::outline::{Outline, PARTS, outline_before};
 use crate::phrases::name_text;
-use crate::placed::{Placed, placed_words, shown};
-use crate::words::{KIND_WORDS, text_entry};
+use crate::placed::{Placed, column_behind, placed_words, put_shown};
+use crate::prose::Prose;
+use crate::put;
+use crate::words::KIND_WORDS;
 use acta_lang::{AsmFault, Code};
 use acta_machine::Handle;
 use acta_words::Lines;
-use std::alloc::AllocError;
-
-// What a sentence is, or want of memory.
-type Told<A> = Result<String<A>, AllocError>;
 
 // A line that is faulty, with what the lines before it declare.
 #[derive(Drop)]
@@ -21,13 +20,6 @@ struct BadText<'a, A: Handle> {
     bytes: &'a [u8],
     words: Vec<Placed<'a>, A>,
     before: Outline<'a, A>,
-}
-
-// Where in a line something is wrong, and what is told of it.
-#[derive(Drop)]
-struct Found<A: Handle> {
-    column: usize,
-    said: String<A>,
 }
 
 const FIRST_WORDS: [&str; 11] = [
@@ -60,28 +52,27 @@ fn rest_of(first: &[u8]) -> Option<Rest> {
     let (known, form): (&'static [&'static str], &'static str) = match name_text(first) {
         "starts" => (
             &["begin", "spawned", "split"],
-            "starts [begin|spawned|split]...",
+            "`starts [begin|spawned|split]...`",
         ),
         "may" => (
             &MAY,
-            "may [spawn|split|join|delegate|form|operate|commit|abort|permit]...",
+            "`may [spawn|split|join|delegate|form|operate|commit|abort|permit]...`",
         ),
-        "scope" => (&["others", "nonancestors"], "scope others|nonancestors"),
-        "commit" => (&["keeps", "toparent"], "commit keeps|toparent"),
-        "delegation" => (&["whole", "any"], "delegation whole|any"),
-        "end" => (&[], "end"),
+        "scope" => (&["others", "nonancestors"], "`scope others|nonancestors`"),
+        "commit" => (&["keeps", "toparent"], "`commit keeps|toparent`"),
+        "delegation" => (&["whole", "any"], "`delegation whole|any`"),
+        "end" => (&[], "`end`"),
         _ => return None,
     };
     Some(Rest { known, form })
 }
 
-// Whether the word is one of these.
-fn is_among(word: &[u8], words: &[&str]) -> bool {
-    words.iter().any(|one| one.as_bytes() == word)
-}
-
 const OBJECT_FORMS: &str =
     "`object NAME register INT`, `object NAME counter INT` or `object NAME set`";
+
+const OBJECT_KINDS: [&str; 3] = ["register", "counter", "set"];
+
+const ENDS: [&str; 2] = ["starter", "started"];
 
 impl<'a, A: Handle> BadText<'a, A> {
     // The word at this place of the line.
@@ -92,309 +83,274 @@ impl<'a, A: Handle> BadText<'a, A> {
         }
     }
 
-    // The column of the word at this place, or else behind the last.
-    fn column(&self, place: usize) -> usize {
-        match self.words.get(place) {
+    // Adds the column of the word at this place, or else the one behind the last.
+    fn put_column(&self, prose: Prose<A>, place: usize) -> Prose<A> {
+        let column = match self.words.get(place) {
             Some(placed) => placed.column,
-            None => match self.words.last() {
-                Some(last) => last.column.saturating_add(last.word.len()),
-                None => 1,
-            },
+            None => column_behind(self.words.as_slice()),
+        };
+        put!(prose; ", column ", column)
+    }
+
+    // Adds what is told of the word at this place: the word, what is expected in its place, and a hint.
+    fn put_word(&self, prose: Prose<A>, place: usize, expected: &str, known: &[&str]) -> Prose<A> {
+        let prose = self.put_column(prose, place);
+        match self.words.get(place) {
+            Some(placed) => {
+                let prose = put_shown(prose.put(": `"), placed.word);
+                let prose = put!(prose; "`\nexpected ", expected);
+                put_hint(prose, self.alloc, placed.word, known)
+            }
+            None => put!(prose; ", where the line lacks a word\nexpected ", expected),
         }
     }
 
-    // What is told of the word at this place: the word, what is expected in its place, and a hint.
-    fn at_word(
-        &self,
-        place: usize,
-        expected: &str,
-        known: &[&str],
-    ) -> Result<Found<A>, AllocError> {
-        let column = self.column(place);
-        let Some(placed) = self.words.get(place) else {
-            let said = format!(in self.alloc;
-                ", where the line lacks a word\nexpected {expected}"
-            )?;
-            return Ok(Found { column, said });
-        };
-        let hint = hint_line(self.alloc, placed.word, known)?;
-        let word = shown(self.alloc, placed.word)?;
-        let said = format!(in self.alloc; ": `{word}`\nexpected {expected}{hint}")?;
-        Ok(Found { column, said })
+    // The first word behind the first one that is none of these, or else a place.
+    fn stray(&self, from: usize, known: &[&str], place: usize) -> usize {
+        let mut at = from;
+        for placed in self.words.iter().skip(from) {
+            if !is_among(placed.word, known) {
+                return at;
+            }
+            at = at.saturating_add(1);
+        }
+        place
     }
 
-    // The first word behind the first one that is none of these.
-    fn stray(&self, from: usize, known: &[&str]) -> Option<usize> {
-        let place = self
-            .words
-            .iter()
-            .skip(from)
-            .position(|placed| !is_among(placed.word, known))?;
-        Some(place.saturating_add(from))
+    // The place of the first byte that no text has.
+    fn stray_byte(&self) -> usize {
+        for (place, byte) in self.bytes.iter().enumerate() {
+            if *byte != b'\t' && (*byte < b' ' || *byte > b'~') {
+                return place;
+            }
+        }
+        0
     }
 
-    fn not_ascii(&self) -> Result<Found<A>, AllocError> {
-        let place = self
-            .bytes
-            .iter()
-            .position(|byte| *byte != b'\t' && !(b' '..=b'~').contains(byte))
-            .unwrap_or(0);
-        let byte = self.bytes.get(place).copied().unwrap_or(0);
-        let is_last = place.saturating_add(1) == self.bytes.len();
-        let column = place.saturating_add(1);
-        let said = if byte == b'\r' && is_last {
-            format!(in self.alloc;
-                ": \\r\nthe line ends in CR LF; here a line ends in LF alone, and a text has no CR"
-            )?
-        } else {
-            format!(in self.alloc;
+    fn put_not_ascii(&self, prose: Prose<A>) -> Prose<A> {
+        let place = self.stray_byte();
+        let next = place.saturating_add(1);
+        let prose = put!(prose; ", column ", next);
+        match self.bytes.get(place).copied().unwrap_or(0) {
+            b'\r' if next == self.bytes.len() => prose.put(
+                ": \\r\nthe line ends in CR LF; here a line ends in LF alone, and a text has no CR",
+            ),
+            byte => prose.put(format_args!(
                 ": the byte {byte:02x}, in hexadecimal digits\nexpected tabs and the characters of ASCII from the space to `~`"
-            )?
-        };
-        Ok(Found { column, said })
+            )),
+        }
     }
 
-    fn bad_object(&self) -> Result<Found<A>, AllocError> {
-        let known = ["register", "counter", "set"];
-        if self.words.len() > 2 && !is_among(self.word(2), &known) {
-            return self.at_word(2, "a kind of object: register, counter or set", &known);
+    fn put_bad_object(&self, prose: Prose<A>) -> Prose<A> {
+        if self.words.len() > 2 && !is_among(self.word(2), &OBJECT_KINDS) {
+            let expected = "a kind of object: register, counter or set";
+            return self.put_word(prose, 2, expected, &OBJECT_KINDS);
         }
         let place = if self.word(2) == b"set".as_slice() {
             3
         } else {
             4
         };
-        self.at_word(place.min(self.words.len()), OBJECT_FORMS, &[])
+        self.put_word(prose, place.min(self.words.len()), OBJECT_FORMS, &[])
     }
 
-    fn bad_policy(&self) -> Result<Found<A>, AllocError> {
+    fn put_bad_policy(&self, prose: Prose<A>) -> Prose<A> {
         if self.word(1) == b"depend".as_slice() {
-            let place = self.stray(2, &KIND_WORDS).unwrap_or(2);
-            return self.at_word(place, "kinds of dependency: CD, AD, WD or TD", &KIND_WORDS);
+            let place = self.stray(2, &KIND_WORDS, 2);
+            let expected = "kinds of dependency: CD, AD, WD or TD";
+            return self.put_word(prose, place, expected, &KIND_WORDS);
         }
         let place = if self.word(1) == b"refuse".as_slice() {
             2
         } else {
             1
         };
-        self.at_word(
-            place,
-            "`policy refuse`, or `policy depend` with kinds behind it",
-            &["refuse", "depend"],
-        )
+        let expected = "`policy refuse`, or `policy depend` with kinds behind it";
+        self.put_word(prose, place, expected, &["refuse", "depend"])
     }
 
-    fn bad_edge(&self) -> Result<Found<A>, AllocError> {
-        let first = name_text(self.word(0));
-        let expected = format!(in self.alloc;
-            "`{first} starter KIND started` or `{first} started KIND starter`"
-        )?;
-        let ends = ["starter", "started"];
-        let place = if !is_among(self.word(1), &ends) {
-            1
+    fn put_bad_edge(&self, prose: Prose<A>, expected: &str) -> Prose<A> {
+        if !is_among(self.word(1), &ENDS) {
+            self.put_word(prose, 1, expected, &ENDS)
         } else if !is_among(self.word(2), &KIND_WORDS) {
-            2
-        } else if !is_among(self.word(3), &ends) || self.word(1) == self.word(3) {
-            3
+            self.put_word(prose, 2, expected, &KIND_WORDS)
+        } else if !is_among(self.word(3), &ENDS) || self.word(1) == self.word(3) {
+            self.put_word(prose, 3, expected, &[])
         } else {
-            4
-        };
-        match place {
-            1 => self.at_word(1, expected.as_str(), &ends),
-            2 => self.at_word(2, expected.as_str(), &KIND_WORDS),
-            _ => self.at_word(place, expected.as_str(), &[]),
+            self.put_word(prose, 4, expected, &[])
         }
     }
 
-    fn bad_word(&self) -> Result<Found<A>, AllocError> {
+    fn put_bad_word(&self, prose: Prose<A>) -> Prose<A> {
         let first = self.word(0);
+        let end = self.words.len().min(2);
         match name_text(first) {
-            "object" => return self.bad_object(),
-            "class" => {
-                let place = self.words.len().min(2);
-                return self.at_word(place, "`class NAME`", &[]);
+            "object" => self.put_bad_object(prose),
+            "class" => self.put_word(prose, end, "`class NAME`", &[]),
+            "policy" => self.put_bad_policy(prose),
+            "spawn" => {
+                let expected = "`spawn starter KIND started` or `spawn started KIND starter`";
+                self.put_bad_edge(prose, expected)
             }
-            "policy" => return self.bad_policy(),
-            "spawn" | "split" => return self.bad_edge(),
-            _ => {}
-        }
-        match rest_of(first) {
-            Some(rest) => {
-                let place = self.stray(1, rest.known).unwrap_or(self.words.len().min(2));
-                let form = rest.form;
-                let expected = format!(in self.alloc; "`{form}`")?;
-                self.at_word(place, expected.as_str(), rest.known)
+            "split" => {
+                let expected = "`split starter KIND started` or `split started KIND starter`";
+                self.put_bad_edge(prose, expected)
             }
-            None => self.at_word(
-                0,
-                "a line that begins with object, class, starts, may, scope, policy, commit, delegation, spawn, split or end",
-                &FIRST_WORDS,
-            ),
+            _ => match rest_of(first) {
+                Some(rest) => {
+                    let place = self.stray(1, rest.known, end);
+                    self.put_word(prose, place, rest.form, rest.known)
+                }
+                None => self.put_word(
+                    prose,
+                    0,
+                    "a line that begins with object, class, starts, may, scope, policy, commit, delegation, spawn, split or end",
+                    &FIRST_WORDS,
+                ),
+            },
         }
     }
 
-    fn duplicate_name(&self) -> Result<Found<A>, AllocError> {
+    fn put_duplicate_name(&self, prose: Prose<A>) -> Prose<A> {
         let name = self.word(1);
         let (what, named) = if self.word(0) == b"object".as_slice() {
             ("object", self.before.object(name))
         } else {
             ("class", self.before.class(name))
         };
-        let told = shown(self.alloc, name)?;
-        let said = match named {
-            Some(line) => {
-                format!(in self.alloc;
-                    ": `{told}`\nline {line} declares the {what} `{told}` already"
-                )?
-            }
-            None => format!(in self.alloc; ": `{told}`\nthere is a {what} `{told}` already")?,
+        let prose = put_shown(self.put_column(prose, 1).put(": `"), name).put("`\n");
+        let prose = match named {
+            Some(line) => put!(prose; "line ", line, " declares the ", what, " `"),
+            None => put!(prose; "there is a ", what, " `"),
         };
-        Ok(Found {
-            column: self.column(1),
-            said,
-        })
+        put_shown(prose, name).put("` already")
     }
 
-    fn wrong_place(&self) -> Result<Found<A>, AllocError> {
-        let first = shown(self.alloc, self.word(0))?;
-        let column = self.column(0);
+    fn put_wrong_place(&self, prose: Prose<A>) -> Prose<A> {
+        let first = self.word(0);
+        let prose = put_shown(self.put_column(prose, 0).put(": `"), first);
         let Some(open) = self.before.open() else {
-            let said = format!(in self.alloc;
-                ": `{first}`\nno class is open here: a `{first}` stands between a `class NAME` and its `end`"
-            )?;
-            return Ok(Found { column, said });
+            let prose = put_shown(prose.put("`\nno class is open here: a `"), first);
+            return prose.put("` stands between a `class NAME` and its `end`");
         };
-        let class = name_text(open.name);
-        let line = open.line;
-        let said = match self.before.said(self.word(0)) {
-            Some(before) => {
-                format!(in self.alloc;
-                    ": `{first}`\nclass `{class}` has its `{first}` already, at line {before}"
-                )?
+        let prose = put!(prose; "`\nclass `", name_text(open.name), "`");
+        match self.before.said(first) {
+            Some(line) => {
+                put!(put_shown(prose.put(" has its `"), first); "` already, at line ", line)
             }
             None => {
-                format!(in self.alloc;
-                    ": `{first}`\nclass `{class}`, which line {line} begins, is open: its `end` comes before the next `{first}`"
-                )?
-            }
-        };
-        Ok(Found { column, said })
-    }
-
-    // The parts that the class that is closed lacks.
-    fn lacking(&self) -> Told<A> {
-        let mut parts: Vec<&str, A> = Vec::new(self.alloc);
-        for part in PARTS {
-            if self.before.said(part.as_bytes()).is_none() {
-                parts.push(part)?;
+                let prose = put!(prose; ", which line ", open.line,
+                    " begins, is open: its `end` comes before the next `");
+                put_shown(prose, first).put("`")
             }
         }
-        crate::listing::quoted(self.alloc, &parts)
     }
 
-    fn missing_part(&self) -> Result<Found<A>, AllocError> {
-        let column = self.column(0);
-        let said = match self.before.open() {
-            Some(open) => {
-                let class = name_text(open.name);
-                let line = open.line;
-                let lacking = self.lacking()?;
-                format!(in self.alloc;
-                    "\nclass `{class}`, which line {line} begins, lacks {lacking}\nexpected a line of each of `starts`, `may`, `scope`, `policy`, `commit` and `delegation` before its `end`"
-                )?
+    // Adds the parts that the class that is closed lacks.
+    fn put_lacking(&self, mut prose: Prose<A>) -> Prose<A> {
+        let mut is_first = true;
+        for part in PARTS {
+            if self.before.said(part.as_bytes()).is_none() {
+                prose = put!(prose; if is_first { "`" } else { ", `" }, part, "`");
+                is_first = false;
             }
-            None => format!(in self.alloc;
-                "\nthe text has no class\nexpected at least one, from `class NAME` to its `end`"
-            )?,
-        };
-        Ok(Found { column, said })
+        }
+        prose
     }
 
-    fn missing_end(&self) -> Result<Found<A>, AllocError> {
-        let open = if self.word(0) == b"class".as_slice() {
-            self.word(1)
-        } else {
-            self.before.open().map_or(b"".as_slice(), |open| open.name)
+    fn put_missing_part(&self, prose: Prose<A>) -> Prose<A> {
+        let prose = self.put_column(prose, 0);
+        let Some(open) = self.before.open() else {
+            return prose.put(
+                "\nthe text has no class\nexpected at least one, from `class NAME` to its `end`",
+            );
         };
-        let class = shown(self.alloc, open)?;
-        let said = format!(in self.alloc;
-            ", the last line\nclass `{class}` is open: its `end` is missing"
-        )?;
-        Ok(Found {
-            column: self.column(0),
-            said,
-        })
-    }
-
-    fn bad_policy_kind(&self) -> Result<Found<A>, AllocError> {
-        let place = self.stray(2, &["CD", "AD", "WD", "TD"]).unwrap_or(2);
-        self.at_word(
-            place,
-            "at least one kind behind `depend`, and none but CD, AD, WD and TD",
-            &[],
+        let prose = put!(prose; "\nclass `", name_text(open.name), "`, which line ", open.line,
+            " begins, lacks ");
+        self.put_lacking(prose).put(
+            "\nexpected a line of each of `starts`, `may`, `scope`, `policy`, `commit` and `delegation` before its `end`",
         )
     }
 
-    fn heir_without_spawn(&self) -> Result<Found<A>, AllocError> {
-        let class = self.before.open().map_or(b"".as_slice(), |open| open.name);
-        let class = shown(self.alloc, class)?;
-        let commit = self.before.said(b"commit").unwrap_or(0);
-        let starts = self.before.said(b"starts").unwrap_or(0);
-        let said = format!(in self.alloc;
-            "\nclass `{class}` has `commit toparent` (line {commit}), and its `starts` (line {starts}) allows a begin or a split, by which one has no parent\nexpected `starts spawned`, or `commit keeps`"
-        )?;
-        Ok(Found {
-            column: self.column(0),
-            said,
-        })
+    // The name of the class that is open.
+    fn open_name(&self) -> &'a [u8] {
+        match self.before.open() {
+            Some(open) => open.name,
+            None => b"".as_slice(),
+        }
     }
 
-    // What is told of the line by this code.
-    fn found(&self, code: Code) -> Result<Found<A>, AllocError> {
-        match code {
-            Code::NotAscii => self.not_ascii(),
-            Code::BadWord => self.bad_word(),
-            Code::BadName => self.at_word(
+    fn put_missing_end(&self, prose: Prose<A>) -> Prose<A> {
+        let open = if self.word(0) == b"class".as_slice() {
+            self.word(1)
+        } else {
+            self.open_name()
+        };
+        let prose = self.put_column(prose, 0).put(", the last line\nclass `");
+        put_shown(prose, open).put("` is open: its `end` is missing")
+    }
+
+    fn put_heir_without_spawn(&self, prose: Prose<A>) -> Prose<A> {
+        let commit = self.before.said(b"commit").unwrap_or(0);
+        let starts = self.before.said(b"starts").unwrap_or(0);
+        let prose = put_shown(self.put_column(prose, 0).put("\nclass `"), self.open_name());
+        put!(prose; "` has `commit toparent` (line ", commit, "), and its `starts` (line ", starts,
+            ") allows a begin or a split, by which one has no parent\nexpected `starts spawned`, or `commit keeps`")
+    }
+
+    // Adds what is told of the line by this code.
+    fn put_code(&self, prose: Prose<A>, code: Code) -> Prose<A> {
+        let (place, expected) = match code {
+            Code::NotAscii => return self.put_not_ascii(prose),
+            Code::BadWord => return self.put_bad_word(prose),
+            Code::DuplicateName => return self.put_duplicate_name(prose),
+            Code::WrongPlace => return self.put_wrong_place(prose),
+            Code::MissingEnd => return self.put_missing_end(prose),
+            Code::MissingPart => return self.put_missing_part(prose),
+            Code::HeirWithoutSpawn => return self.put_heir_without_spawn(prose),
+            Code::BadName => (
                 1,
                 "a name: 1 to 32 bytes, a letter first, then letters, digits or underscores",
-                &[],
             ),
-            Code::DuplicateName => self.duplicate_name(),
-            Code::WrongPlace => self.wrong_place(),
-            Code::BadNumber => {
-                self.at_word(
-                    3,
-                    "a first value: a whole number from -2147483648 to 2147483647",
-                    &[],
-                )
-            }
-            Code::TooMany => self.at_word(0, "at most 256 objects and 16 classes", &[]),
-            Code::MissingEnd => self.missing_end(),
-            Code::MissingPart => self.missing_part(),
-            Code::BeginKindAtStart => self.at_word(
+            Code::BadNumber => (
+                3,
+                "a first value: a whole number from -2147483648 to 2147483647",
+            ),
+            Code::TooMany => (0, "at most 256 objects and 16 classes"),
+            Code::BeginKindAtStart => (
                 2,
                 "a kind that limits no begin: CD, SCD, AD, WD, TD, ED or CMD",
-                &[],
             ),
-            Code::HeirWithoutSpawn => self.heir_without_spawn(),
-            Code::BadPolicyKind => self.bad_policy_kind(),
-        }
+            Code::BadPolicyKind => (
+                self.stray(2, &["CD", "AD", "WD", "TD"], 2),
+                "at least one kind behind `depend`, and none but CD, AD, WD and TD",
+            ),
+        };
+        self.put_word(prose, place, expected, &[])
     }
 }
 
-/// What is wrong with the text, which stands at this path, in lines. `Err` where there is no memory.
-pub fn text_fault<A: Handle>(alloc: A, path: &str, text: &[u8], fault: AsmFault) -> Told<A> {
+/// Adds where and what is wrong with the text.
+pub fn put_text_fault<A: Handle>(
+    prose: Prose<A>,
+    alloc: A,
+    text: &[u8],
+    fault: AsmFault,
+) -> Prose<A> {
     let bytes = Lines::of(text)
         .nth(fault.line.saturating_sub(1))
         .unwrap_or(b"".as_slice());
+    let (Ok(words), Ok(before)) = (
+        placed_words(alloc, bytes),
+        outline_before(alloc, text, fault.line),
+    ) else {
+        return prose.fail();
+    };
     let bad = BadText {
         alloc,
         bytes,
-        words: placed_words(alloc, bytes)?,
-        before: outline_before(alloc, text, fault.line)?,
+        words,
+        before,
     };
-    let Found { column, said } = bad.found(fault.code)?;
-    let name = text_entry(fault.code).name;
-    let line = fault.line;
-    format!(in alloc; "{name}, at {path}, line {line}, column {column}{said}")
+    bad.put_code(put!(prose; ", line ", fault.line), fault.code)
 }

@@ -1,0 +1,73 @@
+//! A text that is put together piece by piece. It remembers that memory ran out, so whoever writes a sentence has no way
+//! out at each piece, where the text so far would be dropped.
+
+use std::alloc::{AllocError, Allocator};
+use std::fmt::Display;
+
+/// A text so far.
+#[derive(Drop)]
+pub struct Prose<A: Allocator> {
+    text: String<A>,
+    has_failed: bool,
+}
+
+impl<A: Allocator> Prose<A> {
+    /// The empty text.
+    pub fn new(alloc: A) -> Prose<A> {
+        Prose {
+            text: String::new(alloc),
+            has_failed: false,
+        }
+    }
+
+    /// Adds a piece to the text.
+    pub fn put<D: Display + Drop>(mut self, piece: D) -> Prose<A> {
+        if !self.has_failed {
+            self.has_failed = self.text.write(piece).is_err();
+        }
+        self
+    }
+
+    /// Adds so many spaces.
+    pub fn pad(mut self, count: usize) -> Prose<A> {
+        for _ in 0..count {
+            self = self.put(' ');
+        }
+        self
+    }
+
+    /// Notes that memory ran out for a piece.
+    pub fn fail(mut self) -> Prose<A> {
+        self.has_failed = true;
+        self
+    }
+
+    /// Whether the text is empty.
+    pub fn is_empty(&self) -> bool {
+        self.text.is_empty()
+    }
+
+    /// The text, and whether memory ran out for a piece of it.
+    pub fn parts(self) -> (String<A>, bool) {
+        let Prose { text, has_failed } = self;
+        (text, has_failed)
+    }
+
+    /// The text. `Err` where memory ran out for a piece of it.
+    pub fn done(self) -> Result<String<A>, AllocError> {
+        let Prose { text, has_failed } = self;
+        if has_failed {
+            Err(AllocError)
+        } else {
+            Ok(text)
+        }
+    }
+}
+
+/// Adds pieces to a text, in order: `put!(prose; "edge ", number)`.
+#[macro_export]
+macro_rules! put {
+    ($prose:expr; $($piece:expr),+) => {
+        $prose $(.put($piece))+
+    };
+}
