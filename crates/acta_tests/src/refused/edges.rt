@@ -10,20 +10,53 @@ use refusing::{Case, Refusing};
 use std::alloc::{AllocError, Allocator};
 use std::process::Abort;
 
-// The edge of this kind of one transaction on another.
-fn edge(kind: Dep, j: u16, i: u16) -> Edge {
-    Edge {
-        kind,
-        j: TxnId(j),
-        i: TxnId(i),
+const CD_OF_2: Edge = Edge {
+    kind: Dep::Cd,
+    j: TxnId(2),
+    i: TxnId(1),
+};
+
+const CD_OF_4: Edge = Edge {
+    kind: Dep::Cd,
+    j: TxnId(4),
+    i: TxnId(1),
+};
+
+const CD_OF_5: Edge = Edge {
+    kind: Dep::Cd,
+    j: TxnId(5),
+    i: TxnId(16_383),
+};
+
+const TD_OF_3: Edge = Edge {
+    kind: Dep::Td,
+    j: TxnId(3),
+    i: TxnId(1),
+};
+
+const TD_OF_1: Edge = Edge {
+    kind: Dep::Td,
+    j: TxnId(1),
+    i: TxnId(3),
+};
+
+// Forms three edges, where there is room for them. Returns how many are new.
+fn form_three<A: Handle>(deps: &mut Deps<A>) -> Result<usize, AllocError> {
+    let edges = [CD_OF_2, CD_OF_4, CD_OF_5];
+    let lacking = deps.lacks(&edges)?;
+    if lacking <= MOST_EDGES.saturating_sub(deps.edges().len()) {
+        deps.form(&edges)
+    } else {
+        Ok(0)
     }
 }
 
-// Forms the edges, where there is room for them. Returns how many are new.
-fn form<A: Handle>(deps: &mut Deps<A>, edges: &[Edge]) -> Result<usize, AllocError> {
-    let lacking = deps.lacks(edges)?;
+// Forms the first of these and two more, of which one is named twice. Returns how many are new.
+fn form_more<A: Handle>(deps: &mut Deps<A>) -> Result<usize, AllocError> {
+    let edges = [TD_OF_3, CD_OF_2, TD_OF_1, TD_OF_3];
+    let lacking = deps.lacks(&edges)?;
     if lacking <= MOST_EDGES.saturating_sub(deps.edges().len()) {
-        deps.form(edges)
+        deps.form(&edges)
     } else {
         Ok(0)
     }
@@ -37,12 +70,11 @@ fn start<A: Handle>(deps: &mut Deps<A>, t: TxnId) {
     }
 }
 
-// A table in which two transactions have started, and which has these edges, gets some more.
+// A table in which two transactions have started, and which has three edges or none, gets more edges.
 #[derive(Drop)]
 struct Forming<'a, 's, R, A: Handle> {
     on: &'a Setting<'s, R, A>,
-    before: &'a [Edge],
-    edges: &'a [Edge],
+    has_edges: bool,
 }
 
 impl<'a, 's, R: Abort, A: Handle> Case for Forming<'a, 's, R, A> {
@@ -54,12 +86,14 @@ impl<'a, 's, R: Abort, A: Handle> Case for Forming<'a, 's, R, A> {
         let mut deps = made(self.on.rt, Deps::new(self.on.alloc), "a table");
         start(&mut deps, TxnId(1));
         start(&mut deps, TxnId(3));
-        made(self.on.rt, form(&mut deps, self.before), "edges");
+        if self.has_edges {
+            made(self.on.rt, form_three(&mut deps), "edges");
+        }
         deps
     }
 
     fn call(&self, deps: &mut Deps<A>) -> Option<usize> {
-        form(deps, self.edges).ok()
+        form_more(deps).ok()
     }
 
     fn tell(&self, answer: &usize, deps: &Deps<A>) -> String {
@@ -76,35 +110,24 @@ impl<'a, 's, R: Abort, A: Handle> Case for Forming<'a, 's, R, A> {
     }
 }
 
-// Some edges after others, each allocation refused. Returns how many were.
+// Edges after three or none, each allocation refused. Returns how many were.
 fn refuse_edges<'a, 's, R: Abort, A: Handle, B: Allocator>(
     on: &'a Setting<'s, R, A>,
     heap: &Refusing<B>,
-    (before, edges): (&'a [Edge], &'a [Edge]),
+    has_edges: bool,
     due: &str,
 ) -> u64 {
-    refuse(on.rt, heap, &Forming { on, before, edges }, due)
+    refuse(on.rt, heap, &Forming { on, has_edges }, due)
 }
 
 // A list has room for four edges of a transaction. After three, the second edge of transaction 1 allocates, and the first
 // is taken back where that is refused. One of the edges is named twice.
 fn refuse_all<R: Abort, A: Handle, B: Allocator>(on: &Setting<'_, R, A>, heap: &Refusing<B>) {
-    let three = [
-        edge(Dep::Cd, 2, 1),
-        edge(Dep::Cd, 4, 1),
-        edge(Dep::Cd, 5, 16_383),
-    ];
-    let more = [
-        edge(Dep::Td, 3, 1),
-        edge(Dep::Cd, 2, 1),
-        edge(Dep::Td, 1, 3),
-        edge(Dep::Td, 3, 1),
-    ];
     let due = " 3 (Td, 3, 1) (Cd, 2, 1) (Td, 1, 3)";
-    let refused = refuse_edges(&*on, heap, (&[], &more), due);
+    let refused = refuse_edges(&*on, heap, false, due);
     at_least(on.rt, refused, 4, due);
     let due = " 2 (Cd, 2, 1) (Cd, 4, 1) (Cd, 5, 16383) (Td, 3, 1) (Td, 1, 3)";
-    let refused = refuse_edges(&*on, heap, (&three, &more), due);
+    let refused = refuse_edges(&*on, heap, true, due);
     at_least(on.rt, refused, 2, due);
 }
 
