@@ -10,3 +10,4 @@ mod Among
 mod Unnamed
 mod Grants
 mod Permitting
+mod PermitLists

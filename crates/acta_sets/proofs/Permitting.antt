@@ -1,6 +1,7 @@
 -- What is done to the sets of grants, read of who has permitted whom.
-use Rattle.std.specs.Prelude.{◌≡◌, ◌≤◌, ℕ, Bool, true, false, not, ◌&&◌, ◌||◌, ◌==◌, nat_le, List, []}
+use Rattle.std.specs.Prelude.{◌≡◌, ◌≤◌, ℕ, Bool, true, false, not, ◌&&◌, ◌||◌, ◌==◌, nat_le, List, [], length}
 use Rattle.std.proofs.Common.{arith, refl, sym, ap, subst, ◌∙◌}
+use Rattle.std.proofs.lemmas.List.{length-map}
 use Rattle.std.proofs.lemmas.Bool.{false≢true}
 use Rattle.std.proofs.lemmas.Bool.Decides.{nat_tests}
 use Rattle.std.proofs.lemmas.Cmp.{nat_eq_equiv}
@@ -43,6 +44,9 @@ either_more false false true true true mirrored is = refl
 either_more false false true true false mirrored is = is
 either_more false false true false z mirrored is = absurd (false≢true is)
 either_more false false false y z mirrored is = absurd (false≢true is)
+
+pub length-lists : (after taken : List (BTreeSet Grant)) → grant_lists after ≡ grant_lists taken → length after ≡ length taken
+length-lists after taken same = sym (length-map after (λ s. s.keys)) ∙ ap (λ lists. length lists) same ∙ length-map taken (λ s. s.keys)
 
 pub AreMirrored-same : (taken after given more : List (BTreeSet Grant)) → ((v object partner : ℕ) → is_granted after v object partner ≡ is_granted taken v object partner)
     → ((v object partner : ℕ) → is_granted more v object partner ≡ is_granted given v object partner)

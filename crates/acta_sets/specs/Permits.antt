@@ -4,6 +4,7 @@ use Rattle.std.specs.List.{list_any}
 use Rattle.std.specs.declared.cmp.Ordering.{Ordering}
 use Rattle.std.specs.Ordering.{nat_cmp, ordering_then}
 use Rattle.acta_sets.specs.declared.grant.Grant.{Grant}
+use Rattle.acta_sets.specs.declared.permit.Permit.{Permit}
 
 -- of h, t and an object, whether h has permitted t to work on the object too
 abbrev pub Permitted : Type 0
@@ -32,6 +33,19 @@ has_grant grants object partner = list_any (is_grant object partner) grants
 -- the order of grants: by object, and then by partner
 abbrev pub grant_cmp : Grant → Grant → Ordering
 grant_cmp g k = ordering_then (nat_cmp g.object.0 k.object.0) (nat_cmp g.partner.0 k.partner.0)
+
+-- whether it is the permit by h, to t, on the object
+abbrev pub is_permit : ℕ → ℕ → ℕ → Permit → Bool
+is_permit h t object p = (p.to.0 == t) && ((p.object.0 == object) && (p.by.0 == h))
+
+-- whether the permit by h, to t, on the object is among these
+abbrev pub is_listed : List Permit → ℕ → ℕ → ℕ → Bool
+is_listed permits h t object = list_any (is_permit h t object) permits
+
+-- the order of permits: by who was permitted, then by object, and then by who has permitted it
+abbrev pub permit_cmp : Permit → Permit → Ordering
+permit_cmp p q =
+    ordering_then (nat_cmp p.to.0 q.to.0) (ordering_then (nat_cmp p.object.0 q.object.0) (nat_cmp p.by.0 q.by.0))
 
 -- whether h has permitted t to work on the object, where these are what each transaction was permitted, by number
 unfoldable pub permitted : List (List Grant) → Permitted

@@ -1,12 +1,13 @@
 //! Sets of grants, one for each transaction, by its number.
 
-ghost use Rattle.std.specs.Prelude.{◌≡◌, ◌<◌, ◌≤◌, ◌==◌, ◌&&◌, ◌||◌, ℕ, nat_le, length, not, IfOk, OnOk, OnErr};
+ghost use Rattle.std.specs.Prelude.{◌≡◌, ◌<◌, ◌≤◌, ◌==◌, ◌&&◌, ◌||◌, ◌++◌, ℕ, nat_le, length, not, IfOk, OnOk, OnErr};
 ghost use Rattle.acta_sets.specs.Operations.{is_among};
-ghost use Rattle.acta_sets.specs.Permits.{is_grant, has_grant, grant_cmp};
+ghost use Rattle.acta_sets.specs.Permits.{is_grant, has_grant, grant_cmp, is_listed, permit_cmp};
 ghost use Rattle.std.specs.List.Sorted.{IsStrictlySortedBy};
-ghost use Rattle.acta_sets.specs.inside.Granted.{grant_lists, is_granted, partners_of};
+ghost use Rattle.acta_sets.specs.inside.Granted.{grant_lists, is_granted, partners_of, permits_to};
 
 use crate::grant::Grant;
+use crate::permit::Permit;
 use acta_table::{ObjId, TxnId};
 use std::alloc::{AllocError, Allocator};
 use std::collections::BTreeSet;
@@ -29,6 +30,7 @@ pub(crate) fn copied<A: Allocator + Copy>(table: &Granted<A>) -> Result<Granted<
 fn grow_to<A: Allocator + Copy>(table: &mut Granted<A>, at: u16) -> Result<(), AllocError>
     ensures same { (v object partner : ℕ) → is_granted table.new.items v object partner ≡ is_granted table.old.items v object partner }
     ensures room { OnOk result (at < length table.new.items) }
+    ensures few { length table.old.items ≤ 65536 → length table.new.items ≤ 65536 }
 {
     let alloc = *table.allocator();
     for _ in table.len()..at as usize + 1 {
@@ -57,6 +59,7 @@ fn note_at<A: Allocator + Copy>(
     requires { at < length table.old.items }
     ensures ok { OnOk result ((v object partner : ℕ) → is_granted table.new.items v object partner ≡ (is_granted table.old.items v object partner || ((at == v) && is_grant object partner grant))) }
     ensures err { OnErr result ((v object partner : ℕ) → is_granted table.new.items v object partner ≡ is_granted table.old.items v object partner) }
+    ensures few { length table.old.items ≤ 65536 → length table.new.items ≤ 65536 }
 {
     match table.get_mut(at as usize) {
         Some(grants) => note(grants, grant),
@@ -72,6 +75,7 @@ pub(crate) fn add<A: Allocator + Copy>(
 ) -> Result<(), AllocError>
     ensures ok { OnOk result ((v object partner : ℕ) → is_granted table.new.items v object partner ≡ (is_granted table.old.items v object partner || ((at == v) && is_grant object partner grant))) }
     ensures err { OnErr result ((v object partner : ℕ) → is_granted table.new.items v object partner ≡ is_granted table.old.items v object partner) }
+    ensures few { length table.old.items ≤ 65536 → length table.new.items ≤ 65536 }
 {
     match grow_to(table, at) {
         Ok(()) => note_at(table, at, grant),
@@ -93,6 +97,7 @@ pub(crate) fn has<A: Allocator + Copy>(table: &Granted<A>, at: u16, grant: &Gran
 pub(crate) fn taken_out<A: Allocator + Copy>(table: &mut Granted<A>, at: u16) -> Grants<A>
     ensures grants { (object partner : ℕ) → has_grant result.keys object partner ≡ is_granted table.old.items at object partner }
     ensures others { (v object partner : ℕ) → is_granted table.new.items v object partner ≡ (is_granted table.old.items v object partner && not (at == v)) }
+    ensures few { length table.old.items ≤ 65536 → length table.new.items ≤ 65536 }
 {
     let none = BTreeSet::new(*table.allocator());
     match table.get_mut(at as usize) {
@@ -110,7 +115,8 @@ fn leave_out<A: Allocator + Copy>(grants: &mut Grants<A>, grant: &Grant)
 
 // Takes a grant away from those at a place.
 fn leave_out_at<A: Allocator + Copy>(table: &mut Granted<A>, at: u16, grant: &Grant)
-    ensures { (v object partner : ℕ) → is_granted table.new.items v object partner ≡ (is_granted table.old.items v object partner && not ((at == v) && is_grant object partner grant.now)) }
+    ensures left { (v object partner : ℕ) → is_granted table.new.items v object partner ≡ (is_granted table.old.items v object partner && not ((at == v) && is_grant object partner grant.now)) }
+    ensures few { length table.old.items ≤ 65536 → length table.new.items ≤ 65536 }
 {
     if let Some(grants) = table.get_mut(at as usize) {
         leave_out(grants, grant);
@@ -123,7 +129,8 @@ pub(crate) fn leave_out_each<A: Allocator + Copy>(
     grants: &Grants<A>,
     t: TxnId,
 )
-    ensures { (v object partner : ℕ) → is_granted table.new.items v object partner ≡ (is_granted table.old.items v object partner && not ((t.0 == partner) && has_grant grants.now.keys object v)) }
+    ensures left { (v object partner : ℕ) → is_granted table.new.items v object partner ≡ (is_granted table.old.items v object partner && not ((t.0 == partner) && has_grant grants.now.keys object v)) }
+    ensures few { length table.old.items ≤ 65536 → length table.new.items ≤ 65536 }
 {
     for grant in grants.iter() {
         let back = Grant {
@@ -197,4 +204,36 @@ pub(crate) fn list_of<A: Allocator + Copy>(
         Some(grants) => listed(alloc, grants),
         None => Ok(Vec::new(alloc)),
     }
+}
+
+// Puts the permits that these grants of a transaction are behind others. `Err` where there is no memory.
+fn put_permits<A: Allocator + Copy>(
+    permits: &mut Vec<Permit, A>,
+    to: TxnId,
+    grants: &Grants<A>,
+) -> Result<(), AllocError>
+    ensures put { OnOk result (permits.new.items ≡ permits.old.items ++ permits_to to grants.now.keys) }
+    ensures ascending { IsStrictlySortedBy grant_cmp grants.now.keys }
+{
+    for grant in grants.iter() {
+        permits.push(Permit {
+            by: grant.partner,
+            to,
+            object: grant.object,
+        })?;
+    }
+    Ok(())
+}
+
+/// The grants of all transactions as one list of permits, in order. `Err` where there is no memory.
+pub(crate) fn permits<A: Allocator + Copy>(table: &Granted<A>) -> Result<Vec<Permit, A>, AllocError>
+    requires { length table.now.items ≤ 65536 }
+    ensures listed { IfOk result (λ list. (h t object : ℕ) → is_listed list.items h t object ≡ is_granted table.now.items t object h) }
+    ensures ascending { IfOk result (λ list. IsStrictlySortedBy permit_cmp list.items) }
+{
+    let mut permits = Vec::new(*table.allocator());
+    for (to, grants) in table.iter().enumerate() {
+        put_permits(&mut permits, TxnId(to as u16), grants)?;
+    }
+    Ok(permits)
 }

@@ -1,11 +1,12 @@
 ghost use Rattle.std.specs.Prelude.{◌≡◌, ℕ, IfOk, OnOk, OnErr};
 ghost use Rattle.std.specs.List.Sorted.{IsStrictlySortedBy};
 ghost use Rattle.acta_sets.specs.Operations.{is_among};
-ghost use Rattle.acta_sets.specs.Permits.{none_permitted, with_permit, without_permits, has_grant, grant_cmp, permitted};
+ghost use Rattle.acta_sets.specs.Permits.{none_permitted, with_permit, without_permits, has_grant, grant_cmp, is_listed, permit_cmp, permitted};
 
 use crate::grant::Grant;
 use crate::granted;
 use crate::granted::Granted;
+use crate::permit::Permit;
 use acta_table::{ObjId, TxnId};
 use std::alloc::{AllocError, Allocator};
 
@@ -20,7 +21,7 @@ pub struct Permits<A: Allocator> {
 }
 
 impl<A: Allocator> std::marker::Model for Permits<A> {
-    ghost use Rattle.std.specs.Prelude.{List};
+    ghost use Rattle.std.specs.Prelude.{List, ◌≤◌, length};
     ghost use Rattle.acta_sets.specs.declared.grant.Grant.{Grant as the_grant};
     ghost use Rattle.acta_sets.specs.inside.Granted.{grant_lists, AreMirrored};
 
@@ -28,7 +29,10 @@ impl<A: Allocator> std::marker::Model for Permits<A> {
 
     ghost view = { λ p. grant_lists p.taken.items };
 
-    ghost invariant = { λ p. AreMirrored p.taken.items p.given.items };
+    ghost invariant = { λ p. record {
+      mirrored : AreMirrored p.taken.items p.given.items;
+      few : length p.taken.items ≤ 65536;
+    } };
 }
 
 impl<A: Allocator + Copy> Permits<A> {
@@ -96,6 +100,15 @@ impl<A: Allocator + Copy> Permits<A> {
         ensures given { IfOk result (λ grants. (h object : ℕ) → has_grant grants.items object h ≡ permitted self.now h t.0 object) }
     {
         granted::list_of(&self.taken, t.0)
+    }
+
+    /// All permits in force, each once: ascending by who was permitted, then by object, then by who has permitted it.
+    /// `Err` where there is no memory.
+    pub fn listed(&self) -> Result<Vec<Permit, A>, AllocError>
+        ensures ascending { IfOk result (λ list. IsStrictlySortedBy permit_cmp list.items) }
+        ensures listed { IfOk result (λ list. (h t object : ℕ) → is_listed list.items h t object ≡ permitted self.now h t object) }
+    {
+        granted::permits(&self.taken)
     }
 
     /// The same permits, in memory of their own. `Err` where there is no memory.

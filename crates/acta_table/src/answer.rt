@@ -6,7 +6,7 @@ ghost use Rattle.acta_table.specs.Numbers.{rule_number};
 use crate::event::{Ret, TxnId};
 
 /// How a transaction stands (ACTA's significant events, read as a state).
-#[derive(Clone, Copy, PartialEq, Eq, Debug)]
+#[derive(Clone, Copy, PartialEq, Eq, Hash, Debug)]
 pub enum Status {
     NotBegun,
     InProgress,
@@ -17,7 +17,7 @@ pub enum Status {
 }
 
 /// What became of an operation (ACTA's commit and abort of operations).
-#[derive(Clone, Copy, PartialEq, Eq, Debug)]
+#[derive(Clone, Copy, PartialEq, Eq, Hash, Debug)]
 pub enum Fate {
     InProgress,
     Committed,
@@ -25,7 +25,7 @@ pub enum Fate {
 }
 
 /// The rules by which an event is refused, in the order in which they are read (our numbering).
-#[derive(Clone, Copy, PartialEq, Eq, Debug)]
+#[derive(Clone, Copy, PartialEq, Eq, Hash, Debug)]
 pub enum Rule {
     Full = 1,
     BadNumber = 2,
@@ -67,7 +67,7 @@ impl Rule {
 }
 
 /// A broken rule, with the smallest number that breaks it where the rule names one.
-#[derive(Clone, Copy, PartialEq, Eq, Debug)]
+#[derive(Clone, Copy, PartialEq, Eq, Hash, Debug)]
 pub struct Refusal {
     pub rule: Rule,
     pub by: Option<u32>,
@@ -115,7 +115,7 @@ pub fn smallest_of(j: TxnId, is_j: bool, i: TxnId, is_i: bool) -> Option<u32>
 }
 
 /// What a machine says of an event.
-#[derive(Clone, Copy, PartialEq, Eq, Debug)]
+#[derive(Clone, Copy, PartialEq, Eq, Hash, Debug)]
 pub enum Answer {
     /// It has this place in the history, from 1; an operation has its return.
     Admitted { place: u32, ret: Option<Ret> },

@@ -297,18 +297,18 @@ impl Edge {
 }
 
 /// The number of an edge among those in force, in order of forming, from 1.
-#[derive(Clone, Copy, PartialEq, Eq, Debug)]
+#[derive(Clone, Copy, PartialEq, Eq, Hash, Debug)]
 pub struct EdgeNo(pub u64);
 
 /// The one event that would pay a debt (ours).
-#[derive(Clone, Copy, PartialEq, Eq, Debug)]
+#[derive(Clone, Copy, PartialEq, Eq, Hash, Debug)]
 pub enum Missing {
     Commit,
     Abort,
 }
 
 /// A debt: by the edge of this number the transaction owes an event (ours).
-#[derive(Clone, Copy, PartialEq, Eq, Debug)]
+#[derive(Clone, Copy, PartialEq, Eq, Hash, Debug)]
 pub struct Owed {
     pub edge: EdgeNo,
     pub txn: TxnId,

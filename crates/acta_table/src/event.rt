@@ -10,19 +10,19 @@ use std::alloc::{AllocError, Allocator};
 pub struct TxnId(pub u16);
 
 /// The position of a class in its model's list, from 0.
-#[derive(Clone, Copy, PartialEq, Eq, Debug)]
+#[derive(Clone, Copy, PartialEq, Eq, Hash, Debug)]
 pub struct ClassId(pub u8);
 
 /// The position of an object in its model's list, from 0.
-#[derive(Clone, Copy, PartialEq, Eq, Debug)]
+#[derive(Clone, Copy, PartialEq, Eq, Hash, Debug)]
 pub struct ObjId(pub u16);
 
 /// The number of an operation among the operations of a history, from 1.
-#[derive(Clone, Copy, PartialEq, Eq, Debug)]
+#[derive(Clone, Copy, PartialEq, Eq, Hash, Debug)]
 pub struct OpNo(pub u32);
 
 /// An operation on an object (ACTA's object event; the kinds of object are ours).
-#[derive(Clone, Copy, PartialEq, Eq, Debug)]
+#[derive(Clone, Copy, PartialEq, Eq, Hash, Debug)]
 pub enum Op {
     /// Returns the value of a register.
     Read,
@@ -43,7 +43,7 @@ pub enum Op {
 }
 
 /// What an operation returns.
-#[derive(Clone, Copy, PartialEq, Eq, Debug)]
+#[derive(Clone, Copy, PartialEq, Eq, Hash, Debug)]
 pub enum Ret {
     /// It was done, and there is nothing to tell.
     Done,
@@ -54,7 +54,7 @@ pub enum Ret {
 }
 
 /// The kinds of event. All but `Operate` are ACTA's significant events and their like.
-#[derive(Clone, Copy, PartialEq, Eq, Debug)]
+#[derive(Clone, Copy, PartialEq, Eq, Hash, Debug)]
 pub enum EventKind {
     Begin,
     Spawn,

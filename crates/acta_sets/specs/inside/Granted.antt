@@ -3,6 +3,7 @@ use Rattle.std.specs.Prelude.{◌≡◌, ◌≤◌, ℕ, Bool, true, List, [], m
 use Rattle.std.specs.BTreeSet.{BTreeSet}
 use Rattle.acta_table.specs.declared.event.TxnId.{TxnId}
 use Rattle.acta_sets.specs.declared.grant.Grant.{Grant}
+use Rattle.acta_sets.specs.declared.permit.Permit.{Permit}
 use Rattle.acta_sets.specs.Permits.{has_grant}
 
 -- the sets as lists
@@ -20,6 +21,10 @@ is_granted table at object partner = has_grant (grants_at table at) object partn
 -- the partners of grants
 abbrev pub partners_of : List Grant → List TxnId
 partners_of grants = map (λ g. g.partner) grants
+
+-- the permits that these grants of a transaction are
+abbrev pub permits_to : TxnId → List Grant → List Permit
+permits_to to grants = map (λ g. record { by = g.partner; to = to; object = g.object }) grants
 
 -- whatever a transaction was permitted stands with the one that has permitted it too, whose number is a 16-bit one
 abbrev pub AreMirrored : List (BTreeSet Grant) → List (BTreeSet Grant) → Type 0

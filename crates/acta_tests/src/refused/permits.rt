@@ -121,6 +121,12 @@ impl<'a, 's, R: Abort, A: Handle> Case for Asking<'a, 's, R, A> {
         let (rt, mut text) = (self.changing.on.rt, String::new(self.changing.on.other));
         match self.call {
             "given" => put(rt, &mut text, &permits.given_to(TxnId(2)).ok()?.len()),
+            "listed" => {
+                for permit in &permits.listed().ok()? {
+                    let (h, t, object) = (permit.by.0, permit.to.0, permit.object.0);
+                    made(rt, write!(text, " {h}>{t}@{object}"), "a text");
+                }
+            }
             "permitters" => {
                 let permitters = permits.permitters(TxnId(2), ObjId(0)).ok()?;
                 put(rt, &mut text, &permitters.as_slice());
@@ -161,8 +167,9 @@ ended 2 --";
 // How many changes are made before permits are asked.
 const GIVEN: usize = 7;
 
-const ANSWERS: [(&str, &str); 3] = [
+const ANSWERS: [(&str, &str); 4] = [
     ("given", " 4"),
+    ("listed", " 2>1@0 1>2@0 3>2@0 5>2@0 1>2@1 2>5@3"),
     ("permitters", " [TxnId(1), TxnId(3), TxnId(5)]"),
     ("copy", " true"),
 ];

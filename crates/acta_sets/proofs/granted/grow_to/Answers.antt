@@ -11,4 +11,5 @@ loop-preserved g c = record {
       ∙ ap (λ gs. has_grant gs object partner) (grants_at-more c.loop.table.items c.new.result v c.new.ensures.empty)
       ∙ c.loop.invariant.same v object partner;
   long = omega (arith, c.in_ok-push.ensures.len, c.loop.invariant.long);
+  few = λ few. omega (arith, c.in_ok-push.ensures.len, c.loop.invariant.long);
 }

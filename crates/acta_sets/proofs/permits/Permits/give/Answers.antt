@@ -14,8 +14,11 @@ returns-in_err-add-2-clause-err g c = on_err c.from_residual-in_err-add-2.result
 pub invariant_of-self-2 : goal.invariant_of-self-2
 invariant_of-self-2 g c =
     let small : c.args.h.0 ≤ 65535 = omega arith in
-    AreMirrored-more c.self.inside.taken.items c.add-2.new.table.items c.self.inside.given.items c.add.new.table.items c.args.h.0 c.args.t.0 c.args.ob.0
-    small c.in_ok-add-2.ensures.ok c.in_ok-add.ensures.ok c.self.invariant
+    record {
+      mirrored = AreMirrored-more c.self.inside.taken.items c.add-2.new.table.items c.self.inside.given.items c.add.new.table.items c.args.h.0 c.args.t.0 c.args.ob.0
+          small c.in_ok-add-2.ensures.ok c.in_ok-add.ensures.ok c.self.invariant.mirrored;
+      few = c.add-2.ensures.few c.self.invariant.few;
+    }
 
 pub returns-clause-ok : goal.returns-clause-ok
 returns-clause-ok g c =

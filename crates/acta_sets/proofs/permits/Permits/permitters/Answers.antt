@@ -10,6 +10,6 @@ returns g c =
     let taken = c.self.inside.taken.items in
     IfOk-weaker c.partners.result _ _
     (λ hs found h.
-    found h ∙ small-and (is_granted taken c.args.t.0 c.args.ob.0 h.0) h.0 (c.self.invariant.small h.0 c.args.t.0 c.args.ob.0)
+    found h ∙ small-and (is_granted taken c.args.t.0 c.args.ob.0 h.0) h.0 (c.self.invariant.mirrored.small h.0 c.args.t.0 c.args.ob.0)
     ∙ permitted-is taken h.0 c.args.t.0 c.args.ob.0 ∙ ap (λ p. permitted p h.0 c.args.t.0 c.args.ob.0) c.self.view_is)
     c.partners.ensures

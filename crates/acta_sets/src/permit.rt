@@ -1,0 +1,9 @@
+use acta_table::{ObjId, TxnId};
+
+/// A permit in force: `by` has permitted `to` to work on the object beside it.
+#[derive(Clone, Copy, PartialEq, Eq, Hash, Debug)]
+pub struct Permit {
+    pub by: TxnId,
+    pub to: TxnId,
+    pub object: ObjId,
+}
