@@ -1,5 +1,5 @@
 -- Where a number stands last in a list, and what a push or a pop leaves of that.
-use Rattle.std.proofs.Common.{◌≡◌, ℕ, zero, suc, ◌+◌, ◌<◌, ◌≤◌, Bool, true, false, ◌==◌, List, [], ◌∷◌, ◌++◌, length, take, get_or, slice_set, refl, sym, ap, ◌∙◌, inl, inr, arith, if◌then◌else◌, add-one, replicate}
+use Rattle.std.proofs.Common.{◌≡◌, ℕ, zero, suc, ◌+◌, ◌<◌, ◌≤◌, Bool, true, false, ◌==◌, List, [], ◌∷◌, ◌++◌, length, take, get_or, slice_set, refl, sym, ap, ◌∙◌, inl, inr, arith, if◌then◌else◌, add-one}
 use Rattle.std.proofs.lemmas.Bool.{cond_both, cases_eq, cases_lt, eq-eqb, ne_eqb, eqb-true}
 use Rattle.std.proofs.lemmas.List.{get_or_append_left, get_or-take, get_or_push, get_or_past, get_or-set_same, get_or-set_other, length_push, length-take-le}
 use Rattle.acta_deps.specs.inside.Places.{latest}
@@ -134,9 +134,3 @@ before_popped ts before n h befores k l =
     ∙ befores k (omega arith)
     ∙ sym (latest_take ts n (get_or ts k 0) k (omega arith))
     ∙ ap (λ u. latest (take n ts) u k) (sym (get_or-take n ts k 0 (omega arith)))
-
--- in a table of zeros each place is that of an empty list
-pub at_zeros : (n t : ℕ) → get_or {A = ℕ} (replicate n 0) t 0 ≡ 0
-at_zeros zero t = refl
-at_zeros (suc n) zero = refl
-at_zeros (suc n) (suc t) = at_zeros n t

@@ -12,8 +12,8 @@ use Rattle.acta_table.specs.declared.answer.Rule.TheVariants.{BeginDep, SerialDe
 use Rattle.acta_table.specs.declared.answer.Status.{Status}
 use Rattle.acta_table.specs.declared.answer.Status.TheVariants.{NotBegun, InProgress, Committed, Aborted, Joined}
 use Rattle.acta_table.specs.Numbered.{item_at, first_number}
-use Rattle.acta_table.specs.Refusals.{broken_by, first_of}
-use Rattle.acta_deps.specs.Debts.{owes_both, owing_both, clashing, owes_commit, owes_abort}
+use Rattle.acta_table.specs.Refusals.{broken_by}
+use Rattle.acta_deps.specs.Debts.{owing_both, clashing, owes_commit, owes_abort}
 use Rattle.acta_deps.specs.Dependencies.{depends, is_awaited, awaits_begin, awaits_end, awaits_commit, awaits_abort, ends_after, committed_first, began_first, cannot_pay_commit, cannot_pay_abort, begin_dep, serial_dep, begin_on_commit, begin_on_abort, termination_dep, owing_abort, owing_commit, commit_order, weak_begin, unpayable_commit, unpayable_abort, clash, start_refusal, commit_refusal, abort_refusal, join_refusal, refusal_to}
 use Rattle.acta_deps.specs.Statuses.{with_status}
 use Rattle.acta_deps.specs.inside.Bars.{owes}

@@ -1,4 +1,4 @@
-ghost use Rattle.std.specs.Prelude.{◌≡◌, true, ◌<◌, ◌≤◌, ◌+◌, ◌-◌, [], None, Some, IfOk, IfSome, OnOk, OnErr, length, take, replicate, map, false, ℕ};
+ghost use Rattle.std.specs.Prelude.{◌≡◌, true, ◌<◌, ◌≤◌, ◌+◌, ◌-◌, [], None, Some, IfOk, IfSome, OnOk, OnErr, length, take, map, false, ℕ};
 ghost use Rattle.std.specs.List.{All};
 ghost use Rattle.acta_table.specs.Edges.{formed, is_among};
 ghost use Rattle.acta_table.specs.WellFormed.{is_bad_number};
@@ -12,14 +12,15 @@ use crate::clash::Change;
 use crate::edge_list::EdgeList;
 use crate::forming::new_among;
 use crate::places::Places;
-use crate::refused::{ROOM, Refused, keep_refused, refusal_among};
-use acta_table::{Edge, LAST_TXN, MOST_EDGES, Refusal, Status, TABLE_SIZE, TxnId};
+use crate::refused::{Refused, keep_refused, refusal_among};
+use acta_table::{Edge, LAST_TXN, MOST_EDGES, Refusal, Status, TABLE_SIZE, TxnId, lengthen};
 use std::alloc::{AllocError, Allocator};
 
 /// How the transactions stand, and the edges in force among them (ACTA's dependencies, kept as a
 /// list). Contracts see the list of statuses by number, and that of edges in order of forming.
 #[derive(Drop)]
 pub struct Deps<A: Allocator> {
+    // By the number of the transaction. One past the end has not begun.
     statuses: Vec<Status, A>,
     edges: EdgeList<A>,
     // What was refused since the last change of a status or an edge: a refusal stands until then.
@@ -27,7 +28,7 @@ pub struct Deps<A: Allocator> {
 }
 
 impl<A: Allocator> std::marker::Model for Deps<A> {
-    ghost use Rattle.std.specs.Prelude.{◌≡◌, ℕ, false, length, slice_get, Some};
+    ghost use Rattle.std.specs.Prelude.{◌≡◌, ◌≤◌, ℕ, false, length};
     ghost use Rattle.acta_table.specs.declared.answer.Status.{Status};
     ghost use Rattle.acta_table.specs.declared.limits.TheConstants.{TABLE_SIZE};
     ghost use Rattle.acta_deps.specs.Deps.{DepState, status_listed};
@@ -39,19 +40,11 @@ impl<A: Allocator> std::marker::Model for Deps<A> {
     ghost view = { λ d. record { statuses = d.statuses.items; edges = d.edges } };
 
     ghost invariant = { λ d. record {
-      table : length d.statuses.items ≡ TABLE_SIZE;
-      nobody : slice_get d.statuses.items 0 ≡ Some Status.NotBegun;
+      few : length d.statuses.items ≤ TABLE_SIZE;
+      nobody : status_listed d.statuses.items 0 ≡ Status.NotBegun;
       clear : (u : ℕ) → owes_both (status_listed d.statuses.items) d.edges u ≡ false;
       refused : AreRefused (status_listed d.statuses.items) d.edges d.refused.items;
     } };
-}
-
-// A table of so many numbers of transactions that have not begun.
-fn fresh<A: Allocator>(alloc: A, count: usize) -> Result<Vec<Status, A>, AllocError>
-    ensures { IfOk result (λ statuses. statuses.items ≡ replicate count Status.NotBegun) }
-{
-    let status = Status::NotBegun;
-    vec![in alloc; status; count]
 }
 
 impl<A: Allocator> Deps<A> {
@@ -84,10 +77,28 @@ impl<A: Allocator> Deps<A> {
         let _ = &self.statuses;
     }
 
+    /// No transaction of this number or above has begun.
+    pub fn known_txns(&self) -> usize
+        ensures new { (t : ℕ) → result ≤ t → status_of self.now t ≡ Status.NotBegun }
+        ensures few { result ≤ TABLE_SIZE }
+    {
+        self.statuses.len()
+    }
+
+    /// Makes room for the status of `t`, a number up to 16,383. `Err` where there is no memory. Nobody's status changes.
+    pub fn make_room(&mut self, t: TxnId) -> Result<(), AllocError>
+        requires { t.0 ≤ LAST_TXN }
+        ensures room { OnOk result (t.0 < length self.new.statuses) }
+        ensures status { status_of self.new ≡ status_of self.old }
+        ensures edges { self.new.edges ≡ self.old.edges }
+    {
+        lengthen(&mut self.statuses, t.0 as usize + 1, Status::NotBegun)
+    }
+
     // From now on `t` stands so, and then nobody owes both a commit and an abort.
     fn set(&mut self, t: TxnId, status: Status)
         requires low { 0 < t.0 }
-        requires high { t.0 ≤ LAST_TXN }
+        requires room { t.0 < length self.old.statuses }
         requires clear { (u : ℕ) → owes_both (with_status (status_of self.old) t.0 status) self.old.edges u ≡ false }
         ensures status { status_of self.new ≡ with_status (status_of self.old) t.0 status }
         ensures edges { self.new.edges ≡ self.old.edges }
@@ -96,11 +107,11 @@ impl<A: Allocator> Deps<A> {
         self.refused.clear();
     }
 
-    /// `t`, a number from 1 to 16,383 that has not begun, begins. Ask `may_start` first.
+    /// `t`, a number from 1 to 16,383 that has not begun, begins. Ask `may_start` first, and then for room, by `make_room`.
     #[tactic(auto, using(crate::proofs::Clear::start_clear))]
     pub fn started(&mut self, t: TxnId)
         requires low { 0 < t.0 }
-        requires high { t.0 ≤ LAST_TXN }
+        requires room { t.0 < length self.old.statuses }
         requires stands { status_of self.old t.0 ≡ Status.NotBegun }
         requires allowed { start_refusal (status_of self.old) self.old.edges t.0 ≡ None }
         ensures status { status_of self.new ≡ with_status (status_of self.old) t.0 Status.InProgress }
@@ -199,15 +210,15 @@ impl<A: Allocator> Deps<A> {
 }
 
 impl<A: Allocator + Copy> Deps<A> {
-    /// All transactions have not begun, and no edge is in force. `Err` where there is no memory.
-    pub fn new(alloc: A) -> Result<Deps<A>, AllocError>
-        ensures { IfOk result (λ deps. deps ≡ record { statuses = replicate TABLE_SIZE Status.NotBegun; edges = [] }) }
+    /// No transaction has begun, and no edge is in force. Takes no memory.
+    pub fn new(alloc: A) -> Deps<A>
+        ensures { result ≡ record { statuses = []; edges = [] } }
     {
-        Ok(Deps {
-            statuses: fresh(alloc, TABLE_SIZE)?,
-            edges: EdgeList::new(alloc)?,
-            refused: Vec::with_capacity(alloc, ROOM)?,
-        })
+        Deps {
+            statuses: Vec::new(alloc),
+            edges: EdgeList::new(alloc),
+            refused: Vec::new(alloc),
+        }
     }
 
     /// The allocator of the lists.
@@ -255,7 +266,7 @@ impl<A: Allocator + Copy> Deps<A> {
         Ok(Deps {
             statuses: Vec::from_slice(self.allocator(), &self.statuses)?,
             edges: self.edges.copy()?,
-            refused: Vec::with_capacity(self.allocator(), ROOM)?,
+            refused: Vec::new(self.allocator()),
         })
     }
 }

@@ -168,15 +168,15 @@ fn copy_of<A: Allocator + Copy>(edges: &Formed<A>) -> Result<Formed<A>, AllocErr
 }
 
 impl<A: Allocator + Copy> EdgeList<A> {
-    /// No edge. `Err` where there is no memory.
-    pub(crate) fn new(alloc: A) -> Result<EdgeList<A>, AllocError>
-        ensures { IfOk result (λ edges. edges ≡ []) }
+    /// No edge. Takes no memory.
+    pub(crate) fn new(alloc: A) -> EdgeList<A>
+        ensures { result ≡ [] }
     {
-        Ok(EdgeList {
+        EdgeList {
             edges: IndexSet::new(alloc),
-            by_j: Places::new(alloc)?,
-            by_i: Places::new(alloc)?,
-        })
+            by_j: Places::new(alloc),
+            by_i: Places::new(alloc),
+        }
     }
 
     /// The allocator of the lists.

@@ -1,7 +1,7 @@
-ghost use Rattle.std.specs.Prelude.{◌≡◌, ◌<◌, ◌≤◌, ◌-◌, ◌++◌, ◌∷◌, [], IfOk, OnOk, OnErr, length, take, get_or, replicate, vec_capacity};
+ghost use Rattle.std.specs.Prelude.{◌≡◌, ◌<◌, ◌≤◌, ◌-◌, ◌++◌, ◌∷◌, [], IfOk, OnOk, OnErr, length, take, get_or, vec_capacity};
 ghost use Rattle.acta_deps.specs.inside.Places.{latest};
 
-use acta_table::{LAST_TXN, MOST_EDGES, TABLE_SIZE, TxnId};
+use acta_table::{LAST_TXN, MOST_EDGES, TxnId, lengthen};
 use std::alloc::{AllocError, Allocator};
 
 /// A list of at most 16,384 transactions, of the numbers 0 to 16,383, in which each one's places are linked: from the last
@@ -15,7 +15,7 @@ pub(crate) struct Places<A: Allocator> {
 
 impl<A: Allocator> std::marker::Model for Places<A> {
     ghost use Rattle.std.specs.Prelude.{◌≡◌, ◌≤◌, ◌<◌, ℕ, List, length, get_or};
-    ghost use Rattle.acta_table.specs.declared.limits.TheConstants.{MOST_EDGES, TABLE_SIZE};
+    ghost use Rattle.acta_table.specs.declared.limits.TheConstants.{MOST_EDGES};
     ghost use Rattle.acta_deps.specs.inside.Places.{latest};
 
     ghost Value = { List ℕ };
@@ -23,7 +23,6 @@ impl<A: Allocator> std::marker::Model for Places<A> {
     ghost view = { λ p. p.txns.items };
 
     ghost invariant = { λ p. record {
-      table : length p.last.items ≡ TABLE_SIZE;
       linked : length p.before.items ≡ length p.txns.items;
       few : length p.txns.items ≤ MOST_EDGES;
       lasts : (t : ℕ) → get_or p.last.items t 0 ≡ latest p.txns.items t (length p.txns.items);
@@ -76,6 +75,7 @@ impl<A: Allocator> Places<A> {
     {
         self.txns.reserve(1)?;
         self.before.reserve(1)?;
+        lengthen(&mut self.last, t.0 as usize + 1, 0)?;
         put(&mut self.before, self.last[t.0 as usize]);
         put(&mut self.txns, t.0);
         self.last[t.0 as usize] = self.txns.len() as u16;
@@ -104,24 +104,16 @@ impl<A: Allocator> Places<A> {
     }
 }
 
-// So many times 0.
-fn zeros<A: Allocator>(alloc: A, count: usize) -> Result<Vec<u16, A>, AllocError>
-    ensures { IfOk result (λ zeros. zeros.items ≡ replicate count 0) }
-{
-    let zero: u16 = 0;
-    vec![in alloc; zero; count]
-}
-
 impl<A: Allocator + Copy> Places<A> {
-    /// No transaction. `Err` where there is no memory.
-    pub(crate) fn new(alloc: A) -> Result<Places<A>, AllocError>
-        ensures { IfOk result (λ places. places ≡ []) }
+    /// No transaction. Takes no memory.
+    pub(crate) fn new(alloc: A) -> Places<A>
+        ensures { result ≡ [] }
     {
-        Ok(Places {
+        Places {
             txns: Vec::new(alloc),
-            last: zeros(alloc, TABLE_SIZE)?,
+            last: Vec::new(alloc),
             before: Vec::new(alloc),
-        })
+        }
     }
 
     /// The same list, in memory of its own. `Err` where there is no memory.

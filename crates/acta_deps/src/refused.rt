@@ -11,8 +11,8 @@ use crate::places::put;
 use acta_table::Refusal;
 use std::alloc::Allocator;
 
-/// For how many refusals there is room.
-pub(crate) const ROOM: usize = 64;
+// For how many refusals there is room, from the first one on.
+const ROOM: usize = 64;
 
 /// A change that was refused.
 #[derive(Clone, Copy)]
@@ -33,10 +33,21 @@ pub(crate) fn refusal_among(refused: &[Refused], change: Change) -> Option<Refus
     None
 }
 
-/// Puts a change among those that were refused, where there is room for it, or else begins anew. Takes no memory.
+// Gets the room for refusals, where there is none yet. A want of memory changes nothing.
+fn get_room<A: Allocator>(refused: &mut Vec<Refused, A>)
+    ensures { refused.new.items ≡ refused.old.items }
+{
+    if refused.capacity() == 0 {
+        let _ = refused.reserve(ROOM);
+    }
+}
+
+/// Puts a change among those that were refused, where there is room for it, or else begins anew. Where there is no memory
+/// for the room, the change isn't kept: it is judged again when it comes again.
 pub(crate) fn keep_refused<A: Allocator>(refused: &mut Vec<Refused, A>, one: Refused)
     ensures { (status : ℕ → Stand) → (edges : List Edge) → AreRefused status edges refused.old.items → refusal_upon status edges one.change ≡ Some one.refusal → AreRefused status edges refused.new.items }
 {
+    get_room(refused);
     if refused.len() < refused.capacity() {
         put(refused, one);
     } else {

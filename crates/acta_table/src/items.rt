@@ -1,4 +1,4 @@
-ghost use Rattle.std.specs.Prelude.{◌≡◌, [], IfOk};
+ghost use Rattle.std.specs.Prelude.{◌≡◌, ◌≤◌, [], ℕ, IfOk, OnOk, get_or, length, max};
 
 use std::alloc::{AllocError, Allocator};
 
@@ -57,4 +57,21 @@ impl<T: Copy, A: Allocator + Copy> Items<T, A> {
             items: Vec::from_slice(self.allocator(), self.as_slice())?,
         })
     }
+}
+
+/// Makes the list so long, where it is shorter, by this item put behind the others as often as that takes. `Err` where
+/// there is no memory, and then the list stays as it was.
+pub fn lengthen<T: Copy, A: Allocator>(
+    items: &mut Vec<T, A>,
+    count: usize,
+    item: T,
+) -> Result<(), AllocError>
+    ensures same { (k : ℕ) → get_or items.new.items k item ≡ get_or items.old.items k item }
+    ensures room { OnOk result (count ≤ length items.new.items) }
+    ensures few { length items.new.items ≤ max (length items.old.items) count }
+{
+    if items.len() < count {
+        items.resize(count, item)?;
+    }
+    Ok(())
 }

@@ -17,7 +17,7 @@ mod start_edges;
 pub use answer::{Answer, Fate, Refusal, Rule, Status, lesser, smallest_of};
 pub use dep::{Dep, DepKinds, Edge, EdgeNo, Missing, Owed};
 pub use event::{ClassId, Event, EventKind, Kept, ObjId, Op, OpNo, Ret, TxnId};
-pub use items::Items;
+pub use items::{Items, lengthen};
 pub use kinds::Kinds;
 pub use limits::{
     LAST_TXN, LONGEST_NAME, MOST_CLASSES, MOST_EDGES, MOST_EVENTS, MOST_OBJECTS, TABLE_SIZE,

@@ -63,11 +63,13 @@ fn form_more<A: Handle>(deps: &mut Deps<A>) -> Result<usize, AllocError> {
 }
 
 // The transaction starts, where it may.
-fn start<A: Handle>(deps: &mut Deps<A>, t: TxnId) {
+fn start<A: Handle>(deps: &mut Deps<A>, t: TxnId) -> Result<(), AllocError> {
     let refusal = deps.may_start(t);
     if refusal.is_none() && deps.status(t) == Status::NotBegun && 0 < t.0 && t.0 <= LAST_TXN {
+        deps.make_room(t)?;
         deps.started(t);
     }
+    Ok(())
 }
 
 // A table in which two transactions have started, and which has three edges or none, gets more edges.
@@ -83,9 +85,10 @@ impl<'a, 's, R: Abort, A: Handle> Case for Forming<'a, 's, R, A> {
     type Answer = usize;
 
     fn start(&self) -> Deps<A> {
-        let mut deps = made(self.on.rt, Deps::new(self.on.alloc), "a table");
-        start(&mut deps, TxnId(1));
-        start(&mut deps, TxnId(3));
+        let mut deps = Deps::new(self.on.alloc);
+        for t in [1, 3] {
+            made(self.on.rt, start(&mut deps, TxnId(t)), "a start");
+        }
         if self.has_edges {
             made(self.on.rt, form_three(&mut deps), "edges");
         }

@@ -8,7 +8,7 @@ pub returns-then-len-capacity : goal.returns-then-len-capacity
 returns-then-len-capacity g c =
     λ status edges all so.
     subst (AreRefused status edges) (sym c.put.ensures)
-    (All-push (λ one. refusal_upon status edges one.change ≡ Some one.refusal) c.args.refused.now.items c.args.one all so)
+    (All-push (λ one. refusal_upon status edges one.change ≡ Some one.refusal) c.get_room.new.refused.items c.args.one (subst (AreRefused status edges) (sym c.get_room.ensures) all) so)
 
 pub returns-else-len-capacity : goal.returns-else-len-capacity
 returns-else-len-capacity g c = λ status edges all so. none_refused status edges _ c.clear.ensures.items

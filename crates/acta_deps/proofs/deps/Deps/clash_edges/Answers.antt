@@ -1,4 +1,4 @@
-use Rattle.std.proofs.Common.{◌≡◌, ap, sym, ◌∙◌}
+use Rattle.std.proofs.Common.{sym, ◌∙◌}
 use Rattle.acta_table.specs.declared.dep.Missing.TheVariants.{Commit, Abort}
 use Rattle.acta_table.specs.Numbered.{first_number}
 use Rattle.acta_deps.specs.inside.Bars.{owes}

@@ -1,4 +1,4 @@
-use Rattle.std.proofs.Common.{◌≡◌, List, length, slice_get, ap, ◌∙◌}
+use Rattle.std.proofs.Common.{◌≡◌, ◌≤◌, List, length, ap, sym, subst, ◌∙◌}
 use Rattle.acta_table.specs.declared.dep.Edge.{Edge}
 use Rattle.acta_table.specs.declared.answer.Status.{Status}
 use Rattle.acta_deps.specs.Deps.{status_listed}
@@ -10,8 +10,8 @@ pub invariant_of-result : goal.invariant_of-result
 invariant_of-result g c =
     let same : c.in_ok-from_slice.field-0.items ≡ c.self.inside.statuses.items = c.in_ok-from_slice.ensures.items ∙ c.deref.ensures.value in
     record {
-      table = ap (λ (xs : List Status). length xs) same ∙ c.self.invariant.table;
-      nobody = ap (λ (xs : List Status). slice_get xs 0) same ∙ c.self.invariant.nobody;
+      few = subst (λ (xs : List Status). length xs ≤ 16384) (sym same) c.self.invariant.few;
+      nobody = ap (λ (xs : List Status). status_listed xs 0) same ∙ c.self.invariant.nobody;
       clear = λ u. ap (λ (xs : List Status). owes_both (status_listed xs) c.in_ok-copy.field-0 u) same ∙ ap (λ (es : List Edge). owes_both (status_listed c.self.inside.statuses.items) es u) c.in_ok-copy.ensures ∙ c.self.invariant.clear u;
-      refused = none_refused _ _ _ c.in_ok-with_capacity.ensures.items;
+      refused = none_refused _ _ _ c.new.ensures.items;
     }

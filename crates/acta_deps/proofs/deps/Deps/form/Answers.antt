@@ -15,7 +15,7 @@ invariant_of-self-then-count-gt0 g c =
     let s : ℕ → Status = status_listed c.self.inside.statuses.items in
     let unowed : All (λ e. debt_of s e ≡ None) c.args.more.now = subst (λ (d : DepState). All (λ e. debt_of (status_of d) e ≡ None) c.args.more.now) (sym c.self.view_is) c.requires.unowed in
     record {
-      table = c.self.invariant.table;
+      few = c.self.invariant.few;
       nobody = c.self.invariant.nobody;
       clear = λ u.
           ap (λ (es : List Edge). owes_both s es u) c.in_ok-form_all.ensures.formed
@@ -33,7 +33,7 @@ invariant_of-self-else-count-gt0 g c =
     let none : length c.as_slice.result.now - length c.edges-before.result.now ≤ 0 = c.if-count-gt0.false in
     let same : c.form_all.new.self ≡ c.self.inside.edges = formed_is ∙ nothing_formed c.self.inside.edges c.args.more.now (omega arith) in
     record {
-      table = c.self.invariant.table;
+      few = c.self.invariant.few;
       nobody = c.self.invariant.nobody;
       clear = λ u. ap (λ (es : List Edge). owes_both s es u) same ∙ c.self.invariant.clear u;
       refused = subst (λ (es : List Edge). AreRefused s es c.self.inside.refused.items) (sym same) c.self.invariant.refused;

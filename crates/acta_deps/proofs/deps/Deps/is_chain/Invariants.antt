@@ -1,4 +1,4 @@
-use Rattle.std.proofs.Common.{◌≡◌, ℕ, ◌+◌, ◌<◌, ◌≤◌, length, get_or}
+use Rattle.std.proofs.Common.{ℕ, ◌+◌, ◌<◌, ◌≤◌, get_or}
 use Rattle.acta_deps.specs.Deps.{status_of}
 use Rattle.acta_deps.specs.Waiting.{WaitsFor, nobody}
 use Rattle.acta_deps.proofs.deps.Deps.is_chain.Given as goal

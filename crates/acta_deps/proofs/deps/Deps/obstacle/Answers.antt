@@ -1,4 +1,4 @@
-use Rattle.std.proofs.Common.{◌≡◌, Some, None, sym, ap, ◌∙◌}
+use Rattle.std.proofs.Common.{Some, sym, ap, ◌∙◌}
 use Rattle.acta_table.specs.Numbered.{item_at}
 use Rattle.acta_deps.specs.Deps.{status_of}
 use Rattle.acta_table.proofs.FirstNumbers.{some-is, none-some}

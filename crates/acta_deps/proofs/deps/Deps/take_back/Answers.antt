@@ -9,7 +9,7 @@ use Rattle.acta_deps.proofs.deps.Deps.take_back.Goals as goal
 pub invariant_of-self : goal.invariant_of-self
 invariant_of-self g c =
     record {
-      table = c.self.invariant.table;
+      few = c.self.invariant.few;
       nobody = c.self.invariant.nobody;
       clear = λ u.
           ap (λ (es : List Edge). owes_both (status_listed c.self.inside.statuses.items) es u) c.truncate.ensures

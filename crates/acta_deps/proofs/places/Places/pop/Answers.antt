@@ -1,4 +1,4 @@
-use Rattle.std.proofs.Common.{◌≡◌, ◌<◌, ◌-◌, ◌∙◌, ℕ, suc, length, take, get_or, slice_set, arith, List, length-take, length-set}
+use Rattle.std.proofs.Common.{◌≡◌, ◌<◌, ◌-◌, ◌∙◌, ℕ, suc, length, take, get_or, slice_set, arith, List, length-take}
 use Rattle.std.proofs.lemmas.List.{get_or_read}
 use Rattle.acta_deps.specs.inside.Places.{latest}
 use Rattle.acta_deps.proofs.LastPlaces.{in_table, last_popped, before_popped}
@@ -32,7 +32,6 @@ invariant_of-self g c =
     let lasts : (u : ℕ) → get_or (slice_set last (get_or ts n 0) c.index.result.now) u 0 ≡ latest (take n ts) u (length (take n ts)) = last_popped ts last n c.index.result.now all known (x_is ∙ c.self.invariant.befores n within) c.self.invariant.lasts in
     let befores : (k : ℕ) → k < length (take n ts) → get_or (take n before) k 0 ≡ latest (take n ts) (get_or (take n ts) k 0) k = before_popped ts before n (omega arith) c.self.invariant.befores in
     record {
-      table = length-set last c.index-t.result.now c.index.result.now ∙ c.self.invariant.table;
       linked = rw (t_left, b_left, length-take, length-take) (omega arith);
       few = rw (t_left, length-take) (omega arith);
       lasts = λ u. rw (t_left, t_is) (lasts u);
