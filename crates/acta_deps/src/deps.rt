@@ -77,7 +77,7 @@ impl<A: Allocator> Deps<A> {
         let _ = &self.statuses;
     }
 
-    /// No transaction of this number or above has begun.
+    /// How far to look for transactions: none of this number or above has begun.
     pub fn known_txns(&self) -> usize
         ensures new { (t : ℕ) → result ≤ t → status_of self.now t ≡ Status.NotBegun }
         ensures few { result ≤ TABLE_SIZE }

@@ -1,17 +1,14 @@
 -- The edges that an event forms, where it breaks none of the rules before those on dependencies: they are between
 -- transactions that there can be, and nothing is owed by them yet.
-use Rattle.std.proofs.Common.{if◌then◌else◌, ◌≡◌, ℕ, ◌<◌, Bool, true, false, not, ◌&&◌, ◌||◌, List, [], ◌∷◌, length, get_or, filter, Option, Some, None, is_none, refl, sym, ap, ◌∙◌}
-use Rattle.std.specs.List.{All, list_any, list_all}
+use Rattle.std.proofs.Common.{if◌then◌else◌, ◌≡◌, ℕ, Bool, true, false, not, ◌&&◌, ◌||◌, List, [], ◌∷◌, filter, Option, Some, None, is_none, refl, sym, ap, ◌∙◌}
+use Rattle.std.specs.List.{list_any, list_all}
 use Rattle.std.specs.Option.{option_map_or}
-use Rattle.std.proofs.lemmas.Bool.{true≢false, and_parts, or_parts}
-use Rattle.std.proofs.lemmas.List.Folds.{list_all_at}
+use Rattle.std.proofs.lemmas.Bool.{true≢false, or_parts}
 use Rattle.acta_table.specs.declared.answer.Status.{Status}
 use Rattle.acta_table.specs.declared.answer.Status.TheVariants.{NotBegun, InProgress}
 use Rattle.acta_table.specs.declared.answer.Rule.TheVariants.{BadNumber, NotInProgress, AlreadyBegun, FormTooLate}
 use Rattle.acta_table.specs.declared.dep.Dep.{Dep}
 use Rattle.acta_table.specs.declared.dep.Edge.{Edge}
-use Rattle.acta_table.specs.declared.dep.Missing.{Missing}
-use Rattle.acta_table.specs.declared.event.ClassId.{ClassId}
 use Rattle.acta_table.specs.declared.event.Event.{Event}
 use Rattle.acta_table.specs.declared.event.Event.TheVariants.{Begin, Spawn, Split, Join, Delegate, Form, Operate, Commit, Abort, Permit}
 use Rattle.acta_table.specs.declared.event.ObjId.{ObjId}
@@ -29,7 +26,6 @@ use Rattle.acta_table.specs.Policies.{edges_upon}
 use Rattle.acta_table.specs.Starts.{directed}
 use Rattle.acta_table.specs.WellFormed.{is_bad_number, bad_number}
 use Rattle.acta_axioms.proofs.Holders.{all-upon}
-use Rattle.acta_deps.specs.Debts.{debt_of}
 use Rattle.acta_deps.specs.Statuses.{is_new, is_in_progress, has_ended}
 use Rattle.acta_deps.proofs.Clear.{undecided, not_ended, of_begin}
 use Rattle.acta_machine.specs.Changes.{edges_due}

@@ -1,5 +1,5 @@
 -- An operation that a rule names is there.
-use Rattle.std.proofs.Common.{◌≡◌, ℕ, not, true, false, List, Option, Some, None, sym, ap, ◌∙◌}
+use Rattle.std.proofs.Common.{◌≡◌, ℕ, not, false, List, Some, None, sym, ap, ◌∙◌}
 use Rattle.std.specs.Option.{option_map_or}
 use Rattle.std.proofs.lemmas.Bool.{true≢false}
 use Rattle.acta_table.specs.declared.event.OpNo.{OpNo}

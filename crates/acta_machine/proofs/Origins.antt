@@ -1,5 +1,5 @@
 -- The table of origins with one entry changed.
-use Rattle.std.proofs.Common.{◌≡◌, ℕ, ◌<◌, List, length, set, sym, ap, ◌∙◌, eq-eqb, inl, inr}
+use Rattle.std.proofs.Common.{◌≡◌, ℕ, ◌<◌, List, length, get_or, set, sym, ap, ◌∙◌, eq-eqb, inl, inr}
 use Rattle.std.specs.Prelude.{if◌then◌else◌}
 use Rattle.std.proofs.lemmas.Bool.{ne_eqb, cases_eq}
 use Rattle.std.proofs.lemmas.List.{get_or-set_other}
@@ -21,3 +21,7 @@ origin-entered show origins t o within u =
           ap show (get_or-set_other origins t u o unbegun ne ∙ sym (unwrap_or-slice_get origins u unbegun))
           ∙ sym (ap (λ b. if b then show o else show (origin_in origins u)) (ne_eqb u t ne))
     ]
+
+-- tables with the same entries show the same origins
+pub same_origins : (xs ys : List Origin) → ((u : ℕ) → get_or xs u unbegun ≡ get_or ys u unbegun) → (u : ℕ) → origin_in xs u ≡ origin_in ys u
+same_origins xs ys same u = unwrap_or-slice_get xs u unbegun ∙ same u ∙ sym (unwrap_or-slice_get ys u unbegun)

@@ -50,7 +50,6 @@ use Rattle.acta_axioms.specs.Permits.{is_permitted}
 use Rattle.acta_axioms.specs.inside.Lineages.{is_late}
 use Rattle.acta_axioms.specs.inside.Walking.{permits_behind}
 use Rattle.acta_table.specs.Events.{permits}
-use Rattle.acta_sets.specs.Permits.{Permitted}
 use Rattle.acta_axioms.proofs.Statuses.{is_under_way, is_ended_status, in_progress-status, has_begun-status, status_at-push}
 use Rattle.acta_axioms.proofs.Faultless.{IsFaultless, meets-none, meets-push, well_formed, faultless-begin, faultless-spawn, faultless-split, faultless-join, faultless-delegate, faultless-form, faultless-commit, faultless-abort, faultless-permit}
 use Rattle.acta_table.specs.declared.answer.Fate.TheVariants.{Committed, Aborted}

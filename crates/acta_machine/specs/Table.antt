@@ -1,6 +1,8 @@
 -- The written table: the answer to an event, the state after it, whole runs, and what readers show.
 use Rattle.std.specs.Prelude.{ℕ, ◌+◌, nat_lt, List, [], ◌∷◌, ◌++◌, length, if◌then◌else◌, Option, Some, None}
 use Rattle.acta_table.specs.declared.event.OpNo.{OpNo}
+use Rattle.acta_table.specs.declared.event.ClassId.{ClassId}
+use Rattle.acta_table.specs.declared.event.TxnId.{TxnId}
 use Rattle.acta_table.specs.declared.event.Event.{Event}
 use Rattle.acta_table.specs.declared.event.Kept.{Kept}
 use Rattle.acta_table.specs.declared.dep.Edge.{Edge}
@@ -14,6 +16,7 @@ use Rattle.acta_objects.specs.declared.state.ObjectState.{ObjectState}
 use Rattle.acta_deps.specs.Debts.{owed_in}
 use Rattle.acta_sets.specs.declared.held_op.HeldOp.{HeldOp}
 use Rattle.acta_sets.specs.Operations.{access_set, view_set}
+use Rattle.acta_sets.specs.Permits.{Permitted}
 use Rattle.acta_machine.specs.Families.{conflict_set_of}
 use Rattle.acta_machine.specs.Values.{value_of, return_due}
 use Rattle.acta_machine.specs.Rules.{lowest_broken}
@@ -76,6 +79,18 @@ run_state m events = after_all (fresh m) events
 -- how a transaction stands, as readers of a machine show it
 abbrev pub status_in : {A : Type 0} → State A → ℕ → Status
 status_in state t = (summary_of state.model state.kept).status t
+
+-- the class that a transaction began with
+abbrev pub class_in : {A : Type 0} → State A → ℕ → Option ClassId
+class_in state t = (summary_of state.model state.kept).class t
+
+-- the transaction that spawned it
+abbrev pub parent_in : {A : Type 0} → State A → ℕ → Option TxnId
+parent_in state t = (summary_of state.model state.kept).parent t
+
+-- whether h has permitted t to work on the object
+abbrev pub permitted_in : {A : Type 0} → State A → Permitted
+permitted_in state = (summary_of state.model state.kept).permits
 
 -- the value of an object
 abbrev pub value_in : {A : Type 0} → State A → ℕ → Option (ObjectState A)

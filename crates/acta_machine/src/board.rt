@@ -1,6 +1,6 @@
 //! All that a machine keeps, and the calls that read it.
 
-ghost use Rattle.std.specs.Prelude.{◌≡◌, ◌+◌, ◌<◌, ◌≤◌, [], true, false, map, length, IfOk, None, option_map};
+ghost use Rattle.std.specs.Prelude.{◌≡◌, ◌+◌, ◌<◌, ◌≤◌, [], true, false, map, length, ℕ, IfOk, None, option_map};
 ghost use Rattle.acta_table.specs.declared.answer.Status.{Status};
 ghost use Rattle.acta_table.specs.WellFormed.{is_bad_number};
 ghost use Rattle.acta_deps.specs.Debts.{owed_in};
@@ -23,7 +23,7 @@ use acta_objects::ObjectState;
 use acta_sets::{Handle, OpTable, Permits};
 use acta_table::{
     AtCommit, Class, ClassId, Event, Kept, MOST_EVENTS, Model, ObjId, OpNo, Owed, Ret, Scope,
-    Status, TxnId,
+    Status, TABLE_SIZE, TxnId,
 };
 use acta_values::Store;
 use std::alloc::{AllocError, Allocator};
@@ -49,6 +49,7 @@ impl Origin {
 pub(crate) struct Board<A: Handle> {
     pub(crate) model: Model<A>,
     pub(crate) deps: Deps<A>,
+    // By the number of the transaction. One past the end has not begun.
     pub(crate) origins: Vec<Origin, A>,
     pub(crate) store: Store<A>,
     pub(crate) permits: Permits<A>,
@@ -242,6 +243,17 @@ impl<A: Handle> Board<A> {
         matches!(self.status(t), Status::InProgress)
     }
 
+    /// No transaction of this number or above is in a table.
+    pub(crate) fn known_txns(&self) -> usize
+        requires { length self.now.origins.items ≤ TABLE_SIZE }
+        ensures status { (t : ℕ) → result ≤ t → (shown self.now).status t ≡ Status.NotBegun }
+        ensures class { (t : ℕ) → result ≤ t → (shown self.now).class t ≡ None }
+        ensures parent { (t : ℕ) → result ≤ t → (shown self.now).parent t ≡ None }
+        ensures few { result ≤ TABLE_SIZE }
+    {
+        self.deps.known_txns().max(self.origins.len())
+    }
+
     fn origin(&self, t: TxnId) -> Origin
         ensures { result ≡ origin_in self.now.origins.items t.0 }
     {
@@ -251,8 +263,8 @@ impl<A: Handle> Board<A> {
         }
     }
 
-    // The one that spawned the transaction.
-    fn parent(&self, t: TxnId) -> Option<TxnId>
+    /// The one that spawned the transaction.
+    pub(crate) fn parent(&self, t: TxnId) -> Option<TxnId>
         ensures { result ≡ (shown self.now).parent t.0 }
     {
         self.origin(t).parent

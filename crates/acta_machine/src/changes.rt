@@ -23,7 +23,7 @@ use crate::board::{Board, Origin};
 use acta_sets::Handle;
 use acta_table::{
     ClassId, Edge, Event, Fate, Kept, LAST_TXN, MOST_EDGES, MOST_EVENTS, ObjId, Op, OpSet,
-    TABLE_SIZE, TxnId,
+    TABLE_SIZE, TxnId, lengthen,
 };
 use std::alloc::AllocError;
 
@@ -85,15 +85,30 @@ impl<A: Handle> Board<A> {
         let _ = self.kept.push(kept);
     }
 
+    // Makes room for the transaction in the tables by number. `Err` where there is no memory. Nothing is changed.
+    fn make_entry(&mut self, t: TxnId) -> Result<(), AllocError>
+        requires high { t.0 ≤ LAST_TXN }
+        requires origins { length self.old.origins.items ≤ TABLE_SIZE }
+        ensures status { OnOk result (t.0 < length self.new.deps.statuses) }
+        ensures origin { OnOk result (t.0 < length self.new.origins.items) }
+        ensures origins { length self.new.origins.items ≤ TABLE_SIZE }
+        ensures shows { shown self.new ≡ shown self.old }
+        ensures others { self.new ≡ record self.old { deps = self.new.deps; origins = self.new.origins } }
+    {
+        self.deps.make_room(t)?;
+        lengthen(&mut self.origins, t.0 as usize + 1, Origin::UNBEGUN)
+    }
+
     #[tactic(auto, unfolding(crate::specs::Summary::stood))]
     fn begin(&mut self, t: TxnId, class: ClassId, parent: Option<TxnId>)
         requires low { 0 < t.0 }
-        requires high { t.0 ≤ LAST_TXN }
         requires stands { (shown self.old).status t.0 ≡ Status.NotBegun }
         requires allowed { start_refusal (shown self.old).status (shown self.old).edges t.0 ≡ None }
-        requires origins { length self.old.origins.items ≡ TABLE_SIZE }
+        requires status { t.0 < length self.old.deps.statuses }
+        requires origin { t.0 < length self.old.origins.items }
+        requires origins { length self.old.origins.items ≤ TABLE_SIZE }
         ensures shows { shown self.new ≡ begun (shown self.old) t class parent }
-        ensures origins { length self.new.origins.items ≡ TABLE_SIZE }
+        ensures origins { length self.new.origins.items ≤ TABLE_SIZE }
         ensures others { self.new ≡ record self.old { deps = self.new.deps; origins = self.new.origins } }
     {
         self.deps.started(t);
@@ -189,7 +204,7 @@ impl<A: Handle> Board<A> {
     // Changes how transactions, permits and operations stand. `Err` where there is no memory, and then nothing is changed.
     #[tactic(auto, unfolding(acta_table::specs::WellFormed::bad_number))]
     fn change(&mut self, event: &Event<A>) -> Result<(), AllocError>
-        requires origins { length self.old.origins.items ≡ TABLE_SIZE }
+        requires origins { length self.old.origins.items ≤ TABLE_SIZE }
         requires few { length self.old.store.items < MOST_EVENTS }
         requires number { bad_number event.now ≡ None }
         requires progress { not_in_progress (shown self.old) event.now ≡ None }
@@ -198,13 +213,20 @@ impl<A: Handle> Board<A> {
         requires named { option_map_or (λ t. are_held t (operations_named event.now) self.old.store.items) (acting event.now) true ≡ true }
         ensures shows { OnOk result (shown self.new ≡ changed self.old.model (shown self.old) event.now) }
         ensures err { OnErr result (shown self.new ≡ shown self.old) }
-        ensures origins { length self.new.origins.items ≡ TABLE_SIZE }
+        ensures origins { length self.new.origins.items ≤ TABLE_SIZE }
         ensures others { self.new ≡ record self.old { deps = self.new.deps; origins = self.new.origins; permits = self.new.permits; store = record self.old.store { items = self.new.store.items } } }
     {
         match event {
-            Event::Begin(t, class) => self.begin(*t, *class, None),
-            Event::Spawn(t, c, class) => self.begin(*c, *class, Some(*t)),
+            Event::Begin(t, class) => {
+                self.make_entry(*t)?;
+                self.begin(*t, *class, None);
+            }
+            Event::Spawn(t, c, class) => {
+                self.make_entry(*c)?;
+                self.begin(*c, *class, Some(*t));
+            }
             Event::Split(t, u, class, ops) => {
+                self.make_entry(*u)?;
                 self.give(*t, ops, *u)?;
                 self.begin(*u, *class, None);
             }
@@ -255,7 +277,7 @@ impl<A: Handle> Board<A> {
         due: &[Edge],
     ) -> Result<(), AllocError>
         requires room { length self.old.kept.items < vec_capacity self.old.kept }
-        requires origins { length self.old.origins.items ≡ TABLE_SIZE }
+        requires origins { length self.old.origins.items ≤ TABLE_SIZE }
         requires few { length self.old.store.items < MOST_EVENTS }
         requires fits { length (formed self.old.deps.edges due.now) ≤ MOST_EDGES }
         requires fresh { list_all (is_fresh_edge (shown self.old).status) due.now ≡ true }
@@ -268,7 +290,7 @@ impl<A: Handle> Board<A> {
         ensures kept { OnOk result (self.new.kept.items ≡ self.old.kept.items ++ kept ∷ []) }
         ensures model { self.new.model ≡ self.old.model }
         ensures kinds { self.new.store.kinds ≡ self.old.store.kinds }
-        ensures origins { length self.new.origins.items ≡ TABLE_SIZE }
+        ensures origins { length self.new.origins.items ≤ TABLE_SIZE }
         ensures err { OnErr result (shown self.new ≡ shown self.old) }
         ensures as_it_was { OnErr result (self.new.kept.items ≡ self.old.kept.items) }
     {

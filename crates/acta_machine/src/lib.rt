@@ -14,7 +14,7 @@ mod serial;
 
 pub use acta_deps::{Barring, Clash, NumberedEdge};
 pub use acta_objects::FormFault;
-pub use acta_sets::{Handle, HeldOp};
+pub use acta_sets::{Handle, HeldOp, Permit};
 pub use machine::{Formed, Machine, Run};
 pub use reason::{Lack, NumberedOp, Reason};
 pub use serial::SerialError;

@@ -1,31 +1,34 @@
-ghost use Rattle.std.specs.Prelude.{◌≡◌, ◌<◌, ◌≤◌, All, true, false, [], length, map, None, Some, Err, OnOk, OnErr, IfOk, IfSome, option_map, replicate};
+ghost use Rattle.std.specs.Prelude.{◌≡◌, ◌<◌, ◌≤◌, All, true, false, [], length, map, None, Some, Err, OnOk, OnErr, IfOk, IfSome, option_map, ℕ};
 ghost use Rattle.acta_table.specs.Faults.{lowest_fault};
 ghost use Rattle.acta_table.specs.WellFormed.{is_bad_number};
 ghost use Rattle.acta_machine.specs.Changes.{edges_due, summary_of};
 ghost use Rattle.acta_machine.specs.Rules.{lowest_broken};
-ghost use Rattle.acta_machine.specs.inside.Shown.{unbegun};
 ghost use Rattle.acta_axioms.specs.Claims.{status_at};
+ghost use Rattle.acta_axioms.specs.History.{class_number, parent_of};
+ghost use Rattle.acta_axioms.specs.Permits.{is_permitted};
+ghost use Rattle.acta_sets.specs.Permits.{is_listed, permit_cmp};
+ghost use Rattle.std.specs.List.Sorted.{IsStrictlySortedBy};
 ghost use Rattle.acta_axioms.specs.Edges as edges_by_places;
 ghost use Rattle.acta_axioms.specs.Legal as debts_by_places;
 ghost use Rattle.acta_axioms.specs.Operations as by_places;
 ghost use Rattle.acta_axioms.specs.Serial.{is_strict, serial_order, replayed};
 ghost use Rattle.acta_axioms.specs.SerialItems.{serial_items};
 ghost use Rattle.acta_machine.specs.Places.{FollowsPlaces, op_numbers, value_at};
-ghost use Rattle.acta_machine.specs.Table.{fresh, answer_to, answers_to, after, after_all, run_answers, run_state, status_in, value_in, access_set_in, conflict_set_in, view_set_in, edges_in, operations_in, refusal_in, op_added, debts_in};
+ghost use Rattle.acta_machine.specs.Table.{fresh, answer_to, answers_to, after, after_all, run_answers, run_state, status_in, class_in, parent_in, permitted_in, value_in, access_set_in, conflict_set_in, view_set_in, edges_in, operations_in, refusal_in, op_added, debts_in};
 ghost use Rattle.acta_machine.specs.Reasons.{refusal_of, IsSo};
 ghost use Rattle.acta_deps.specs.Waiting.{IsChain, IsClosed, StartsWith};
 
-use crate::board::{Board, Origin};
+use crate::board::Board;
 use crate::reason::Reason;
-use crate::refused::{ROOM, Refused, keep_refused, refusal_among};
+use crate::refused::{Refused, keep_refused, refusal_among};
 use crate::serial::SerialError;
 use acta_axioms::{SerialItem, is_strict, serial_items};
 use acta_deps::Deps;
 use acta_objects::ObjectState;
-use acta_sets::{Handle, HeldOp, Permits};
+use acta_sets::{Handle, HeldOp, Permit, Permits};
 use acta_table::{
-    Answer, Edge, Event, Items, Kept, MOST_EDGES, MOST_EVENTS, Model, ObjId, OpNo, Owed, Refusal,
-    Status, TABLE_SIZE, TxnId,
+    Answer, ClassId, Edge, Event, Items, Kept, MOST_EDGES, MOST_EVENTS, Model, ObjId, OpNo, Owed,
+    Refusal, Status, TABLE_SIZE, TxnId,
 };
 use acta_values::Store;
 use std::alloc::{AllocError, Allocator};
@@ -56,20 +59,12 @@ impl<A: Handle> std::marker::Model for Machine<A> {
 
     ghost invariant = { λ m. record {
       agrees : shown m.board ≡ summary_of m.board.model m.board.kept.items;
-      origins : length m.board.origins.items ≡ TABLE_SIZE;
+      origins : length m.board.origins.items ≤ TABLE_SIZE;
       kinds : m.board.store.kinds ≡ kinds_of m.board.model.objects;
       within : length m.board.kept.items ≤ MOST_EVENTS;
       follows : FollowsPlaces (record { model = m.board.model; kept = m.board.kept.items });
       refused : AreRefused m.board.model (shown m.board) m.refused.items;
     } };
-}
-
-// The origins of so many transactions that have not begun.
-fn no_origins<A: Allocator>(alloc: A, count: usize) -> Result<Vec<Origin, A>, AllocError>
-    ensures { IfOk result (λ table. table.items ≡ replicate count unbegun) }
-{
-    let origin = Origin::UNBEGUN;
-    vec![in alloc; origin; count]
 }
 
 impl<A: Handle> Machine<A> {
@@ -79,18 +74,18 @@ impl<A: Handle> Machine<A> {
         ensures follows { IfOk result FollowsPlaces }
     {
         let store = Store::new(alloc, model.objects())?;
-        let deps = Deps::new(alloc)?;
-        let origins = no_origins(alloc, TABLE_SIZE)?;
-        let refused = Vec::with_capacity(alloc, ROOM)?;
         let board = Board {
             model,
-            deps,
-            origins,
+            deps: Deps::new(alloc),
+            origins: Vec::new(alloc),
             store,
             permits: Permits::new(alloc),
             kept: Vec::new(alloc),
         };
-        Ok(Machine { board, refused })
+        Ok(Machine {
+            board,
+            refused: Vec::new(alloc),
+        })
     }
 
     /// Takes one event: it is admitted and kept, or refused with the lowest rule that it breaks. A refusal
@@ -296,10 +291,9 @@ impl<A: Handle> Machine<A> {
     pub fn copy(&self) -> Result<Machine<A>, AllocError>
         ensures { IfOk result (λ machine. machine ≡ self.now) }
     {
-        let refused = Vec::with_capacity(self.board.allocator(), ROOM)?;
         Ok(Machine {
             board: self.board.copy()?,
-            refused,
+            refused: Vec::new(self.board.allocator()),
         })
     }
 }
@@ -319,6 +313,42 @@ impl<A: Handle> Machine<A> {
         ensures nobody { is_bad_number t.0 ≡ true → result ≡ Status.NotBegun }
     {
         self.board.status(t)
+    }
+
+    /// The class that the transaction began with. `None` where it has not begun.
+    pub fn class(&self, t: TxnId) -> Option<ClassId>
+        ensures class { result ≡ class_in self.now t.0 }
+        ensures places { option_map (λ class. class.0) result ≡ class_number self.now.kept t.0 }
+    {
+        self.board.class_number(t)
+    }
+
+    /// The transaction that spawned this one. `None` where it began in another way, or has not begun.
+    pub fn parent(&self, t: TxnId) -> Option<TxnId>
+        ensures parent { result ≡ parent_in self.now t.0 }
+        ensures places { result ≡ parent_of self.now.kept t.0 }
+    {
+        self.board.parent(t)
+    }
+
+    /// The permits in force, each once: ascending by who was permitted, then by object, then by who has permitted it.
+    /// `Err` where there is no memory.
+    pub fn permits(&self) -> Result<Vec<Permit, A>, AllocError>
+        ensures permits { IfOk result (λ list. (h t object : ℕ) → is_listed list.items h t object ≡ permitted_in self.now h t object) }
+        ensures places { IfOk result (λ list. (h t object : ℕ) → is_listed list.items h t object ≡ is_permitted self.now.kept h t object) }
+        ensures ascending { IfOk result (λ list. IsStrictlySortedBy permit_cmp list.items) }
+    {
+        self.board.permits.listed()
+    }
+
+    /// How far to look for transactions: none of this number or above has begun, so it has no class and no parent.
+    pub fn known_txns(&self) -> usize
+        ensures status { (t : ℕ) → result ≤ t → status_in self.now t ≡ Status.NotBegun }
+        ensures class { (t : ℕ) → result ≤ t → class_in self.now t ≡ None }
+        ensures parent { (t : ℕ) → result ≤ t → parent_in self.now t ≡ None }
+        ensures few { result ≤ TABLE_SIZE }
+    {
+        self.board.known_txns()
     }
 
     /// The edges in force, in order of forming, each once (ACTA's dependencies): at most 16,384. The first has

@@ -9,8 +9,8 @@ ghost use Rattle.acta_machine.specs.inside.Refused.{AreRefused, refusal_of};
 use acta_table::{Event, Refusal};
 use std::alloc::Allocator;
 
-/// For how many refusals there is room.
-pub(crate) const ROOM: usize = 64;
+// For how many refusals there is room, from the first one on.
+const ROOM: usize = 64;
 
 /// An event that was refused.
 #[derive(Drop)]
@@ -34,8 +34,17 @@ pub(crate) fn refusal_among<A: Allocator>(
     None
 }
 
-/// Puts the event among those that were refused, where it is an operation and there is room, or else begins anew. Takes
-/// no memory.
+// Gets the room for refusals, where there is none yet. A want of memory changes nothing.
+fn get_room<A: Allocator>(refused: &mut Vec<Refused<A>, A>)
+    ensures { refused.new.items ≡ refused.old.items }
+{
+    if refused.capacity() == 0 {
+        let _ = refused.reserve(ROOM);
+    }
+}
+
+/// Puts the event among those that were refused, where it is an operation and there is room, or else begins anew. Where
+/// there is no memory for the room, the event isn't kept: it is judged again when it comes again.
 pub(crate) fn keep_refused<A: Allocator>(
     refused: &mut Vec<Refused<A>, A>,
     event: &Event<A>,
@@ -46,6 +55,7 @@ pub(crate) fn keep_refused<A: Allocator>(
     let Event::Operate(t, ob, op) = event else {
         return;
     };
+    get_room(refused);
     if refused.len() < refused.capacity() {
         let event = Event::Operate(*t, *ob, *op);
         refused.push_reserved(Refused { event, refusal });

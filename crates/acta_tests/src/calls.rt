@@ -3,7 +3,7 @@
 
 use acta_axioms::{Places, SerialItem, Walk};
 use acta_deps::Deps;
-use acta_machine::{Handle, Machine, Reason, Run, SerialError};
+use acta_machine::{Handle, Machine, Permit, Reason, Run, SerialError};
 use acta_table::{Answer, Event, Items, Kept, MOST_EVENTS, Model, Owed, TxnId};
 use std::alloc::AllocError;
 
@@ -50,6 +50,11 @@ pub fn copy_of<A: Handle>(machine: &Machine<A>) -> Result<Machine<A>, AllocError
 /// A copy of the table of dependencies.
 pub fn copy_of_deps<A: Handle>(deps: &Deps<A>) -> Result<Deps<A>, AllocError> {
     deps.copy()
+}
+
+/// The permits in force.
+pub fn permits_of<A: Handle>(machine: &Machine<A>) -> Result<Vec<Permit, A>, AllocError> {
+    machine.permits()
 }
 
 /// What the machine says is owed.

@@ -1,7 +1,7 @@
 //! What the readers of a value answer, as text: where two values answer the same, their texts are the same. Items stand
 //! in the words of `Debug`, each after a space.
 
-use crate::calls::{copy_of_deps, owed_by, serial_of};
+use crate::calls::{copy_of_deps, owed_by, permits_of, serial_of};
 use crate::expecting::made;
 use acta_axioms::Walk;
 use acta_debug::Debugger;
@@ -114,7 +114,11 @@ fn put_chain<A: Allocator>(rt: &impl Abort, text: &mut String, chain: Option<&It
 
 // Adds what a machine answers about a transaction.
 fn put_txn<A: Handle>(rt: &impl Abort, text: &mut String, machine: &Machine<A>, t: TxnId) {
-    put(rt, text, &machine.status(t));
+    put(
+        rt,
+        text,
+        &(machine.status(t), machine.class(t), machine.parent(t)),
+    );
     let access = made(rt, machine.access_set(t), "an access set");
     put(rt, text, &access.as_slice());
     let others = made(rt, machine.conflict_set(t), "a conflict set");
@@ -132,6 +136,8 @@ fn put_lists<A: Handle>(rt: &impl Abort, text: &mut String, machine: &Machine<A>
     put(rt, text, &view.as_slice());
     let owed = made(rt, owed_by(machine), "debts");
     put(rt, text, &owed.as_slice());
+    let permits = made(rt, permits_of(machine), "permits");
+    put(rt, text, &permits.as_slice());
 }
 
 // Adds the values of a machine's objects.

@@ -1,7 +1,7 @@
 //! Events that machines take, and what machines and models are asked, each allocation refused in turn.
 
 use crate::calls::{
-    closed_wait, copy_of, new_machine, owed_by, places_of, run_on, serial_of, take, why,
+    closed_wait, copy_of, new_machine, owed_by, permits_of, places_of, run_on, serial_of, take, why,
 };
 use crate::expecting::made;
 use crate::models::{PARTING, PERMITTING, event_of, events_of, model_of};
@@ -293,6 +293,17 @@ fn put_owed<A: Handle>(
     Ok(())
 }
 
+// Adds the permits in force.
+fn put_permits<A: Handle>(
+    rt: &impl Abort,
+    text: &mut String,
+    machine: &Machine<A>,
+) -> Result<(), AllocError> {
+    let permits = permits_of(machine)?;
+    put(rt, text, &permits.as_slice());
+    Ok(())
+}
+
 // Adds whether transaction 1 waits in a cycle.
 fn put_cycle<A: Handle>(
     rt: &impl Abort,
@@ -338,6 +349,7 @@ fn put_answer<A: Handle>(
     match call {
         "value" => put_elements(rt, text, machine),
         "owed" => put_owed(rt, text, machine),
+        "permits" => put_permits(rt, text, machine),
         "cycle" => put_cycle(rt, text, machine),
         "places" => put_start(rt, alloc, text, machine),
         "model copy" => put_classes(rt, text, machine),
@@ -512,6 +524,8 @@ const WITHOUT: &str = "begin 1 flat\nbegin 2 flat\ndo 1 x write 5\nbegin 3 flat"
 
 const WITH: &str = "begin 1 flat\nbegin 2 flat\ndo 1 x write 5\npermit 1 2 x";
 
+const PERMITTED: &str = "permits -- [Permit { by: TxnId(1), to: TxnId(2), object: ObjId(0) }]";
+
 fn refuse_all_answers<R: Abort, A: Handle, B: Allocator>(
     on: &Setting<'_, R, A>,
     heap: &Refusing<B>,
@@ -527,6 +541,8 @@ fn refuse_all_answers<R: Abort, A: Handle, B: Allocator>(
     let without = refuse_answers(on, heap, (PERMITTING, WITHOUT), "copy -- 4 true");
     let with = refuse_answers(on, heap, (PERMITTING, WITH), "copy -- 4 true");
     at_least(on.rt, with, without.wrapping_add(2), "a copy with permits");
+    let permits = refuse_answers(on, heap, (PERMITTING, WITH), PERMITTED);
+    at_least(on.rt, permits, 1, "permits");
 }
 
 #[test]

@@ -1,4 +1,4 @@
-use Rattle.std.proofs.Common.{◌≡◌, ◌+◌, ◌≤◌, List, length, false, sym, ap, ◌∙◌, arith}
+use Rattle.std.proofs.Common.{◌≡◌, ◌≤◌, List, length, sym, ap, ◌∙◌, arith}
 use Rattle.std.specs.Prelude.{nat_lt}
 use Rattle.std.proofs.lemmas.Bool.{le-ltb}
 use Rattle.acta_table.specs.declared.answer.Rule.TheVariants.{EdgesFull}
@@ -7,9 +7,7 @@ use Rattle.acta_table.specs.declared.limits.TheConstants.{MOST_EDGES}
 use Rattle.acta_table.specs.Edges.{formed}
 use Rattle.acta_table.specs.Refusals.{broken_if}
 use Rattle.acta_deps.proofs.FormedEdges.{few_formed}
-use Rattle.acta_machine.specs.Changes.{edges_due}
 use Rattle.acta_machine.specs.Rules.{edges_full}
-use Rattle.acta_machine.specs.inside.Shown.{shown}
 use Rattle.acta_machine.proofs.board.Board.edges_full.Goals as goal
 use Rattle.acta_machine.proofs.board.Board.edges_full.Goals.{else-due-room-via-then-due-room+in_ok-lacks+else-branch-room, else-due-room-via-else-due-room}
 

@@ -1,4 +1,4 @@
-use Rattle.std.proofs.Common.{List, None, ◌&&◌, if◌then◌else◌, refl, sym, ap, ◌∙◌}
+use Rattle.std.proofs.Common.{List, None, ◌&&◌, if◌then◌else◌, sym, ap, ◌∙◌}
 use Rattle.std.specs.List.{list_any}
 use Rattle.acta_table.specs.Numbered.{first_number}
 use Rattle.acta_sets.specs.declared.held_op.HeldOp.{HeldOp}

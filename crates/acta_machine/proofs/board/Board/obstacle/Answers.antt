@@ -1,4 +1,4 @@
-use Rattle.std.proofs.Common.{◌≡◌, IfSome, sym, subst}
+use Rattle.std.proofs.Common.{IfSome, sym, subst}
 use Rattle.acta_deps.specs.Obstacles.{IsObstacle}
 use Rattle.acta_machine.specs.Reasons.{statuses_after}
 use Rattle.acta_machine.specs.inside.Shown.{shown}

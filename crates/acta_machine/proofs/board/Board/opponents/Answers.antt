@@ -1,8 +1,8 @@
-use Rattle.std.proofs.Common.{List, [], ◌&&◌, if◌then◌else◌, refl, sym, ap, ◌∙◌}
+use Rattle.std.proofs.Common.{List, [], ◌&&◌, if◌then◌else◌, sym, ap, ◌∙◌}
 use Rattle.std.specs.List.{list_any}
 use Rattle.std.proofs.lemmas.Result.{IfOk-weaker}
 use Rattle.acta_sets.specs.declared.held_op.HeldOp.{HeldOp}
-use Rattle.acta_sets.specs.Operations.{is_against, holders_against}
+use Rattle.acta_sets.specs.Operations.{holders_against}
 use Rattle.acta_axioms.specs.Values.{is_well_formed}
 use Rattle.acta_axioms.proofs.Unopposed.{holders-unopposed}
 use Rattle.acta_axioms.specs.inside.Against.{is_against_but}

@@ -20,9 +20,9 @@ invariant_of-result g c =
     let long = ap length kept in
     record {
       agrees = (λ i. summary_in (deps i) (origins i) (store i).items (permits i) (kept i)) ∙ c.self.invariant.agrees ∙ (λ i. summary_of (sym model i) (sym kept i));
-      origins = ap length origins ∙ c.self.invariant.origins;
+      origins = let same = ap length origins in let few = c.self.invariant.origins in omega arith;
       kinds = ap (λ (s : Stored). s.kinds) store ∙ c.self.invariant.kinds ∙ (λ i. kinds_of (sym model i).objects);
       within = omega (arith, long, c.self.invariant.within);
       follows = subst (λ (w : State g.row.A.Denot). FollowsPlaces w) (λ i. record { model = sym model i; kept = sym kept i }) c.self.invariant.follows;
-      refused = none_refused _ _ _ c.in_ok-refused.ensures.items;
+      refused = none_refused _ _ _ c.new.ensures.items;
     }

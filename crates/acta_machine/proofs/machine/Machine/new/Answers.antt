@@ -5,19 +5,19 @@ use Rattle.acta_values.specs.Stores.{Stored}
 use Rattle.acta_machine.specs.Places.{FollowsPlaces}
 use Rattle.acta_machine.proofs.Steps.{follows-fresh}
 use Rattle.acta_machine.proofs.Refusals.{none_refused}
-use Rattle.acta_machine.proofs.Histories.{fresh_summary, fresh_room}
+use Rattle.acta_machine.proofs.Histories.{fresh_summary}
 use Rattle.acta_machine.proofs.machine.Machine.new.Goals as goal
 
 pub invariant_of-result : goal.invariant_of-result
 invariant_of-result g c =
-    let none : length c.new-4.result.items ≡ 0 = ap (length {A = Kept g.row.A.Denot}) c.new-4.ensures.items in
+    let none : length c.new-5.result.items ≡ 0 = ap (length {A = Kept g.row.A.Denot}) c.new-5.ensures.items in
     record {
-      agrees = fresh_summary _ _ _ _ _ _ c.in_ok-deps.ensures c.in_ok-origins.ensures (ap (λ (s : Stored). s.items) c.in_ok-store.ensures) c.new-3.ensures c.new-4.ensures.items;
-      origins = fresh_room _ _ c.in_ok-origins.ensures;
+      agrees = fresh_summary _ _ _ _ _ _ c.new-2.ensures c.new-3.ensures.items (ap (λ (s : Stored). s.items) c.in_ok-store.ensures) c.new-4.ensures c.new-5.ensures.items;
+      origins = let empty = ap length c.new-3.ensures.items in omega arith;
       kinds = ap (λ (s : Stored). s.kinds) c.in_ok-store.ensures ∙ ap kinds_of c.objects.ensures.objects;
       within = omega arith;
-      follows = subst (λ (kept : List (Kept g.row.A.Denot)). FollowsPlaces {A = g.row.A.Denot} (record { model = c.args.model; kept = kept })) (sym c.new-4.ensures.items) (follows-fresh c.args.model);
-      refused = none_refused _ _ _ c.in_ok-refused.ensures.items;
+      follows = subst (λ (kept : List (Kept g.row.A.Denot)). FollowsPlaces {A = g.row.A.Denot} (record { model = c.args.model; kept = kept })) (sym c.new-5.ensures.items) (follows-fresh c.args.model);
+      refused = none_refused _ _ _ c.new-6.ensures.items;
     }
 
 pub returns-clause-follows : goal.returns-clause-follows
