@@ -1,5 +1,6 @@
 mod Examples
 pub mod Again
+pub mod Alternatives
 pub mod Ascending
 pub mod Checked
 pub mod Joined

@@ -1,5 +1,5 @@
--- The event, the kept item or the seated event that a line says, or its fault. In each form unknown words are looked
--- for first, then the number of words, then numbers, then names: so the fault is the lowest.
+-- The event, the kept item, the seated event or the step of a program that a line says, or its fault. In each form
+-- unknown words are looked for first, then the number of words, then numbers, then names: so the fault is the lowest.
 use Rattle.std.specs.Prelude.{◌≡◌, ℕ, Bool, true, false, ◌==◌, nat_le, List, [], ◌∷◌, if◌then◌else◌, codes, find, Option, Some, None, ok_or, option_map, Result, Ok, Err, ℤ, ⊤}
 use Rattle.std.specs.List.{list_any, slice_split, before_first, after_first, position_from}
 use Rattle.std.specs.Str.{bytes_eq}
@@ -26,6 +26,7 @@ use Rattle.acta_script.specs.declared.fault.LineError.{LineError}
 use Rattle.acta_script.specs.declared.fault.LineError.TheVariants as error
 use Rattle.acta_script.specs.declared.fault.LineFault.{LineFault}
 use Rattle.acta_script.specs.declared.fault.LineFault.TheVariants.{Empty, Word, Arity, Number, Name}
+use Rattle.acta_script.specs.declared.programs.ProgramLine.{ProgramLine}
 use Rattle.acta_script.specs.declared.seated.Seated.{Seated}
 
 abbrev pub fault_number : LineFault → ℕ
@@ -302,6 +303,36 @@ seated_said m seats (seat ∷ words) = both at_seat (event_behind m words) (seat
 -- the seated event that a line says, or its lowest fault
 abbrev pub seated_of : {A : Type 0} → Parts A → ℕ → List ℕ → Result (Seated A) LineFault
 seated_of m seats line = seated_said m seats (words_of line)
+
+-- whether the word separates two alternatives
+abbrev pub is_bar : List ℕ → Bool
+is_bar word = bytes_eq word (codes "|")
+
+-- the first event, before the others
+abbrev pub one_more : {A : Type 0} → Event A → List (Event A) → List (Event A)
+one_more event events = event ∷ events
+
+-- the events of all parts; of several faults the lowest counts
+abbrev pub alternatives_in : {A : Type 0} → Parts A → List (List (List ℕ)) → Result (List (Event A)) LineFault
+alternatives_in m [] = Ok []
+alternatives_in m (part ∷ parts) = both one_more (event_behind m part) (alternatives_in m parts)
+
+-- the alternatives that words say: the events between the bars
+abbrev pub alternatives_said : {A : Type 0} → Parts A → List (List ℕ) → Result (List (Event A)) LineFault
+alternatives_said m words = alternatives_in m (slice_split is_bar words)
+
+-- a step of the program of a seat
+abbrev pub step_at : {A : Type 0} → List (Event A) → ℕ → ProgramLine A
+step_at events seat = record { seat = seat; alternatives = events }
+
+-- the step of a program that words say: a seat, and then its alternatives
+unfoldable pub program_line_said : {A : Type 0} → Parts A → ℕ → List (List ℕ) → Result (ProgramLine A) LineFault
+program_line_said m seats [] = Err Empty
+program_line_said m seats (seat ∷ words) = both step_at (alternatives_said m words) (seat_said seats seat)
+
+-- the step of a program that a line says, or its lowest fault
+abbrev pub program_line_of : {A : Type 0} → Parts A → ℕ → List ℕ → Result (ProgramLine A) LineFault
+program_line_of m seats line = program_line_said m seats (words_of line)
 
 -- an error says why the line gave nothing: its fault, or want of memory, which says nothing of the line
 abbrev pub IsWhy : {X : Type 0} → Result X LineFault → LineError → Type 0

@@ -1,6 +1,6 @@
-//! Lines: the event, the kept item or the seated event that a line says, and the lines of events, kept items, answers,
-//! debts and faults. Words stand apart by spaces or tabs, a `#` begins a comment, and what is written has one space
-//! between two words. A line of an event is one of
+//! Lines: the event, the kept item, the seated event or the step of a program that a line says, and the lines of
+//! events, kept items, answers, debts and faults. Words stand apart by spaces or tabs, a `#` begins a comment, and what
+//! is written has one space between two words. A line of an event is one of
 //!
 //! ```text
 //! begin T CLASS     spawn T C CLASS     split T U CLASS OPS
@@ -11,10 +11,11 @@
 //!
 //! where `OP` is `read`, `get`, `size`, or `write`, `add`, `insert`, `remove`, `has` with an `INT` behind it, and `OPS`
 //! is `-` or numbers joined by commas. A kept line is an event, and for a return behind it `=` and `done`, `yes`, `no`
-//! or a number. A seated line is a seat, from 1, and an event behind it. An answer is `ok PLACE [RETURN]` or
-//! `no RULE [by N]`, a debt is `owed EDGE TXN commit` or `.. abort`, and a fault in a history is
-//! `fault AXIOM PLACE BY`. No line that is written ends in a line feed. What is written of an event or a kept item is
-//! read again as this event or item: it is a clause of `write_event` and `write_kept`.
+//! or a number. A seated line is a seat, from 1, and an event behind it. A line of a program is a seat and one event or
+//! more, with the word `|` between two of them. An answer is `ok PLACE [RETURN]` or `no RULE [by N]`, a debt is
+//! `owed EDGE TXN commit` or `.. abort`, and a fault in a history is `fault AXIOM PLACE BY`. No line that is written
+//! ends in a line feed. What is written of an event or a kept item is read again as this event or item: it is a clause
+//! of `write_event` and `write_kept`.
 #![tactic(auto)]
 
 mod answers;
@@ -26,6 +27,7 @@ mod names;
 mod numbers;
 mod op_sets;
 mod operations;
+mod programs;
 mod reading;
 mod returns;
 mod seated;
@@ -37,6 +39,7 @@ pub use commands::{BreakOn, DebugCommand, read_command};
 pub use fault::{LineError, LineFault};
 pub use kept::{read_kept, write_kept};
 pub use names::object_name;
+pub use programs::{ProgramLine, read_program_line};
 pub use reading::read_event;
 pub use seated::{Seated, read_seated};
 pub use writing::write_event;

@@ -19,8 +19,8 @@ pub struct Seated<A: Allocator> {
     pub event: Event<A>,
 }
 
-// The seat of a word of digits, one of this many.
-fn seat_said(seats: u8, word: &[u8]) -> Result<u8, LineFault>
+/// The seat of a word of digits, one of this many.
+pub(crate) fn seat_said(seats: u8, word: &[u8]) -> Result<u8, LineFault>
     ensures { result ≡ seat_said seats word.now }
 {
     let seat = read_u16(word).ok_or(LineFault::Number)?;
@@ -31,8 +31,8 @@ fn seat_said(seats: u8, word: &[u8]) -> Result<u8, LineFault>
     }
 }
 
-// The event that the words behind a seat say.
-fn event_behind<A: Allocator + Copy>(
+/// The event that the words behind a seat say.
+pub(crate) fn event_behind<A: Allocator + Copy>(
     alloc: A,
     model: &Model<A>,
     words: &[&[u8]],

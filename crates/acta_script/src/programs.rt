@@ -1,0 +1,114 @@
+//! Lines of programs: a seat, and the alternatives of which exactly one happens.
+
+ghost use Rattle.std.specs.Prelude.{◌≡◌, ◌<◌, length, map, All, Ok, IfOk, IfErr};
+ghost use Rattle.std.specs.List.{slice_split};
+ghost use Rattle.acta_script.specs.Laws.{IsInModel};
+ghost use Rattle.acta_script.specs.Reading.{IsWhy, is_bar, alternatives_in, alternatives_said, program_line_said, program_line_of};
+
+use crate::fault::{LineError, LineFault, lowest};
+use crate::seated::{event_behind, seat_said};
+use acta_table::{Event, Items, Model};
+use acta_words::words_of;
+use std::alloc::{AllocError, Allocator};
+
+/// A line of a program: a seat, and the alternatives of which exactly one happens.
+#[derive(Drop)]
+pub struct ProgramLine<A: Allocator> {
+    pub seat: u8,
+    /// At least one.
+    pub alternatives: Items<Event<A>, A>,
+}
+
+// The parts of the words between the bars.
+fn parts_of<'w, 'a, A: Allocator + Copy>(
+    alloc: A,
+    words: &'w [&'a [u8]],
+) -> Result<Vec<&'w [&'a [u8]], A>, AllocError>
+    ensures { IfOk result (λ parts. map (λ part. map (λ word. word.now) part.now) parts.items ≡ slice_split is_bar (map (λ word. word.now) words.now)) }
+{
+    words.split(|word| *word == b"|".as_slice()).collect(alloc)
+}
+
+// The events of the parts. A fault doesn't end the loop, since a later part may have a lower one.
+fn alternatives_in<A: Allocator + Copy>(
+    alloc: A,
+    model: &Model<A>,
+    parts: &[&[&[u8]]],
+) -> Result<Items<Event<A>, A>, LineError>
+    ensures ok { IfOk result (λ events. alternatives_in model.now (map (λ part. map (λ word. word.now) part.now) parts.now) ≡ Ok events) }
+    ensures fault { IfErr result (IsWhy (alternatives_in model.now (map (λ part. map (λ word. word.now) part.now) parts.now))) }
+    ensures in_model { IfOk result (λ events. All (IsInModel model.now) events) }
+{
+    let mut events = Vec::with_capacity(alloc, parts.len())?;
+    let mut fault = None;
+    for part in parts {
+        match event_behind(alloc, model, part) {
+            Ok(event) => events.push(event)?,
+            Err(LineError::Fault(found)) => fault = Some(lowest(found, fault)),
+            Err(LineError::Memory) => return Err(LineError::Memory),
+        }
+    }
+    match fault {
+        Some(fault) => Err(fault.into()),
+        None => Ok(Items::of(events)),
+    }
+}
+
+// The alternatives that the words say.
+fn alternatives_said<A: Allocator + Copy>(
+    alloc: A,
+    model: &Model<A>,
+    words: &[&[u8]],
+) -> Result<Items<Event<A>, A>, LineError>
+    ensures ok { IfOk result (λ events. alternatives_said model.now (map (λ word. word.now) words.now) ≡ Ok events) }
+    ensures fault { IfErr result (IsWhy (alternatives_said model.now (map (λ word. word.now) words.now))) }
+    ensures in_model { IfOk result (λ events. All (IsInModel model.now) events) }
+{
+    let parts = parts_of(alloc, words)?;
+    alternatives_in(alloc, model, &parts)
+}
+
+// The line of a program that the words say.
+#[tactic(auto, unfolding(crate::specs::Reading::program_line_said))]
+fn program_line_said<A: Allocator + Copy>(
+    alloc: A,
+    model: &Model<A>,
+    seats: u8,
+    words: &[&[u8]],
+) -> Result<ProgramLine<A>, LineError>
+    ensures ok { IfOk result (λ read. program_line_said model.now seats (map (λ word. word.now) words.now) ≡ Ok read) }
+    ensures fault { IfErr result (IsWhy (program_line_said model.now seats (map (λ word. word.now) words.now))) }
+    ensures in_model { IfOk result (λ read. All (IsInModel model.now) read.alternatives) }
+    ensures some { IfOk result (λ read. 0 < length read.alternatives) }
+{
+    let [seat, words @ ..] = words else {
+        return Err(LineFault::Empty.into());
+    };
+    let seat = seat_said(seats, seat);
+    match alternatives_said(alloc, model, words) {
+        Ok(alternatives) => Ok(ProgramLine {
+            seat: seat?,
+            alternatives,
+        }),
+        Err(LineError::Fault(fault)) => Err(lowest(fault, seat.err()).into()),
+        Err(LineError::Memory) => Err(LineError::Memory),
+    }
+}
+
+/// Reads a line of a program: a seat from 1 to the number of seats, and then events, as `read_event` reads them, with
+/// the word `|` between two of them. `Fault` has the lowest fault of the seat and of all events, where a missing event
+/// is the fault `Arity`. `Memory` comes where there is no memory.
+pub fn read_program_line<A: Allocator + Copy>(
+    alloc: A,
+    model: &Model<A>,
+    seats: u8,
+    line: &[u8],
+) -> Result<ProgramLine<A>, LineError>
+    ensures ok { IfOk result (λ read. program_line_of model.now seats line.now ≡ Ok read) }
+    ensures fault { IfErr result (IsWhy (program_line_of model.now seats line.now)) }
+    ensures in_model { IfOk result (λ read. All (IsInModel model.now) read.alternatives) }
+    ensures some { IfOk result (λ read. 0 < length read.alternatives) }
+{
+    let words = words_of(alloc, line)?;
+    program_line_said(alloc, model, seats, &words)
+}
