@@ -100,7 +100,7 @@ ret-decides = decides-by (ret_eq.eq-value).it ret-same ret-itself
     ret-itself (Flag true) = refl
     ret-itself (Flag false) = refl
 
-done-decides : (a b : Done) → Decides ((done_eq.eq-value).it a b) (a ≡ b)
+pub done-decides : (a b : Done) → Decides ((done_eq.eq-value).it a b) (a ≡ b)
 done-decides a b =
     Decides-like ((done_eq.eq-value).it a b) (λ h. λ i. record { alternative = h.0 i; ret = h.1 i })
     (λ e. (ap (λ (d : Done). d.alternative) e, ap (λ (d : Done). d.ret) e))
@@ -121,7 +121,7 @@ wait-shown a b =
     (Decides-and (a.line == b.line) (pointwise (sameb rule_type) a.rules.items b.rules.items) (Decides-eqb a.line b.line) (pointwise_decides rule-decides a.rules.items b.rules.items)))
 
 -- statuses
-status-decides : (a b : Status) → Decides (sameb status_type a b) (a ≡ b)
+pub status-decides : (a b : Status) → Decides (sameb status_type a b) (a ≡ b)
 status-decides a b = (λ h. same_true status_type (search rules) a b h, λ e. true_same status_type a b e)
 
 txn_status-decides : (a b : TxnStatus) → Decides ((txn_status_eq.eq-value).it a b) (a ≡ b)

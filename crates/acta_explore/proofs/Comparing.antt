@@ -1,4 +1,4 @@
--- What `==` says of the parts of a key and of an outcome.
+-- What `==` says of the parts of a key.
 use Rattle.std.proofs.Common.{◌≡◌, ◌==◌, ◌&&◌, Bool, true, false, List, [], ◌∷◌, Option, Some, None, refl, ap, rules}
 use Rattle.std.specs.Cmp.{first_so, second_so}
 use Rattle.std.specs.Cmp.Lexicographic.{pointwise}
@@ -38,6 +38,7 @@ use Rattle.acta_explore.specs.declared.point.Done.{Done}
 use Rattle.acta_explore.specs.contracts.key.LineOpPartialEq.TheImpl as line_op_eq
 use Rattle.acta_explore.specs.contracts.key.TxnPartialEq.TheImpl as entry_eq
 use Rattle.acta_explore.specs.contracts.point.DonePartialEq.TheImpl as done_eq
+use Rattle.acta_explore.proofs.Alike.{done-decides, status-decides}
 
 pub option-same : {X : Type 0} {E : X → X → Bool} → ((a b : X) → E a b ≡ true → a ≡ b) → (a b : Option X) → option_eq E a b ≡ true → a ≡ b
 option-same d None None h = refl
@@ -121,31 +122,11 @@ op-same Size (Remove w) h = absurd cc
 op-same Size (Has w) h = absurd cc
 op-same Size Size h = refl
 
-flag-same : (a b : Bool) → ((ret_eq.eq-value).it (Flag a) (Flag b)) ≡ true → a ≡ b
-flag-same true true h = refl
-flag-same true false h = absurd cc
-flag-same false true h = absurd cc
-flag-same false false h = refl
-
-ret-same : (a b : Ret) → (ret_eq.eq-value).it a b ≡ true → a ≡ b
-ret-same has_done has_done h = refl
-ret-same has_done (Value w) h = absurd cc
-ret-same has_done (Flag w) h = absurd cc
-ret-same (Value v) has_done h = absurd cc
-ret-same (Value v) (Value w) h = ap Value ((Decides-int_eq v w).0 h)
-ret-same (Value v) (Flag w) h = absurd cc
-ret-same (Flag v) has_done h = absurd cc
-ret-same (Flag v) (Value w) h = absurd cc
-ret-same (Flag v) (Flag w) h = ap Flag (flag-same v w h)
-
 fate-same : (a b : Fate) → sameb fate_type a b ≡ true → a ≡ b
 fate-same a b h = same_true fate_type (search rules) a b h
 
 status-same : (a b : Status) → sameb status_type a b ≡ true → a ≡ b
-status-same a b h = same_true status_type (search rules) a b h
-
-pub rule-same : (a b : Rule) → sameb rule_type a b ≡ true → a ≡ b
-rule-same a b h = same_true rule_type (search rules) a b h
+status-same a b h = (status-decides a b).0 h
 
 kind-same : (k l : Dep) → sameb dep_type k l ≡ true → k ≡ l
 kind-same k l h = same_true dep_type (search rules) k l h
@@ -183,10 +164,7 @@ permit-same a b h =
     λ n. record { by = record { 0 = by n }; to = record { 0 = to n }; object = record { 0 = object n } }
 
 pub done-same : (a b : Done) → (done_eq.eq-value).it a b ≡ true → a ≡ b
-done-same a b h =
-    let alternative = eqb-true a.alternative b.alternative (first_so _ _ h) in
-    let ret = option-same ret-same a.ret b.ret (second_so (a.alternative == b.alternative) _ h) in
-    λ n. record { alternative = alternative n; ret = ret n }
+done-same a b h = (done-decides a b).0 h
 
 line_op-same : (a b : LineOp) → (line_op_eq.eq-value).it a b ≡ true → a ≡ b
 line_op-same a b h =

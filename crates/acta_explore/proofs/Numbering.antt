@@ -15,18 +15,9 @@ use Rattle.acta_sets.specs.Operations.{operation_at}
 use Rattle.acta_explore.specs.Equivalence.{by_line, AreSameByObject}
 use Rattle.acta_explore.proofs.Anys.{any-map}
 use Rattle.acta_explore.proofs.Named.{AreNamed}
+use Rattle.acta_explore.proofs.OrderedSets.{or-three, or-false}
 use Rattle.acta_explore.proofs.Pairs.{Pairs, all-at}
 use Rattle.acta_explore.proofs.Tagged.{any-same}
-
-or-three : (a b c : Bool) → (a || (b || c)) ≡ ((b || a) || c)
-or-three true true c = refl
-or-three true false c = refl
-or-three false true c = refl
-or-three false false c = refl
-
-or-false : (b : Bool) → (b || false) ≡ b
-or-false true = refl
-or-false false = refl
 
 any-put : (test : ℕ → Bool) (keys ns : List ℕ) → list_any test (fold (insert_key nat_cmp) keys ns) ≡ (list_any test ns || list_any test keys)
 any-put test keys [] = refl

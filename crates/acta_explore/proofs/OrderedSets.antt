@@ -18,13 +18,13 @@ or-once : (a b : Bool) → (a || b) ≡ (a || (a || b))
 or-once true b = refl
 or-once false b = refl
 
-or-three : (a b c : Bool) → (a || (b || c)) ≡ ((b || a) || c)
+pub or-three : (a b c : Bool) → (a || (b || c)) ≡ ((b || a) || c)
 or-three true true c = refl
 or-three true false c = refl
 or-three false true c = refl
 or-three false false c = refl
 
-or-false : (b : Bool) → (b || false) ≡ b
+pub or-false : (b : Bool) → (b || false) ≡ b
 or-false true = refl
 or-false false = refl
 
