@@ -40,10 +40,11 @@ pub record AreAllEnds {A : Type 0} (programs : Programs A) (m : Parts A) (ends :
   pub distinct : (i j : ℕ) (d : Point A) → i < j → j < length ends → HaveSameOutcome programs (get_or ends i d) (get_or ends j d) → ⊥
   pub in_order : (i j : ℕ) (d : Point A) → i < j → j < length ends → order_cmp (order_of (get_or ends i d)) (order_of (get_or ends j d)) ≡ Less
 
--- what a search found: the ends, and the outcome of each, in the same order
+-- what a search found: the ends, and the outcome of each, in the same order; and how many points it took
 pub record Found (A : Type 0) : Type 0 where
   pub ends : List (Point A)
   pub outcomes : List (Outcome A)
+  pub points : ℕ
 
 -- more points would have had to be searched than may be
 abbrev pub IsOver : ℕ → ExploreError → Type 0

@@ -187,7 +187,7 @@ fn first_level<A: Handle>(
     Ok(level)
 }
 
-/// All ways in which programs can end, each once. Contracts see the ends, and the outcome of each.
+/// All ways in which programs can end, each once. Contracts see the ends, the outcome of each, and the number of points.
 #[derive(Drop)]
 pub struct Explored<A: Handle> {
     ends: Ends<A>,
@@ -201,7 +201,7 @@ impl<A: Handle> std::marker::Model for Explored<A> {
 
     ghost Value = { Found A };
 
-    ghost view = { λ e. record { ends = points_of e.ends.entries; outcomes = outcomes_of e.ends.entries } };
+    ghost view = { λ e. record { ends = points_of e.ends.entries; outcomes = outcomes_of e.ends.entries; points = e.points } };
 }
 
 impl<A: Handle> Explored<A> {
@@ -213,7 +213,9 @@ impl<A: Handle> Explored<A> {
     }
 
     /// How many points were searched.
-    pub fn points(&self) -> u64 {
+    pub fn points(&self) -> u64
+        ensures { result ≡ self.now.points }
+    {
         self.points
     }
 
@@ -246,6 +248,7 @@ pub fn explore<A: Handle>(
 ) -> Result<Explored<A>, ExploreError>
     ensures all { IfOk result (λ explored. AreAllEnds lines.now model.now explored.ends) }
     ensures outcomes { IfOk result (λ explored. explored.outcomes ≡ map (outcome lines.now) explored.ends) }
+    ensures few { IfOk result (λ explored. explored.points ≤ most) }
     ensures too_many { IfErr result (λ error. IsOver most error) }
 {
     if most == 0 {

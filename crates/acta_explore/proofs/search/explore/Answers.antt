@@ -30,3 +30,6 @@ returns-clause-all g c = explored-all c.args.lines.now c.args.model.now c.args.m
 
 pub returns-clause-outcomes : goal.returns-clause-outcomes
 returns-clause-outcomes g c = outcomes-kept c.args.lines.now c.loop-alloc.ends.entries c.loop-alloc.invariant.outcomes
+
+pub returns-clause-few : goal.returns-clause-few
+returns-clause-few g c = c.loop-alloc.invariant.few
