@@ -121,9 +121,9 @@ run_on is_kept m s =
       text = text_of (told is_kept (run_answers m s.said) state ++ told_last is_kept state s.stop);
     }
 
--- the numbers of the lines that have words
-unfoldable pub spoken_lines : List ℕ → List ℕ
-spoken_lines input = numbers_where (λ line. not (length (words_of line) == 0)) (lines_of input)
+-- the numbers, from 1, of the lines that have a word
+unfoldable pub line_numbers : List ℕ → List ℕ
+line_numbers input = numbers_where (λ line. not (length (words_of line) == 0)) (lines_of input)
 
 -- : op N
 abbrev pub op_words : Option OpNo → List (List ℕ)
@@ -229,7 +229,7 @@ output_on Assemble m input = record { is_refused = false; text = image m }
 output_on CheckImage m input = record { is_refused = false; text = canonical m }
 output_on Upgrade m input = record { is_refused = false; text = image m }
 output_on (Run kept) m input = run_on kept m (said_in (event_of m) input)
-output_on Trace m input = trace_on m (spoken_lines input) (said_in (event_of m) input)
+output_on Trace m input = trace_on m (line_numbers input) (said_in (event_of m) input)
 output_on Judge m input = judge_on m (said_in (kept_of m) input)
 output_on Debug m input = debug_on m input
 output_on Serial m input = serial_on m (said_in (event_of m) input)

@@ -1,14 +1,15 @@
 //! The lines of an input, read one by one, up to the first line that says nothing.
 
-ghost use Rattle.std.specs.Prelude.{◌≡◌, ◌==◌, ◌<◌, ◌+◌, ◌^◌, ℕ, List, Result, Ok, false, length, option_map, All, IfOk, IfErr, IfSome};
+ghost use Rattle.std.specs.Prelude.{◌≡◌, ◌==◌, ◌<◌, ◌+◌, ◌^◌, ℕ, List, Result, Ok, false, length, option_map, All, IfOk, IfErr, IfSome, IfNone};
 ghost use Rattle.acta_script.specs.declared.fault.LineFault.{LineFault};
 ghost use Rattle.acta_script.specs.Reading.{IsWhy};
 ghost use Rattle.acta_words.specs.Text.{words_of};
 ghost use Rattle.acta_words.specs.inside.LinesToCome.{lines_to_come};
-ghost use Rattle.acta_tool.specs.Output.{said_by, said_from, said_in};
+ghost use Rattle.acta_tool.specs.Output.{line_numbers, said_by, said_from, said_in};
 
 use acta_script::{
-    DebugCommand, LineError, LineFault, Seated, read_command, read_event, read_kept, read_seated,
+    DebugCommand, LineError, LineFault, ProgramLine, Seated, read_command, read_event, read_kept,
+    read_program_line, read_seated,
 };
 use acta_table::{Event, Kept, Model};
 use acta_words::{Lines, has_words};
@@ -109,6 +110,27 @@ impl<'a, A: Allocator + Copy> LineReader<Seated<A>> for SeatedLines<'a, A> {
     }
 }
 
+/// Reads lines as steps of programs: a seat, of so many, and alternatives.
+#[derive(Clone, Copy)]
+pub struct ProgramLines<'a, A: Allocator + Copy> {
+    pub alloc: A,
+    pub model: &'a Model<A>,
+    pub seats: u8,
+}
+
+impl<'a, A: Allocator + Copy> LineReader<ProgramLine<A>> for ProgramLines<'a, A> {
+    ghost use Rattle.acta_script.specs.Laws.{IsInModel};
+    ghost use Rattle.acta_script.specs.Reading.{program_line_of};
+
+    ghost said = { λ r. program_line_of r.model.now r.seats };
+
+    ghost fits = { λ r step. All (IsInModel r.model.now) step.alternatives };
+
+    fn read(&self, line: &[u8]) -> Result<ProgramLine<A>, LineError> {
+        read_program_line(self.alloc, self.model, self.seats, line)
+    }
+}
+
 /// A line that says nothing, by its number from 1.
 #[derive(Clone, Copy)]
 pub struct BadLine {
@@ -180,7 +202,25 @@ pub fn read_lines<X: Drop, A: Allocator, L: LineReader<X>>(
 ) -> Result<Input<X, A>, AllocError>
     ensures said { IfOk result (λ read. said_in (L.said reader.now) input.now ≡ record { said = read.said.items; stop = read.stop }) }
     ensures fits { IfOk result (λ read. All (L.fits reader.now) read.said.items) }
+    ensures numbered { IfOk result (λ read. IfNone read.stop (length (line_numbers input.now) ≡ length read.said.items)) }
 {
     let lines = Lines::of(input);
     read_left(alloc, reader, lines, 0)
+}
+
+/// The numbers of the lines that have a word, from 1. `Err` where there is no memory.
+#[tactic(auto, unfolding(crate::specs::Output::line_numbers))]
+pub fn numbers_of_lines<A: Allocator>(alloc: A, input: &[u8]) -> Result<Vec<usize, A>, AllocError>
+    ensures { IfOk result (λ numbers. numbers.items ≡ line_numbers input.now) }
+{
+    let mut numbers = Vec::new(alloc);
+    let mut lines = Lines::of(input);
+    let mut number = 0;
+    while let Some(line) = lines.next() {
+        number += 1;
+        if has_words(line) {
+            numbers.push(number)?;
+        }
+    }
+    Ok(numbers)
 }

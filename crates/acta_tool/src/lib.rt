@@ -26,7 +26,9 @@ mod tracing;
 pub use args::{Args, Command, ModelName, model_named, parse};
 pub use drive::drive_tool;
 pub use fault::UsageFault;
-pub use input::{BadLine, EventLines, Input, KeptLines, LineReader, read_lines};
+pub use input::{
+    BadLine, EventLines, Input, KeptLines, LineReader, ProgramLines, numbers_of_lines, read_lines,
+};
 pub use laws::{images_are_upgraded, images_run_as_their_texts};
 pub use models::{ModelError, NoModel, read_model};
 pub use outcome::{Outcome, exit_status};

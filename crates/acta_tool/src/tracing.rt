@@ -5,35 +5,18 @@ ghost use Rattle.acta_machine.specs.Table.{after_all, edges_in};
 ghost use Rattle.acta_script.specs.Laws.{IsInModel};
 ghost use Rattle.acta_script.specs.Reading.{event_of};
 ghost use Rattle.acta_words.specs.Text.{text_of};
-ghost use Rattle.acta_tool.specs.Output.{edge_words, formed_line, op_words, said_in, spoken_lines, trace_lines, trace_on};
+ghost use Rattle.acta_tool.specs.Output.{edge_words, formed_line, line_numbers, op_words, said_in, trace_lines, trace_on};
 ghost use Rattle.acta_tool.specs.inside.Reports.{output_of};
 
-use crate::input::{EventLines, read_lines};
+use crate::input::{EventLines, numbers_of_lines, read_lines};
 use crate::reports::Report;
 use crate::telling::tell_end;
 use acta_machine::{Formed, Handle, Machine};
 use acta_script::{answer_line, write_event};
 use acta_table::{Edge, Event, MOST_EDGES, Model, OpNo};
-use acta_words::{Lines, has_words, push_line, push_natural, push_word};
+use acta_words::{push_line, push_natural, push_word};
 use itoa::Buffer;
 use std::alloc::{AllocError, Allocator};
-
-// The numbers of the lines that have words, from 1.
-#[tactic(auto, unfolding(crate::specs::Output::spoken_lines))]
-fn spoken_lines<A: Allocator>(alloc: A, input: &[u8]) -> Result<Vec<usize, A>, AllocError>
-    ensures { IfOk result (λ numbers. numbers.items ≡ spoken_lines input.now) }
-{
-    let mut numbers = Vec::new(alloc);
-    let mut lines = Lines::of(input);
-    let mut number = 0;
-    while let Some(line) = lines.next() {
-        number += 1;
-        if has_words(line) {
-            numbers.push(number)?;
-        }
-    }
-    Ok(numbers)
-}
 
 // Tells the operation that an event added.
 fn tell_op<A: Allocator>(text: &mut Vec<u8, A>, op: Option<OpNo>) -> Result<(), AllocError>
@@ -155,14 +138,14 @@ pub fn trace_model<A: Handle>(
     model: Model<A>,
     input: &[u8],
 ) -> Result<Report<A>, AllocError>
-    ensures { IfOk result (λ report. output_of report ≡ trace_on model (spoken_lines input.now) (said_in (event_of model) input.now)) }
+    ensures { IfOk result (λ report. output_of report ≡ trace_on model (line_numbers input.now) (said_in (event_of model) input.now)) }
 {
     let lines = EventLines {
         alloc,
         model: &model,
     };
     let read = read_lines(alloc, &lines, input)?;
-    let numbers = spoken_lines(alloc, input)?;
+    let numbers = numbers_of_lines(alloc, input)?;
     let mut machine = Machine::new(alloc, model)?;
     let mut text = Vec::new(alloc);
     tell_traced(

@@ -2,7 +2,7 @@ use Rattle.std.proofs.Common.{◌≡◌, ◌<◌, ◌++◌, ◌∙◌, ℕ, List
 use Rattle.acta_machine.specs.Table.{after_all}
 use Rattle.acta_script.specs.Laws.{IsInModel}
 use Rattle.acta_words.specs.Text.{text_of}
-use Rattle.acta_tool.specs.Output.{spoken_lines, trace_lines}
+use Rattle.acta_tool.specs.Output.{line_numbers, trace_lines}
 use Rattle.acta_tool.proofs.TraceLines.{traced}
 use Rattle.acta_tool.proofs.tracing.trace_model.Goals as goal
 
@@ -20,7 +20,7 @@ returns g c =
     let begun = c.in_ok-machine.ensures.fresh in
     let numbers : List ℕ = c.deref.result.now in
     (λ i. record { is_refused = c.is_some.ensures i; text = c.tell_end.new.text.items })
-    ∙ traced c.args.model (spoken_lines c.args.input.now) numbers _ c.in_ok-read.read.said.items c.in_ok-read.read.stop c.tell_traced.new.machine c.tell_traced.new.text.items c.tell_end.new.text.items
+    ∙ traced c.args.model (line_numbers c.args.input.now) numbers _ c.in_ok-read.read.said.items c.in_ok-read.read.stop c.tell_traced.new.machine c.tell_traced.new.text.items c.tell_end.new.text.items
     c.in_ok-read.ensures.said
     (c.deref.ensures.value ∙ c.in_ok-numbers.ensures)
     (c.in_ok-tell_traced.ensures.told

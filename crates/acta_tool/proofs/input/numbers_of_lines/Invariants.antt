@@ -2,7 +2,7 @@ use Rattle.std.proofs.Common.{◌≡◌, ◌<◌, ◌+◌, ◌^◌, ◌++◌, no
 use Rattle.acta_table.specs.Numbered.{numbers_from}
 use Rattle.acta_words.specs.Text.{words_of}
 use Rattle.acta_words.specs.inside.LinesToCome.{lines_to_come}
-use Rattle.acta_tool.proofs.tracing.spoken_lines.Given as goal
+use Rattle.acta_tool.proofs.input.numbers_of_lines.Given as goal
 
 -- the numbers so far, before those of the lines that are left, are all
 abbrev pub invariant-loop-line : goal.invariant-loop-line

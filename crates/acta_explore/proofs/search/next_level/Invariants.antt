@@ -1,0 +1,7 @@
+use Rattle.acta_explore.specs.inside.Merging.{points_of}
+use Rattle.acta_explore.proofs.Expanding.{IsPutTo}
+use Rattle.acta_explore.proofs.search.next_level.Given as goal
+
+-- what the points so far lead to is put, and those that have no step
+abbrev pub invariant-loop-index : goal.invariant-loop-index
+invariant-loop-index g l = IsPutTo l.plan (points_of l.level.entries) (points_of l.initial.ends.entries) l.room l.index l.next.entries l.ends.entries

@@ -1,0 +1,6 @@
+pub mod Programs
+pub mod Points
+pub mod Outcomes
+pub mod Equivalence
+pub mod Ends
+pub mod inside

@@ -1,0 +1,7 @@
+-- What the contracts inside the crate cite.
+pub mod Debts
+pub mod Keys
+pub mod Merging
+pub mod Noting
+pub mod Shown
+pub mod Turns

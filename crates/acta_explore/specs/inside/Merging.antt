@@ -1,0 +1,49 @@
+-- Lists of points to which others are put, unless they are related to one that is there.
+use Rattle.std.specs.Prelude.{◌≡◌, ◌⊎◌, ⊤, List, [], ◌∷◌, ◌++◌, map}
+use Rattle.std.specs.List.{All, Contains}
+use Rattle.acta_explore.specs.declared.key.Key.{Key}
+use Rattle.acta_explore.specs.declared.outcome.Outcome.{Outcome}
+use Rattle.acta_explore.specs.Outcomes.{Outcome as an_outcome, outcome}
+use Rattle.acta_explore.specs.Points.{Point}
+use Rattle.acta_explore.specs.Programs.{Programs}
+use Rattle.acta_explore.specs.inside.Keys.{IsKeyOf}
+use Rattle.acta_explore.specs.inside.Shown.{shown}
+
+-- some point of the list is related to this one
+pub record HasLike {A : Type 0} (R : Point A → Point A → Type 0) (points : List (Point A)) (q : Point A) : Type 0 where
+  pub by : Point A
+  pub within : Contains points by
+  pub related : R by q
+
+-- a point is put behind the others, of which each is unlike it, or one of the others is related to it
+abbrev pub IsPut : {A : Type 0} → (Point A → Point A → Type 0) → (Point A → Point A → Type 0) → List (Point A) → Point A → List (Point A) → Type 0
+IsPut R Unlike old p new = ((new ≡ old ++ p ∷ []) × All (λ x. Unlike x p) old) ⊎ ((new ≡ old) × HasLike R old p)
+
+-- these points are put to the others, one after another
+abbrev pub IsMerged : {A : Type 0} → (Point A → Point A → Type 0) → (Point A → Point A → Type 0) → List (Point A) → List (Point A) → List (Point A) → Type 0
+IsMerged R Unlike old [] new = new ≡ old
+IsMerged R Unlike old (p ∷ ps) new = (mid : List (Point _)) × IsPut R Unlike old p mid × IsMerged R Unlike mid ps new
+
+-- nothing is said of points that are put
+abbrev pub AreAny : {A : Type 0} → Point A → Point A → Type 0
+AreAny p q = ⊤
+
+-- the two have different outcomes
+abbrev pub HaveOthers : {A : Type 0} → Programs A → Point A → Point A → Type 0
+HaveOthers programs p q = outcome programs p ≡ outcome programs q → ⊥
+
+-- the points of a map
+abbrev pub points_of : {K A : Type 0} → List (K × Point A) → List (Point A)
+points_of entries = map (λ e. e.1) entries
+
+-- and what their keys show, where these are outcomes
+abbrev pub outcomes_of : {A : Type 0} → List (Outcome A × Point A) → List (an_outcome A)
+outcomes_of entries = map (λ e. shown e.0) entries
+
+-- each key is the key of its point
+abbrev pub AreKeyed : {A : Type 0} → Programs A → List (Key A × Point A) → Type 0
+AreKeyed programs entries = All (λ e. IsKeyOf programs e.1 e.0) entries
+
+-- and each outcome that of its point
+abbrev pub AreOutcomes : {A : Type 0} → Programs A → List (Outcome A × Point A) → Type 0
+AreOutcomes programs entries = All (λ e. shown e.0 ≡ outcome programs e.1) entries

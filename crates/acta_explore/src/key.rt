@@ -1,0 +1,124 @@
+//! What two points are compared by: points with equal keys are equivalent.
+
+ghost use Rattle.std.specs.Prelude.{◌≡◌, ◌==◌, ℕ, length, filter, get_or, IfOk};
+ghost use Rattle.std.specs.List.Sorted.{IsPermutation};
+ghost use Rattle.acta_sets.specs.declared.held_op.HeldOp.{HeldOp};
+ghost use Rattle.acta_machine.specs.Table.{edges_in, operations_in};
+ghost use Rattle.acta_explore.specs.Equivalence.{by_line, is_on, line_ops as ops_by_line};
+ghost use Rattle.acta_explore.specs.Programs.{operated_lines};
+ghost use Rattle.acta_explore.specs.inside.Keys.{IsKeyOf, no_txn, txn_in};
+
+use crate::plan::Plan;
+use crate::point::{Done, Point, Step};
+use acta_machine::{Handle, HeldOp, Machine, Permit};
+use acta_table::{ClassId, Edge, Status, TxnId};
+use std::alloc::{AllocError, Allocator};
+
+/// An operation, with the position of the line that did it.
+#[derive(Clone, Copy, PartialEq, Eq, Hash, Debug)]
+pub(crate) struct LineOp {
+    pub(crate) line: usize,
+    pub(crate) held: HeldOp,
+}
+
+/// What the machine knows of one transaction.
+#[derive(Clone, Copy, PartialEq, Eq, Hash, Debug)]
+pub(crate) struct Txn {
+    pub(crate) status: Status,
+    pub(crate) class: Option<ClassId>,
+    pub(crate) parent: Option<TxnId>,
+}
+
+/// What a point is compared by.
+#[derive(Drop)]
+#[derive_where(PartialEq, Eq, Hash)]
+pub(crate) struct Key<A: Allocator> {
+    /// How many events were admitted.
+    pub(crate) kept: usize,
+    /// What each line did.
+    pub(crate) lines: Vec<Option<Done>, A>,
+    /// What the machine knows of each transaction, by its number.
+    pub(crate) txns: Vec<Txn, A>,
+    /// The edges in force, in one order.
+    pub(crate) edges: Vec<Edge, A>,
+    /// The operations, by their objects.
+    pub(crate) operations: Vec<LineOp, A>,
+    pub(crate) permits: Vec<Permit, A>,
+}
+
+// What the machine knows of each transaction.
+fn txns_of<A: Handle>(alloc: A, machine: &Machine<A>) -> Result<Vec<Txn, A>, AllocError>
+    ensures { IfOk result (λ txns. (t : ℕ) → get_or txns.items t no_txn ≡ txn_in machine.now t) }
+{
+    let mut txns = Vec::with_capacity(alloc, machine.known_txns())?;
+    for t in 0..machine.known_txns() {
+        let txn = TxnId(t as u16);
+        txns.push(Txn {
+            status: machine.status(txn),
+            class: machine.class(txn),
+            parent: machine.parent(txn),
+        })?;
+    }
+    Ok(txns)
+}
+
+// The edges in force, in one order.
+fn edges_of<A: Handle>(alloc: A, machine: &Machine<A>) -> Result<Vec<Edge, A>, AllocError>
+    ensures { IfOk result (λ edges. IsPermutation (edges_in machine.now) edges.items) }
+{
+    let mut edges = Vec::from_slice(alloc, machine.edges())?;
+    edges.sort_by_key(|edge| (edge.kind.code(), edge.j.0, edge.i.0))?;
+    Ok(edges)
+}
+
+// The operations, each with the line that did it.
+fn line_ops<A: Allocator>(
+    alloc: A,
+    steps: &[Step],
+    items: &[HeldOp],
+) -> Result<Vec<LineOp, A>, AllocError>
+    ensures { IfOk result (λ ops. ops.items ≡ by_line (operated_lines steps.now) items.now) }
+{
+    let mut ops = Vec::with_capacity(alloc, items.len())?;
+    let mut number = 0;
+    for step in steps {
+        if step.ret.is_none() {
+            continue;
+        }
+        let Some(held) = items.get(number) else {
+            break;
+        };
+        ops.push(LineOp {
+            line: step.line,
+            held: *held,
+        })?;
+        number += 1;
+    }
+    Ok(ops)
+}
+
+// The same, by their objects: those on one object stay in their order.
+fn operations_of<A: Handle>(alloc: A, point: &Point<A>) -> Result<Vec<LineOp, A>, AllocError>
+    ensures { IfOk result (λ ops. (ob : ℕ) → filter (is_on ob) ops.items ≡ filter (is_on ob) (ops_by_line point.now)) }
+{
+    let mut ops = line_ops(alloc, point.steps(), point.machine().operations())?;
+    ops.sort_by_key(|op| op.held.ob.0)?;
+    Ok(ops)
+}
+
+impl<A: Handle> Key<A> {
+    /// The key of the point.
+    pub(crate) fn of(alloc: A, plan: &Plan<'_, A>, point: &Point<A>) -> Result<Key<A>, AllocError>
+        ensures { IfOk result (IsKeyOf plan.now point.now) }
+    {
+        let machine = point.machine();
+        Ok(Key {
+            kept: machine.history().len(),
+            lines: plan.lines_done(alloc, point.steps())?,
+            txns: txns_of(alloc, machine)?,
+            edges: edges_of(alloc, machine)?,
+            operations: operations_of(alloc, point)?,
+            permits: machine.permits()?,
+        })
+    }
+}

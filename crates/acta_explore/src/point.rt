@@ -1,0 +1,167 @@
+//! A point that programs can come to: the steps that were taken, and the machine after them.
+
+ghost use Rattle.std.specs.Prelude.{◌≡◌, ◌≤◌, length, IfOk};
+ghost use Rattle.acta_table.specs.declared.limits.TheConstants.{MOST_EVENTS};
+ghost use Rattle.acta_explore.specs.Points.{start, tried, stepped};
+ghost use Rattle.acta_explore.specs.Programs.{done_by, lines_done};
+
+use crate::plan::Plan;
+use acta_machine::{Handle, Machine};
+use acta_table::{Answer, Event, Model, Ret};
+use std::alloc::AllocError;
+
+/// Whose turn it is, and which alternative of the seat's next line is tried.
+#[derive(Clone, Copy, PartialEq, Eq, Debug)]
+pub struct Turn {
+    pub seat: u8,
+    /// From 0.
+    pub alternative: usize,
+}
+
+/// A step: an alternative of a seat's next line happened.
+#[derive(Clone, Copy, PartialEq, Eq, Debug)]
+pub struct Step {
+    pub seat: u8,
+    /// The position of the line among the lines of the programs, from 0.
+    pub line: usize,
+    /// The alternative of that line, from 0.
+    pub alternative: usize,
+    /// What the event returned, if it is an operation.
+    pub ret: Option<Ret>,
+}
+
+/// What a line did.
+#[derive(Clone, Copy, PartialEq, Eq, Hash, Debug)]
+pub struct Done {
+    /// The alternative that happened, from 0.
+    pub alternative: usize,
+    /// What the event returned, if it is an operation.
+    pub ret: Option<Ret>,
+}
+
+impl Step {
+    /// What the step's line did.
+    pub fn done(&self) -> Done
+        ensures { result ≡ done_by self.now }
+    {
+        Done {
+            alternative: self.alternative,
+            ret: self.ret,
+        }
+    }
+}
+
+/// A point that programs can come to. Contracts see the steps, and the model and the history of the machine.
+#[derive(Drop)]
+pub struct Point<A: Handle> {
+    steps: Vec<Step, A>,
+    machine: Machine<A>,
+}
+
+impl<A: Handle> std::marker::Model for Point<A> {
+    ghost use Rattle.std.specs.Prelude.{◌≡◌, length};
+    ghost use Rattle.acta_explore.specs.Points.{Point as a_point};
+
+    ghost Value = { a_point A };
+
+    ghost view = { λ p. record { steps = p.steps.items; state = p.machine } };
+
+    ghost invariant = { λ p. length p.steps.items ≡ length p.machine.kept };
+}
+
+impl<A: Handle> Point<A> {
+    /// Before any step.
+    pub(crate) fn start(alloc: A, model: &Model<A>) -> Result<Point<A>, AllocError>
+        ensures { IfOk result (λ point. point ≡ start model.now) }
+    {
+        Ok(Point {
+            steps: Vec::new(alloc),
+            machine: Machine::new(alloc, model.copy()?)?,
+        })
+    }
+
+    /// The steps that were taken, in order.
+    pub fn steps(&self) -> &[Step]
+        ensures { result.now ≡ self.now.steps }
+    {
+        self.steps.as_slice()
+    }
+
+    /// The machine after them.
+    pub fn machine(&self) -> &Machine<A>
+        ensures { result.now ≡ self.now.state }
+    {
+        &self.machine
+    }
+
+    /// The same point, in memory of its own.
+    pub fn copy(&self, alloc: A) -> Result<Point<A>, AllocError>
+        ensures { IfOk result (λ point. point ≡ self.now) }
+    {
+        Ok(Point {
+            steps: Vec::from_slice(alloc, self.steps.as_slice())?,
+            machine: self.machine.copy()?,
+        })
+    }
+
+    /// Does nothing: a proof learns from the call that there are at most `MOST_EVENTS` steps.
+    pub(crate) fn lemma_few(&self)
+        ensures { length self.now.steps ≤ MOST_EVENTS }
+    {
+        self.machine.history();
+    }
+
+    // The point after an event of a line, if the event is admitted.
+    fn try_event(
+        &self,
+        alloc: A,
+        turn: Turn,
+        line: usize,
+        event: &Event<A>,
+    ) -> Result<Option<Point<A>>, AllocError>
+        ensures { IfOk result (λ next. next ≡ tried self.now turn line event.now) }
+    {
+        if self.machine.why(event)?.is_some() {
+            return Ok(None);
+        }
+        let mut machine = self.machine.copy()?;
+        match machine.take(event)? {
+            Answer::Admitted { ret, .. } => {
+                let mut steps = Vec::from_slice(alloc, self.steps.as_slice())?;
+                steps.push(Step {
+                    seat: turn.seat,
+                    line,
+                    alternative: turn.alternative,
+                    ret,
+                })?;
+                Ok(Some(Point { steps, machine }))
+            }
+            Answer::Refused { .. } => {
+                drop(machine);
+                Ok(None)
+            }
+        }
+    }
+
+    /// The point after a step: an alternative of the seat's next line, if there is one and it is admitted. `done` is what
+    /// each line did.
+    pub(crate) fn stepped(
+        &self,
+        alloc: A,
+        plan: &Plan<'_, A>,
+        done: &[Option<Done>],
+        turn: Turn,
+    ) -> Result<Option<Point<A>>, AllocError>
+        requires { done.now ≡ lines_done plan.now self.now.steps }
+        ensures { IfOk result (λ next. next ≡ stepped plan.now self.now turn) }
+    {
+        let Some(line) = plan.next_line(done, turn.seat) else {
+            return Ok(None);
+        };
+        self.lemma_few();
+        match plan.event_at(alloc, self.steps.as_slice(), line, turn.alternative)? {
+            Some(event) => self.try_event(alloc, turn, line, &event),
+            None => Ok(None),
+        }
+    }
+}
