@@ -1,9 +1,9 @@
 //! The lines of all ends.
 
-ghost use Rattle.std.specs.Prelude.{◌≡◌, ◌++◌, ◌∷◌, [], slice_get, IfOk, OnOk};
+ghost use Rattle.std.specs.Prelude.{◌≡◌, ◌++◌, ◌∷◌, [], map, slice_get, IfOk, OnOk};
 ghost use Rattle.std.specs.Option.{option_map_or};
 ghost use Rattle.acta_words.specs.Text.{text_of};
-ghost use Rattle.acta_explore.specs.Ends.{AreOutcomesOf};
+ghost use Rattle.acta_explore.specs.Outcomes.{outcome};
 ghost use Rattle.acta_ends.specs.EndLines.{count_line, explored_lines, point_lines};
 
 use crate::end::push_end;
@@ -24,8 +24,8 @@ fn push_end_at<A: Handle>(
     place: usize,
     number: usize,
 ) -> Result<(), AllocError>
-    requires { AreOutcomesOf lines.now explored.now }
-    ensures { OnOk result (text.new.items ≡ text.old.items ++ text_of (option_map_or (point_lines model.now lines.now numbers.now number) (slice_get explored.now place) [])) }
+    requires { explored.now.outcomes ≡ map (outcome lines.now) explored.now.ends }
+    ensures { OnOk result (text.new.items ≡ text.old.items ++ text_of (option_map_or (point_lines model.now lines.now numbers.now number) (slice_get explored.now.ends place) [])) }
 {
     let Some(point) = explored.end(place) else {
         return Ok(());
@@ -55,8 +55,8 @@ pub fn ends_lines<A: Handle>(
     numbers: &[usize],
     explored: &Explored<A>,
 ) -> Result<Vec<u8, A>, AllocError>
-    requires { AreOutcomesOf lines.now explored.now }
-    ensures { IfOk result (λ text. text.items ≡ text_of (explored_lines model.now lines.now numbers.now explored.now)) }
+    requires { explored.now.outcomes ≡ map (outcome lines.now) explored.now.ends }
+    ensures { IfOk result (λ text. text.items ≡ text_of (explored_lines model.now lines.now numbers.now explored.now.ends)) }
 {
     let mut text = Vec::new(alloc);
     for place in 0..explored.len() {
