@@ -3,6 +3,7 @@ pub mod Again
 pub mod Alternatives
 pub mod Ascending
 pub mod Checked
+pub mod Elements
 pub mod Joined
 pub mod Lines
 pub mod Named

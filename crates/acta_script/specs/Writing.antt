@@ -1,8 +1,10 @@
 -- The lines of events and of kept items, as they are written.
-use Rattle.std.specs.Prelude.{ℕ, true, false, List, [], ◌∷◌, ◌++◌, map, codes, decimal, slice_get}
+use Rattle.std.specs.Prelude.{ℕ, true, false, List, [], ◌∷◌, ◌++◌, map, codes, decimal, slice_get, ℤ}
 use Rattle.std.specs.Fmt.{signed_decimal}
 use Rattle.std.specs.List.{join_with_byte}
 use Rattle.std.specs.Option.{option_map_or}
+use Rattle.acta_table.specs.declared.answer.Status.{Status}
+use Rattle.acta_table.specs.declared.answer.Status.TheVariants.{NotBegun, InProgress, Committed, Aborted, Joined}
 use Rattle.acta_table.specs.declared.event.ClassId.{ClassId}
 use Rattle.acta_table.specs.declared.event.Event.{Event}
 use Rattle.acta_table.specs.declared.event.Event.TheVariants.{Begin, Spawn, Split, Join, Delegate, Form, Operate, Commit, Abort, Permit}
@@ -67,6 +69,18 @@ return_word Done = codes "done"
 return_word (Value v) = signed_decimal v
 return_word (Flag true) = codes "yes"
 return_word (Flag false) = codes "no"
+
+-- the elements of a set, ascending, between braces
+abbrev pub elements_word : List ℤ → List ℕ
+elements_word xs = codes "{" ++ (join_with_byte 44 (map signed_decimal xs) ++ codes "}")
+
+-- the word of a status
+abbrev pub status_word : Status → List ℕ
+status_word NotBegun = codes "notbegun"
+status_word InProgress = codes "inprogress"
+status_word Committed = codes "committed"
+status_word Aborted = codes "aborted"
+status_word Joined = codes "joined"
 
 -- the words of a kept item
 abbrev pub kept_words : {A : Type 0} → Parts A → Kept A → List (List ℕ)

@@ -57,7 +57,8 @@ pub fn answer_line<A: Allocator + Copy>(alloc: A, answer: &Answer) -> Result<Vec
     }
 }
 
-fn missing_word(missing: Missing) -> &'static [u8]
+/// The word of an event that is owed.
+pub fn missing_word(missing: Missing) -> &'static [u8]
     ensures { result.now ≡ missing_word missing }
 {
     match missing {

@@ -15,7 +15,8 @@
 //! more, with the word `|` between two of them. An answer is `ok PLACE [RETURN]` or `no RULE [by N]`, a debt is
 //! `owed EDGE TXN commit` or `.. abort`, and a fault in a history is `fault AXIOM PLACE BY`. No line that is written
 //! ends in a line feed. What is written of an event or a kept item is read again as this event or item: it is a clause
-//! of `write_event` and `write_kept`.
+//! of `write_event` and `write_kept`. Other crates write lines of their own with the words of statuses, sets, returns and
+//! events that are owed.
 #![tactic(auto)]
 
 mod answers;
@@ -32,14 +33,17 @@ mod reading;
 mod returns;
 mod seated;
 mod sentences;
+mod states;
 mod writing;
 
-pub use answers::{answer_line, fault_line, owed_line};
+pub use answers::{answer_line, fault_line, missing_word, owed_line};
 pub use commands::{BreakOn, DebugCommand, read_command};
 pub use fault::{LineError, LineFault};
 pub use kept::{read_kept, write_kept};
 pub use names::object_name;
 pub use programs::{ProgramLine, read_program_line};
 pub use reading::read_event;
+pub use returns::push_return;
 pub use seated::{Seated, read_seated};
+pub use states::{push_elements, status_word};
 pub use writing::write_event;

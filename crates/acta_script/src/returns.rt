@@ -36,7 +36,7 @@ pub(crate) fn return_said(words: &[&[u8]]) -> Result<Ret, LineFault>
 }
 
 /// Writes a space and the word of the return. `Err` where there is no memory.
-pub(crate) fn push_return<A: Allocator>(line: &mut Vec<u8, A>, ret: Ret) -> Result<(), AllocError>
+pub fn push_return<A: Allocator>(line: &mut Vec<u8, A>, ret: Ret) -> Result<(), AllocError>
     ensures { OnOk result (line.new.items ≡ line.old.items ++ 32 ∷ return_word ret) }
 {
     match ret {

@@ -2,7 +2,6 @@ pub mod BookLines
 pub mod DebugOutputs
 pub mod EntryLines
 pub mod ImageLines
-pub mod Joined
 pub mod KeptInModel
 pub mod Lines
 pub mod Named

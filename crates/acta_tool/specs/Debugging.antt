@@ -1,11 +1,8 @@
 -- The texts of commands to a debugger.
-use Rattle.std.specs.Prelude.{ℕ, Bool, false, List, [], ◌∷◌, ◌++◌, length, map, codes, decimal, Result, Ok, Err, ℤ}
+use Rattle.std.specs.Prelude.{ℕ, Bool, false, List, [], ◌∷◌, ◌++◌, length, map, codes, decimal, Result, Ok, Err}
 use Rattle.std.specs.Fmt.{signed_decimal}
-use Rattle.std.specs.List.{join_with_byte}
 use Rattle.std.specs.Option.{option_map_or}
 use Rattle.std.specs.Str.{bytes_eq}
-use Rattle.acta_table.specs.declared.answer.Status.{Status}
-use Rattle.acta_table.specs.declared.answer.Status.TheVariants.{NotBegun, InProgress, Committed, Aborted, Joined}
 use Rattle.acta_table.specs.declared.event.ObjId.{ObjId}
 use Rattle.acta_table.specs.declared.event.TxnId.{TxnId}
 use Rattle.acta_words.specs.Text.{line_of, words_of}
@@ -23,7 +20,7 @@ use Rattle.acta_debug.specs.Moves.{gone_to, stepped, stepped_back, with_break, w
 use Rattle.acta_debug.specs.Sessions.{Session}
 use Rattle.acta_debug.specs.Stops.{run_to_stop, stop_of}
 use Rattle.acta_script.specs.Answers.{owed_line}
-use Rattle.acta_script.specs.Writing.{object_word, txn_word}
+use Rattle.acta_script.specs.Writing.{elements_word, object_word, status_word, txn_word}
 use Rattle.acta_script.specs.declared.commands.BreakOn.{BreakOn}
 use Rattle.acta_script.specs.declared.commands.BreakOn.TheVariants as on
 use Rattle.acta_script.specs.declared.commands.DebugCommand.{DebugCommand}
@@ -80,10 +77,6 @@ run_line last Finished = line_of (codes "end" ∷ decimal last ∷ [])
 abbrev pub set_line : ℕ → List ℕ
 set_line b = line_of (codes "break" ∷ decimal b ∷ codes "set" ∷ [])
 
--- the elements of a set, ascending, between braces
-abbrev pub elements_word : List ℤ → List ℕ
-elements_word xs = codes "{" ++ (join_with_byte 44 (map signed_decimal xs) ++ codes "}")
-
 -- the word of a value
 abbrev pub state_word : {A : Type 0} → ObjectState A → List ℕ
 state_word (Register v) = signed_decimal v
@@ -94,14 +87,6 @@ state_word (Elements xs) = elements_word xs
 abbrev pub value_line : {A : Type 0} → State A → ObjId → List ℕ
 value_line state ob =
     line_of (codes "value" ∷ object_word state.model ob ∷ option_map_or state_word (value_in state ob.0) [] ∷ [])
-
--- the word of a status
-abbrev pub status_word : Status → List ℕ
-status_word NotBegun = codes "notbegun"
-status_word InProgress = codes "inprogress"
-status_word Committed = codes "committed"
-status_word Aborted = codes "aborted"
-status_word Joined = codes "joined"
 
 -- status T STATUS
 abbrev pub status_line : {A : Type 0} → State A → TxnId → List ℕ

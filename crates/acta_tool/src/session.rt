@@ -1,24 +1,22 @@
 //! A debugging run: what each command does to the debugger, and its text.
 
-ghost use Rattle.std.specs.Prelude.{◌≡◌, ◌≢◌, ◌++◌, ◌∷◌, [], codes, length, map, IfOk, OnOk};
-ghost use Rattle.std.specs.Fmt.{signed_decimal};
-ghost use Rattle.std.specs.List.{join_with_byte};
+ghost use Rattle.std.specs.Prelude.{◌≡◌, ◌≢◌, ◌++◌, ◌∷◌, [], codes, length, IfOk, OnOk};
 ghost use Rattle.std.specs.Option.{option_map_or};
 ghost use Rattle.acta_debug.specs.Moves.{gone_to, stepped, stepped_back, with_break, without_breaks};
 ghost use Rattle.acta_debug.specs.Stops.{run_to_stop, stop_of};
 ghost use Rattle.acta_debug.specs.declared.errors.MoveError.TheVariants as barred;
 ghost use Rattle.acta_machine.specs.Table.{value_in};
+ghost use Rattle.acta_script.specs.Writing.{elements_word};
 ghost use Rattle.acta_words.specs.Text.{text_of};
-ghost use Rattle.acta_tool.specs.Debugging.{at_line, barred_line, behind, break_of, elements_word, error_word, move_line, moved, run_line, set_line, state_word, status_line, status_word, texts_of, told_by, value_line};
+ghost use Rattle.acta_tool.specs.Debugging.{at_line, barred_line, behind, break_of, error_word, move_line, moved, run_line, set_line, state_word, status_line, texts_of, told_by, value_line};
 
 use crate::telling::tell_debts;
 use acta_debug::{Break, Debugger, MoveError, Stop};
 use acta_machine::{Handle, Machine};
 use acta_objects::{Members, ObjectState};
-use acta_script::{BreakOn, DebugCommand, object_name};
-use acta_table::{ObjId, Status, TxnId};
+use acta_script::{BreakOn, DebugCommand, object_name, push_elements, status_word};
+use acta_table::{ObjId, TxnId};
 use acta_words::{push_integer, push_line, push_natural, push_word};
-use itoa::Buffer;
 use std::alloc::{AllocError, Allocator};
 
 // The break that a command says.
@@ -162,36 +160,6 @@ fn tell_clear<A: Handle>(
     push_line(text, b"cleared")
 }
 
-// Writes the digits of a number, behind a minus where it is below 0.
-fn push_digits<A: Allocator>(text: &mut Vec<u8, A>, number: &i32) -> Result<(), AllocError>
-    ensures { OnOk result (text.new.items ≡ text.old.items ++ signed_decimal number.now) }
-{
-    let mut digits = Buffer::new();
-    text.extend_from_slice(digits.format(*number).as_bytes())
-}
-
-// Writes a comma and the number.
-fn push_next<A: Allocator>(text: &mut Vec<u8, A>, number: &i32) -> Result<(), AllocError>
-    ensures { OnOk result (text.new.items ≡ text.old.items ++ 44 ∷ signed_decimal number.now) }
-{
-    text.push(b',')?;
-    push_digits(text, number)
-}
-
-// Writes the numbers, with a comma between each two.
-fn push_joined<A: Allocator>(text: &mut Vec<u8, A>, numbers: &[i32]) -> Result<(), AllocError>
-    ensures { OnOk result (text.new.items ≡ text.old.items ++ join_with_byte 44 (map signed_decimal numbers.now)) }
-{
-    let [first, others @ ..] = numbers else {
-        return Ok(());
-    };
-    push_digits(text, first)?;
-    for number in others {
-        push_next(text, number)?;
-    }
-    Ok(())
-}
-
 // The elements of a set, ascending.
 fn elements_of<A: Allocator + Copy>(
     alloc: A,
@@ -203,7 +171,7 @@ fn elements_of<A: Allocator + Copy>(
 }
 
 // Writes a space, and the elements of a set between braces.
-fn push_elements<A: Allocator + Copy>(
+fn push_members<A: Allocator + Copy>(
     alloc: A,
     members: &Members<A>,
     text: &mut Vec<u8, A>,
@@ -211,10 +179,7 @@ fn push_elements<A: Allocator + Copy>(
     ensures { OnOk result (text.new.items ≡ text.old.items ++ 32 ∷ elements_word members.now) }
 {
     let elements = elements_of(alloc, members)?;
-    text.extend_from_slice(b" {")?;
-    push_joined(text, elements.as_slice())?;
-    text.push(b'}')?;
-    Ok(())
+    push_elements(text, elements.as_slice())
 }
 
 // Writes a space and the value.
@@ -228,7 +193,7 @@ fn push_state<A: Allocator + Copy>(
     match state {
         ObjectState::Register(value) => push_integer(text, i64::from(*value)),
         ObjectState::Counter(value) => push_integer(text, *value),
-        ObjectState::Elements(members) => push_elements(alloc, members, text),
+        ObjectState::Elements(members) => push_members(alloc, members, text),
     }
 }
 
@@ -260,19 +225,6 @@ fn tell_value<A: Handle>(
     push_word(text, object_name(machine.model(), object))?;
     push_value(alloc, machine, object, text)?;
     push_line(text, b"")
-}
-
-// The word of a status.
-fn status_word(status: Status) -> &'static [u8]
-    ensures { result.now ≡ status_word status }
-{
-    match status {
-        Status::NotBegun => b"notbegun",
-        Status::InProgress => b"inprogress",
-        Status::Committed => b"committed",
-        Status::Aborted => b"aborted",
-        Status::Joined => b"joined",
-    }
 }
 
 // Tells how a transaction stands.
