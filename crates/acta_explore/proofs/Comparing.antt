@@ -1,5 +1,5 @@
 -- What `==` says of the parts of a key.
-use Rattle.std.proofs.Common.{◌≡◌, ◌==◌, ◌&&◌, Bool, true, false, List, [], ◌∷◌, Option, Some, None, refl, ap, rules}
+use Rattle.std.proofs.Common.{◌≡◌, ◌==◌, ◌&&◌, Bool, true, List, [], ◌∷◌, Option, Some, None, refl, ap, rules}
 use Rattle.std.specs.Cmp.{first_so, second_so}
 use Rattle.std.specs.Cmp.Lexicographic.{pointwise}
 use Rattle.std.specs.Option.{option_eq}
@@ -7,25 +7,20 @@ use Rattle.std.proofs.lemmas.Bool.{eqb-true}
 use Rattle.std.proofs.lemmas.Bool.Decides.{Decides-int_eq}
 use denote.Enum.Bare.{sameb, same_true}
 use Rattle.acta_table.specs.declared.answer.Fate.{Fate}
-use Rattle.acta_table.specs.declared.answer.Rule.{Rule}
 use Rattle.acta_table.specs.declared.answer.Status.{Status}
 use Rattle.acta_table.specs.declared.dep.Dep.{Dep}
 use Rattle.acta_table.specs.declared.dep.Edge.{Edge}
 use Rattle.acta_table.specs.declared.event.ClassId.{ClassId}
 use Rattle.acta_table.specs.declared.event.Op.{Op}
 use Rattle.acta_table.specs.declared.event.Op.TheVariants.{Read, Write, Get, Add, Insert, Remove, Has, Size}
-use Rattle.acta_table.specs.declared.event.Ret.{Ret}
-use Rattle.acta_table.specs.declared.event.Ret.TheVariants.{Done as has_done, Value, Flag}
 use Rattle.acta_table.specs.declared.event.TxnId.{TxnId}
 use Rattle.acta_table.specs.contracts.answer.Fate.{the_type as fate_type}
-use Rattle.acta_table.specs.contracts.answer.Rule.{the_type as rule_type}
 use Rattle.acta_table.specs.contracts.answer.Status.{the_type as status_type}
 use Rattle.acta_table.specs.contracts.dep.Dep.{the_type as dep_type}
 use Rattle.acta_table.specs.contracts.answer.FatePartialEq.TheImpl as fate_eq
 use Rattle.acta_table.specs.contracts.dep.EdgePartialEq.TheImpl as edge_eq
 use Rattle.acta_table.specs.contracts.event.ClassIdPartialEq.TheImpl as class_eq
 use Rattle.acta_table.specs.contracts.event.OpPartialEq.TheImpl as op_eq
-use Rattle.acta_table.specs.contracts.event.RetPartialEq.TheImpl as ret_eq
 use Rattle.acta_table.specs.contracts.event.TxnIdPartialEq.TheImpl as txn_eq
 use Rattle.acta_sets.specs.declared.held_op.HeldOp.{HeldOp}
 use Rattle.acta_sets.specs.declared.permit.Permit.{Permit}

@@ -7,6 +7,7 @@ use Rattle.std.specs.declared.result.Result.TheVariants.{Ok, Err}
 use Rattle.std.specs.Option.{option_map_or}
 use Rattle.std.specs.List.{AllByRecursion, filter_map, flat_map}
 use Rattle.std.proofs.lemmas.Bool.{ltb-true}
+use Rattle.std.proofs.lemmas.Option.{slice_get-map}
 use Rattle.std.proofs.lemmas.List.{take_more, take_all, append-nil, length-map}
 use Rattle.std.proofs.lemmas.Grind.{flat_map-append}
 use Rattle.std.proofs.lemmas.List.Elements.{All-from_recursion, filter_more, recursion_from_All}
@@ -86,10 +87,7 @@ point-at (x ∷ xs) (suc i) k p d e = point-at xs i k p d e
 
 -- what a list of other things has, where each is made of an item
 pub mapped-at : {X Y : Type 0} (f : X → Y) (xs : List X) (i : ℕ) (x : X) → slice_get xs i ≡ Some x → slice_get (map f xs) i ≡ Some (f x)
-mapped-at f [] zero x e = absurd cc
-mapped-at f [] (suc i) x e = absurd cc
-mapped-at f (y ∷ ys) zero x e = ap (option_map f) e
-mapped-at f (y ∷ ys) (suc i) x e = mapped-at f ys i x e
+mapped-at f xs i x e = slice_get-map f xs i ∙ ap (option_map f) e
 
 -- a map has as many points as entries
 pub less-points : {K A : Type 0} (entries : List (K × Point A)) (i n : ℕ) → n ≡ length entries → i < n → i < length (points_of entries)
@@ -114,15 +112,7 @@ further most points count next (suc level) few more e some = omega arith
 pub as-many : (most points count next : ℕ) → points ≤ most → next ≤ most - points → count ≡ next → points + count ≤ most
 as-many most points count next few more e = omega arith
 
--- a point that has a step is no end
-pub settled-on : {A : Type 0} (programs : Programs A) (p : Point A) (b : Bool) → b ≡ not (is_nil (successors programs p)) → b ≡ true → ends_among programs (p ∷ []) ≡ []
-settled-on programs p b e on = by (is_nil (successors programs p)) (sym e ∙ on)
-  where
-    by : (n : Bool) → not n ≡ true → cond n (p ∷ []) [] ≡ []
-    by true h = absurd cc
-    by false h = refl
-
--- and one that has none is
+-- a point that has no step is an end
 pub settled-off : {A : Type 0} (programs : Programs A) (p : Point A) (b : Bool) → b ≡ not (is_nil (successors programs p)) → b ≡ false → ends_among programs (p ∷ []) ≡ p ∷ []
 settled-off programs p b e off = by (is_nil (successors programs p)) (sym e ∙ off)
   where

@@ -1,8 +1,7 @@
 -- Finding entries of a map.
 use Rattle.std.proofs.Common.{◌≡◌, Bool, true, false, cond, List, [], ◌∷◌, ◌++◌, Some, is_some, if◌then◌else◌, refl, sym, ap, ◌∙◌}
-use Rattle.std.specs.List.{All, Contains}
+use Rattle.std.specs.List.{Contains}
 use Rattle.std.specs.Map.{lookup}
-use Rattle.std.proofs.lemmas.List.Elements.{All-nil, All-cons}
 use Rattle.indexmap.specs.IndexMap.{insert_entry}
 use Rattle.acta_explore.proofs.Turning.{contains-head, contains-tail}
 
@@ -27,15 +26,6 @@ found-entry test (e ∷ es) h = by (test e.0) refl (λ fails. found-entry test e
     by false fails later =
         let rest = later fails in
         record { key = rest.key; value = rest.value; within = contains-tail e (rest.key, rest.value) es rest.within; passes = rest.passes }
-
--- where nothing is found, no key passes
-pub found-none : {K V : Type 0} (test : K → Bool) (es : List (K × V)) → is_some (lookup test es) ≡ false → All (λ e. test e.0 ≡ false) es
-found-none test [] h = All-nil (λ e. test e.0 ≡ false)
-found-none test (e ∷ es) h = by (test e.0) refl (λ fails. found-none test es (skipped test e es false fails h))
-  where
-    by : (b : Bool) → test e.0 ≡ b → (test e.0 ≡ false → All (λ e. test e.0 ≡ false) es) → All (λ e. test e.0 ≡ false) (e ∷ es)
-    by true passes later = absurd (cc (sym h ∙ ap (λ (c : Bool). is_some (cond c (Some e.1) (lookup test es))) passes))
-    by false fails later = All-cons (λ e. test e.0 ≡ false) e es fails (later fails)
 
 -- and an entry that is inserted goes last
 pub insert-last : {K V : Type 0} (eq : K → K → Bool) (es : List (K × V)) (k : K) (v : V) → is_some (lookup (eq k) es) ≡ false → insert_entry eq es k v ≡ es ++ (k, v) ∷ []

@@ -1,21 +1,15 @@
 -- Steps of loops.
 use Rattle.std.proofs.Common.{◌≡◌, ◌<◌, ◌≤◌, ℕ, ◌+◌, ◌-◌, zero, suc, Bool, true, false, ◌&&◌, ◌==◌, List, [], ◌∷◌, ◌++◌, map, length, get_or, set, drop, replicate, Option, Some, None, is_none, refl, sym, ap, subst, ◌∙◌, arith}
-use Rattle.std.specs.Prelude.{if◌then◌else◌, nat_lt, option_map, is_some}
-use Rattle.std.specs.List.{filter_map, flat_map, cons_option, range_with_len}
+use Rattle.std.specs.Prelude.{if◌then◌else◌, nat_lt, is_some}
+use Rattle.std.specs.List.{filter_map, cons_option, range_with_len}
 use Rattle.std.proofs.lemmas.Bool.Decides.{nat_tests}
-use Rattle.std.proofs.lemmas.List.{append_assoc, drop_more, drop_all, map-append}
+use Rattle.std.proofs.lemmas.List.{append-nil, append_assoc, drop_more, drop_all, map-append}
 use Rattle.std.proofs.lemmas.List.Elements.{filter_map-append}
 use Rattle.acta_table.specs.Numbered.{numbers_from}
-use Rattle.acta_table.specs.declared.event.Ret.{Ret}
 use Rattle.acta_script.specs.declared.programs.ProgramLine.{ProgramLine}
 use Rattle.acta_explore.specs.declared.point.Done.{Done}
-use Rattle.acta_explore.specs.declared.point.Step.{Step}
-use Rattle.acta_explore.specs.Programs.{Programs, done_at, lines_done, next_from, operated_lines}
+use Rattle.acta_explore.specs.Programs.{Programs, done_at, lines_done, next_from}
 use Rattle.acta_explore.specs.inside.Noting.{noted_at}
-
-pub append-nil : {X : Type 0} (xs : List X) → xs ++ [] ≡ xs
-append-nil [] = refl
-append-nil (x ∷ xs) = ap (λ (ys : List _). x ∷ ys) (append-nil xs)
 
 -- ranges
 pub range-more : (a n : ℕ) → range_with_len a (n + 1) ≡ range_with_len a n ++ (a + n) ∷ []
@@ -46,13 +40,6 @@ some-range f n y e = ap (filter_map f) (range-from-0 n) ∙ some-filter f (range
 pub none-range : {Y : Type 0} (f : ℕ → Option Y) (n : ℕ) → f n ≡ None → filter_map f (range_with_len 0 (n + 1)) ≡ filter_map f (range_with_len 0 n)
 none-range f n e = ap (filter_map f) (range-from-0 n) ∙ none-filter f (range_with_len 0 n) n e
 
--- a list in front of what is left of another
-pub flat-step : {X Y : Type 0} (f : X → List Y) (acc : List Y) (xs : List X) (i : ℕ) (d : X) → i < length xs → acc ++ flat_map f (drop i xs) ≡ (acc ++ f (get_or xs i d)) ++ flat_map f (drop (i + 1) xs)
-flat-step f acc xs i d less = ap (λ (ys : List _). acc ++ flat_map f ys) (drop_more xs i d less) ∙ sym (append_assoc acc (f (get_or xs i d)) (flat_map f (drop (i + 1) xs)))
-
-pub flat-end : {X Y : Type 0} (f : X → List Y) (acc : List Y) (xs : List X) (i : ℕ) → length xs ≤ i → acc ++ flat_map f (drop i xs) ≡ acc
-flat-end f acc xs i past = ap (λ (ys : List _). acc ++ flat_map f ys) (drop_all i xs past) ∙ append-nil acc
-
 pub some-step : {X Y : Type 0} (f : X → Option Y) (acc : List Y) (xs : List X) (i : ℕ) (d : X) (y : Y) → i < length xs → f (get_or xs i d) ≡ Some y → acc ++ filter_map f (drop i xs) ≡ (acc ++ y ∷ []) ++ filter_map f (drop (i + 1) xs)
 some-step f acc xs i d y less e =
     ap (λ (ys : List _). acc ++ filter_map f ys) (drop_more xs i d less)
@@ -63,23 +50,12 @@ none-step f acc xs i d less e =
     ap (λ (ys : List _). acc ++ filter_map f ys) (drop_more xs i d less)
     ∙ ap (λ (o : Option _). acc ++ cons_option o (filter_map f (drop (i + 1) xs))) e
 
-pub some-end : {X Y : Type 0} (f : X → Option Y) (acc : List Y) (xs : List X) (i : ℕ) → length xs ≤ i → acc ++ filter_map f (drop i xs) ≡ acc
-some-end f acc xs i past = ap (λ (ys : List _). acc ++ filter_map f ys) (drop_all i xs past) ∙ append-nil acc
-
 -- positions of what passes
 pub numbers-here : {X : Type 0} (test : X → Bool) (acc : List ℕ) (xs : List X) (i : ℕ) (d : X) → i < length xs → test (get_or xs i d) ≡ true → acc ++ numbers_from test i (drop i xs) ≡ (acc ++ i ∷ []) ++ numbers_from test (i + 1) (drop (i + 1) xs)
 numbers-here test acc xs i d less e =
     ap (λ (ys : List _). acc ++ numbers_from test i ys) (drop_more xs i d less)
     ∙ (ap (λ (b : Bool). acc ++ (if b then i ∷ numbers_from test (i + 1) (drop (i + 1) xs) else numbers_from test (i + 1) (drop (i + 1) xs))) e
     ∙ sym (append_assoc acc (i ∷ []) (numbers_from test (i + 1) (drop (i + 1) xs))))
-
-pub numbers-there : {X : Type 0} (test : X → Bool) (acc : List ℕ) (xs : List X) (i : ℕ) (d : X) → i < length xs → test (get_or xs i d) ≡ false → acc ++ numbers_from test i (drop i xs) ≡ acc ++ numbers_from test (i + 1) (drop (i + 1) xs)
-numbers-there test acc xs i d less e =
-    ap (λ (ys : List _). acc ++ numbers_from test i ys) (drop_more xs i d less)
-    ∙ ap (λ (b : Bool). acc ++ (if b then i ∷ numbers_from test (i + 1) (drop (i + 1) xs) else numbers_from test (i + 1) (drop (i + 1) xs))) e
-
-pub numbers-end : {X : Type 0} (test : X → Bool) (acc : List ℕ) (xs : List X) (i : ℕ) → length xs ≤ i → acc ++ numbers_from test i (drop i xs) ≡ acc
-numbers-end test acc xs i past = ap (λ (ys : List _). acc ++ numbers_from test i ys) (drop_all i xs past) ∙ append-nil acc
 
 -- a table of what lines did
 pub noted-set : (n : ℕ) (d : Done) (xs : List (Option Done)) (e : Option Done) → n < length xs → is_none (get_or xs n e) ≡ true → set xs n (Some d) ≡ noted_at n d xs
@@ -124,21 +100,6 @@ next-short n seat lines dones past = ap (λ (ds : List (Option Done)). next_from
     no-dones : {A : Type 0} (n seat : ℕ) (lines : List (ProgramLine A)) → next_from n lines [] seat ≡ None
     no-dones n seat [] = refl
     no-dones n seat (l ∷ lines) = refl
-
--- the number of a line's operation
-pub operated-some : (steps : List Step) (i : ℕ) (d : Step) → i < length steps → is_none ((get_or steps i d).ret) ≡ false → operated_lines (drop i steps) ≡ (get_or steps i d).line ∷ operated_lines (drop (i + 1) steps)
-operated-some steps i d less some = ap operated_lines (drop_more steps i d less) ∙ by-ret (get_or steps i d).ret some
-  where
-    by-ret : (r : Option Ret) → is_none r ≡ false → cons_option (option_map (λ x. (get_or steps i d).line) r) (operated_lines (drop (i + 1) steps)) ≡ (get_or steps i d).line ∷ operated_lines (drop (i + 1) steps)
-    by-ret None e = absurd cc
-    by-ret (Some r) e = refl
-
-pub operated-none : (steps : List Step) (i : ℕ) (d : Step) → i < length steps → is_none ((get_or steps i d).ret) ≡ true → operated_lines (drop i steps) ≡ operated_lines (drop (i + 1) steps)
-operated-none steps i d less none = ap operated_lines (drop_more steps i d less) ∙ by-ret (get_or steps i d).ret none
-  where
-    by-ret : (r : Option Ret) → is_none r ≡ true → cons_option (option_map (λ x. (get_or steps i d).line) r) (operated_lines (drop (i + 1) steps)) ≡ operated_lines (drop (i + 1) steps)
-    by-ret None e = refl
-    by-ret (Some r) e = absurd cc
 
 -- whether there is none, from whether there is some
 pub none-off : {X : Type 0} (o : Option X) → is_some o ≡ false → is_none o ≡ true
