@@ -1,10 +1,10 @@
 -- A table of statuses in which one was set.
-use Rattle.std.proofs.Common.{◌≡◌, zero, suc, refl, arith, [], ◌∷◌, sym, ◌∙◌, ℕ, ◌<◌, ◌≤◌, List, length, get_or, slice_set, eq-eqb, inl, inr}
-use Rattle.std.proofs.lemmas.Bool.{ne_eqb, cases_eq, cases_lt}
+use Rattle.std.proofs.Common.{◌≡◌, zero, suc, refl, arith, [], ◌∷◌, sym, ◌∙◌, ℕ, ◌<◌, List, length, get_or, slice_set, eq-eqb, inl, inr}
+use Rattle.std.proofs.lemmas.Bool.{ne_eqb, cases_eq}
 use Rattle.std.proofs.lemmas.Option.{unwrap_or-slice_get}
-use Rattle.std.proofs.lemmas.List.{get_or-set_same, get_or-set_other, get_or_past}
+use Rattle.std.proofs.lemmas.List.{get_or-set_same, get_or-set_other}
 use Rattle.acta_table.specs.declared.answer.Status.{Status}
-use Rattle.acta_table.specs.declared.answer.Status.TheVariants.{NotBegun, InProgress}
+use Rattle.acta_table.specs.declared.answer.Status.TheVariants.{NotBegun}
 use Rattle.acta_deps.specs.Deps.{status_listed}
 use Rattle.acta_deps.specs.Statuses.{with_status}
 
@@ -23,18 +23,6 @@ pub front_kept : (xs : List Status) (t : ℕ) (s : Status) → 0 < t → status_
 front_kept [] t s h = refl
 front_kept (x ∷ xs) zero s h = absurd (omega arith)
 front_kept (x ∷ xs) (suc t) s h = refl
-
--- those past the end have not begun
-pub past_end : (xs : List Status) (t : ℕ) → length xs ≤ t → status_listed xs t ≡ NotBegun
-past_end xs t h = unwrap_or-slice_get xs t NotBegun ∙ get_or_past xs t NotBegun h
-
--- one that is in progress is in the table
-pub begun_within : (xs : List Status) (t : ℕ) → status_listed xs t ≡ InProgress → t < length xs
-begun_within xs t h =
-    elim (cases_lt t (length xs)) [
-      | inl within ↦ within
-      | inr past ↦ let both : NotBegun ≡ InProgress = sym (past_end xs t past) ∙ h in absurd (cc)
-    ]
 
 -- a table with the same entries shows the same
 pub same_listed : (xs ys : List Status) → ((t : ℕ) → get_or xs t NotBegun ≡ get_or ys t NotBegun) → status_listed xs ≡ status_listed ys
