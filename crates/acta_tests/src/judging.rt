@@ -3,7 +3,7 @@
 
 pub mod limits;
 pub mod lists;
-pub mod mixing;
+mod mixing;
 
 use crate::calls::owed_by;
 use crate::expecting::{made, same};

@@ -19,8 +19,6 @@ mod edges;
 #[cfg(test)]
 mod expecting;
 #[cfg(test)]
-mod exploring;
-#[cfg(test)]
 mod heaps;
 #[cfg(test)]
 mod judging;

@@ -5,7 +5,6 @@
 mod books;
 mod debuggers;
 mod edges;
-mod explorers;
 mod judges;
 mod machines;
 mod permits;
