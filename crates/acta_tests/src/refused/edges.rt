@@ -64,9 +64,12 @@ fn form_more<A: Handle>(deps: &mut Deps<A>) -> Result<usize, AllocError> {
 
 // The transaction starts, where it may.
 fn start<A: Handle>(deps: &mut Deps<A>, t: TxnId) -> Result<(), AllocError> {
+    if t.0 == 0 || LAST_TXN < t.0 {
+        return Ok(());
+    }
+    deps.make_room(t)?;
     let refusal = deps.may_start(t);
-    if refusal.is_none() && deps.status(t) == Status::NotBegun && 0 < t.0 && t.0 <= LAST_TXN {
-        deps.make_room(t)?;
+    if refusal.is_none() && deps.status(t) == Status::NotBegun {
         deps.started(t);
     }
     Ok(())
