@@ -5,11 +5,13 @@
 //! refused, 2 where the words are wrong, and 3 where a read, a write or the memory failed.
 #![tactic(auto)]
 
-ghost use Rattle.std.specs.Prelude.{◌≤◌, IfOk, vec_len};
+mod progress;
 
+use crate::progress::Progress;
 use acta_draw::{Drawing, Screen, draw_tool};
-use acta_explain::{Asked, explain_tool, is_asked, write_words};
+use acta_explain::{explain_tool, is_asked, write_words};
 use acta_models::Standard;
+use acta_programs::explore_tool;
 use acta_tool::{
     Args, Command, Metered, ModelName, Outcome, ReadFault, UsageFault, Watched, drive_tool,
     exit_status, parse, read_all, run_tool,
@@ -21,6 +23,7 @@ use std::io::IsTerminal;
 use std::process::ExitCode;
 use std::sync::Wait;
 use std::thread::Threads;
+use std::time::Clock;
 use std::{env, fs, io};
 
 // The words of the command line; the first is the program's name.
@@ -34,22 +37,32 @@ fn words<R: Env + AllocGlobal>(rt: &R) -> Result<Vec<String>, UsageFault> {
     }
 }
 
-// The bytes of a model file, at most 16,777,216.
-fn read_model<R: Files + AllocGlobal>(rt: &R, path: &str) -> Result<Vec<u8>, ReadFault>
-    ensures { IfOk result (λ bytes. vec_len bytes ≤ 16777216) }
-{
-    match fs::open(rt, path) {
-        Ok(file) => read_all(rt.alloc(), &mut Metered::new(file)),
-        Err(_) => Err(ReadFault::Device),
+// The bytes of the model of this name: of a file, or the text of a standard model.
+fn model_bytes<R: Files + AllocGlobal>(rt: &R, name: ModelName<'_>) -> Result<Vec<u8>, ReadFault> {
+    match name {
+        ModelName::Standard(standard) => {
+            match Vec::from_slice(rt.alloc(), standard.text().as_bytes()) {
+                Ok(text) => Ok(text),
+                Err(_) => Err(ReadFault::Memory),
+            }
+        }
+        ModelName::Path(path) => match fs::open(rt, path) {
+            Ok(file) => read_all(rt.alloc(), &mut Metered::new(file)),
+            Err(_) => Err(ReadFault::Device),
+        },
     }
 }
 
-// Runs the tool on the bytes of a model, over the standard input and output.
-fn run_on<R: Input + Print + AllocGlobal + Threads + Wait + Sync>(
+// Runs the tool over the standard input and output.
+fn serve_run<R: Files + Input + Print + AllocGlobal + Threads + Wait + Sync>(
     rt: &R,
     args: &Args<'_>,
-    model: &[u8],
 ) -> Outcome {
+    let model = match model_bytes(rt, args.model) {
+        Ok(model) => model,
+        Err(reason) => return Outcome::Unread(reason),
+    };
+    let model = model.as_slice();
     let mut input = Metered::new(rt.reader());
     let mut output = Watched::new(io::writer(rt));
     match args.command {
@@ -58,41 +71,25 @@ fn run_on<R: Input + Print + AllocGlobal + Threads + Wait + Sync>(
     }
 }
 
-// Explains the lines of the standard input on a model of these bytes and this name.
-fn explain_on<R: Input + Print + AllocGlobal + Threads + Sync>(
-    rt: &R,
-    is_judged: bool,
-    name: ModelName<'_>,
-    model: &[u8],
-) -> Outcome {
-    let mut input = Metered::new(rt.reader());
-    let mut output = Watched::new(io::writer(rt));
-    explain_tool(
-        rt,
-        rt.alloc(),
-        is_judged,
-        name,
-        model,
-        &mut input,
-        &mut output,
-    )
-}
-
 // Explains the lines of the standard input on the model of this name.
 fn explain_by<R: Files + Input + Print + AllocGlobal + Threads + Sync>(
     rt: &R,
     is_judged: bool,
     name: ModelName<'_>,
 ) -> Outcome {
-    match name {
-        ModelName::Standard(standard) => {
-            explain_on(rt, is_judged, name, standard.text().as_bytes())
-        }
-        ModelName::Path(path) => match read_model(rt, path) {
-            Ok(model) => explain_on(rt, is_judged, name, model.as_slice()),
-            Err(reason) => Outcome::Unread(reason),
-        },
-    }
+    let model = match model_bytes(rt, name) {
+        Ok(model) => model,
+        Err(reason) => return Outcome::Unread(reason),
+    };
+    explain_tool(
+        rt,
+        rt.alloc(),
+        is_judged,
+        name,
+        model.as_slice(),
+        &mut Metered::new(rt.reader()),
+        &mut Watched::new(io::writer(rt)),
+    )
 }
 
 // Explains what the words ask for.
@@ -101,22 +98,10 @@ fn serve_explain<R: Files + Input + Print + AllocGlobal + Threads + Sync>(
     words: &[String],
 ) -> Result<Outcome, UsageFault> {
     Ok(match acta_explain::parse(rt.alloc(), words)? {
-        Asked::Run(name) => explain_by(rt, false, name),
-        Asked::Judged(name) => explain_by(rt, true, name),
-        Asked::Words(told) => write_words(told, &mut Watched::new(io::writer(rt))),
+        acta_explain::Asked::Run(name) => explain_by(rt, false, name),
+        acta_explain::Asked::Judged(name) => explain_by(rt, true, name),
+        acta_explain::Asked::Words(told) => { write_words(told, &mut Watched::new(io::writer(rt))) }
     })
-}
-
-// Draws the lines of the standard input on a model of these bytes.
-fn draw_on<R: Input + Print + AllocGlobal>(
-    rt: &R,
-    screen: Screen,
-    drawing: &Drawing,
-    model: &[u8],
-) -> Outcome {
-    let mut input = Metered::new(rt.reader());
-    let mut output = Watched::new(io::writer(rt));
-    draw_tool(rt.alloc(), drawing, screen, model, &mut input, &mut output)
 }
 
 // Draws the lines of the standard input on the model of this name.
@@ -126,15 +111,18 @@ fn draw_by<R: Files + Input + Print + AllocGlobal>(
     drawing: &Drawing,
     name: ModelName<'_>,
 ) -> Outcome {
-    match name {
-        ModelName::Standard(standard) => {
-            draw_on(rt, screen, drawing, standard.text().as_bytes())
-        }
-        ModelName::Path(path) => match read_model(rt, path) {
-            Ok(model) => draw_on(rt, screen, drawing, model.as_slice()),
-            Err(reason) => Outcome::Unread(reason),
-        },
-    }
+    let model = match model_bytes(rt, name) {
+        Ok(model) => model,
+        Err(reason) => return Outcome::Unread(reason),
+    };
+    draw_tool(
+        rt.alloc(),
+        drawing,
+        screen,
+        model.as_slice(),
+        &mut Metered::new(rt.reader()),
+        &mut Watched::new(io::writer(rt)),
+    )
 }
 
 // Draws what the words ask for.
@@ -148,26 +136,46 @@ fn serve_draw<R: Env + Files + Input + Print + AllocGlobal>(
     Ok(draw_by(rt, screen, &asked.drawing, asked.model))
 }
 
-// Does what the words ask for; the standard output may be a terminal.
-fn serve<R: Env + Files + Input + Print + AllocGlobal + Threads + Wait + Sync>(
+// Finds how the programs of the standard input can end; the standard error may be a terminal.
+fn serve_explore<R: Clock + Eprint + Files + Input + Print + AllocGlobal>(
     rt: &R,
     is_terminal: bool,
+    words: &[String],
+) -> Result<Outcome, UsageFault> {
+    let asked = acta_programs::parse(rt.alloc(), words)?;
+    let model = match model_bytes(rt, asked.model) {
+        Ok(model) => model,
+        Err(reason) => return Ok(Outcome::Unread(reason)),
+    };
+    Ok(explore_tool(
+        rt.alloc(),
+        asked,
+        model.as_slice(),
+        &mut Metered::new(rt.reader()),
+        &mut Watched::new(io::writer(rt)),
+        &mut Progress::new(rt, is_terminal),
+    ))
+}
+
+// Does what the words ask for; the standard output and the standard error may be terminals.
+fn serve<R: Clock + Env + Eprint + Files + Input + Print + AllocGlobal + Threads + Wait + Sync>(
+    rt: &R,
+    is_output_terminal: bool,
+    is_error_terminal: bool,
 ) -> Result<Outcome, UsageFault> {
     let words = words(rt)?;
-    if acta_draw::is_asked(words.as_slice()) {
-        return serve_draw(rt, is_terminal, words.as_slice());
+    let words = words.as_slice();
+    if is_asked(words, "draw") {
+        return serve_draw(rt, is_output_terminal, words);
     }
-    if is_asked(words.as_slice()) {
-        return serve_explain(rt, words.as_slice());
+    if is_asked(words, "explain") {
+        return serve_explain(rt, words);
     }
-    let args = parse(rt.alloc(), words.as_slice())?;
-    Ok(match args.model {
-        ModelName::Standard(name) => run_on(rt, &args, name.text().as_bytes()),
-        ModelName::Path(path) => match read_model(rt, path) {
-            Ok(model) => run_on(rt, &args, model.as_slice()),
-            Err(reason) => Outcome::Unread(reason),
-        },
-    })
+    if is_asked(words, "explore") {
+        return serve_explore(rt, is_error_terminal, words);
+    }
+    let args = parse(rt.alloc(), words)?;
+    Ok(serve_run(rt, &args))
 }
 
 // Lists the standard models.
@@ -197,7 +205,7 @@ fn tell_usage(rt: &HostRuntime, fault: &UsageFault) {
 }
 
 fn main(rt: HostRuntime) -> ExitCode {
-    let outcome = serve(&rt, rt.stdout().is_terminal());
+    let outcome = serve(&rt, rt.stdout().is_terminal(), rt.stderr().is_terminal());
     if let Err(fault) = &outcome {
         tell_usage(&rt, fault);
     }

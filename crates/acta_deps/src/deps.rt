@@ -79,7 +79,7 @@ impl<A: Allocator> Deps<A> {
 
     /// How far to look for transactions: none of this number or above has begun.
     pub fn known_txns(&self) -> usize
-        ensures new { (t : ℕ) → result ≤ t → status_of self.now t ≡ Status.NotBegun }
+        ensures status { (t : ℕ) → result ≤ t → status_of self.now t ≡ Status.NotBegun }
         ensures few { result ≤ TABLE_SIZE }
     {
         self.statuses.len()

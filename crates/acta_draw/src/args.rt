@@ -2,7 +2,7 @@
 
 use crate::choice::Choice;
 use crate::layout::{LEAST_WIDTH, MOST_WIDTH};
-use acta_explain::{called, flag, model_arg, option, usage, with_arg};
+use acta_explain::{called, flag, matched, model_arg, option, usage, with_arg};
 use acta_table::{MOST_EVENTS, TxnId};
 use acta_tool::{ModelName, UsageFault, model_named};
 use acta_words::read_u16;
@@ -168,18 +168,15 @@ fn asked_by<'a>(
     }
 }
 
-// What the words behind `draw` ask for.
+// What the words after `draw` ask for.
 fn asked_on<'a>(
     alloc: Global,
     mut surface: Command<'a>,
     words: &'a [String],
 ) -> Result<Asked<'a>, UsageFault> {
-    let asked = match surface.try_get_matches_from_mut(words) {
+    let asked = match matched(&mut surface, words) {
         Ok(matches) => asked_by(alloc, &mut surface, &matches),
-        Err(e) => match e.kind() {
-            ErrorKind::OutOfMemory => Err(UsageFault::Memory(AllocError)),
-            _ => Err(UsageFault::Usage(e)),
-        },
+        Err(fault) => Err(fault),
     };
     drop(surface);
     asked
@@ -193,13 +190,5 @@ pub fn parse<'a>(alloc: Global, words: &'a [String]) -> Result<Asked<'a>, UsageF
     match surface(alloc, name.as_str()) {
         Ok(surface) => asked_on(alloc, surface, words.get(2..).unwrap_or(&[])),
         Err(e) => Err(UsageFault::Memory(e)),
-    }
-}
-
-/// Whether the words ask for a picture: the second is `draw`.
-pub fn is_asked(words: &[String]) -> bool {
-    match words.get(1) {
-        Some(word) => word.as_str() == "draw",
-        None => false,
     }
 }

@@ -1,5 +1,8 @@
--- Examples: the lines of some ends.
-use Rattle.std.specs.Prelude.{◌≡◌, ℕ, List, [], ◌∷◌, codes, Option, Some, None, false, pos, negsuc, refl}
+-- Examples: the lines of some ends, and which conditions hold of them.
+use Rattle.std.specs.Prelude.{◌≡◌, ℕ, ◌<◌, ◌^◌, Bool, List, [], ◌∷◌, codes, length, map, Option, Some, None, true, false, pos, negsuc, refl}
+use Rattle.std.proofs.Common.{arith}
+use Rattle.std.specs.declared.vec.Vec.{Vec}
+use denote.RawPtr.{null_ptr}
 use Rattle.std.specs.Fmt.{digits}
 use Rattle.acta_table.specs.declared.answer.Rule.TheVariants.{Conflict, CommitOrder}
 use Rattle.acta_table.specs.declared.answer.Status.{Status}
@@ -7,6 +10,7 @@ use Rattle.acta_table.specs.declared.answer.Status.TheVariants.{InProgress, Comm
 use Rattle.acta_table.specs.declared.dep.Dep.TheVariants.{Scd, Ad}
 use Rattle.acta_table.specs.declared.event.Event.{Event}
 use Rattle.acta_table.specs.declared.event.Event.TheVariants as event
+use Rattle.acta_table.specs.declared.event.ObjId.{ObjId}
 use Rattle.acta_table.specs.declared.event.Op.{Op}
 use Rattle.acta_table.specs.declared.event.Op.TheVariants.{Add, Get, Write}
 use Rattle.acta_table.specs.declared.event.Ret.{Ret}
@@ -23,6 +27,13 @@ use Rattle.acta_explore.specs.declared.point.Done.{Done}
 use Rattle.acta_explore.specs.declared.point.Step.{Step}
 use Rattle.acta_explore.specs.Outcomes.{Outcome}
 use Rattle.acta_explore.specs.Programs.{Programs}
+use Rattle.acta_words.specs.Text.{line_of}
+use Rattle.acta_ends.specs.declared.condition.Condition.{Condition}
+use Rattle.acta_ends.specs.declared.condition.Term.{Term}
+use Rattle.acta_ends.specs.declared.condition.Test.{Test}
+use Rattle.acta_ends.specs.declared.condition.Test.TheVariants as test
+use Rattle.acta_ends.specs.ConditionWords.{condition_words}
+use Rattle.acta_ends.specs.Conditions.{holds, test_holds}
 use Rattle.acta_ends.specs.EndLines.{end_lines, explored_lines}
 
 abbrev ob : List ℕ → Kind → Object (Unit {0})
@@ -148,6 +159,102 @@ owing_lines : end_lines model programs numbers 3 owing []
 unfolding digits
 owing_lines = refl
 
-no_ends : explored_lines model programs numbers [] ≡ codes "ends 0" ∷ []
+abbrev vec : {X : Type 0} (xs : List X) → length xs < 2 ^ 63 → Vec X (Unit {0})
+vec xs few = record { ptr = null_ptr; len = length xs; cap = length xs; alloc = tt; items = xs; ok = (refl, omega arith); small = few }
+
+abbrev object : ℕ → ObjId
+object n = record { 0 = n }
+
+abbrev is_so : Test (Unit {0}) → Term (Unit {0})
+is_so asked = record { is_negated = false; test = asked }
+
+abbrev is_not_so : Test (Unit {0}) → Term (Unit {0})
+is_not_so asked = record { is_negated = true; test = asked }
+
+abbrev is_1_and_4 : Test (Unit {0})
+is_1_and_4 = test.Elements (object 3) (vec (pos 1 ∷ pos 4 ∷ []) (omega arith))
+
+abbrev no_condition : Condition (Unit {0})
+no_condition = record { terms = vec [] (omega arith) }
+
+no_ends : explored_lines model programs numbers no_condition [] ≡ codes "ends 0" ∷ []
 unfolding explored_lines digits
 no_ends = refl
+
+-- which of the three ends are complete, stuck and owing
+abbrev of_all : Test (Unit {0}) → List Bool
+of_all asked = map (λ o. test_holds o asked) (crossed ∷ one_aborted ∷ owing ∷ [])
+
+complete : of_all test.Complete ≡ false ∷ true ∷ false ∷ []
+complete = refl
+
+stuck : of_all test.Stuck ≡ true ∷ false ∷ true ∷ []
+stuck = refl
+
+only_owing : of_all test.Owing ≡ false ∷ false ∷ true ∷ []
+only_owing = refl
+
+-- where transaction 1 has aborted, and where it is in progress; transaction 3 has begun in one alone
+aborted : of_all (test.Status (t 1) Aborted) ≡ false ∷ true ∷ false ∷ []
+aborted = refl
+
+in_progress : of_all (test.Status (t 1) InProgress) ≡ true ∷ false ∷ false ∷ []
+in_progress = refl
+
+joined : of_all (test.Status (t 3) Joined) ≡ false ∷ false ∷ true ∷ []
+joined = refl
+
+-- a register, a counter, an object without a value, one that is not there, and a set
+register : of_all (test.Number (object 0) (negsuc 9)) ≡ false ∷ true ∷ false ∷ []
+register = refl
+
+counter : of_all (test.Number (object 1) (pos 0)) ≡ true ∷ false ∷ false ∷ []
+counter = refl
+
+no_value : of_all (test.Number (object 2) (pos 0)) ≡ true ∷ false ∷ false ∷ []
+no_value = refl
+
+no_object : of_all (test.Number (object 9) (pos 0)) ≡ false ∷ false ∷ false ∷ []
+no_object = refl
+
+no_number : of_all (test.Number (object 3) (pos 0)) ≡ false ∷ false ∷ false ∷ []
+no_number = refl
+
+elements : of_all is_1_and_4 ≡ false ∷ true ∷ false ∷ []
+elements = refl
+
+no_elements : of_all (test.Elements (object 3) (vec [] (omega arith))) ≡ true ∷ false ∷ false ∷ []
+no_elements = refl
+
+-- a line that was not done in the first end, one that did no operation, and one that returned 0 and then no
+returned : of_all (test.Returned 6 ret.Done) ≡ false ∷ true ∷ false ∷ []
+returned = refl
+
+no_operation : of_all (test.Returned 0 ret.Done) ≡ false ∷ false ∷ false ∷ []
+no_operation = refl
+
+returned_zero : of_all (test.Returned 5 (ret.Value (pos 0))) ≡ true ∷ false ∷ false ∷ []
+returned_zero = refl
+
+returned_no : of_all (test.Returned 5 (ret.Flag false)) ≡ false ∷ true ∷ false ∷ []
+returned_no = refl
+
+-- all tests must hold, and a test after `not` must fail
+abbrev terms : List (Term (Unit {0}))
+terms = is_so (test.Status (t 1) Aborted) ∷ is_not_so test.Stuck ∷ is_so (test.Number (object 0) (negsuc 9)) ∷ is_so is_1_and_4 ∷ is_not_so (test.Returned 5 ret.Done) ∷ []
+
+abbrev condition : Condition (Unit {0})
+condition = record { terms = vec terms (omega arith) }
+
+all_hold : map (holds condition) (crossed ∷ one_aborted ∷ owing ∷ []) ≡ false ∷ true ∷ false ∷ []
+all_hold = refl
+
+none_fails : map (holds no_condition) (crossed ∷ one_aborted ∷ owing ∷ []) ≡ true ∷ true ∷ true ∷ []
+none_fails = refl
+
+condition_line : line_of (condition_words model numbers terms) ≡ codes "1 aborted and not stuck and x = -10 and s = {1,4} and not 7 = done"
+unfolding digits
+condition_line = refl
+
+no_condition_line : line_of (condition_words model numbers []) ≡ []
+no_condition_line = refl

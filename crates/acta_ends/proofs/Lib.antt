@@ -1,3 +1,4 @@
 mod Examples
+pub mod KeptEnds
 pub mod Pieces
 pub mod Sections

@@ -1,5 +1,5 @@
 -- A line from its words, which are written one after another.
-use Rattle.std.proofs.Common.{◌≡◌, ℕ, List, [], ◌∷◌, ◌++◌, flat_map, sym, ap, ◌∙◌, append_assoc, append-nil}
+use Rattle.std.proofs.Common.{◌≡◌, ℕ, List, [], ◌∷◌, ◌++◌, drop, flat_map, refl, sym, ap, ◌∙◌, append_assoc, append-nil}
 use Rattle.std.proofs.lemmas.Grind.{flat_map-append}
 use Rattle.acta_words.specs.Text.{line_of, text_of}
 
@@ -34,3 +34,8 @@ whole old start last all first words h1 h2 h3 =
     ∙ ap (λ t. t ++ end) (h2 ∙ ap (λ t. t ++ spaced words) h1 ∙ append_assoc old first (spaced words))
     ∙ append_assoc old (first ++ spaced words) end
     ∙ ap (λ t. old ++ t) (line ∙ sym (append-nil (line_of (first ∷ words) ++ end)))
+
+-- words without the space before the first are a line
+pub unspaced : (words : List (List ℕ)) → drop 1 (spaced words) ≡ line_of words
+unspaced [] = refl
+unspaced (word ∷ words) = sym (behind word words)

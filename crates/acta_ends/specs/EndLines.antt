@@ -1,5 +1,5 @@
 -- The lines of ends, as programs read them.
-use Rattle.std.specs.Prelude.{ℕ, ◌+◌, Bool, List, [], ◌∷◌, ◌++◌, map, length, get_or, codes, decimal, nat_lt, if◌then◌else◌, Option, Some, None}
+use Rattle.std.specs.Prelude.{ℕ, ◌+◌, Bool, List, [], ◌∷◌, ◌++◌, map, filter, length, get_or, codes, decimal, nat_lt, if◌then◌else◌, Option, Some, None}
 use Rattle.std.specs.Fmt.{signed_decimal}
 use Rattle.std.specs.Option.{option_map_or}
 use Rattle.acta_table.specs.declared.answer.Rule.{Rule}
@@ -19,6 +19,8 @@ use Rattle.acta_explore.specs.declared.point.Step.{Step}
 use Rattle.acta_explore.specs.Outcomes.{Outcome, Waiting, alternatives_at, missing_by, outcome}
 use Rattle.acta_explore.specs.Points.{Point}
 use Rattle.acta_explore.specs.Programs.{Programs}
+use Rattle.acta_ends.specs.declared.condition.Condition.{Condition}
+use Rattle.acta_ends.specs.Conditions.{holds}
 
 -- how programs ended, by the seats that wait and by what is owed
 abbrev pub kind_words : {X Y : Type 0} → List X → List Y → List (List ℕ)
@@ -121,11 +123,19 @@ end_lines m programs numbers k o steps =
 abbrev pub point_lines : {A : Type 0} → Parts A → Programs A → List ℕ → ℕ → Point A → List (List ℕ)
 point_lines m programs numbers k p = end_lines m programs numbers k (outcome programs p) p.steps
 
+-- whether the condition holds at the end at a point
+abbrev pub is_kept : {A : Type 0} → Programs A → Condition A → Point A → Bool
+is_kept programs c p = holds c (outcome programs p)
+
+-- the lines of the end at a point, if the condition holds there
+abbrev pub kept_lines : {A : Type 0} → Parts A → Programs A → List ℕ → Condition A → ℕ → Point A → List (List ℕ)
+kept_lines m programs numbers c k p = if is_kept programs c p then point_lines m programs numbers k p else []
+
 -- ends N
 abbrev pub count_line : ℕ → List ℕ
 count_line n = line_of (codes "ends" ∷ decimal n ∷ [])
 
--- the lines of all ends, numbered from 1, and how many there are
-unfoldable pub explored_lines : {A : Type 0} → Parts A → Programs A → List ℕ → List (Point A) → List (List ℕ)
-explored_lines m programs numbers points =
-    lines_from (point_lines m programs numbers) 1 points ++ count_line (length points) ∷ []
+-- the lines of the ends for which the condition holds, with their numbers among all ends, from 1, and how many they are
+unfoldable pub explored_lines : {A : Type 0} → Parts A → Programs A → List ℕ → Condition A → List (Point A) → List (List ℕ)
+explored_lines m programs numbers c points =
+    lines_from (kept_lines m programs numbers c) 1 points ++ count_line (length (filter (is_kept programs c) points)) ∷ []

@@ -1,1 +1,3 @@
+pub mod ConditionWords
+pub mod Conditions
 pub mod EndLines

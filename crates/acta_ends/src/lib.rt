@@ -12,15 +12,27 @@
 //! ```
 //!
 //! with the lines from `wait` to `return` as often as there is something to write. `LINE` is the number of a line in the
-//! input. In `order` it is `LINE.A` for a line with more than one alternative. `ends N` follows the last end. A call
-//! that allocates returns `Err` if memory runs out.
+//! input. In `order` it is `LINE.A` for a line with more than one alternative. `ends N` follows the last end. Only the ends
+//! for which a condition holds are written, and `N` is how many these are. A call that allocates returns `Err` if memory
+//! runs out.
 #![tactic(auto)]
 
+mod condition;
 mod end;
 mod ends;
+mod fault;
+mod kept;
 mod lines;
+mod reading;
 mod states;
+mod texts;
+mod tokens;
 mod waits;
 mod words;
 
+pub use condition::{Condition, Term, Test};
 pub use ends::ends_lines;
+pub use fault::{ConditionError, ConditionFault, Expected};
+pub use kept::kept_ends;
+pub use reading::read_condition;
+pub use texts::condition_text;

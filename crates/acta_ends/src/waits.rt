@@ -5,7 +5,7 @@ ghost use Rattle.acta_words.specs.Text.{text_of};
 ghost use Rattle.acta_explore.specs.inside.Shown.{shown, shown_wait};
 ghost use Rattle.acta_ends.specs.EndLines.{head_line, kind_words, rule_word, wait_line};
 
-use crate::words::push_number;
+use crate::words::{COMPLETE, OWING, STUCK, push_number};
 use acta_explore::{Outcome, Wait};
 use acta_table::Rule;
 use acta_words::{push_line, push_natural, push_word};
@@ -16,9 +16,9 @@ fn push_kind<A: Allocator>(text: &mut Vec<u8, A>, outcome: &Outcome<A>) -> Resul
     ensures { OnOk result (text.new.items ≡ text.old.items ++ flat_map (λ word. 32 ∷ word) (kind_words (shown outcome.now).waiting (shown outcome.now).debts)) }
 {
     match (outcome.waits.is_empty(), outcome.debts.is_empty()) {
-        (true, true) => push_word(text, b"complete"),
-        (false, true) => push_word(text, b"stuck"),
-        (true, false) => push_word(text, b"owing"),
+        (true, true) => push_word(text, COMPLETE),
+        (false, true) => push_word(text, STUCK),
+        (true, false) => push_word(text, OWING),
         (false, false) => push_word(text, b"stuck owing"),
     }
 }

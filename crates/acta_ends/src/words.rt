@@ -1,4 +1,4 @@
-//! Words that several lines have.
+//! Words that several lines and conditions have.
 
 ghost use Rattle.std.specs.Prelude.{◌≡◌, ◌++◌, ◌∷◌, OnOk, get_or};
 ghost use Rattle.acta_ends.specs.EndLines.{alternative_word, has_choice, number_word};
@@ -7,6 +7,21 @@ use acta_script::ProgramLine;
 use acta_words::push_natural;
 use itoa::Buffer;
 use std::alloc::{AllocError, Allocator};
+
+/// No seat waits, and nothing is owed.
+pub(crate) const COMPLETE: &[u8] = b"complete";
+
+/// A seat waits.
+pub(crate) const STUCK: &[u8] = b"stuck";
+
+/// Something is owed.
+pub(crate) const OWING: &[u8] = b"owing";
+
+/// Before a test that must fail.
+pub(crate) const NOT: &[u8] = b"not";
+
+/// Between two tests.
+pub(crate) const AND: &[u8] = b"and";
 
 // The number in the input of the line at this position.
 fn number_at(numbers: &[usize], line: usize) -> usize

@@ -193,18 +193,29 @@ fn asked_by<'a>(
     model_asked(model.unwrap_or(""), is_judged)
 }
 
-// What the words behind `explain` ask for.
+/// What the words give for the arguments of a command line.
+pub fn matched<'a>(
+    surface: &mut Command<'a>,
+    words: &'a [String],
+) -> Result<ArgMatches<'a>, UsageFault> {
+    match surface.try_get_matches_from_mut(words) {
+        Ok(matches) => Ok(matches),
+        Err(e) => match e.kind() {
+            ErrorKind::OutOfMemory => Err(UsageFault::Memory(AllocError)),
+            _ => Err(UsageFault::Usage(e)),
+        },
+    }
+}
+
+// What the words after `explain` ask for.
 fn asked_on<'a>(
     alloc: Global,
     mut surface: Command<'a>,
     words: &'a [String],
 ) -> Result<Asked<'a>, UsageFault> {
-    let asked = match surface.try_get_matches_from_mut(words) {
+    let asked = match matched(&mut surface, words) {
         Ok(matches) => asked_by(alloc, &mut surface, &matches),
-        Err(e) => match e.kind() {
-            ErrorKind::OutOfMemory => Err(UsageFault::Memory(AllocError)),
-            _ => Err(UsageFault::Usage(e)),
-        },
+        Err(fault) => Err(fault),
     };
     drop(surface);
     asked
@@ -221,10 +232,10 @@ pub fn parse<'a>(alloc: Global, words: &'a [String]) -> Result<Asked<'a>, UsageF
     }
 }
 
-/// Whether the words ask to explain something: the second is `explain`.
-pub fn is_asked(words: &[String]) -> bool {
+/// Whether the words ask for this command: the second is its name.
+pub fn is_asked(words: &[String], command: &str) -> bool {
     match words.get(1) {
-        Some(word) => word.as_str() == "explain",
+        Some(word) => word.as_str() == command,
         None => false,
     }
 }

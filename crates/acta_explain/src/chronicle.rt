@@ -2,7 +2,7 @@
 //! refers to. Where an input is told line by line, a line is a row.
 
 use crate::prose::Prose;
-use acta_table::{ClassId, Event, OpNo, TABLE_SIZE, TxnId};
+use acta_table::{ClassId, Event, LAST_TXN, OpNo, TxnId, lengthen};
 use std::alloc::{AllocError, Allocator};
 
 /// A line of the input that says something, with what is told of it.
@@ -74,15 +74,14 @@ pub struct Chronicle<A: Allocator> {
 }
 
 impl<A: Allocator + Copy> Chronicle<A> {
-    /// Nothing is told yet. `Err` where there is no memory.
-    pub fn new(alloc: A) -> Result<Chronicle<A>, AllocError> {
-        let unbegun = Life::UNBEGUN;
-        Ok(Chronicle {
+    /// Before any row. Takes no memory.
+    pub fn new(alloc: A) -> Chronicle<A> {
+        Chronicle {
             rows: Vec::new(alloc),
             operations: Vec::new(alloc),
             edges: Vec::new(alloc),
-            lives: vec![in alloc; unbegun; TABLE_SIZE]?,
-        })
+            lives: Vec::new(alloc),
+        }
     }
 }
 
@@ -114,32 +113,50 @@ impl<A: Allocator> Chronicle<A> {
             self.edges.push(row)?;
         }
         if let Some(t) = event.started() {
-            self.begin(t, row, event.class(), parent_by(event));
+            self.begin(t, row, event.class(), parent_by(event))?;
         }
         if let Some(t) = ended_by(event) {
-            self.end(t, row);
+            self.end(t, row)?;
         }
         Ok(())
     }
 
+    // The life of a transaction, for which room is made; nothing for a number that no transaction can have.
+    fn life_mut(&mut self, t: TxnId) -> Result<Option<&mut Life>, AllocError> {
+        if t.0 > LAST_TXN {
+            return Ok(None);
+        }
+        let place = usize::from(t.0);
+        lengthen(&mut self.lives, place.saturating_add(1), Life::UNBEGUN)?;
+        Ok(self.lives.get_mut(place))
+    }
+
     // Notes by which row a transaction began, and with what. Only the first counts.
-    fn begin(&mut self, t: TxnId, row: usize, class: Option<ClassId>, parent: Option<TxnId>) {
-        if let Some(life) = self.lives.get_mut(usize::from(t.0)) {
+    fn begin(
+        &mut self,
+        t: TxnId,
+        row: usize,
+        class: Option<ClassId>,
+        parent: Option<TxnId>,
+    ) -> Result<(), AllocError> {
+        if let Some(life) = self.life_mut(t)? {
             if life.began.is_none() {
                 life.began = Some(row);
                 life.class = class;
                 life.parent = parent;
             }
         }
+        Ok(())
     }
 
     // Notes by which row a transaction ended. Only the first counts.
-    fn end(&mut self, t: TxnId, row: usize) {
-        if let Some(life) = self.lives.get_mut(usize::from(t.0)) {
+    fn end(&mut self, t: TxnId, row: usize) -> Result<(), AllocError> {
+        if let Some(life) = self.life_mut(t)? {
             if life.ended.is_none() {
                 life.ended = Some(row);
             }
         }
+        Ok(())
     }
 
     /// Puts a row behind the others. `Err` where there is no memory.

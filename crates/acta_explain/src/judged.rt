@@ -82,7 +82,7 @@ fn scene_of<'a, A: Handle>(
         alloc,
         model,
         kept,
-        chronicle: Chronicle::new(alloc)?,
+        chronicle: Chronicle::new(alloc),
         edges: Vec::new(alloc),
         due: Vec::new(alloc),
     };

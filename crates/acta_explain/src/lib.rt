@@ -28,13 +28,14 @@ mod telling;
 mod texts;
 mod words;
 
-pub use args::{Asked, called, flag, is_asked, model_arg, option, parse, usage, with_arg};
+pub use args::{Asked, called, flag, is_asked, matched, model_arg, option, parse, usage, with_arg};
 pub use chronicle::{Chronicle, Life, Row};
 pub use hints::nearest;
 pub use images::{Field, field_at};
-pub use layout::digits;
+pub use layout::{digits, put_barred};
+pub use phrases::{name_text, put_standing};
 pub use prose::Prose;
-pub use reasons::NEVER;
+pub use reasons::{NEVER, Refused};
 pub use report::{explain, explain_tool, write_words};
 pub use spoken::{Spoken, spoken_in};
 pub use tables::Table;

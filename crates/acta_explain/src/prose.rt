@@ -36,6 +36,13 @@ impl<A: Allocator> Prose<A> {
         self
     }
 
+    /// Adds a text that was put together apart.
+    pub fn add(self, other: Prose<A>) -> Prose<A> {
+        let (text, has_failed) = other.parts();
+        let prose = self.put(text.as_str());
+        if has_failed { prose.fail() } else { prose }
+    }
+
     /// Notes that memory ran out for a piece.
     pub fn fail(mut self) -> Prose<A> {
         self.has_failed = true;

@@ -175,7 +175,37 @@ fn put_ways<A: Handle>(mut prose: Prose<A>, ways: Ways, to: TxnId, object: &str)
     prose
 }
 
+// How many lines of a reason say what is so. Those after them say what would let the event go on.
+fn fact_lines(reason: &Reason) -> usize {
+    match reason {
+        // (of one that owes an event the second line says also what would pay)
+        Reason::Barred(barring) => match barring.rule {
+            Rule::OwesAbort | Rule::OwesCommit => 1,
+            _ => 2,
+        },
+        Reason::Clash(_) => 3,
+        _ => 1,
+    }
+}
+
 impl<'a, A: Handle> Refused<'a, A> {
+    /// Adds why it is refused, in lines, each with its line feed, but not what would let it go on.
+    pub fn put_facts(
+        &self,
+        mut prose: Prose<A>,
+        alloc: A,
+        machine: &Machine<A>,
+        reason: &Reason,
+    ) -> Prose<A> {
+        let (text, has_failed) = self
+            .put_reason(Prose::new(alloc), machine, false, reason)
+            .parts();
+        for line in text.lines().take(fact_lines(reason)) {
+            prose = put!(prose; line, "\n");
+        }
+        if has_failed { prose.fail() } else { prose }
+    }
+
     /// Adds why it is refused, in lines. Whether it is looked for transactions that wait for one another, which takes a
     /// look at each edge, is for the caller to say.
     pub fn put_reason(

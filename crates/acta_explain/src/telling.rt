@@ -45,18 +45,11 @@ pub struct Telling<A: Handle> {
 impl<A: Handle> Telling<A> {
     /// Nothing has happened yet. `Err` where there is no memory.
     pub fn new(alloc: A, model: Model<A>) -> Result<Telling<A>, AllocError> {
-        let Ok(chronicle) = Chronicle::new(alloc) else {
-            drop(model);
-            return Err(AllocError);
-        };
-        let Ok(machine) = Machine::new(alloc, model) else {
-            drop(chronicle);
-            return Err(AllocError);
-        };
+        let machine = Machine::new(alloc, model)?;
         Ok(Telling {
             alloc,
             machine,
-            chronicle,
+            chronicle: Chronicle::new(alloc),
             refused: Vec::new(alloc),
             refused_told: 0,
             untold: 0,

@@ -9,7 +9,6 @@ use Rattle.std.specs.declared.alloc.Allocator.{Ghosts}
 use Rattle.std.proofs.lemmas.Bool.Decides.{Decides-eqb, Decides-int_eq, Decides-and, Decides-like}
 use Rattle.std.proofs.lemmas.List.Elements.{All-nil, All-cons, All-head, All-tail}
 use denote.Enum.Bare.{sameb, same_true, true_same}
-use denote.Enum.Declared.{tag_of}
 use denote.RattleType.{RattleType}
 use mir.Syntax.{Dict}
 use Rattle.indexmap.specs.IndexMap.{IndexMap, get, insert_entry}
@@ -18,13 +17,13 @@ use Rattle.acta_table.specs.Dependencies.{code_of}
 use Rattle.acta_table.specs.declared.answer.Rule.{Rule}
 use Rattle.acta_table.specs.declared.answer.Status.{Status}
 use Rattle.acta_table.specs.declared.dep.Dep.{Dep}
-use Rattle.acta_table.specs.declared.dep.Dep.TheVariants.{Cd, Scd, Ad, Wd, Td, Ed, Cmd, Bd, Sd, Bcd, Bad, Wcd}
 use Rattle.acta_table.specs.declared.event.Ret.{Ret}
 use Rattle.acta_table.specs.declared.event.Ret.TheVariants.{Done as has_done, Value as has_value, Flag}
 use Rattle.acta_table.specs.contracts.answer.Rule.{the_type as rule_type}
 use Rattle.acta_table.specs.contracts.answer.Status.{the_type as status_type}
 use Rattle.acta_table.specs.contracts.dep.Dep.{the_type as dep_type}
 use Rattle.acta_table.specs.contracts.event.RetPartialEq.TheImpl as ret_eq
+use Rattle.acta_table.proofs.EdgeSets.{tagged}
 use Rattle.acta_objects.specs.declared.state.ObjectState.{ObjectState}
 use Rattle.acta_objects.specs.declared.state.ObjectState.TheVariants as state
 use Rattle.acta_explore.specs.declared.debt.Debt.{Debt}
@@ -130,21 +129,7 @@ txn_status-decides a b =
     (λ e. (ap (λ (s : TxnStatus). s.txn.0) e, ap (λ (s : TxnStatus). s.status) e))
     (Decides-and (a.txn.0 == b.txn.0) (sameb status_type a.status b.status) (Decides-eqb a.txn.0 b.txn.0) (status-decides a.status b.status))
 
--- debts; the code of a kind is the place of its variant
-tagged : (k : Dep) → tag_of dep_type k ≡ code_of k
-tagged Cd = refl
-tagged Scd = refl
-tagged Ad = refl
-tagged Wd = refl
-tagged Td = refl
-tagged Ed = refl
-tagged Cmd = refl
-tagged Bd = refl
-tagged Sd = refl
-tagged Bcd = refl
-tagged Bad = refl
-tagged Wcd = refl
-
+-- debts
 kind-decides : (k l : Dep) → Decides (code_of k == code_of l) (k ≡ l)
 kind-decides k l = (λ h. same_true dep_type (search rules) k l ((λ i. tagged k i == tagged l i) ∙ h), λ e. (Decides-eqb (code_of k) (code_of l)).1 (ap code_of e))
 

@@ -187,11 +187,11 @@ pub record AreSameKeys {A : Type 0} (a b : Key A) : Type 0 where
 -- what the derived `==` of keys is
 abbrev pub key_test : {A : Type 0} → Key A → Key A → Bool
 key_test a b =
-    (a.kept == b.kept) && (pointwise (option_eq (done_eq.eq-value).it) a.lines.items b.lines.items
+    (a.digest == b.digest) && ((a.kept == b.kept) && (pointwise (option_eq (done_eq.eq-value).it) a.lines.items b.lines.items
     && (pointwise (entry_eq.eq-value).it a.txns.items b.txns.items
     && (pointwise (edge_eq.eq-value).it a.edges.items b.edges.items
     && (pointwise (line_op_eq.eq-value).it a.operations.items b.operations.items
-    && pointwise (permit_eq.eq-value).it a.permits.items b.permits.items))))
+    && pointwise (permit_eq.eq-value).it a.permits.items b.permits.items)))))
 
 pub keys-same : {A : Type 0} (a b : Key A) → key_test a b ≡ true → AreSameKeys a b
 keys-same a b h =
@@ -200,12 +200,13 @@ keys-same a b h =
     let edges = pointwise (edge_eq.eq-value).it a.edges.items b.edges.items in
     let operations = pointwise (line_op_eq.eq-value).it a.operations.items b.operations.items in
     let permits = pointwise (permit_eq.eq-value).it a.permits.items b.permits.items in
-    let h1 : (lines && (txns && (edges && (operations && permits)))) ≡ true = second_so (a.kept == b.kept) _ h in
+    let h0 : ((a.kept == b.kept) && (lines && (txns && (edges && (operations && permits))))) ≡ true = second_so (a.digest == b.digest) _ h in
+    let h1 : (lines && (txns && (edges && (operations && permits)))) ≡ true = second_so (a.kept == b.kept) _ h0 in
     let h2 : (txns && (edges && (operations && permits))) ≡ true = second_so lines _ h1 in
     let h3 : (edges && (operations && permits)) ≡ true = second_so txns _ h2 in
     let h4 : (operations && permits) ≡ true = second_so edges _ h3 in
     record {
-      kept = eqb-true a.kept b.kept (first_so _ _ h);
+      kept = eqb-true a.kept b.kept (first_so _ _ h0);
       lines = lists-same (option-same done-same) a.lines.items b.lines.items (first_so _ _ h1);
       txns = lists-same entry-same a.txns.items b.txns.items (first_so _ _ h2);
       edges = lists-same edge-same a.edges.items b.edges.items (first_so _ _ h3);

@@ -1,5 +1,6 @@
 mod Alike
 mod Anys
+mod Circling
 mod Comparing
 mod Effects
 mod Ending

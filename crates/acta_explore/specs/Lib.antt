@@ -3,4 +3,5 @@ pub mod Points
 pub mod Outcomes
 pub mod Equivalence
 pub mod Ends
+pub mod Deadlocks
 pub mod inside

@@ -1,4 +1,5 @@
 -- What the contracts inside the crate cite.
+pub mod Circles
 pub mod Debts
 pub mod Keys
 pub mod Merging

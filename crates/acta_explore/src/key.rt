@@ -1,6 +1,8 @@
 //! What two points are compared by: points with equal keys are equivalent.
 
 ghost use Rattle.std.specs.Prelude.{◌≡◌, ◌==◌, ℕ, length, filter, get_or, IfOk};
+ghost use Rattle.std.proofs.Common.{rules};
+ghost use Rattle.std.specs.Cmp.Rules.{hashing};
 ghost use Rattle.std.specs.List.Sorted.{IsPermutation};
 ghost use Rattle.acta_sets.specs.declared.held_op.HeldOp.{HeldOp};
 ghost use Rattle.acta_machine.specs.Table.{edges_in, operations_in};
@@ -13,16 +15,17 @@ use crate::point::{Done, Point, Step};
 use acta_machine::{Handle, HeldOp, Machine, Permit};
 use acta_table::{ClassId, Edge, Status, TxnId};
 use std::alloc::{AllocError, Allocator};
+use std::hash::{Hash, Hasher};
 
 /// An operation, with the position of the line that did it.
-#[derive(Clone, Copy, PartialEq, Eq, Hash, Debug)]
+#[derive(Clone, Copy, PartialEq, Eq, Debug)]
 pub(crate) struct LineOp {
     pub(crate) line: usize,
     pub(crate) held: HeldOp,
 }
 
 /// What the machine knows of one transaction.
-#[derive(Clone, Copy, PartialEq, Eq, Hash, Debug)]
+#[derive(Clone, Copy, PartialEq, Eq, Debug)]
 pub(crate) struct Txn {
     pub(crate) status: Status,
     pub(crate) class: Option<ClassId>,
@@ -31,8 +34,10 @@ pub(crate) struct Txn {
 
 /// What a point is compared by.
 #[derive(Drop)]
-#[derive_where(PartialEq, Eq, Hash)]
+#[derive_where(PartialEq, Eq)]
 pub(crate) struct Key<A: Allocator> {
+    /// A number by which an equal key is found: from what the lines did, and the order of the operations on each object.
+    pub(crate) digest: u64,
     /// How many events were admitted.
     pub(crate) kept: usize,
     /// What each line did.
@@ -44,6 +49,39 @@ pub(crate) struct Key<A: Allocator> {
     /// The operations, by their objects.
     pub(crate) operations: Vec<LineOp, A>,
     pub(crate) permits: Vec<Permit, A>,
+}
+
+impl<A: Allocator> Hash for Key<A> {
+    ghost use Rattle.std.specs.Hash as fed;
+
+    ghost hash_input = { λ key. fed.u64 key.digest };
+
+    ghost respects_eq = { Prim.search (hashing, rules) };
+
+    fn hash<H: Hasher>(&self, state: &mut H) {
+        self.digest.hash(state);
+    }
+}
+
+// A digest (FNV-1a) with one part more.
+fn digested(digest: u64, part: usize) -> u64 {
+    (digest ^ part as u64).wrapping_mul(0x100_0000_01b3)
+}
+
+// The number by which an equal key is found.
+fn digest_of(lines: &[Option<Done>], operations: &[LineOp]) -> u64 {
+    let mut digest = 0xcbf2_9ce4_8422_2325;
+    for line in lines {
+        let part = match line {
+            Some(done) => done.alternative.wrapping_add(1),
+            None => 0,
+        };
+        digest = digested(digest, part);
+    }
+    for op in operations {
+        digest = digested(digest, op.line);
+    }
+    digest
 }
 
 // What the machine knows of each transaction.
@@ -112,12 +150,15 @@ impl<A: Handle> Key<A> {
         ensures { IfOk result (IsKeyOf plan.now point.now) }
     {
         let machine = point.machine();
+        let lines = plan.lines_done(alloc, point.steps())?;
+        let operations = operations_of(alloc, point)?;
         Ok(Key {
+            digest: digest_of(lines.as_slice(), operations.as_slice()),
             kept: machine.history().len(),
-            lines: plan.lines_done(alloc, point.steps())?,
+            lines,
             txns: txns_of(alloc, machine)?,
             edges: edges_of(alloc, machine)?,
-            operations: operations_of(alloc, point)?,
+            operations,
             permits: machine.permits()?,
         })
     }

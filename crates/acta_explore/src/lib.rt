@@ -5,14 +5,19 @@
 //! runs out.
 #![tactic(auto)]
 
+mod circle;
 mod debt;
 mod key;
 mod outcome;
 mod plan;
 mod point;
 mod search;
+mod watch;
 
+pub use circle::deadlock;
 pub use debt::Debt;
 pub use outcome::{Outcome, TxnStatus, Value, Wait};
+pub use plan::Plan;
 pub use point::{Done, Point, Step, Turn};
 pub use search::{ExploreError, Explored, explore};
+pub use watch::Watch;

@@ -10,10 +10,10 @@ ghost use Rattle.acta_explore.specs.Programs.{lines_done};
 ghost use Rattle.acta_explore.specs.inside.Shown.{debt_among, shown, shown_value, shown_wait};
 
 use crate::debt::Debt;
-use crate::plan::Plan;
+use crate::plan::{Plan, listed};
 use crate::point::{Done, Point};
 use acta_machine::{Handle, Machine};
-use acta_objects::{Members, ObjectState};
+use acta_objects::ObjectState;
 use acta_table::{Edge, ObjId, Owed, Rule, Status, TxnId};
 use std::alloc::{AllocError, Allocator};
 use std::collections::BTreeSet;
@@ -72,8 +72,7 @@ fn rule_at<A: Handle>(
 ) -> Result<Option<Rule>, AllocError>
     ensures { IfOk result (λ rule. rule ≡ rule_at plan.now point.now line alternative) }
 {
-    point.lemma_few();
-    let Some(event) = plan.event_at(alloc, point.steps(), line, alternative)? else {
+    let Some(event) = plan.event_at(alloc, point, line, alternative)? else {
         return Ok(None);
     };
     match point.machine().why(&event)? {
@@ -166,16 +165,6 @@ fn statuses<A: Handle>(alloc: A, machine: &Machine<A>) -> Result<Vec<TxnStatus, 
     Ok(statuses)
 }
 
-// The elements of a set, ascending.
-fn elements_of<A: Allocator + Copy>(
-    alloc: A,
-    members: &Members<A>,
-) -> Result<Vec<i32, A>, AllocError>
-    ensures { IfOk result (λ elements. elements.items ≡ members.now) }
-{
-    members.items().copied().collect(alloc)
-}
-
 // The value as it is kept in an outcome.
 fn value_of<A: Allocator + Copy>(alloc: A, state: &ObjectState<A>) -> Result<Value<A>, AllocError>
     ensures { IfOk result (λ value. shown_value value ≡ state.now) }
@@ -183,7 +172,7 @@ fn value_of<A: Allocator + Copy>(alloc: A, state: &ObjectState<A>) -> Result<Val
     Ok(match state {
         ObjectState::Register(value) => Value::Register(*value),
         ObjectState::Counter(value) => Value::Counter(*value),
-        ObjectState::Elements(members) => Value::Elements(elements_of(alloc, members)?),
+        ObjectState::Elements(members) => Value::Elements(members.listed(alloc)?),
     })
 }
 
@@ -238,20 +227,6 @@ fn debt_set<A: Allocator + Copy>(
             continue;
         };
         debts.insert(debt)?;
-    }
-    Ok(debts)
-}
-
-// The debts of a set, in order.
-fn listed<A: Allocator + Copy>(
-    alloc: A,
-    set: &BTreeSet<Debt, A>,
-) -> Result<Vec<Debt, A>, AllocError>
-    ensures { IfOk result (λ debts. debts.items ≡ set.now.keys) }
-{
-    let mut debts = Vec::with_capacity(alloc, set.len())?;
-    for debt in set.iter() {
-        debts.push(*debt)?;
     }
     Ok(debts)
 }

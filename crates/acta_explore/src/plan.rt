@@ -10,7 +10,7 @@ ghost use Rattle.acta_explore.specs.Programs.{event_at, event_now, is_operation,
 ghost use Rattle.acta_explore.specs.inside.Noting.{noted};
 ghost use Rattle.acta_explore.specs.inside.Turns.{turns_at, turns_of_seat};
 
-use crate::point::{Done, Step, Turn};
+use crate::point::{Done, Point, Step, Turn};
 use acta_machine::Handle;
 use acta_script::ProgramLine;
 use acta_table::{Event, OpNo, OpSet};
@@ -19,7 +19,7 @@ use std::collections::BTreeSet;
 
 /// The lines of all programs, with their seats and the lines that contain a `do`. Contracts see the lines.
 #[derive(Drop)]
-pub(crate) struct Plan<'a, A: Handle> {
+pub struct Plan<'a, A: Handle> {
     lines: &'a [ProgramLine<A>],
     // The seats, ascending.
     seats: Vec<u8, A>,
@@ -131,20 +131,19 @@ fn seat_set<A: Handle>(alloc: A, lines: &[ProgramLine<A>]) -> Result<BTreeSet<u8
     Ok(seats)
 }
 
-// The elements of the set, ascending.
-fn listed<A: Allocator + Copy>(alloc: A, seats: &BTreeSet<u8, A>) -> Result<Vec<u8, A>, AllocError>
-    ensures { IfOk result (λ list. list.items ≡ seats.now.keys) }
+/// The elements of the set, in order.
+pub(crate) fn listed<T: Copy + Ord, A: Allocator + Copy>(
+    alloc: A,
+    set: &BTreeSet<T, A>,
+) -> Result<Vec<T, A>, AllocError>
+    ensures { IfOk result (λ list. list.items ≡ set.now.keys) }
 {
-    let mut list = Vec::with_capacity(alloc, seats.len())?;
-    for seat in seats.iter() {
-        list.push(*seat)?;
-    }
-    Ok(list)
+    set.iter().copied().collect(alloc)
 }
 
 impl<'a, A: Handle> Plan<'a, A> {
     /// The plan of these lines.
-    pub(crate) fn of(alloc: A, lines: &'a [ProgramLine<A>]) -> Result<Plan<'a, A>, AllocError>
+    pub fn of(alloc: A, lines: &'a [ProgramLine<A>]) -> Result<Plan<'a, A>, AllocError>
         ensures { IfOk result (λ plan. plan ≡ lines.now) }
     {
         let seats = listed(alloc, &seat_set(alloc, lines)?)?;
@@ -153,6 +152,13 @@ impl<'a, A: Handle> Plan<'a, A> {
             seats,
             operation_lines: operation_lines(alloc, lines)?,
         })
+    }
+
+    /// The lines, in order.
+    pub(crate) fn lines(&self) -> &[ProgramLine<A>]
+        ensures { result.now ≡ self.now }
+    {
+        self.lines
     }
 
     /// The seats that have programs, ascending.
@@ -231,8 +237,9 @@ impl<'a, A: Handle> Plan<'a, A> {
         Ok(turns)
     }
 
-    // The line whose operation the programs name by this number.
-    fn line_named(&self, op: OpNo) -> Option<usize>
+    /// The position of the line whose operation the programs name by this number, from 1: the number counts the lines
+    /// that contain a `do`, in order. `None` for a number that names no line.
+    pub fn operation_line(&self, op: OpNo) -> Option<usize>
         ensures { result ≡ item_at (operation_lines self.now) op.0 }
     {
         if op.0 == 0 {
@@ -246,7 +253,7 @@ impl<'a, A: Handle> Plan<'a, A> {
         requires { length steps.now ≤ MOST_EVENTS }
         ensures { result ≡ number_now self.now steps.now op }
     {
-        let Some(line) = self.line_named(op) else {
+        let Some(line) = self.operation_line(op) else {
             return OpNo(0);
         };
         match number_of_line(steps, line) {
@@ -292,22 +299,23 @@ impl<'a, A: Handle> Plan<'a, A> {
         }
     }
 
-    /// The event of an alternative of the line, with its operations as the machine numbers them.
-    pub(crate) fn event_at(
+    /// The event of an alternative of a line, both by their positions from 0, with its operations as the machine at the
+    /// point numbers them. `None` where there is no such line or alternative.
+    pub fn event_at(
         &self,
         alloc: A,
-        steps: &[Step],
+        point: &Point<A>,
         line: usize,
         alternative: usize,
     ) -> Result<Option<Event<A>>, AllocError>
-        requires { length steps.now ≤ MOST_EVENTS }
-        ensures { IfOk result (λ event. event ≡ event_at self.now steps.now line alternative) }
+        ensures { IfOk result (λ event. event ≡ event_at self.now point.now.steps line alternative) }
     {
+        point.lemma_few();
         let Some(line) = self.lines.get(line) else {
             return Ok(None);
         };
         match line.alternatives.as_slice().get(alternative) {
-            Some(event) => Ok(Some(self.event_now(alloc, steps, event)?)),
+            Some(event) => Ok(Some(self.event_now(alloc, point.steps(), event)?)),
             None => Ok(None),
         }
     }

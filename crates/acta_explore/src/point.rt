@@ -158,8 +158,7 @@ impl<A: Handle> Point<A> {
         let Some(line) = plan.next_line(done, turn.seat) else {
             return Ok(None);
         };
-        self.lemma_few();
-        match plan.event_at(alloc, self.steps.as_slice(), line, turn.alternative)? {
+        match plan.event_at(alloc, self, line, turn.alternative)? {
             Some(event) => self.try_event(alloc, turn, line, &event),
             None => Ok(None),
         }

@@ -17,6 +17,7 @@ use crate::key::Key;
 use crate::outcome::Outcome;
 use crate::plan::Plan;
 use crate::point::Point;
+use crate::watch::Watch;
 use acta_machine::Handle;
 use acta_script::ProgramLine;
 use acta_table::Model;
@@ -138,12 +139,15 @@ fn settle<A: Handle>(
 
 // The points that one step more leads to from those of the level. Those of the level that have no step are put to the
 // ends. `Err` with how many points were found, where they are more than `room`, and with nothing if memory runs out.
-fn next_level<A: Handle>(
+// `before` is how many points were found earlier.
+fn next_level<A: Handle, W: Watch>(
     alloc: A,
     plan: &Plan<'_, A>,
     level: &Level<A>,
     ends: &mut Ends<A>,
+    before: u64,
     room: usize,
+    watch: &mut W,
 ) -> Result<Level<A>, Option<usize>>
     requires { AreOutcomes plan.now ends.old.entries }
     ensures keyed { IfOk result (λ next. AreKeyed plan.now next.entries) }
@@ -163,6 +167,7 @@ fn next_level<A: Handle>(
             return Err(None);
         }
         let found = next.len();
+        watch.found(before.saturating_add(found as u64), ends.len());
         if found > room {
             drop(next);
             return Err(Some(found));
@@ -239,12 +244,13 @@ impl<A: Handle> Explored<A> {
 /// Every way in which programs can end, whatever the order of their steps, on a new machine on the model. Each outcome is
 /// answered once, with the first order that leads to it: a shorter order is first, and of two of one length the one whose
 /// first differing step is by the lower seat, or by the lower alternative. `TooMany` if more than `most` points would have
-/// to be searched.
-pub fn explore<A: Handle>(
+/// to be searched. `watch` learns how far the search is each time that all steps from a point were tried.
+pub fn explore<A: Handle, W: Watch>(
     alloc: A,
     model: &Model<A>,
     lines: &[ProgramLine<A>],
     most: u32,
+    watch: &mut W,
 ) -> Result<Explored<A>, ExploreError>
     ensures all { IfOk result (λ explored. AreAllEnds lines.now model.now explored.ends) }
     ensures outcomes { IfOk result (λ explored. explored.outcomes ≡ map (outcome lines.now) explored.ends) }
@@ -260,7 +266,7 @@ pub fn explore<A: Handle>(
     let mut points: u64 = 1;
     while !level.is_empty() {
         let room = most as usize - points as usize;
-        level = match next_level(alloc, &plan, &level, &mut ends, room) {
+        level = match next_level(alloc, &plan, &level, &mut ends, points, room, watch) {
             Ok(next) => next,
             Err(Some(found)) => {
                 return Err(ExploreError::TooMany {

@@ -68,6 +68,13 @@ impl<A: Allocator> Members<A> {
 }
 
 impl<A: Allocator + Copy> Members<A> {
+    /// The elements, ascending, as a list. `Err` where there is no memory.
+    pub fn listed(&self, alloc: A) -> Result<Vec<i32, A>, AllocError>
+        ensures { IfOk result (λ list. list.items ≡ self.now) }
+    {
+        self.items().copied().collect(alloc)
+    }
+
     /// Puts the element in, and returns whether it was absent. `Err` where it was absent and there is no
     /// memory: the set is then as it was.
     pub fn insert(&mut self, x: i32) -> Result<bool, AllocError>

@@ -43,7 +43,7 @@ pub use kept::{read_kept, write_kept};
 pub use names::object_name;
 pub use programs::{ProgramLine, read_program_line};
 pub use reading::read_event;
-pub use returns::push_return;
+pub use returns::{push_return, return_said};
 pub use seated::{Seated, read_seated};
 pub use states::{push_elements, status_word};
 pub use writing::write_event;

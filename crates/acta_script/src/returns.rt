@@ -26,7 +26,7 @@ fn return_named(word: &[u8]) -> Option<Ret>
 
 /// The return that the words behind a `=` say.
 #[tactic(auto, unfolding(crate::specs::Reading::return_said))]
-pub(crate) fn return_said(words: &[&[u8]]) -> Result<Ret, LineFault>
+pub fn return_said(words: &[&[u8]]) -> Result<Ret, LineFault>
     ensures { result ≡ return_said (map (λ word. word.now) words.now) }
 {
     match words {

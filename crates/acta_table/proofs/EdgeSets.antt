@@ -13,7 +13,7 @@ use Rattle.acta_table.specs.Dependencies.{code_of}
 use Rattle.acta_table.specs.Edges.{same_kind, same_edge, is_among, with_edge}
 
 -- the code of a kind is the place of its variant
-tagged : (k : Dep) → tag_of the_type k ≡ code_of k
+pub tagged : (k : Dep) → tag_of the_type k ≡ code_of k
 tagged Cd = refl
 tagged Scd = refl
 tagged Ad = refl

@@ -1,4 +1,4 @@
-ghost use Rattle.std.specs.Prelude.{◌≡◌, ◌≤◌, [], ℕ, IfOk, OnOk, get_or, length, max};
+ghost use Rattle.std.specs.Prelude.{◌≡◌, ◌≤◌, [], ℕ, IfOk, OnErr, OnOk, get_or, length, max};
 
 use std::alloc::{AllocError, Allocator};
 
@@ -69,6 +69,7 @@ pub fn lengthen<T: Copy, A: Allocator>(
     ensures same { (k : ℕ) → get_or items.new.items k item ≡ get_or items.old.items k item }
     ensures room { OnOk result (count ≤ length items.new.items) }
     ensures few { length items.new.items ≤ max (length items.old.items) count }
+    ensures err { OnErr result (items.new.items ≡ items.old.items) }
 {
     if items.len() < count {
         items.resize(count, item)?;

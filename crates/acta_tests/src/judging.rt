@@ -3,7 +3,7 @@
 
 pub mod limits;
 pub mod lists;
-mod mixing;
+pub mod mixing;
 
 use crate::calls::owed_by;
 use crate::expecting::{made, same};

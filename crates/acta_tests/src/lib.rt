@@ -19,6 +19,8 @@ mod edges;
 #[cfg(test)]
 mod expecting;
 #[cfg(test)]
+mod exploring;
+#[cfg(test)]
 mod heaps;
 #[cfg(test)]
 mod judging;

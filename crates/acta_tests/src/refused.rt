@@ -5,6 +5,7 @@
 mod books;
 mod debuggers;
 mod edges;
+mod explorers;
 mod judges;
 mod machines;
 mod permits;

@@ -1,4 +1,4 @@
-//! Runs of `explain` and `draw`, each allocation refused in turn; and events that no line can have, explained.
+//! Runs of `explain`, `draw` and `explore`, each allocation refused in turn; and events that no line can have, explained.
 
 use crate::expecting::{MOST, at_least, holds, made, tells};
 use crate::runs::ends;
@@ -6,6 +6,7 @@ use acta_draw::{Choice, Drawing, Form, Screen, draw_tool};
 use acta_explain::{Spoken, Telling, explain_tool};
 use acta_lang::assemble;
 use acta_models::Standard;
+use acta_programs::{Asked, Form as Ends, explore_tool};
 use acta_table::{ClassId, Event, ObjId, Op, TxnId};
 use acta_tool::{Metered, ModelName, Outcome, ReadFault, Watched};
 use refusing::Refusing;
@@ -20,6 +21,7 @@ enum Ask {
     Judge,
     Draw,
     DrawSvg,
+    Explore(Ends, Option<&'static str>),
 }
 
 // Runs a command on an input.
@@ -38,6 +40,15 @@ fn serve<R: Threads + Sync, B: Allocator + Send + Sync>(
         Ask::Explain | Ask::Judge => {
             let is_judged = ask == Ask::Judge;
             return explain_tool(rt, heap, is_judged, name, model, &mut input, &mut output);
+        }
+        Ask::Explore(form, condition) => {
+            let asked = Asked {
+                form,
+                condition,
+                most: 1_000,
+                model: name,
+            };
+            return explore_tool(heap, asked, model, &mut input, &mut output, &mut ());
         }
         Ask::Draw => Form::Text { width: Some(100) },
         Ask::DrawSvg => Form::Svg,
@@ -110,6 +121,53 @@ const FAULTY: &str = "\
 begin 1 loose
 begn 2 loose
 ";
+
+// Each of two transactions sees what the other did, so that each waits for the other to end.
+const PROGRAMS: &str = "\
+1 begin 1 loose
+1 begin 2 loose
+1 do 1 x write 5
+1 do 2 n add 1
+1 do 1 n get
+1 do 2 x read
+1 commit 1 | abort 1
+2 commit 2
+";
+
+// The last line has an alternative without a word.
+const FAULTY_PROGRAMS: &str = "\
+1 begin 1 loose
+1 commit 1 |
+";
+
+// A choice.
+const CHOICE: &str = "\
+1 begin 1 loose
+1 do 1 n get | abort 1
+";
+
+#[test]
+fn explored(rt: HostRuntime) {
+    let heap = Refusing::new(rt.alloc());
+    let ask = Ask::Explore(Ends::Words, None);
+    refuse_run(&rt, (&heap, rt.alloc()), (ask, PROGRAMS), ("0", 50));
+}
+
+#[test]
+fn explored_otherwise(rt: HostRuntime) {
+    let heap = Refusing::new(rt.alloc());
+    for (ask, due) in [
+        (Ask::Explore(Ends::Lines, None), "0"),
+        (Ask::Explore(Ends::Events(1), None), "0"),
+        (Ask::Explore(Ends::Events(99), None), "1"),
+        (Ask::Explore(Ends::Words, Some("not stuck and 2 = 0")), "0"),
+        (Ask::Explore(Ends::Lines, Some("x = {1}")), "1"),
+    ] {
+        refuse_run(&rt, (&heap, rt.alloc()), (ask, CHOICE), (due, 20));
+    }
+    let ask = Ask::Explore(Ends::Words, None);
+    refuse_run(&rt, (&heap, rt.alloc()), (ask, FAULTY_PROGRAMS), ("1", 20));
+}
 
 #[test]
 fn explained(rt: HostRuntime) {

@@ -163,8 +163,8 @@ fn bare_command<'a>(alloc: Global) -> clap::Command<'a>
 {
     clap::Command::new(alloc, "acta_tool")
         .about(
-            "Runs histories of events against extended transaction models, as ACTA writes them. Two more commands \
-             have words of their own: explain --help, draw --help",
+            "Runs histories of events against extended transaction models, as ACTA writes them. Three more commands \
+             have words of their own: explain --help, draw --help, explore --help",
         )
         .subcommand_required(true)
 }

@@ -32,7 +32,7 @@ pub use input::{
 pub use laws::{images_are_upgraded, images_run_as_their_texts};
 pub use models::{ModelError, NoModel, read_model};
 pub use outcome::{Outcome, exit_status};
-pub use reports::{Report, refuse_line, refuse_model, write_report};
+pub use reports::{Report, refuse_by, refuse_line, refuse_model, write_report};
 pub use run::{read_within, run_tool};
 pub use sink::{Sink, Watched};
 pub use source::{MOST_BYTES, Metered, ReadFault, Source, read_all};

@@ -160,16 +160,6 @@ fn tell_clear<A: Handle>(
     push_line(text, b"cleared")
 }
 
-// The elements of a set, ascending.
-fn elements_of<A: Allocator + Copy>(
-    alloc: A,
-    members: &Members<A>,
-) -> Result<Vec<i32, A>, AllocError>
-    ensures { IfOk result (λ elements. elements.items ≡ members.now) }
-{
-    members.items().copied().collect(alloc)
-}
-
 // Writes a space, and the elements of a set between braces.
 fn push_members<A: Allocator + Copy>(
     alloc: A,
@@ -178,7 +168,7 @@ fn push_members<A: Allocator + Copy>(
 ) -> Result<(), AllocError>
     ensures { OnOk result (text.new.items ≡ text.old.items ++ 32 ∷ elements_word members.now) }
 {
-    let elements = elements_of(alloc, members)?;
+    let elements = members.listed(alloc)?;
     push_elements(text, elements.as_slice())
 }
 

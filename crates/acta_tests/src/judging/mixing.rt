@@ -77,8 +77,8 @@ const BEGUN: u32 = 3;
 
 const TRANSACTIONS: u32 = 5;
 
-// How many lines the text has.
-fn lines_in(text: &str) -> u32 {
+/// How many lines the text has.
+pub fn lines_in(text: &str) -> u32 {
     let mut count = 0u32;
     for _ in text.lines() {
         count = count.wrapping_add(1);
@@ -86,8 +86,8 @@ fn lines_in(text: &str) -> u32 {
     count
 }
 
-// The line after so many others.
-fn line_after<'a>(rt: &impl Abort, text: &'a str, others: u32) -> &'a str {
+/// The line after so many others.
+pub fn line_after<'a>(rt: &impl Abort, text: &'a str, others: u32) -> &'a str {
     let mut count = 0u32;
     for line in text.lines() {
         if count == others {
@@ -103,8 +103,8 @@ fn txn_drawn(words: &mut Pcg32) -> u32 {
     words.next_word() % TRANSACTIONS + 1
 }
 
-// The line with these numbers in the place of the T and of the U.
-fn filled<A: Allocator + Copy>(
+/// The line with these numbers in the place of the T and of the U.
+pub fn filled<A: Allocator + Copy>(
     rt: &impl Abort,
     alloc: A,
     line: &str,

@@ -1,0 +1,288 @@
+//! Conditions, read from their words: tests joined by `and`, each with an optional `not` before it.
+//!
+//! ```text
+//! complete | stuck | owing | T STATUS | OBJECT = VALUE | LINE = RETURN
+//! ```
+//!
+//! The sign may touch its neighbours. A word before a sign is an object or a line, whatever it is without the sign.
+
+ghost use Rattle.std.specs.Prelude.{◌<◌, length, IfOk};
+
+use crate::condition::{Condition, Term, Test};
+use crate::fault::{ConditionError, ConditionFault, Expected};
+use crate::tokens::{Rest, Token, tokens_of};
+use crate::words::{AND, COMPLETE, NOT, OWING, STUCK};
+use acta_objects::Members;
+use acta_script::{return_said, status_word};
+use acta_table::{Kind, Model, ObjId, Status, TxnId};
+use acta_words::{read_i32, read_i64, read_u16, read_u32, words_of};
+use std::alloc::{AllocError, Allocator};
+
+// The status that the word says, of a transaction that has begun.
+fn status_named(word: &[u8]) -> Option<Status> {
+    [
+        Status::InProgress,
+        Status::Committed,
+        Status::Aborted,
+        Status::Joined,
+    ]
+    .iter()
+    .copied()
+    .find(|status| word == status_word(*status))
+}
+
+// The position of the line of the programs that has this number in the input.
+fn line_named(numbers: &[usize], word: &[u8]) -> Option<usize> {
+    let number = read_u32(word)? as usize;
+    numbers.iter().position(|one| *one == number)
+}
+
+// The object of the model that has this name.
+fn object_named<A: Allocator>(model: &Model<A>, word: &[u8]) -> Option<ObjId> {
+    let place = model
+        .objects()
+        .iter()
+        .position(|object| word == object.name.as_slice())?;
+    Some(ObjId(u16::try_from(place).ok()?))
+}
+
+// The elements of the set that the word says, ascending, each once.
+fn elements_of<A: Allocator + Copy>(
+    alloc: A,
+    word: &[u8],
+) -> Result<Option<Vec<i32, A>>, AllocError> {
+    let [b'{', inside @ .., b'}'] = word else {
+        return Ok(None);
+    };
+    let mut members = Members::new(alloc);
+    if inside.is_empty() {
+        return Ok(Some(members.listed(alloc)?));
+    }
+    for part in inside.split(|byte| *byte == b',') {
+        let Some(element) = read_i32(part) else {
+            return Ok(None);
+        };
+        members.insert(element)?;
+    }
+    Ok(Some(members.listed(alloc)?))
+}
+
+// The test that an object of this kind has the value that the word says.
+fn value_test<A: Allocator + Copy>(
+    alloc: A,
+    object: ObjId,
+    kind: &Kind,
+    word: &[u8],
+) -> Result<Option<Test<A>>, AllocError> {
+    match kind {
+        Kind::Register(_) => match read_i32(word) {
+            Some(number) => Ok(Some(Test::Number(object, i64::from(number)))),
+            None => Ok(None),
+        },
+        Kind::Counter(_) => match read_i64(word) {
+            Some(number) => Ok(Some(Test::Number(object, number))),
+            None => Ok(None),
+        },
+        Kind::Elements => match elements_of(alloc, word)? {
+            Some(elements) => Ok(Some(Test::Elements(object, elements))),
+            None => Ok(None),
+        },
+    }
+}
+
+// The test, if no token follows it.
+fn alone<A: Allocator>(test: Test<A>, rest: Rest<'_, '_>) -> Result<Test<A>, ConditionFault> {
+    match rest.tokens.first() {
+        None => Ok(test),
+        Some(next) => Err(next.fault(Expected::And)),
+    }
+}
+
+// OBJECT = VALUE, read from the value on
+fn read_value<A: Allocator + Copy>(
+    alloc: A,
+    model: &Model<A>,
+    name: Token<'_>,
+    rest: Rest<'_, '_>,
+) -> Result<Test<A>, ConditionError> {
+    let Some(object) = object_named(model, name.text) else {
+        return Err(name.fault(Expected::Object).into());
+    };
+    let Some(found) = model.objects().get(usize::from(object.0)) else {
+        return Err(name.fault(Expected::Object).into());
+    };
+    let Some((value, rest)) = rest.split() else {
+        return Err(rest.fault(Expected::Value(object)).into());
+    };
+    match value_test(alloc, object, &found.kind, value.text)? {
+        Some(test) => Ok(alone(test, rest)?),
+        None => Err(value.fault(Expected::Value(object)).into()),
+    }
+}
+
+// LINE = RETURN, read from the return on
+fn read_returned<A: Allocator>(
+    numbers: &[usize],
+    number: Token<'_>,
+    rest: Rest<'_, '_>,
+) -> Result<Test<A>, ConditionFault> {
+    let Some(line) = line_named(numbers, number.text) else {
+        return Err(number.fault(Expected::Line));
+    };
+    let Some((value, rest)) = rest.split() else {
+        return Err(rest.fault(Expected::Return));
+    };
+    let Ok(ret) = return_said(&[value.text]) else {
+        return Err(value.fault(Expected::Return));
+    };
+    alone(Test::Returned(line, ret), rest)
+}
+
+// T STATUS, read from the status on
+fn read_status<A: Allocator>(txn: TxnId, rest: Rest<'_, '_>) -> Result<Test<A>, ConditionFault> {
+    let Some((word, rest)) = rest.split() else {
+        return Err(rest.fault(Expected::Status));
+    };
+    let Some(status) = status_named(word.text) else {
+        return Err(word.fault(Expected::Status));
+    };
+    alone(Test::Status(txn, status), rest)
+}
+
+// The test of one word.
+fn plain_test<A: Allocator>(word: &[u8]) -> Option<Test<A>> {
+    if word == COMPLETE {
+        Some(Test::Complete)
+    } else if word == STUCK {
+        Some(Test::Stuck)
+    } else if word == OWING {
+        Some(Test::Owing)
+    } else {
+        None
+    }
+}
+
+// complete, stuck or owing, after it was read
+fn read_plain<A: Allocator>(
+    word: Token<'_>,
+    rest: Rest<'_, '_>,
+) -> Result<Test<A>, ConditionFault> {
+    match plain_test(word.text) {
+        Some(test) => alone(test, rest),
+        None => Err(word.fault(Expected::Test)),
+    }
+}
+
+// Whether the word begins with a digit, as no name does.
+fn is_number(word: &[u8]) -> bool {
+    match word.first() {
+        Some(byte) => byte.is_ascii_digit(),
+        None => false,
+    }
+}
+
+// A test.
+fn read_test<A: Allocator + Copy>(
+    alloc: A,
+    model: &Model<A>,
+    numbers: &[usize],
+    rest: Rest<'_, '_>,
+) -> Result<Test<A>, ConditionError> {
+    let Some((first, others)) = rest.split() else {
+        return Err(rest.fault(Expected::Test).into());
+    };
+    match others.after_sign() {
+        Some(value) if is_number(first.text) => Ok(read_returned(numbers, first, value)?),
+        Some(value) => read_value(alloc, model, first, value),
+        None => match read_u16(first.text) {
+            Some(txn) => Ok(read_status(TxnId(txn), others)?),
+            None => Ok(read_plain(first, others)?),
+        },
+    }
+}
+
+// What follows a `not`, if the first token is one.
+fn after_not<'t, 'a>(rest: Rest<'t, 'a>) -> Option<Rest<'t, 'a>> {
+    let (first, others) = rest.split()?;
+    if first.text == NOT && others.after_sign().is_none() {
+        Some(others)
+    } else {
+        None
+    }
+}
+
+// A test with an optional `not` before it.
+fn read_term<A: Allocator + Copy>(
+    alloc: A,
+    model: &Model<A>,
+    numbers: &[usize],
+    rest: Rest<'_, '_>,
+) -> Result<Term<A>, ConditionError> {
+    match after_not(rest) {
+        Some(others) => Ok(Term {
+            is_negated: true,
+            test: read_test(alloc, model, numbers, others)?,
+        }),
+        None => Ok(Term {
+            is_negated: false,
+            test: read_test(alloc, model, numbers, rest)?,
+        }),
+    }
+}
+
+// Whether the token at this place is an `and` between two tests.
+fn is_joint(tokens: &[Token<'_>], place: usize, token: &Token<'_>) -> bool {
+    if token.text != AND {
+        return false;
+    }
+    match tokens.iter().skip(place).nth(1) {
+        Some(next) => !next.is_sign(),
+        None => true,
+    }
+}
+
+// Tests joined by `and`. `end` is the position of the word after them.
+fn read_terms<A: Allocator + Copy>(
+    alloc: A,
+    model: &Model<A>,
+    numbers: &[usize],
+    tokens: &[Token<'_>],
+    end: usize,
+) -> Result<Condition<A>, ConditionError>
+    ensures { IfOk result (λ condition. 0 < length condition.terms.items) }
+{
+    let mut terms = Vec::new(alloc);
+    let mut start = 0;
+    for (place, token) in tokens.iter().enumerate() {
+        if is_joint(tokens, place, token) {
+            let rest = Rest {
+                tokens: &tokens[start..place],
+                end: token.word,
+            };
+            terms.push(read_term(alloc, model, numbers, rest)?)?;
+            start = place + 1;
+        }
+    }
+    let rest = Rest {
+        tokens: &tokens[start..],
+        end,
+    };
+    terms.push(read_term(alloc, model, numbers, rest)?)?;
+    Ok(Condition { terms })
+}
+
+/// The condition that the text says. `numbers` has the number in the input of each line of the programs. The elements of
+/// a set are made ascending, each once. A condition that was read has a test. `Fault` has the first word at which
+/// something else is expected.
+pub fn read_condition<A: Allocator + Copy>(
+    alloc: A,
+    model: &Model<A>,
+    numbers: &[usize],
+    text: &[u8],
+) -> Result<Condition<A>, ConditionError>
+    ensures { IfOk result (λ condition. 0 < length condition.terms.items) }
+{
+    let words = words_of(alloc, text)?;
+    let tokens = tokens_of(alloc, words.as_slice())?;
+    read_terms(alloc, model, numbers, tokens.as_slice(), words.len())
+}

@@ -1,0 +1,80 @@
+-- Seats that wait for one another.
+use Rattle.std.specs.Prelude.{◌≡◌, ℕ, ◌+◌, ◌-◌, ◌<◌, ◌≤◌, Bool, true, false, ◌&&◌, ◌==◌, List, length, get_or, if◌then◌else◌, Option, Some, None, is_none}
+use Rattle.std.specs.List.{list_any, zip}
+use Rattle.std.specs.Option.{option_map_or}
+use Rattle.acta_table.specs.declared.event.Event.{Event}
+use Rattle.acta_table.specs.declared.event.TxnId.{TxnId}
+use Rattle.acta_table.specs.Events.{acting, started}
+use Rattle.acta_deps.specs.Statuses.{is_new, may_end}
+use Rattle.acta_script.specs.declared.programs.ProgramLine.{ProgramLine}
+use Rattle.acta_machine.specs.Changes.{summary_of}
+use Rattle.acta_machine.specs.Reasons.{refusal_of, IsSo}
+use Rattle.acta_machine.specs.Table.{refusal_in, status_in}
+use Rattle.acta_machine.specs.declared.reason.Reason.{Reason}
+use Rattle.acta_machine.specs.declared.reason.Reason.TheVariants.{NotInProgress, PartnerNotInProgress, Conflict, Barred}
+use Rattle.acta_explore.specs.declared.point.Done.{Done}
+use Rattle.acta_explore.specs.Points.{Point}
+use Rattle.acta_explore.specs.Programs.{Programs, lines_done, next_line, event_at}
+
+-- the transaction for which an event waits that is refused for this reason: one that has not begun, the holder of the
+-- operation that it conflicts with, or one on which it depends by an edge, while that one may still commit or abort
+abbrev pub waited_for : Reason → Option TxnId
+waited_for (NotInProgress t status) = if is_new status then Some t else None
+waited_for (PartnerNotInProgress t status) = if is_new status then Some t else None
+waited_for (Conflict op) = Some op.held.holder
+waited_for (Barred b) = if may_end b.i then Some b.by.edge.i else None
+waited_for _ = None
+
+-- the event is refused, and waits for t
+pub record EventWaits {A : Type 0} (p : Point A) (e : Event A) (t : TxnId) : Type 0 where
+  pub reason : Reason
+  pub refused : refusal_in p.state e ≡ Some (refusal_of reason)
+  pub so : IsSo p.state.model (summary_of p.state.model p.state.kept) e reason
+  pub waits : waited_for reason ≡ Some t
+
+-- an alternative, from 0, of the line at position l waits for t
+pub record AlternativeWaits {A : Type 0} (programs : Programs A) (p : Point A) (l alternative : ℕ) (t : TxnId) : Type 0 where
+  pub event : Event A
+  pub is_event : event_at programs p.steps l alternative ≡ Some event
+  pub waits : EventWaits p event t
+
+-- an alternative of the seat's next line waits for t
+pub record SeatWaits {A : Type 0} (programs : Programs A) (p : Point A) (seat : ℕ) (t : TxnId) : Type 0 where
+  pub line : ℕ
+  pub is_next : next_line programs p.steps seat ≡ Some line
+  pub alternative : ℕ
+  pub waits : AlternativeWaits programs p line alternative t
+
+-- whether it is this transaction
+abbrev pub is_txn : Option ℕ → ℕ → Bool
+is_txn found t = option_map_or (λ u. u == t) found false
+
+-- whether t goes on by the event: starts by it, if it has not begun, or else does it
+abbrev pub moves : Bool → ℕ → {A : Type 0} → Event A → Bool
+moves true t e = is_txn (started e) t
+moves false t e = is_txn (acting e) t
+
+-- whether the line is of the seat and was not done, and t goes on by one of its alternatives
+abbrev pub is_left : {A : Type 0} → Bool → ℕ → ℕ → ProgramLine A × Option Done → Bool
+is_left new seat t (line, done) = (line.seat == seat) && (is_none done && list_any (moves new t) line.alternatives)
+
+-- whether t goes on by a line of the seat that was not done
+abbrev pub has_left : {A : Type 0} → Programs A → Point A → ℕ → ℕ → Bool
+has_left programs p seat t =
+    list_any (is_left (is_new (status_in p.state t)) seat t) (zip programs (lines_done programs p.steps))
+
+-- seat s waits for seat u: for a transaction that goes on by a line that u has not done
+pub record WaitsForSeat {A : Type 0} (programs : Programs A) (p : Point A) (s u : ℕ) : Type 0 where
+  pub txn : TxnId
+  pub waits : SeatWaits programs p s txn
+  pub left : has_left programs p u txn.0 ≡ true
+
+-- at least two seats, each of which waits for the next; the last is the first again
+pub record IsCircle {A : Type 0} (programs : Programs A) (p : Point A) (chain : List ℕ) : Type 0 where
+  pub long : 2 ≤ length chain
+  pub waits : (k : ℕ) → k + 1 < length chain → WaitsForSeat programs p (get_or chain k 0) (get_or chain (k + 1) 0)
+  pub closed : get_or chain (length chain - 1) 0 ≡ get_or chain 0 0
+
+-- it begins with the seat
+abbrev pub BeginsWith : ℕ → List ℕ → Type 0
+BeginsWith seat chain = get_or chain 0 0 ≡ seat

@@ -1,0 +1,16 @@
+pub mod Alike
+pub mod Answering
+pub mod Changing
+pub mod Committing
+pub mod First
+pub mod Gathering
+pub mod Placed
+pub mod Playing
+pub mod Remembering
+pub mod Room
+pub mod Same
+pub mod Searching
+pub mod Timely
+pub mod Trying
+pub mod Visiting
+pub mod Walking

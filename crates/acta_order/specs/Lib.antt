@@ -1,0 +1,9 @@
+pub mod Commits
+pub mod Earlier
+pub mod Faults
+pub mod Memos
+pub mod Orders
+pub mod Packed
+pub mod Paths
+pub mod Remembered
+pub mod Search

@@ -1,0 +1,8 @@
+/// The orders of the committed transactions that a search may answer.
+#[derive(Clone, Copy, PartialEq, Eq, Debug)]
+pub enum Orders {
+    /// Any order.
+    All,
+    /// An order in real time: a transaction that commits before the first event of another is placed before it.
+    RealTime,
+}

@@ -1,0 +1,125 @@
+-- What `explore` writes for programs.
+use Rattle.std.specs.Prelude.{◌≡◌, ◌<◌, ◌⊎◌, ⊤, ℕ, Bool, true, false, List, [], ◌∷◌, map, length, codes, decimal, Option, Some, None, Result, Ok, Err}
+use Rattle.acta_table.specs.declared.event.Kept.{Kept}
+use Rattle.acta_table.specs.declared.model.Parts.{Parts}
+use Rattle.acta_table.specs.Numbered.{item_at}
+use Rattle.acta_words.specs.Text.{line_of, text_of}
+use Rattle.acta_script.specs.declared.programs.ProgramLine.{ProgramLine}
+use Rattle.acta_script.specs.Reading.{program_line_of}
+use Rattle.acta_script.specs.Writing.{event_line}
+use Rattle.acta_tool.specs.declared.args.Command.TheVariants.{Run}
+use Rattle.acta_tool.specs.declared.input.BadLine.{BadLine}
+use Rattle.acta_tool.specs.declared.models.NoModel.{NoModel}
+use Rattle.acta_tool.specs.declared.outcome.Outcome.{Outcome}
+use Rattle.acta_tool.specs.declared.outcome.Outcome.TheVariants.{Done, Refused, Unread, Undriven, Unwritten}
+use Rattle.acta_tool.specs.Models.{model_by}
+use Rattle.acta_tool.specs.Outcome.{Answers}
+use Rattle.acta_tool.specs.Output.{Output, Said, line_numbers, refused_model, said_in, stop_line}
+use Rattle.acta_explore.specs.Ends.{AreAllEnds}
+use Rattle.acta_explore.specs.Points.{Point}
+use Rattle.acta_explore.specs.Programs.{Programs}
+use Rattle.acta_ends.specs.declared.condition.Condition.{Condition}
+use Rattle.acta_ends.specs.EndLines.{explored_lines}
+use Rattle.acta_programs.specs.declared.args.Form.{Form}
+use Rattle.acta_programs.specs.declared.args.Form.TheVariants.{Words, Lines, Events}
+
+-- refused, with this line alone
+abbrev pub refused_by : List ℕ → Output
+refused_by line = record { is_refused = true; text = text_of (line ∷ []) }
+
+-- incomplete POINTS ENDS: how many were found before the search was given up
+abbrev pub incomplete_line : ℕ → ℕ → List ℕ
+incomplete_line points ends = line_of (codes "incomplete" ∷ decimal points ∷ decimal ends ∷ [])
+
+-- the line that says so: more points would have had to be searched than may be
+abbrev pub HasIncompleteLine : ℕ → Output → Type 0
+HasIncompleteLine most out =
+    (points : ℕ) × (ends : ℕ) × (most < points) × (out ≡ refused_by (incomplete_line points ends))
+
+-- that it is so, in words for a reader, else by that line
+abbrev pub IsIncomplete : Form → ℕ → Output → Type 0
+IsIncomplete Words most out = out.is_refused ≡ true
+IsIncomplete Lines most out = HasIncompleteLine most out
+IsIncomplete (Events number) most out = HasIncompleteLine most out
+
+-- the line of an event that was kept, without its return
+abbrev pub kept_event_line : {A : Type 0} → Parts A → Kept A → List ℕ
+kept_event_line m kept = event_line m kept.event
+
+-- the events of an order, a line each
+abbrev pub order_events : {A : Type 0} → Point A → List (List ℕ)
+order_events p = map (kept_event_line p.state.model) p.state.kept
+
+-- no end K of N
+abbrev pub no_end_line : ℕ → ℕ → List ℕ
+no_end_line number count =
+    line_of (codes "no" ∷ codes "end" ∷ decimal number ∷ codes "of" ∷ decimal count ∷ [])
+
+-- the events of the first order of the end with this number, or that there are only so many ends
+abbrev pub end_events : {A : Type 0} → ℕ → ℕ → Option (Point A) → Output
+end_events number count (Some p) = record { is_refused = false; text = text_of (order_events p) }
+end_events number count None = refused_by (no_end_line number count)
+
+-- what is written of the ends: in words for a reader, or as lines of those for which a condition holds, or the events of
+-- the one with this number
+abbrev pub IsOfEnds : {A : Type 0} → Form → Parts A → Programs A → List ℕ → Condition A → List (Point A) → Output → Type 0
+IsOfEnds Words m programs numbers c ends out = out.is_refused ≡ false
+IsOfEnds Lines m programs numbers c ends out =
+    out ≡ record { is_refused = false; text = text_of (explored_lines m programs numbers c ends) }
+IsOfEnds (Events number) m programs numbers c ends out =
+    out ≡ end_events number (length ends) (item_at ends number)
+
+-- all ends were found, and this is written of them
+abbrev pub IsComplete : {A : Type 0} → Form → Parts A → Programs A → List ℕ → Condition A → Output → Type 0
+IsComplete {A = A} form m programs numbers c out =
+    (ends : List (Point A)) × AreAllEnds programs m ends × IsOfEnds form m programs numbers c ends out
+
+-- what is written of programs: of all ends, unless the search was given up
+abbrev pub IsSearched : {A : Type 0} → Form → ℕ → Parts A → Programs A → List ℕ → Condition A → Output → Type 0
+IsSearched form most m programs numbers c out = IsComplete form m programs numbers c out ⊎ IsIncomplete form most out
+
+-- what a condition may be, by whether one is given: without one there is no test, so that it holds of each end
+abbrev pub MayMean : {A : Type 0} → Bool → Condition A → Type 0
+MayMean false c = c.terms.items ≡ []
+MayMean true c = ⊤
+
+-- only a condition that is given can be faulty; the input is then refused
+abbrev pub IsFaultyCondition : Bool → Output → Type 0
+IsFaultyCondition false out = ⊥
+IsFaultyCondition true out = out.is_refused ≡ true
+
+-- what is written of programs, with a condition or without one
+abbrev pub IsOfPrograms : {A : Type 0} → Form → Bool → ℕ → Parts A → Programs A → List ℕ → Output → Type 0
+IsOfPrograms {A = A} form given most m programs numbers out =
+    ((c : Condition A) × MayMean given c × IsSearched form most m programs numbers c out) ⊎ IsFaultyCondition given out
+
+-- the same, unless a line is faulty
+abbrev pub IsAnswerUnless : {A : Type 0} → Option BadLine → Form → Bool → ℕ → Parts A → Programs A → List ℕ → Output → Type 0
+IsAnswerUnless (Some b) form given most m programs numbers out = out ≡ refused_by (stop_line b)
+IsAnswerUnless None form given most m programs numbers out = IsOfPrograms form given most m programs numbers out
+
+-- the output on a model, for what the lines of the input say
+abbrev pub IsAnswerTo : {A : Type 0} → Form → Bool → ℕ → Parts A → Said (ProgramLine A) → List ℕ → Output → Type 0
+IsAnswerTo form given most m s numbers out = IsAnswerUnless s.stop form given most m s.said numbers out
+
+-- the output on a model for an input, whose seats are numbered from 1 to 16
+abbrev pub IsAnswerOn : {A : Type 0} → Form → Bool → ℕ → Parts A → List ℕ → Output → Type 0
+IsAnswerOn form given most m input out =
+    IsAnswerTo form given most m (said_in (program_line_of m 16) input) (line_numbers input) out
+
+-- the output where this is what the model's bytes mean
+abbrev pub IsAnswerBy : {A : Type 0} → Form → Bool → ℕ → Result (Parts A) NoModel → List ℕ → Output → Type 0
+IsAnswerBy form given most (Err fault) input out = out ≡ refused_model fault
+IsAnswerBy form given most (Ok m) input out = IsAnswerOn form given most m input out
+
+-- the output for the bytes of a model and of an input; A is the allocator's type, which makes no difference
+abbrev pub IsAnswer : (A : Type 0) → Form → Bool → ℕ → List ℕ → List ℕ → Output → Type 0
+IsAnswer A form given most model input out = IsAnswerBy {A = A} form given most (model_by (Run false) model) input out
+
+-- where the input was answered, the writer got an answer and nothing else, and the status says whether it was refused
+abbrev pub AnswersBy : Outcome → (Output → Type 0) → Option (List ℕ) → Option (List ℕ) → Type 0
+AnswersBy Done answer old new = (out : Output) × answer out × Answers Done out old new
+AnswersBy Refused answer old new = (out : Output) × answer out × Answers Refused out old new
+AnswersBy (Unread reason) answer old new = ⊤
+AnswersBy (Undriven e) answer old new = ⊤
+AnswersBy Unwritten answer old new = ⊤

@@ -1,0 +1,112 @@
+//! What the words of a command line of `explore` ask for.
+
+use acta_explain::{called, flag, matched, model_arg, option, with_arg};
+use acta_tool::{ModelName, UsageFault, model_named};
+use clap::builder::ValueParser;
+use clap::{Arg, ArgMatches, Command};
+use std::alloc::{AllocError, Global};
+
+/// In which form the ends are written.
+#[derive(Clone, Copy, PartialEq, Eq, Debug)]
+pub enum Form {
+    /// For a reader.
+    Words,
+    /// For another program.
+    Lines,
+    /// Only the events of the first order of the end with this number, from 1.
+    Events(u32),
+}
+
+/// What a command line asks for: the ends of the programs of the standard input on a model.
+#[derive(Clone, Copy, PartialEq, Eq, Debug)]
+pub struct Asked<'a> {
+    pub form: Form,
+    /// Only the ends for which this condition holds.
+    pub condition: Option<&'a str>,
+    /// How many points may be searched.
+    pub most: u32,
+    pub model: ModelName<'a>,
+}
+
+// How many points may be searched if the command line does not say.
+const MOST_POINTS: u32 = 1_000_000;
+
+const CONDITIONS: &str =
+    "A CONDITION is a list of tests with `and` between them, each with an optional `not` before it:
+  complete | stuck | owing   all programs are done and nothing is owed; a seat waits; something is owed
+  T STATUS                   transaction T is inprogress, committed, aborted or joined
+  OBJECT = VALUE             the object has this value: a number, or a set as {1,4}
+  LINE = RETURN              the operation of this line of the input returned a number, done, yes or no";
+
+// An option that takes a positive number.
+fn number<'a>(alloc: Global, id: &'a str, value: &'a str, help: &'a str) -> Arg<'a> {
+    let numbers = ValueParser::Unsigned(1, u64::from(u32::MAX));
+    option(alloc, id, value, help).value_parser(numbers)
+}
+
+// The command line that is taken.
+fn surface<'a>(alloc: Global, name: &str) -> Result<Command<'a>, AllocError> {
+    let help = "Writes only the events of the first order that leads to end K";
+    let end = number(alloc, "end", "K", help)
+        .conflicts_with("lines")?
+        .conflicts_with("where")?;
+    let command = Command::new(alloc, "acta_tool explore")
+        .no_binary_name(true)
+        .about(
+            "Finds every way in which the programs of the standard input can end on MODEL, whatever the order of their steps. Each line is SEAT EVENT [| EVENT]..: a seat does its lines in order, and of each line one of the alternatives",
+        )
+        .after_help(CONDITIONS)
+        .bin_name(name);
+    let command = with_arg(command, model_arg(alloc).required(true));
+    let help = "Writes the ends as lines, for another program";
+    let command = with_arg(command, flag(alloc, "lines", help));
+    let command = with_arg(command, end);
+    let help = "Keeps only the ends for which the condition holds";
+    let command = with_arg(command, option(alloc, "where", "CONDITION", help));
+    let help = "Gives up where more than N points would have to be searched";
+    let most = number(alloc, "most", "N", help).default_value("1000000");
+    with_arg(command, most)
+}
+
+// The form that the matches ask for.
+fn form_asked(matches: &ArgMatches<'_>) -> Form {
+    match matches.get_one::<u32>("end") {
+        Some(number) => Form::Events(number),
+        None if matches.get_flag("lines") => Form::Lines,
+        None => Form::Words,
+    }
+}
+
+// What the matches ask for.
+fn asked_by<'a>(matches: &ArgMatches<'a>) -> Result<Asked<'a>, UsageFault> {
+    match model_named(matches.get_str("MODEL").unwrap_or("@")) {
+        Some(model) => Ok(Asked {
+            form: form_asked(matches),
+            condition: matches.get_str("where"),
+            most: matches.get_one::<u32>("most").unwrap_or(MOST_POINTS),
+            model,
+        }),
+        None => Err(UsageFault::UnknownModel),
+    }
+}
+
+// What the words after `explore` ask for.
+fn asked_on<'a>(mut surface: Command<'a>, words: &'a [String]) -> Result<Asked<'a>, UsageFault> {
+    let asked = match matched(&mut surface, words) {
+        Ok(matches) => asked_by(&matches),
+        Err(fault) => Err(fault),
+    };
+    drop(surface);
+    asked
+}
+
+/// What the words ask for; the first is the program's name, and the second `explore`. `Usage` if they are no such command
+/// line or ask for help, with the text of `clap`; `UnknownModel` if no standard model has the name after the `@`; `Memory`
+/// if memory runs out.
+pub fn parse<'a>(alloc: Global, words: &'a [String]) -> Result<Asked<'a>, UsageFault> {
+    let name = called(alloc, words, "explore")?;
+    match surface(alloc, name.as_str()) {
+        Ok(surface) => asked_on(surface, words.get(2..).unwrap_or(&[])),
+        Err(e) => Err(UsageFault::Memory(e)),
+    }
+}

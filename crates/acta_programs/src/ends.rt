@@ -1,0 +1,251 @@
+//! The ways in which programs can end, in words.
+
+ghost use Rattle.std.specs.Prelude.{◌≡◌, false, true, IfOk};
+
+use crate::programs::Programs;
+use crate::totals::{Totals, kind_words};
+use crate::waiting::{put_deadlocks, put_debts, put_waits};
+use acta_ends::{Condition, kept_ends};
+use acta_explain::{Prose, Spoken, Telling, name_text, put};
+use acta_explore::{Done, Explored, Outcome, Point, TxnStatus, Value};
+use acta_machine::Handle;
+use acta_table::{Ret, Status};
+use acta_tool::Report;
+use std::alloc::AllocError;
+
+// How a transaction ended, in words.
+fn status_words(status: Status) -> &'static str {
+    match status {
+        Status::NotBegun => "not begun",
+        Status::InProgress => "in progress",
+        Status::Committed => "committed",
+        Status::Aborted => "aborted",
+        Status::Joined => "joined",
+    }
+}
+
+// Adds how the transactions ended.
+fn put_statuses<A: Handle>(mut prose: Prose<A>, statuses: &[TxnStatus]) -> Prose<A> {
+    let mut gap = "  ";
+    for one in statuses {
+        prose = put!(prose; gap, one.txn.0, " ", status_words(one.status));
+        gap = ", ";
+    }
+    if statuses.is_empty() {
+        prose.put("  no transaction has begun")
+    } else {
+        prose
+    }
+}
+
+// Adds the elements of a set.
+fn put_elements<A: Handle>(mut prose: Prose<A>, elements: &[i32]) -> Prose<A> {
+    let mut gap = "{";
+    for element in elements {
+        prose = put!(prose; gap, *element);
+        gap = ",";
+    }
+    prose.put(if elements.is_empty() { "{}" } else { "}" })
+}
+
+// Adds a value.
+fn put_value<A: Handle>(prose: Prose<A>, value: &Value<A>) -> Prose<A> {
+    match value {
+        Value::Register(number) => prose.put(*number),
+        Value::Counter(number) => prose.put(*number),
+        Value::Elements(elements) => put_elements(prose, elements.as_slice()),
+    }
+}
+
+// Adds the values of the objects.
+fn put_values<A: Handle>(
+    mut prose: Prose<A>,
+    programs: &Programs<'_, A>,
+    values: &[Option<Value<A>>],
+) -> Prose<A> {
+    let mut is_first = true;
+    for (object, value) in programs.model.objects().iter().zip(values) {
+        if let Some(value) = value {
+            prose = prose.put(if is_first { ";  " } else { ", " });
+            prose = put!(prose; name_text(object.name.as_slice()), " = ");
+            prose = put_value(prose, value);
+            is_first = false;
+        }
+    }
+    prose.put("\n")
+}
+
+// Adds what a return is, after the operation; nothing of one that only says that the operation was done.
+fn put_return<A: Handle>(prose: Prose<A>, ret: Option<Ret>) -> Prose<A> {
+    match ret {
+        Some(Ret::Value(value)) => put!(prose; " = ", value),
+        Some(Ret::Flag(true)) => prose.put(" = yes"),
+        Some(Ret::Flag(false)) => prose.put(" = no"),
+        Some(Ret::Done) | None => prose,
+    }
+}
+
+// Whether a line that did this is named: it had a choice, or returned something.
+fn is_named(alternatives: usize, done: &Done) -> bool {
+    alternatives > 1 || matches!(done.ret, Some(Ret::Value(_) | Ret::Flag(_)))
+}
+
+// Adds which alternatives were taken, and what operations returned.
+fn put_lines<A: Handle>(
+    mut prose: Prose<A>,
+    programs: &Programs<'_, A>,
+    lines: &[Option<Done>],
+) -> Prose<A> {
+    let mut is_first = true;
+    for (line, done) in lines.iter().enumerate() {
+        let Some(done) = done else {
+            continue;
+        };
+        if is_named(programs.alternatives(line), done) {
+            prose = prose.put(if is_first { "  " } else { ";  " });
+            prose = put!(prose; "line ", programs.number(line), ": ");
+            prose = programs.put_alternative(prose, line, done.alternative);
+            prose = put_return(prose, done.ret);
+            is_first = false;
+        }
+    }
+    prose.put(if is_first { "" } else { "\n" })
+}
+
+// Takes the events of the order by which a point was reached, each by its line.
+fn take_all<A: Handle>(
+    run: &mut Telling<A>,
+    programs: &Programs<'_, A>,
+    point: &Point<A>,
+) -> Result<(), AllocError> {
+    for (step, kept) in point.steps().iter().zip(point.machine().history()) {
+        let text = Prose::new(programs.alloc);
+        let text = programs.put_alternative(text, step.line, step.alternative);
+        let text = text.done()?;
+        let line = Spoken {
+            line: programs.number(step.line),
+            bytes: text.as_bytes(),
+        };
+        run.take(line, kept.event.copy()?)?;
+    }
+    Ok(())
+}
+
+// Adds why seats wait, which of them wait for one another, and what is owed.
+fn put_open<A: Handle>(
+    prose: Prose<A>,
+    programs: &Programs<'_, A>,
+    outcome: &Outcome<A>,
+    point: &Point<A>,
+) -> Prose<A> {
+    if outcome.waits.is_empty() && outcome.debts.is_empty() {
+        return prose;
+    }
+    let Ok(model) = programs.model.copy() else {
+        return prose.fail();
+    };
+    let Ok(mut run) = Telling::new(programs.alloc, model) else {
+        return prose.fail();
+    };
+    if take_all(&mut run, programs, point).is_err() {
+        return prose.fail();
+    }
+    let prose = put_waits(prose, programs, (outcome, point, &run));
+    let prose = put_deadlocks(prose, programs, outcome.waits.as_slice(), point);
+    put_debts(prose, &run, outcome.debts.as_slice())
+}
+
+// Adds the end at this place, from 0.
+fn put_end<A: Handle>(
+    prose: Prose<A>,
+    programs: &Programs<'_, A>,
+    explored: &Explored<A>,
+    place: usize,
+) -> Prose<A> {
+    let Some(outcome) = explored.outcome(place) else {
+        return prose;
+    };
+    let Some(point) = explored.end(place) else {
+        return prose;
+    };
+    let prose = put!(prose; "\nend ", place.saturating_add(1), "  ", kind_words(outcome), "\n");
+    let prose = put_statuses(prose, outcome.statuses.as_slice());
+    let prose = put_values(prose, programs, outcome.values.as_slice());
+    let prose = put_open(prose, programs, outcome, point);
+    let prose = put_lines(prose, programs, outcome.lines.as_slice());
+    programs
+        .put_order(prose.put("  order:"), point.steps())
+        .put("\n")
+}
+
+// Adds how many ends there are.
+fn put_count<A: Handle>(prose: Prose<A>, count: usize) -> Prose<A> {
+    match count {
+        0 => prose.put("no end"),
+        1 => prose.put("1 end"),
+        _ => put!(prose; count, " ends"),
+    }
+}
+
+// Adds how many ends there are: of each kind, or of all those for which the condition holds.
+fn put_head<A: Handle>(
+    prose: Prose<A>,
+    programs: &Programs<'_, A>,
+    condition: &Condition<A>,
+    explored: &Explored<A>,
+    places: &[usize],
+) -> Prose<A> {
+    let prose = put_count(prose, places.len());
+    if condition.terms.is_empty() {
+        let totals = Totals::of(explored, places);
+        let prose = put!(prose; ", every order tried (", explored.points(), " points): ");
+        return totals.put(prose);
+    }
+    let prose = programs.put_condition(prose.put(": "), condition);
+    put_count(prose.put(" (of "), explored.len()).put(", every order tried)")
+}
+
+/// The ends for which the condition holds, in words.
+pub(crate) fn explain_ends<A: Handle>(
+    programs: &Programs<'_, A>,
+    condition: &Condition<A>,
+    explored: &Explored<A>,
+) -> Result<Report<A>, AllocError>
+    ensures { IfOk result (λ report. report.is_refused ≡ false) }
+{
+    let alloc = programs.alloc;
+    let places = kept_ends(alloc, explored, condition)?;
+    let prose = put_head(
+        Prose::new(alloc),
+        programs,
+        condition,
+        explored,
+        places.as_slice(),
+    );
+    let mut prose = prose.put("\n");
+    for place in places.as_slice() {
+        prose = put_end(prose, programs, explored, *place);
+    }
+    Ok(Report {
+        text: prose.done()?.into_bytes(),
+        is_refused: false,
+    })
+}
+
+/// That the search was given up after so many points and ends, in words.
+pub(crate) fn explain_incomplete<A: Handle>(
+    alloc: A,
+    most: u32,
+    points: u64,
+    ends: usize,
+) -> Result<Report<A>, AllocError>
+    ensures { IfOk result (λ report. report.is_refused ≡ true) }
+{
+    let prose =
+        put!(Prose::new(alloc); "incomplete: more than ", most, " points (--most): ", points,
+        " points and ", ends, " ends were found. There may be other ends.\n");
+    Ok(Report {
+        text: prose.done()?.into_bytes(),
+        is_refused: true,
+    })
+}

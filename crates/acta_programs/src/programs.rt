@@ -1,0 +1,95 @@
+//! Programs, with the lines of the input that say them.
+
+use acta_ends::{Condition, condition_text};
+use acta_explain::{Prose, Spoken, name_text, put};
+use acta_explore::{Plan, Step};
+use acta_machine::Handle;
+use acta_script::ProgramLine;
+use acta_table::Model;
+use acta_words::words_of;
+
+/// Programs on a model.
+#[derive(Drop)]
+pub(crate) struct Programs<'a, A: Handle> {
+    pub(crate) alloc: A,
+    pub(crate) model: &'a Model<A>,
+    pub(crate) lines: &'a [ProgramLine<A>],
+    /// The number of each line in the input.
+    pub(crate) numbers: &'a [usize],
+    /// Each line as the input has it.
+    pub(crate) texts: &'a [Spoken<'a>],
+    pub(crate) plan: &'a Plan<'a, A>,
+}
+
+impl<'a, A: Handle> Programs<'a, A> {
+    /// The number in the input of the line at this position.
+    pub(crate) fn number(&self, line: usize) -> usize {
+        match self.numbers.get(line) {
+            Some(number) => *number,
+            None => 0,
+        }
+    }
+
+    /// How many alternatives the line has.
+    pub(crate) fn alternatives(&self, line: usize) -> usize {
+        match self.lines.get(line) {
+            Some(line) => line.alternatives.as_slice().len(),
+            None => 0,
+        }
+    }
+
+    /// Adds the alternatives of the line as the input has them, with single spaces.
+    pub(crate) fn put_line(&self, mut prose: Prose<A>, line: usize) -> Prose<A> {
+        for alternative in 0..self.alternatives(line) {
+            prose = prose.put(if alternative == 0 { "" } else { " | " });
+            prose = self.put_alternative(prose, line, alternative);
+        }
+        prose
+    }
+
+    /// Adds an alternative of the line, from 0, as the input has it, with single spaces.
+    pub(crate) fn put_alternative(
+        &self,
+        mut prose: Prose<A>,
+        line: usize,
+        alternative: usize,
+    ) -> Prose<A> {
+        let Some(text) = self.texts.get(line) else {
+            return prose;
+        };
+        let Ok(words) = words_of(self.alloc, text.bytes) else {
+            return prose.fail();
+        };
+        let mut place = 0usize;
+        let mut is_first = true;
+        // (the first word is the seat)
+        for word in words.iter().skip(1) {
+            if *word == b"|".as_slice() {
+                place = place.saturating_add(1);
+            } else if place == alternative {
+                prose = put!(prose; if is_first { "" } else { " " }, name_text(word));
+                is_first = false;
+            }
+        }
+        prose
+    }
+
+    /// Adds the lines that steps did, each after a space, with the alternative where the line has several.
+    pub(crate) fn put_order(&self, mut prose: Prose<A>, steps: &[Step]) -> Prose<A> {
+        for step in steps {
+            prose = put!(prose; " ", self.number(step.line));
+            if self.alternatives(step.line) > 1 {
+                prose = put!(prose; ".", step.alternative.saturating_add(1));
+            }
+        }
+        prose
+    }
+
+    /// Adds a condition, in words that can be read again.
+    pub(crate) fn put_condition(&self, prose: Prose<A>, condition: &Condition<A>) -> Prose<A> {
+        match condition_text(self.alloc, self.model, self.numbers, condition) {
+            Ok(text) => prose.put(name_text(text.as_slice())),
+            Err(_) => prose.fail(),
+        }
+    }
+}

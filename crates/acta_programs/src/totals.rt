@@ -1,0 +1,71 @@
+//! How many ends there are of each kind.
+
+use acta_explain::{Prose, put};
+use acta_explore::{Explored, Outcome};
+use acta_machine::Handle;
+
+/// How many ends are of each kind.
+#[derive(Clone, Copy)]
+pub(crate) struct Totals {
+    complete: usize,
+    stuck: usize,
+    owing: usize,
+    both: usize,
+}
+
+/// What an end is called, by the seats that wait and by what is owed.
+pub(crate) fn kind_words<A: Handle>(outcome: &Outcome<A>) -> &'static str {
+    match (outcome.waits.is_empty(), outcome.debts.is_empty()) {
+        (true, true) => "complete",
+        (false, true) => "stuck",
+        (true, false) => "owing",
+        (false, false) => "stuck and owing",
+    }
+}
+
+impl Totals {
+    /// How many of the ends at these places are of each kind.
+    pub(crate) fn of<A: Handle>(explored: &Explored<A>, places: &[usize]) -> Totals {
+        let mut totals = Totals {
+            complete: 0,
+            stuck: 0,
+            owing: 0,
+            both: 0,
+        };
+        for place in places {
+            if let Some(outcome) = explored.outcome(*place) {
+                totals.add(outcome);
+            }
+        }
+        totals
+    }
+
+    // Counts an end.
+    fn add<A: Handle>(&mut self, outcome: &Outcome<A>) {
+        let count = match (outcome.waits.is_empty(), outcome.debts.is_empty()) {
+            (true, true) => &mut self.complete,
+            (false, true) => &mut self.stuck,
+            (true, false) => &mut self.owing,
+            (false, false) => &mut self.both,
+        };
+        *count = count.saturating_add(1);
+    }
+
+    /// Adds the numbers of those kinds of which there are some.
+    pub(crate) fn put<A: Handle>(self, mut prose: Prose<A>) -> Prose<A> {
+        let counts = [
+            (self.complete, " complete"),
+            (self.stuck, " stuck"),
+            (self.owing, " owing"),
+            (self.both, " stuck and owing"),
+        ];
+        let mut is_first = true;
+        for (count, kind) in counts {
+            if count > 0 {
+                prose = put!(prose; if is_first { "" } else { ", " }, count, kind);
+                is_first = false;
+            }
+        }
+        prose
+    }
+}

@@ -1,0 +1,111 @@
+//! Searches through all orders of programs, each allocation refused in turn.
+
+use crate::expecting::made;
+use crate::exploring::programs_of;
+use crate::exploring::told::told_of;
+use crate::models::{SHARING, model_of};
+use crate::refused::{Setting, at_least, refuse};
+use acta_explore::{Explored, explore};
+use acta_machine::Handle;
+use acta_models::Standard;
+use acta_script::ProgramLine;
+use acta_table::Model;
+use refusing::{Case, Refusing};
+use std::alloc::Allocator;
+use std::process::Abort;
+
+// A search of programs, which starts from nothing.
+#[derive(Drop)]
+struct Searching<'a, 's, R, A: Handle> {
+    on: &'a Setting<'s, R, A>,
+    model: &'a Model<A>,
+    programs: &'a [ProgramLine<A>],
+}
+
+impl<'a, 's, R: Abort, A: Handle> Case for Searching<'a, 's, R, A> {
+    type State = ();
+
+    type Answer = Explored<A>;
+
+    fn start(&self) {}
+
+    fn call(&self, _state: &mut ()) -> Option<Explored<A>> {
+        explore(self.on.alloc, self.model, self.programs, 1_000, &mut ()).ok()
+    }
+
+    fn tell(&self, answer: &Explored<A>, _state: &()) -> String {
+        let mut text = String::new(self.on.other);
+        for place in 0..answer.len() {
+            let outcome = answer.outcome(place).expect(self.on.rt, "an outcome");
+            let told = told_of(self.on.rt, self.on.other, outcome);
+            made(self.on.rt, text.push_str(told.as_str()), "a text");
+            made(self.on.rt, text.push_str("\n"), "a text");
+        }
+        text
+    }
+
+    fn read(&self, _state: &()) -> String {
+        String::new(self.on.other)
+    }
+}
+
+// A search of the programs that the lines say, each allocation refused. Returns how many were.
+fn refuse_search<R: Abort, A: Handle, B: Allocator>(
+    on: &Setting<'_, R, A>,
+    heap: &Refusing<B>,
+    (model, lines): (&str, &str),
+) -> u64 {
+    let model = model_of(on.rt, on.alloc, model);
+    let programs = programs_of(on.rt, on.alloc, &model, lines);
+    let searching = Searching {
+        on: &*on,
+        model: &model,
+        programs: programs.as_slice(),
+    };
+    let explored = searching.call(&mut ()).expect(on.rt, lines);
+    let due = searching.tell(&explored, &());
+    drop(explored);
+    let refused = refuse(on.rt, heap, &searching, due.as_str());
+    drop(programs);
+    drop(model);
+    refused
+}
+
+const WAITING: &str = "\
+1 begin 1 flat
+1 do 1 x write 1
+2 begin 2 flat | abort 1";
+
+const DEPENDING: &str = "\
+1 begin 1 loose
+1 do 1 s insert 3
+1 begin 2 loose
+1 do 2 s has 3
+1 abort 1";
+
+const PERMITTING: &str = "\
+1 begin 1 part
+1 do 1 n add 1
+1 permit 1 2 n
+2 begin 2 part";
+
+fn refuse_all<R: Abort, A: Handle, B: Allocator>(on: &Setting<'_, R, A>, heap: &Refusing<B>) {
+    for search in [
+        (Standard::Atomic.text(), WAITING),
+        (Standard::Recoverable.text(), DEPENDING),
+        (SHARING, PERMITTING),
+    ] {
+        at_least(on.rt, refuse_search(on, heap, search), 100, search.1);
+    }
+}
+
+#[test]
+fn searches_of_programs(rt: HostRuntime) {
+    let heap = Refusing::new(rt.alloc());
+    let on = Setting {
+        rt: &rt,
+        alloc: &heap,
+        other: rt.alloc(),
+    };
+    refuse_all(&on, &heap);
+}
