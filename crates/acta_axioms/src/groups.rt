@@ -1,27 +1,25 @@
-ghost use Rattle.std.specs.Prelude.{◌≡◌, ◌<◌, ◌==◌, ℕ, [], ◌∷◌, ◌++◌, get_or, length, if◌then◌else◌, IfOk, OnOk};
+ghost use Rattle.std.specs.Prelude.{◌≡◌, ◌<◌, ◌==◌, ℕ, [], ◌∷◌, ◌++◌, get_or, length, if◌then◌else◌, OnErr, OnOk};
 
-use crate::serial::SerialItem;
 use acta_table::TxnId;
 use std::alloc::{AllocError, Allocator};
 
-// Operations by the number of their transaction. Contracts see a list for each number up to the largest that was named.
+/// Items by the number of their transaction. Contracts see a list for each number up to the largest that was named.
 #[derive(Drop)]
-pub(crate) struct Groups<A: Allocator> {
-    lists: Vec<Vec<SerialItem, A>, A>,
+pub struct Groups<T, A: Allocator> {
+    lists: Vec<Vec<T, A>, A>,
 }
 
-impl<A: Allocator> std::marker::Model for Groups<A> {
+impl<T, A: Allocator> std::marker::Model for Groups<T, A> {
     ghost use Rattle.std.specs.Prelude.{List, map};
-    ghost use Rattle.acta_axioms.specs.declared.serial.SerialItem.{SerialItem};
 
-    ghost Value = { List (List SerialItem) };
+    ghost Value = { List (List T) };
 
     ghost view = { λ g. map (λ list. list.items) g.lists.items };
 }
 
-impl<A: Allocator + Copy> Groups<A> {
-    /// No operations.
-    pub(crate) fn new(alloc: A) -> Groups<A>
+impl<T: Copy, A: Allocator + Copy> Groups<T, A> {
+    /// No items.
+    pub fn new(alloc: A) -> Groups<T, A>
         ensures { result ≡ [] }
     {
         Groups {
@@ -29,7 +27,7 @@ impl<A: Allocator + Copy> Groups<A> {
         }
     }
 
-    // Makes the list of the transaction, if there is none, with no other change. `Err` where there is no memory.
+    // Makes the list of the transaction, if there is none, with no other change.
     fn make_room(&mut self, t: TxnId) -> Result<(), AllocError>
         ensures same { (u : ℕ) → get_or self.new u [] ≡ get_or self.old u [] }
         ensures room { OnOk result (t.0 < length self.new) }
@@ -41,9 +39,10 @@ impl<A: Allocator + Copy> Groups<A> {
         Ok(())
     }
 
-    /// Puts the operation behind those of the transaction. `Err` where there is no memory.
-    pub(crate) fn put(&mut self, t: TxnId, item: SerialItem) -> Result<(), AllocError>
-        ensures { IfOk result (λ _. (u : ℕ) → get_or self.new u [] ≡ get_or self.old u [] ++ (if t.0 == u then item ∷ [] else [])) }
+    /// Appends an item to those of the transaction. Returns `Err` if memory runs out; then the items stay as they were.
+    pub fn put(&mut self, t: TxnId, item: T) -> Result<(), AllocError>
+        ensures ok { OnOk result ((u : ℕ) → get_or self.new u [] ≡ get_or self.old u [] ++ (if t.0 == u then item ∷ [] else [])) }
+        ensures err { OnErr result ((u : ℕ) → get_or self.new u [] ≡ get_or self.old u []) }
     {
         self.make_room(t)?;
         let list = &mut self.lists[usize::from(t.0)];
@@ -51,11 +50,11 @@ impl<A: Allocator + Copy> Groups<A> {
         Ok(())
     }
 
-    /// The operations of the transaction, in the order in which they were put in.
-    pub(crate) fn of(&self, t: TxnId) -> &[SerialItem]
-        ensures { result.now ≡ get_or self.now t.0 [] }
+    /// The items of the transaction with this number, in the order in which they were put in.
+    pub fn of(&self, t: usize) -> &[T]
+        ensures { result.now ≡ get_or self.now t [] }
     {
-        match self.lists.get(usize::from(t.0)) {
+        match self.lists.get(t) {
             Some(list) => list.as_slice(),
             None => &[],
         }

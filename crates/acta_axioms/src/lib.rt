@@ -27,6 +27,7 @@ pub use against::{
 };
 pub use course::Course;
 pub use fault::{Axiom, Fault};
+pub use groups::Groups;
 pub use places::Places;
 pub use serial::{SerialItem, serial_items};
 pub use strict::is_strict;

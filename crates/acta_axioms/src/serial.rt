@@ -18,7 +18,10 @@ pub struct SerialItem {
 }
 
 // The operations of the history, by who did them. `Err` where there is no memory.
-fn grouped<A: Allocator + Copy>(alloc: A, kept: &[Kept<A>]) -> Result<Groups<A>, AllocError>
+fn grouped<A: Allocator + Copy>(
+    alloc: A,
+    kept: &[Kept<A>],
+) -> Result<Groups<SerialItem, A>, AllocError>
     requires { length kept.now ≤ MOST_EVENTS }
     ensures { IfOk result (λ groups. (t : ℕ) → get_or groups t [] ≡ items_of kept.now t) }
 {
@@ -58,14 +61,14 @@ fn committed_by<A: Allocator>(event: &Event<A>) -> Option<TxnId>
 fn in_commit_order<A: Allocator + Copy>(
     alloc: A,
     kept: &[Kept<A>],
-    groups: &Groups<A>,
+    groups: &Groups<SerialItem, A>,
 ) -> Result<Vec<SerialItem, A>, AllocError>
     ensures { IfOk result (λ items. items.items ≡ flat_map (λ t. get_or groups.now t []) (commit_order kept.now)) }
 {
     let mut items = Vec::new(alloc);
     for k in kept {
         if let Some(t) = committed_by(&k.event) {
-            items.extend_from_slice(groups.of(t))?;
+            items.extend_from_slice(groups.of(usize::from(t.0)))?;
         }
     }
     Ok(items)

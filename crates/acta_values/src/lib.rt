@@ -13,3 +13,4 @@ pub use live_set::LiveSet;
 pub use live_value::LiveValue;
 pub use store::Store;
 pub use trail::{Numbered, Trail};
+pub use values::Values;

@@ -82,7 +82,7 @@ impl<A: Handle> Store<A> {
     pub fn value(&self, ob: ObjId) -> Result<Option<ObjectState<A>>, AllocError>
         ensures { IfOk result (λ value. value ≡ option_map (λ kind. state_after (first_state {A = A} kind) (live_ops kind self.now.items ob.0)) (slice_get self.now.kinds ob.0)) }
     {
-        self.values.value(ob)
+        self.values.value(ob.0 as usize)
     }
 
     /// Adds an operation in progress, which `t` holds: whoever invokes an operation is responsible for it at first

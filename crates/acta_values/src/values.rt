@@ -22,7 +22,7 @@ use std::alloc::{AllocError, Allocator};
 
 /// The values of objects after the operations of a history. Contracts see the list of them, one for each object.
 #[derive(Drop)]
-pub(crate) struct Values<A: Allocator> {
+pub struct Values<A: Allocator> {
     values: Vec<LiveValue<A>, A>,
 }
 
@@ -93,7 +93,7 @@ fn take_back<A: Allocator + Copy>(
 
 impl<A: Allocator + Copy> Values<A> {
     /// The first values of objects of these kinds. `Err` where there is no memory.
-    pub(crate) fn new(alloc: A, kinds: &[Kind]) -> Result<Values<A>, AllocError>
+    pub fn new(alloc: A, kinds: &[Kind]) -> Result<Values<A>, AllocError>
         ensures { IfOk result (λ values. AreAfter kinds.now [] values) }
     {
         let mut values = Vec::with_capacity(alloc, kinds.len())?;
@@ -104,7 +104,7 @@ impl<A: Allocator + Copy> Values<A> {
     }
 
     /// What an operation on the object would return; nothing where there is no such object. Takes no memory.
-    pub(crate) fn due(&self, ob: ObjId, op: &Op) -> Option<Ret>
+    pub fn due(&self, ob: ObjId, op: &Op) -> Option<Ret>
         ensures { (kinds : List Kind) (items : List HeldOp) → AreAfter kinds items self.now
             → result ≡ option_map (λ kind. returned (state_after (first_state {A = A} kind) (live_ops kind items ob.0)) op.now) (slice_get kinds ob.0) }
     {
@@ -114,13 +114,12 @@ impl<A: Allocator + Copy> Values<A> {
         }
     }
 
-    /// The value of the object; nothing where there is no such object. `Err` where there is no memory, which only a set
-    /// takes.
-    pub(crate) fn value(&self, ob: ObjId) -> Result<Option<ObjectState<A>>, AllocError>
+    /// The value of the object with this number, from 0; `None` if there is no such object. Only a set takes memory.
+    pub fn value(&self, object: usize) -> Result<Option<ObjectState<A>>, AllocError>
         ensures { IfOk result (λ value. (kinds : List Kind) (items : List HeldOp) → AreAfter kinds items self.now
-            → value ≡ option_map (λ kind. state_after (first_state {A = A} kind) (live_ops kind items ob.0)) (slice_get kinds ob.0)) }
+            → value ≡ option_map (λ kind. state_after (first_state {A = A} kind) (live_ops kind items object)) (slice_get kinds object)) }
     {
-        match self.values.get(ob.0 as usize) {
+        match self.values.get(object) {
             Some(value) => Ok(Some(value.value()?)),
             None => Ok(None),
         }
@@ -128,7 +127,7 @@ impl<A: Allocator + Copy> Values<A> {
 
     /// One more operation, of the next number, is in progress. `Err` where there is no memory: the values are then as
     /// they were.
-    pub(crate) fn add(&mut self, number: u32, ob: ObjId, op: &Op) -> Result<(), AllocError>
+    pub fn add(&mut self, number: u32, ob: ObjId, op: &Op) -> Result<(), AllocError>
         requires { Takes number self.old }
         ensures ok { OnOk result ((kinds : List Kind) (items : List HeldOp) → AreAfter kinds items self.old
             → number ≡ length items + 1 → length items < MOST_EVENTS
@@ -143,7 +142,7 @@ impl<A: Allocator + Copy> Values<A> {
     }
 
     /// All that the transaction holds in progress is aborted: these operations, by number, ascending. Takes no memory.
-    pub(crate) fn abort(&mut self, t: TxnId, items: &[HeldOp], held: &[u32])
+    pub fn abort(&mut self, t: TxnId, items: &[HeldOp], held: &[u32])
         requires values { AreValues items.now self.old }
         requires held { held.now ≡ numbers_where (is_held t.0) items.now }
         ensures { (kinds : List Kind) → AreAfter kinds items.now self.old → AreAfter kinds (ended t.0 Aborted items.now) self.new }
@@ -152,7 +151,7 @@ impl<A: Allocator + Copy> Values<A> {
     }
 
     /// The operation that came last is forgotten again. Takes no memory.
-    pub(crate) fn forget(&mut self, number: u32, ob: ObjId, op: &Op)
+    pub fn forget(&mut self, number: u32, ob: ObjId, op: &Op)
         requires { CameLast number ob op.now self.old }
         ensures { (kinds : List Kind) (items : List HeldOp) (t : TxnId) → AreAfter kinds (added items t ob op.now) self.old
             → number ≡ length items + 1 → AreAfter kinds items self.new }
@@ -161,7 +160,7 @@ impl<A: Allocator + Copy> Values<A> {
     }
 
     /// The same values, in memory of their own. `Err` where there is no memory.
-    pub(crate) fn copy(&self) -> Result<Values<A>, AllocError>
+    pub fn copy(&self) -> Result<Values<A>, AllocError>
         ensures { IfOk result (λ values. values ≡ self.now) }
     {
         let mut values = Vec::with_capacity(*self.values.allocator(), self.values.len())?;

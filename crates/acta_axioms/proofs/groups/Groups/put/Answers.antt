@@ -3,7 +3,6 @@ use Rattle.std.specs.Prelude.{if◌then◌else◌}
 use Rattle.std.proofs.lemmas.Bool.Decides.{nat_tests}
 use Rattle.std.proofs.lemmas.Grind.{common_steps}
 use Rattle.std.proofs.lemmas.List.{append-nil, length-map, get_or-map, get_or-set_same, get_or-set_other, map-set}
-use Rattle.acta_axioms.specs.declared.serial.SerialItem.{SerialItem}
 use Rattle.acta_axioms.proofs.groups.Groups.put.Goals as goal
 
 -- lists that are seen through f, with one item more in one of them
@@ -15,11 +14,11 @@ put-there f xs i u v w y within is grown =
     let own = get_or-map f xs i v [] within in
     grind (arith, common_steps, nat_tests, after, long, own, append-nil, get_or-set_same, get_or-set_other)
 
-pub returns : goal.returns
-returns g c =
+pub returns-clause-ok : goal.returns-clause-ok
+returns-clause-ok g c =
     λ u.
-    put-there (λ (list : Vec SerialItem g.row.A.Denot). list.items) c.self.inside.lists.items c.from.result u c.index_mut-list.result.now c.push.new.self c.args.item
-    (omega (arith, c.in_ok-make_room.ensures.room, ap (length {A = List SerialItem}) c.self.view_is, length-map c.self.inside.lists.items (λ (list : Vec SerialItem g.row.A.Denot). list.items)))
+    put-there (λ (list : Vec g.row.T.Denot g.row.A.Denot). list.items) c.self.inside.lists.items c.from.result u c.index_mut-list.result.now c.push.new.self c.args.item
+    (omega (arith, c.in_ok-make_room.ensures.room, ap (length {A = List g.row.T.Denot}) c.self.view_is, length-map c.self.inside.lists.items (λ (list : Vec g.row.T.Denot g.row.A.Denot). list.items)))
     c.index_mut-list.ensures.value c.in_ok-push.ensures.items
     ∙ (λ i. get_or (c.self.view_is i) u [] ++ (if c.from.ensures i == u then c.args.item ∷ [] else []))
     ∙ ap (λ items. items ++ (if c.args.t.0 == u then c.args.item ∷ [] else [])) (c.in_ok-make_room.ensures.same u)
