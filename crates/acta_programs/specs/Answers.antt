@@ -10,11 +10,8 @@ use Rattle.acta_script.specs.Writing.{event_line}
 use Rattle.acta_tool.specs.declared.args.Command.TheVariants.{Run}
 use Rattle.acta_tool.specs.declared.input.BadLine.{BadLine}
 use Rattle.acta_tool.specs.declared.models.NoModel.{NoModel}
-use Rattle.acta_tool.specs.declared.outcome.Outcome.{Outcome}
-use Rattle.acta_tool.specs.declared.outcome.Outcome.TheVariants.{Done, Refused, Unread, Undriven, Unwritten}
 use Rattle.acta_tool.specs.Models.{model_by}
-use Rattle.acta_tool.specs.Outcome.{Answers}
-use Rattle.acta_tool.specs.Output.{Output, Said, line_numbers, refused_model, said_in, stop_line}
+use Rattle.acta_tool.specs.Output.{Output, Said, line_numbers, refused_by, refused_model, said_in, stop_line}
 use Rattle.acta_explore.specs.Ends.{AreAllEnds}
 use Rattle.acta_explore.specs.Points.{Point}
 use Rattle.acta_explore.specs.Programs.{Programs}
@@ -22,10 +19,6 @@ use Rattle.acta_ends.specs.declared.condition.Condition.{Condition}
 use Rattle.acta_ends.specs.EndLines.{explored_lines}
 use Rattle.acta_programs.specs.declared.args.Form.{Form}
 use Rattle.acta_programs.specs.declared.args.Form.TheVariants.{Words, Lines, Events}
-
--- refused, with this line alone
-abbrev pub refused_by : List ℕ → Output
-refused_by line = record { is_refused = true; text = text_of (line ∷ []) }
 
 -- incomplete POINTS ENDS: how many were found before the search was given up
 abbrev pub incomplete_line : ℕ → ℕ → List ℕ
@@ -115,11 +108,3 @@ IsAnswerBy form given most (Ok m) input out = IsAnswerOn form given most m input
 -- the output for the bytes of a model and of an input; A is the allocator's type, which makes no difference
 abbrev pub IsAnswer : (A : Type 0) → Form → Bool → ℕ → List ℕ → List ℕ → Output → Type 0
 IsAnswer A form given most model input out = IsAnswerBy {A = A} form given most (model_by (Run false) model) input out
-
--- where the input was answered, the writer got an answer and nothing else, and the status says whether it was refused
-abbrev pub AnswersBy : Outcome → (Output → Type 0) → Option (List ℕ) → Option (List ℕ) → Type 0
-AnswersBy Done answer old new = (out : Output) × answer out × Answers Done out old new
-AnswersBy Refused answer old new = (out : Output) × answer out × Answers Refused out old new
-AnswersBy (Unread reason) answer old new = ⊤
-AnswersBy (Undriven e) answer old new = ⊤
-AnswersBy Unwritten answer old new = ⊤

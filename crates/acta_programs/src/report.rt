@@ -2,10 +2,10 @@
 
 ghost use Rattle.std.specs.Prelude.{◌≡◌, ◌≤◌, ◌<◌, ◌+◌, false, true, map, is_some, IfErr, IfOk, IfSome};
 ghost use Rattle.acta_explore.specs.Outcomes.{outcome};
-ghost use Rattle.acta_tool.specs.Outcome.{FailsBy, IsUnreadTooLong, KeepsUnread, WritesBy, is_undriven, reason_of};
+ghost use Rattle.acta_tool.specs.Outcome.{AnswersBy, FailsBy, IsUnreadTooLong, KeepsUnread, WritesBy, is_undriven, reason_of};
 ghost use Rattle.acta_tool.specs.Output.{line_numbers};
 ghost use Rattle.acta_tool.specs.inside.Reports.{output_of};
-ghost use Rattle.acta_programs.specs.Answers.{AnswersBy, IsAnswer, IsAnswerOn, IsIncomplete, IsOfEnds, IsOfPrograms, IsSearched, MayMean};
+ghost use Rattle.acta_programs.specs.Answers.{IsAnswer, IsAnswerOn, IsIncomplete, IsOfEnds, IsOfPrograms, IsSearched, MayMean};
 ghost use Rattle.acta_programs.specs.inside.Conditions.{MayFail};
 
 use crate::answers::{write_events, write_incomplete, write_lines};

@@ -100,3 +100,11 @@ IsUnreadTooLong model input reason =
     × IfSome input (λ bytes.
     (16777216 < length bytes → IsSome reason)
     × (reason ≡ Some TooMuch → (16777216 < length model) ⊎ (16777216 < length bytes)))
+
+-- where the input was answered, the writer got an answer and nothing else, and the status says whether it was refused
+abbrev pub AnswersBy : Outcome → (Output → Type 0) → Option (List ℕ) → Option (List ℕ) → Type 0
+AnswersBy Done answer old new = (out : Output) × answer out × Answers Done out old new
+AnswersBy Refused answer old new = (out : Output) × answer out × Answers Refused out old new
+AnswersBy (Unread reason) answer old new = ⊤
+AnswersBy (Undriven e) answer old new = ⊤
+AnswersBy Unwritten answer old new = ⊤

@@ -101,6 +101,10 @@ pub record Output : Type 0 where
   pub is_refused : Bool
   pub text : List ℕ
 
+-- refused, with this line alone
+abbrev pub refused_by : List ℕ → Output
+refused_by line = record { is_refused = true; text = text_of (line ∷ []) }
+
 -- what a run tells of its events: the answers, or with `--kept` the kept items alone
 abbrev pub told : {A : Type 0} → Bool → List Answer → State A → List (List ℕ)
 told false answers state = map answer_line answers
