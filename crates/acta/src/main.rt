@@ -5,13 +5,16 @@
 //! refused, 2 where the words are wrong, and 3 where a read, a write or the memory failed.
 #![tactic(auto)]
 
+mod hints;
 mod progress;
 
+use crate::hints::{Noted, Scanned, hint};
 use crate::progress::Progress;
 use acta_draw::{Drawing, Screen, draw_tool};
 use acta_explain::{explain_tool, is_asked, write_words};
 use acta_models::Standard;
 use acta_programs::explore_tool;
+use acta_serialize::serialize_tool;
 use acta_tool::{
     Args, Command, Metered, ModelName, Outcome, ReadFault, UsageFault, Watched, drive_tool,
     exit_status, parse, read_all, run_tool,
@@ -53,9 +56,25 @@ fn model_bytes<R: Files + AllocGlobal>(rt: &R, name: ModelName<'_>) -> Result<Ve
     }
 }
 
-// Runs the tool over the standard input and output.
-fn serve_run<R: Files + Input + Print + AllocGlobal + Threads + Wait + Sync>(
+// Judges the standard input, and suggests on the standard error what to do next.
+fn judge_hinting<R: Eprint + Input + Print + AllocGlobal + Threads + Sync>(
     rt: &R,
+    args: &Args<'_>,
+    model: &[u8],
+) -> Outcome {
+    let mut input = Scanned::new(Metered::new(rt.reader()));
+    let mut output = Noted::new(Watched::new(io::writer(rt)));
+    let outcome = run_tool(rt, rt.alloc(), args, model, &mut input, &mut output);
+    if let Some(text) = hint(output.faults, input.has_return) {
+        let _ = eprintln!(rt; "{text}");
+    }
+    outcome
+}
+
+// Runs the tool over the standard input and output; the standard error may be a terminal.
+fn serve_run<R: Eprint + Files + Input + Print + AllocGlobal + Threads + Wait + Sync>(
+    rt: &R,
+    is_error_terminal: bool,
     args: &Args<'_>,
 ) -> Outcome {
     let model = match model_bytes(rt, args.model) {
@@ -63,6 +82,9 @@ fn serve_run<R: Files + Input + Print + AllocGlobal + Threads + Wait + Sync>(
         Err(reason) => return Outcome::Unread(reason),
     };
     let model = model.as_slice();
+    if is_error_terminal && args.command == Command::Judge {
+        return judge_hinting(rt, args, model);
+    }
     let mut input = Metered::new(rt.reader());
     let mut output = Watched::new(io::writer(rt));
     match args.command {
@@ -157,6 +179,25 @@ fn serve_explore<R: Clock + Eprint + Files + Input + Print + AllocGlobal>(
     ))
 }
 
+// Finds a serial order of the kept lines of the standard input.
+fn serve_serialize<R: Files + Input + Print + AllocGlobal>(
+    rt: &R,
+    words: &[String],
+) -> Result<Outcome, UsageFault> {
+    let asked = acta_serialize::parse(rt.alloc(), words)?;
+    let model = match model_bytes(rt, asked.model) {
+        Ok(model) => model,
+        Err(reason) => return Ok(Outcome::Unread(reason)),
+    };
+    Ok(serialize_tool(
+        rt.alloc(),
+        asked,
+        model.as_slice(),
+        &mut Metered::new(rt.reader()),
+        &mut Watched::new(io::writer(rt)),
+    ))
+}
+
 // Does what the words ask for; the standard output and the standard error may be terminals.
 fn serve<R: Clock + Env + Eprint + Files + Input + Print + AllocGlobal + Threads + Wait + Sync>(
     rt: &R,
@@ -174,8 +215,11 @@ fn serve<R: Clock + Env + Eprint + Files + Input + Print + AllocGlobal + Threads
     if is_asked(words, "explore") {
         return serve_explore(rt, is_error_terminal, words);
     }
+    if is_asked(words, "serialize") {
+        return serve_serialize(rt, words);
+    }
     let args = parse(rt.alloc(), words)?;
-    Ok(serve_run(rt, &args))
+    Ok(serve_run(rt, is_error_terminal, &args))
 }
 
 // Lists the standard models.

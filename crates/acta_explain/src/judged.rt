@@ -9,8 +9,8 @@ ghost use Rattle.acta_tool.specs.Output.{judge_on, judged_on, said_in};
 use crate::chronicle::{Chronicle, Row, row_of};
 use crate::faults::{Stop, put_lines, put_stop};
 use crate::phrases::{
-    class_at, class_of, name_text, put_formed_edge, put_line, put_may, put_operation, put_row,
-    put_starts,
+    class_at, class_of, name_text, put_formed_edge, put_line, put_may, put_operation, put_return,
+    put_row, put_starts,
 };
 use crate::prose::Prose;
 use crate::put;
@@ -314,16 +314,6 @@ impl<'a, A: Handle> Scene<'a, A> {
             prose = prose.put("no fault, and nothing is owed\n");
         }
         prose.done()
-    }
-}
-
-// Adds the word of a return.
-fn put_return<A: Handle>(prose: Prose<A>, ret: Ret) -> Prose<A> {
-    match ret {
-        Ret::Done => prose.put("done"),
-        Ret::Flag(true) => prose.put("yes"),
-        Ret::Flag(false) => prose.put("no"),
-        Ret::Value(value) => prose.put(value),
     }
 }
 

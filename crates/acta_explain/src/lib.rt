@@ -33,7 +33,7 @@ pub use chronicle::{Chronicle, Life, Row};
 pub use hints::nearest;
 pub use images::{Field, field_at};
 pub use layout::{digits, put_barred};
-pub use phrases::{name_text, put_standing};
+pub use phrases::{name_text, put_lacking, put_return, put_standing};
 pub use prose::Prose;
 pub use reasons::{NEVER, Refused};
 pub use report::{explain, explain_tool, write_words};

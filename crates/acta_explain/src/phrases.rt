@@ -4,8 +4,8 @@ use crate::chronicle::{Chronicle, Row};
 use crate::prose::Prose;
 use crate::put;
 use acta_table::{
-    Class, ClassId, Edge, Event, EventKind, Kind, Kinds, Model, ObjId, Op, OpNo, Starts, Status,
-    TxnId,
+    Class, ClassId, Edge, Event, EventKind, Kind, Kinds, Model, ObjId, Op, OpNo, Ret, Starts,
+    Status, TxnId,
 };
 use std::alloc::{AllocError, Allocator};
 
@@ -57,8 +57,8 @@ pub fn allowing_word(kind: EventKind) -> &'static str {
     }
 }
 
-/// The word of an operation.
-pub fn operation_word(op: Op) -> &'static str {
+// The word of an operation.
+fn operation_word(op: Op) -> &'static str {
     match op {
         Op::Read => "read",
         Op::Write(_) => "write",
@@ -71,12 +71,40 @@ pub fn operation_word(op: Op) -> &'static str {
     }
 }
 
-/// What an object of the kind is, and which operations it has.
-pub fn kind_words(kind: Kind) -> (&'static str, &'static str) {
+// What an object of the kind is, and which operations it has.
+fn kind_words(kind: Kind) -> (&'static str, &'static str) {
     match kind {
         Kind::Register(_) => ("a register", "`read` and `write`"),
         Kind::Counter(_) => ("a counter", "`get` and `add`"),
         Kind::Elements => ("a set", "`insert`, `remove`, `has` and `size`"),
+    }
+}
+
+/// Adds what the object is, and that it has no such operation.
+pub fn put_lacking<A: Allocator>(
+    prose: Prose<A>,
+    model: &Model<A>,
+    object: ObjId,
+    op: Op,
+) -> Prose<A> {
+    let word = operation_word(op);
+    match model.object(object) {
+        Some(found) => {
+            let (kind, has) = kind_words(found.kind);
+            put!(prose; "`", name_text(found.name.as_slice()), "` is ", kind, ", which has ", has,
+                ", and no `", word, "`")
+        }
+        None => put!(prose; "the object has no `", word, "`"),
+    }
+}
+
+/// Adds the word of a return.
+pub fn put_return<A: Allocator>(prose: Prose<A>, ret: Ret) -> Prose<A> {
+    match ret {
+        Ret::Done => prose.put("done"),
+        Ret::Flag(true) => prose.put("yes"),
+        Ret::Flag(false) => prose.put("no"),
+        Ret::Value(value) => prose.put(value),
     }
 }
 

@@ -4,9 +4,9 @@
 use crate::chronicle::Chronicle;
 use crate::listing::{put_chain, put_operations};
 use crate::phrases::{
-    allowing_word, class_at, class_of, class_text, event_word, first_named, is_ancestor,
-    kind_words, name_text, object_text, operation_word, put_edge, put_formed_edge, put_may,
-    put_operation, put_row, put_standing, put_starts,
+    allowing_word, class_at, class_of, class_text, event_word, first_named, is_ancestor, name_text,
+    object_text, put_edge, put_formed_edge, put_lacking, put_may, put_operation, put_row,
+    put_standing, put_starts,
 };
 use crate::prose::Prose;
 use crate::put;
@@ -288,23 +288,14 @@ impl<'a, A: Handle> Refused<'a, A> {
             FormFault::BadObject(object) => {
                 put!(prose; "BadObject: the model has no object at position ", object.0, ".\n", NEVER)
             }
-            FormFault::BadOperation(object, op) => self.put_bad_operation(prose, object, op),
+            FormFault::BadOperation(object, op) => {
+                let prose = put_lacking(prose.put("BadOperation: "), self.model, object, op);
+                put!(prose; ".\n", NEVER)
+            }
             FormFault::SameTransaction(txn) => {
                 put!(prose; "SameTransaction: ", txn.0, " is named twice, and no transaction ",
                     of_itself(self.event.kind()), ".\n", NEVER)
             }
-        }
-    }
-
-    fn put_bad_operation(&self, prose: Prose<A>, object: ObjId, op: Op) -> Prose<A> {
-        let word = operation_word(op);
-        match self.model.object(object) {
-            Some(found) => {
-                let (kind, has) = kind_words(found.kind);
-                put!(prose; "BadOperation: `", name_text(found.name.as_slice()), "` is ", kind,
-                    ", which has ", has, ", and no `", word, "`.\n", NEVER)
-            }
-            None => put!(prose; "BadOperation: the object has no `", word, "`.\n", NEVER),
         }
     }
 
