@@ -1,4 +1,5 @@
-//! Runs of `explain`, `draw` and `explore`, each allocation refused in turn; and events that no line can have, explained.
+//! Runs of `explain`, `draw`, `explore` and `serialize`, each allocation refused in turn; and events that no line can have,
+//! explained.
 
 use crate::expecting::{MOST, at_least, holds, made, tells};
 use crate::runs::ends;
@@ -6,7 +7,9 @@ use acta_draw::{Choice, Drawing, Form, Screen, draw_tool};
 use acta_explain::{Spoken, Telling, explain_tool};
 use acta_lang::assemble;
 use acta_models::Standard;
+use acta_order::Orders;
 use acta_programs::{Asked, Form as Ends, explore_tool};
+use acta_serialize::{Asked as AskedOrder, serialize_tool};
 use acta_table::{ClassId, Event, ObjId, Op, TxnId};
 use acta_tool::{Metered, ModelName, Outcome, ReadFault, Watched};
 use refusing::Refusing;
@@ -22,6 +25,7 @@ enum Ask {
     Draw,
     DrawSvg,
     Explore(Ends, Option<&'static str>),
+    Serialize(Orders, u32),
 }
 
 // Runs a command on an input.
@@ -49,6 +53,14 @@ fn serve<R: Threads + Sync, B: Allocator + Send + Sync>(
                 model: name,
             };
             return explore_tool(heap, asked, model, &mut input, &mut output, &mut ());
+        }
+        Ask::Serialize(orders, most) => {
+            let asked = AskedOrder {
+                orders,
+                most,
+                model: name,
+            };
+            return serialize_tool(heap, asked, model, &mut input, &mut output);
         }
         Ask::Draw => Form::Text { width: Some(100) },
         Ask::DrawSvg => Form::Svg,
@@ -167,6 +179,44 @@ fn explored_otherwise(rt: HostRuntime) {
     }
     let ask = Ask::Explore(Ends::Words, None);
     refuse_run(&rt, (&heap, rt.alloc()), (ask, FAULTY_PROGRAMS), ("1", 20));
+}
+
+// Each of two transactions writes what the other has read.
+const SKEW: &str = "\
+begin 1 loose
+begin 2 loose
+do 1 x read = 0
+do 2 n get = 0
+do 1 n add 1 = done
+do 2 x write 1 = done
+commit 1
+commit 2
+";
+
+// The order of the commits is no serial order.
+const REREAD: &str = "\
+begin 1 loose
+do 1 s has 1 = no
+begin 2 loose
+do 2 s insert 1 = yes
+commit 2
+do 1 s size = 0
+commit 1
+";
+
+#[test]
+fn serialized(rt: HostRuntime) {
+    let heap = Refusing::new(rt.alloc());
+    for (orders, input, most, due) in [
+        (Orders::All, SKEW, 100, "0"),
+        (Orders::RealTime, SKEW, 100, "0"),
+        (Orders::All, SKEW, 1, "1"),
+        (Orders::All, REREAD, 100, "0"),
+        (Orders::All, FAULTY, 100, "1"),
+    ] {
+        let ask = Ask::Serialize(orders, most);
+        refuse_run(&rt, (&heap, rt.alloc()), (ask, input), (due, 20));
+    }
 }
 
 #[test]
