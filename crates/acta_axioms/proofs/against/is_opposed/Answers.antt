@@ -1,4 +1,4 @@
-use Rattle.std.proofs.Common.{◌&&◌, List, ℕ, [], sym, ap, ◌∙◌}
+use Rattle.std.proofs.Common.{◌&&◌, List, ℕ, sym, ap, ◌∙◌}
 use Rattle.std.specs.List.{list_any}
 use Rattle.acta_sets.specs.Operations.{is_against}
 use Rattle.acta_axioms.specs.Values.{is_well_formed}

@@ -19,7 +19,7 @@ loop-k-preserved g c =
           elim w.match-k-2.branch [
             | in-Some+in_ok-put u ↦
                 same-grouped (sym w.number-is) (sym (w.groups-is ∙ u.groups-is))
-                (grouped-next c.args.kept.now c.loop-k.k-index c.k-item.result w.in-Operate.t w.in-Operate.ob w.in-Operate.op u.in-Some.ret c.loop-k.number c.loop-k.groups u.put.new.self c.loop-k-test.true c.k-item.is w.in-Operate.is u.in-Some.is c.loop-k.invariant u.in_ok-put.ensures)
+                (grouped-next c.args.kept.now c.loop-k.k-index c.k-item.result w.in-Operate.t w.in-Operate.ob w.in-Operate.op u.in-Some.ret c.loop-k.number c.loop-k.groups u.put.new.self c.loop-k-test.true c.k-item.is w.in-Operate.is u.in-Some.is c.loop-k.invariant u.in_ok-put.ensures.ok)
             | in_default-ret u ↦
                 same-grouped (sym w.number-is) (sym (w.groups-is ∙ u.groups-is))
                 (grouped-next-silent c.args.kept.now c.loop-k.k-index c.k-item.result w.in-Operate.t w.in-Operate.ob w.in-Operate.op c.loop-k.number c.loop-k.groups c.loop-k-test.true c.k-item.is w.in-Operate.is u.in_default-ret.is c.loop-k.invariant)

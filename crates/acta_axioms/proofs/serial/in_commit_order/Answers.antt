@@ -15,7 +15,7 @@ loop-k-preserved g c =
     elim c.match-committed_by.branch [
       | in-Some+in_ok-extend_from_slice w ↦
           next (Some w.in-Some.t.0) c.loop-k.items.items c.match-committed_by.items.items c.loop-k-test.true c.k-item.is w.in-Some.ensures c.loop-k.invariant
-          (ap items w.items-is ∙ w.in_ok-extend_from_slice.ensures.items ∙ ap (λ (xs : List SerialItem). c.loop-k.items.items ++ xs) (w.of.ensures ∙ sym (append-nil (get_or c.args.groups.now w.in-Some.t.0 []))))
+          (ap items w.items-is ∙ w.in_ok-extend_from_slice.ensures.items ∙ ap (λ (xs : List SerialItem). c.loop-k.items.items ++ xs) (w.of.ensures ∙ ap (λ n. get_or c.args.groups.now n []) w.from.ensures ∙ sym (append-nil (get_or c.args.groups.now w.in-Some.t.0 []))))
       | in_default w ↦
           next None c.loop-k.items.items c.match-committed_by.items.items c.loop-k-test.true c.k-item.is w.in_default.ensures c.loop-k.invariant
           (ap items w.items-is ∙ sym (append-nil c.loop-k.items.items))

@@ -1,6 +1,5 @@
-use Rattle.std.proofs.Common.{◌≡◌, ◌&&◌, false, List, sym, ap, ◌∙◌, subst}
+use Rattle.std.proofs.Common.{◌&&◌, List, sym, ap, ◌∙◌}
 use Rattle.std.specs.List.{list_any}
-use Rattle.acta_table.specs.declared.model.Parts.{Parts}
 use Rattle.acta_sets.specs.declared.held_op.HeldOp.{HeldOp}
 use Rattle.acta_axioms.specs.Operations.{is_spared}
 use Rattle.acta_axioms.specs.Values.{is_well_formed}
