@@ -8,12 +8,12 @@ ghost use Rattle.acta_order.specs.Search.{AreSound, at, is_sound};
 
 use crate::earlier::Earlier;
 use crate::fault::OrderFault;
-use crate::groups::{Groups, grouped};
+use crate::groups::grouped;
 use crate::item::Item;
 use crate::orders::Orders;
 use crate::path::Path;
 use crate::search::{at, search};
-use acta_axioms::Handle;
+use acta_axioms::{Groups, Handle};
 use acta_objects::is_of_kind;
 use acta_table::{Event, Items, Kept, MOST_EVENTS, Model, TxnId};
 use std::alloc::{AllocError, Allocator};
@@ -89,7 +89,7 @@ fn are_sound<A: Allocator>(model: &Model<A>, items: &[Item]) -> bool
 fn first_unsound<A: Allocator + Copy>(
     model: &Model<A>,
     ts: &[usize],
-    groups: &Groups<A>,
+    groups: &Groups<Item, A>,
 ) -> Option<usize>
     ensures { MatchOption result (AreSound (kinds_of model.now.objects) (λ t. get_or groups.now t []) ts.now)
         (λ j. (j < length ts.now) × (list_all (is_sound (kinds_of model.now.objects)) (get_or groups.now (at ts.now j) []) ≡ false)) }

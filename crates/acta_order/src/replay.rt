@@ -15,7 +15,7 @@ use crate::item::Item;
 use crate::memo::{Changed, is_first};
 use acta_objects::ObjectState;
 use acta_table::{Kind, MOST_EVENTS, ObjId, Object, Op, Ret};
-use acta_values::LiveValue;
+use acta_values::Values;
 use std::alloc::{AllocError, Allocator};
 
 // A replay: operations done in order, and the values of the objects after them. The last operations can be taken back.
@@ -23,7 +23,7 @@ use std::alloc::{AllocError, Allocator};
 #[derive(Drop)]
 pub(crate) struct Replay<A: Allocator> {
     kinds: Vec<Kind, A>,
-    values: Vec<LiveValue<A>, A>,
+    values: Values<A>,
     done: Vec<Item, A>,
 }
 
@@ -36,7 +36,7 @@ impl<A: Allocator> std::marker::Model for Replay<A> {
 
     ghost view = { λ b. record { kinds = b.kinds.items; done = b.done.items } };
 
-    ghost invariant = { λ b. AreAfter b.kinds.items (map held b.done.items) b.values.items };
+    ghost invariant = { λ b. AreAfter b.kinds.items (map held b.done.items) b.values };
 }
 
 // The kinds of the objects.
@@ -51,85 +51,6 @@ fn kinds_of<A: Allocator + Copy>(
         kinds.push(object.kind)?;
     }
     Ok(kinds)
-}
-
-// The first values of objects of these kinds.
-fn first_values<A: Allocator + Copy>(
-    alloc: A,
-    kinds: &[Kind],
-) -> Result<Vec<LiveValue<A>, A>, AllocError>
-    ensures { IfOk result (λ values. AreAfter kinds.now [] values.items) }
-{
-    let mut values = Vec::with_capacity(alloc, kinds.len())?;
-    for kind in kinds {
-        values.push(LiveValue::new(alloc, kind))?;
-    }
-    Ok(values)
-}
-
-// Adds the operation to the value of its object, which exists.
-fn add_at<A: Allocator + Copy>(
-    values: &mut [LiveValue<A>],
-    number: u32,
-    ob: ObjId,
-    op: &Op,
-) -> Result<(), AllocError>
-    requires there { ob.0 < length values.old }
-    requires takes { Takes number values.old }
-    ensures ok { OnOk result ((kinds : List Kind) (items : List HeldOp) → AreAfter kinds items values.old
-        → number ≡ length items + 1 → length items < MOST_EVENTS
-        → (t : TxnId) → AreAfter kinds (added items t ob op.now) values.new) }
-    ensures err { OnErr result (values.new ≡ values.old) }
-{
-    values[ob.0 as usize].add(number, op)
-}
-
-// Takes the operation back from the value of its object, which exists.
-fn undo_at<A: Allocator + Copy>(values: &mut [LiveValue<A>], number: u32, ob: ObjId, op: &Op)
-    requires there { ob.0 < length values.old }
-    requires counts { HoldsAt (Counts number op.now) values.old ob.0 }
-    ensures { IsUndoneAt number ob.0 op.now values.old values.new }
-{
-    values[ob.0 as usize].undo(number, op);
-}
-
-// Takes the operation back from the value of its object, if that exists.
-fn undo<A: Allocator + Copy>(values: &mut [LiveValue<A>], number: u32, ob: ObjId, op: &Op)
-    requires { ob.0 < length values.old → HoldsAt (Counts number op.now) values.old ob.0 }
-    ensures { IsUndoneAt number ob.0 op.now values.old values.new }
-{
-    if (ob.0 as usize) < values.len() {
-        undo_at(values, number, ob, op);
-    }
-}
-
-// Takes back the operation that was added last.
-fn forget<A: Allocator + Copy>(values: &mut [LiveValue<A>], number: u32, ob: ObjId, op: &Op)
-    requires { CameLast number ob op.now values.old }
-    ensures { (kinds : List Kind) (items : List HeldOp) (t : TxnId) → AreAfter kinds (added items t ob op.now) values.old
-        → number ≡ length items + 1 → AreAfter kinds items values.new }
-{
-    undo(values, number, ob, op);
-}
-
-// Adds the operation to the value of its object, if that exists.
-fn come<A: Allocator + Copy>(
-    values: &mut [LiveValue<A>],
-    number: u32,
-    ob: ObjId,
-    op: &Op,
-) -> Result<(), AllocError>
-    requires { Takes number values.old }
-    ensures ok { OnOk result ((kinds : List Kind) (items : List HeldOp) → AreAfter kinds items values.old
-        → number ≡ length items + 1 → length items < MOST_EVENTS
-        → (t : TxnId) → AreAfter kinds (added items t ob op.now) values.new) }
-    ensures err { OnErr result (values.new ≡ values.old) }
-{
-    if (ob.0 as usize) < values.len() {
-        add_at(values, number, ob, op)
-    } else {
-        Ok(())
-    }
 }
 
 // Whether two returns are equal.
@@ -149,7 +70,7 @@ impl<A: Allocator + Copy> Replay<A> {
         ensures { IfOk result (λ replay. replay ≡ record { kinds = kinds_of objects.now; done = [] }) }
     {
         let kinds = kinds_of(alloc, objects)?;
-        let values = first_values(alloc, kinds.as_slice())?;
+        let values = Values::new(alloc, kinds.as_slice())?;
         Ok(Replay {
             kinds,
             values,
@@ -161,20 +82,14 @@ impl<A: Allocator + Copy> Replay<A> {
     fn due(&self, ob: ObjId, op: &Op) -> Option<Ret>
         ensures { result ≡ option_map (λ s. returned s op.now) (values_of {A = A} self.now ob.0) }
     {
-        match self.values.get(ob.0 as usize) {
-            Some(value) => Some(value.due(op)),
-            None => None,
-        }
+        self.values.due(ob, op)
     }
 
     // The value of the object. `None` where it doesn't exist.
     fn state(&self, k: usize) -> Result<Option<ObjectState<A>>, AllocError>
         ensures { IfOk result (λ state. state ≡ values_of {A = A} self.now k) }
     {
-        match self.values.get(k) {
-            Some(value) => Ok(Some(value.value()?)),
-            None => Ok(None),
-        }
+        self.values.value(k)
     }
 
     /// The objects whose values differ from their first values, with these values.
@@ -207,7 +122,7 @@ impl<A: Allocator + Copy> Replay<A> {
     {
         let number = self.done.len() as u32 + 1;
         self.done.push(item)?;
-        match come(&mut self.values, number, item.ob, &item.op) {
+        match self.values.add(number, item.ob, &item.op) {
             Ok(()) => Ok(()),
             Err(error) => {
                 self.done.pop();
@@ -222,7 +137,7 @@ impl<A: Allocator + Copy> Replay<A> {
     {
         if let Some(last) = self.done.pop() {
             let number = self.done.len() as u32 + 1;
-            forget(&mut self.values, number, last.ob, &last.op);
+            self.values.forget(number, last.ob, &last.op);
         }
     }
 

@@ -9,11 +9,12 @@ ghost use Rattle.acta_order.specs.Search.{AreInTurn, AreSound, IsFoundNext, IsFo
 
 use crate::earlier::Earlier;
 use crate::fault::OrderFault;
-use crate::groups::Groups;
+use crate::item::Item;
 use crate::memo::Memo;
 use crate::packed::packed;
 use crate::path::Path;
 use crate::replay::Replay;
+use acta_axioms::Groups;
 use acta_table::Model;
 use std::alloc::{AllocError, Allocator};
 
@@ -45,7 +46,7 @@ fn smaller(a: usize, b: usize) -> usize
 // that have to be before it are, and its group gives the recorded returns. All positions below `low` are placed.
 fn next_fitting<A: Allocator + Copy>(
     ts: &[usize],
-    groups: &Groups<A>,
+    groups: &Groups<Item, A>,
     earlier: &Earlier<A>,
     path: &Path<A>,
     replay: &mut Replay<A>,
@@ -116,7 +117,7 @@ fn remember<A: Allocator + Copy>(
 fn next_new<A: Allocator + Copy>(
     alloc: A,
     ts: &[usize],
-    groups: &Groups<A>,
+    groups: &Groups<Item, A>,
     earlier: &Earlier<A>,
     memo: &Memo<A>,
     path: &Path<A>,
@@ -144,7 +145,7 @@ pub(crate) fn search<A: Allocator + Copy>(
     alloc: A,
     model: &Model<A>,
     ts: &[usize],
-    groups: &Groups<A>,
+    groups: &Groups<Item, A>,
     earlier: &Earlier<A>,
     most_states: u64,
 ) -> Result<Option<Path<A>>, OrderFault>

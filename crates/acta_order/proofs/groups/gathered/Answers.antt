@@ -24,7 +24,7 @@ loop-k-preserved g c =
                   gathered =
                       same-gathered (sym w.number-is) (sym (w.groups-is ∙ u.groups-is))
                       (gathered-next m kept c.loop-k.k-index c.k-item.result w.in-Operate.field-0 w.in-Operate.ob w.in-Operate.op c.loop-k.number u.in-Some.found.now c.loop-k.groups u.put.new.self c.loop-k-test.true c.k-item.is w.in-Operate.is
-                      (u.in-Some.ensures.lookup.1 ∙ ap (λ (xs : List HeldOp). get_or xs c.loop-k.number u.in-Some.found.now) held) u.in-Committed.is c.loop-k.invariant.gathered u.in_ok-put.ensures);
+                      (u.in-Some.ensures.lookup.1 ∙ ap (λ (xs : List HeldOp). get_or xs c.loop-k.number u.in-Some.found.now) held) u.in-Committed.is c.loop-k.invariant.gathered u.in_ok-put.ensures.ok);
                   low = let e = w.number-is in omega (arith, e, c.loop-k.invariant.low);
                 }
             | in-Some+in_default-fate u ↦
