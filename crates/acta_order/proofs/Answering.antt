@@ -1,6 +1,6 @@
 -- From groups of items to the operations of a history: what is found there is an answer.
-use Rattle.std.proofs.Common.{◌≡◌, ℕ, ◌<◌, ◌==◌, Bool, true, false, ◌&&◌, ◌||◌, List, [], ◌∷◌, ◌++◌, length, get_or, drop, map, reverse, Option, Some, None, Result, Ok, Err, IsErrAnd, IfErr, refl, sym, ap, ◌∙◌, subst, arith}
-use Rattle.std.specs.Prelude.{option_map, scan, is_some, MatchOption}
+use Rattle.std.proofs.Common.{◌≡◌, ℕ, ◌<◌, ◌==◌, Bool, true, false, ◌&&◌, ◌||◌, List, [], ◌∷◌, ◌++◌, length, get_or, drop, map, reverse, Option, None, Result, Ok, Err, IsErrAnd, IfErr, refl, sym, ap, ◌∙◌, subst, arith}
+use Rattle.std.specs.Prelude.{option_map, scan, is_some}
 use Rattle.std.specs.List.{flat_map, list_all}
 use Rattle.std.specs.Option.{option_map_or}
 use Rattle.std.proofs.lemmas.Bool.{true≢false, and_parts, eqb-true}
@@ -9,7 +9,6 @@ use Rattle.std.proofs.lemmas.List.Folds.{list_all-append, list_all-map}
 use Rattle.std.proofs.lemmas.Option.{slice_get-map}
 use Rattle.acta_table.specs.declared.event.Kept.{Kept}
 use Rattle.acta_table.specs.declared.event.Ret.{Ret}
-use Rattle.acta_table.specs.declared.model.Kind.{Kind}
 use Rattle.acta_table.specs.declared.model.Object.{Object}
 use Rattle.acta_table.specs.declared.model.Parts.{Parts}
 use Rattle.acta_objects.specs.Objects.{first_state, suits}
@@ -117,19 +116,6 @@ answer-found {A} orders m h g lim ts order are those before in_order found sound
       found.same_first own plays ∙ same;
 }
 
--- what an option says of itself
-pub of-some : (P : Type 0) (Q : ℕ → Type 0) (o : Option ℕ) → is_some o ≡ true → MatchOption o P Q → (j : ℕ) × Q j
-of-some P Q None some is = absurd (true≢false (sym some))
-of-some P Q (Some j) some is = (j, is)
-
-pub of-none : (P : Type 0) (Q : ℕ → Type 0) (o : Option ℕ) → is_some o ≡ false → MatchOption o P Q → P
-of-none P Q None none is = is
-of-none P Q (Some j) none is = absurd (true≢false none)
-
--- a position of a transaction of which an item can't be replayed
-abbrev pub IsUnsound : List Kind → (ℕ → List Item) → List ℕ → ℕ → Type 0
-IsUnsound kinds g ts j = (j < length ts) × (list_all (is_sound kinds) (g (at ts j)) ≡ false)
-
 -- those that commit, as they are taken
 pub taken-committed : {A : Type 0} (h : List (Kept A)) (ts stack : List ℕ) → ts ≡ reverse stack → ((t : ℕ) → is_in stack t ≡ is_in (commit_order h) t) → AreCommitted h ts
 taken-committed h ts stack is each t = ap (λ (xs : List ℕ). is_in xs t) is ∙ is_in-reverse stack t ∙ each t
@@ -162,7 +148,7 @@ fronts-different : {A : Type 0} (v : Values A) (g : ℕ → List Item) (lim : �
 fronts-different v g lim ts [] d r o = tt
 fronts-different v g lim ts (z ∷ zs) d r o = (fronts-others v g lim ts z zs d r.0.within r.1 o.0, fronts-different v g lim ts zs d r.1 o.1)
 
-front-state : {A : Type 0} (orders : Orders) (m : Parts A) (h : List (Kept A)) (g : ℕ → List Item) (lim : ℕ → ℕ) (ts stack : List ℕ) → AreGroups m h g → AreCommitted h ts → waits lim ts ≡ is_before orders h → AreDistinct ts → AreSound (kinds_of m.objects) g ts
+pub front-state : {A : Type 0} (orders : Orders) (m : Parts A) (h : List (Kept A)) (g : ℕ → List Item) (lim : ℕ → ℕ) (ts stack : List ℕ) → AreGroups m h g → AreCommitted h ts → waits lim ts ≡ is_before orders h → AreDistinct ts → AreSound (kinds_of m.objects) g ts
     → IsReached (values_at {A = A} (kinds_of m.objects) []) g lim ts stack → IsState orders m h (placed ts stack)
 front-state orders m h g lim ts stack are those before d sound r = record {
   committed = λ t there. sym (those t) ∙ placed-of ts stack t r.within there;

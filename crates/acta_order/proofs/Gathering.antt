@@ -16,20 +16,29 @@ use Rattle.acta_table.specs.declared.model.Parts.{Parts}
 use Rattle.acta_table.specs.Fates.{is_committed}
 use Rattle.acta_sets.specs.declared.held_op.HeldOp.{HeldOp}
 use Rattle.acta_axioms.specs.History.{places_behind, places}
-use Rattle.acta_axioms.specs.Operations.{Operation, Standing, number_after, operation_at, operation_in, operations, standing}
+use Rattle.acta_axioms.specs.Operations.{Operation, Standing, is_operate, number_after, operation_at, operation_in, operations, standing}
 use Rattle.acta_axioms.specs.Serial.{is_of_group, group_of}
 use Rattle.acta_axioms.specs.Walks.{held_op, held_ops}
-use Rattle.acta_axioms.proofs.Growth.{at_end, added, operations-push, places_behind-append}
+use Rattle.acta_axioms.proofs.Growth.{at_end, added, operations-push, number_after-push, places_behind-append}
 use Rattle.acta_order.specs.declared.item.Item.{Item}
 use Rattle.acta_order.specs.Search.{item_of}
 
 -- of these items the committed operations are gathered so, by who holds them, and there are so many operations
 pub record AreGathered {A : Type 0} (m : Parts A) (h front : List (Kept A)) (number : ℕ) (groups : List (List Item)) : Type 0 where
   pub counted : number ≡ length (operations front)
+  pub numbered : number + 1 ≡ number_after front
   pub so_far : (t : ℕ) → get_or groups t [] ≡ map item_of (filter (λ o. is_of_group t (standing m h o)) (operations front))
 
 one-more : {X : Type 0} (xs : List X) (i : ℕ) (x : X) → i < length xs → x ≡ get_or xs i x → take (i + 1) xs ≡ take i xs ++ x ∷ []
 one-more xs i x within is = take_more xs i x within ∙ ap (λ y. take i xs ++ y ∷ []) (sym is)
+
+-- an event is as many operations as it counts for
+added-long : {A : Type 0} (front : List (Kept A)) (k : Kept A) → length (added front k) ≡ cond (is_operate k.event) 1 0
+added-long {A} front k = of k.event
+  where
+    of : (e : Event A) → length (cons_option (operation_in (at_end front k) e) []) ≡ cond (is_operate e) 1 0
+    of (Operate u ob op) = refl
+    of _ = refl
 
 -- the items that an event adds to a group
 abbrev more_of : {A : Type 0} → Parts A → List (Kept A) → List (Kept A) → Kept A → ℕ → List Item
@@ -38,6 +47,7 @@ more_of m h front k t = map item_of (filter (λ o. is_of_group t (standing m h o
 gathered-push : {A : Type 0} (m : Parts A) (h front : List (Kept A)) (k : Kept A) (number further : ℕ) (groups grown : List (List Item)) → AreGathered m h front number groups
     → further ≡ number + length (added front k) → ((t : ℕ) → get_or grown t [] ≡ get_or groups t [] ++ more_of m h front k t) → AreGathered m h (front ++ k ∷ []) further grown
 gathered-push {A} m h front k number further groups grown before counted put = record {
+  numbered = let pushed = number_after-push front k in let one = added-long front k in let was = before.numbered in omega (arith, pushed, one, was, counted);
   counted = counted ∙ ap (λ n. n + length (added front k)) before.counted ∙ sym (ap length (operations-push front k) ∙ length-append (operations front) (added front k));
   so_far = λ t.
       put t
@@ -105,21 +115,24 @@ open_fate : (f : Fate) → (f ≡ Committed → ⊥) → is_committed f ≡ fals
 open_fate Committed not = absurd (not refl)
 open_fate _ not = refl
 
-pub gathered-next : {A : Type 0} (m : Parts A) (kept : List (Kept A)) (i : ℕ) (k : Kept A) (u : TxnId) (ob : ObjId) (op : Op) (number : ℕ) (x : HeldOp) (groups grown : List (List Item))
+pub gathered-next : {A : Type 0} (m : Parts A) (kept : List (Kept A)) (i : ℕ) (k : Kept A) (u : TxnId) (ob : ObjId) (op : Op) (number own : ℕ) (x : HeldOp) (groups grown : List (List Item)) → own ≡ number + 1
     → i < length kept → k ≡ get_or kept i k → k.event ≡ Operate u ob op → x ≡ get_or (held_ops m kept) number x → x.fate ≡ Committed → AreGathered m kept (take i kept) number groups
-    → ((t : ℕ) → get_or grown t [] ≡ get_or groups t [] ++ (if x.holder.0 == t then (record { ob = ob; op = op; ret = k.ret }) ∷ [] else []))
+    → ((t : ℕ) → get_or grown t [] ≡ get_or groups t [] ++ (if x.holder.0 == t then (record { number = record { 0 = own }; ob = ob; op = op; ret = k.ret }) ∷ [] else []))
     → AreGathered m kept (take (i + 1) kept) (number + 1) grown
-gathered-next {A} m kept i k u ob op number x groups grown within is operates at committed before put =
+gathered-next {A} m kept i k u ob op number own x groups grown is_own within is operates at committed before put =
     subst (λ (h : List (Kept A)). AreGathered m kept h (number + 1) grown) (sym (one-more kept i k within is))
     (gathered-push m kept (take i kept) k number (number + 1) groups grown before (ap (λ (os : List Operation). number + length os) (sym adding))
     (λ t. put t
     ∙ ap (λ (xs : List Item). get_or groups t [] ++ xs)
-    (ap (λ (y : HeldOp). if y.holder.0 == t then (record { ob = ob; op = op; ret = k.ret }) ∷ [] else []) same
-    ∙ adds t o (standing m kept o) (record { ob = ob; op = op; ret = k.ret }) refl (ap (λ (y : HeldOp). is_committed y.fate) (sym same) ∙ ap is_committed committed)
+    (ap (λ (y : HeldOp). if y.holder.0 == t then item ∷ [] else []) same
+    ∙ adds t o (standing m kept o) item (λ j. record { number = record { 0 = (is_own ∙ before.numbered) j }; ob = ob; op = op; ret = k.ret }) (ap (λ (y : HeldOp). is_committed y.fate) (sym same) ∙ ap is_committed committed)
     ∙ ap (λ (os : List Operation). map item_of (filter (λ q. is_of_group t (standing m kept q)) os)) (sym adding))))
   where
     o : Operation
     o = done_by (take i kept) k u ob op
+
+    item : Item
+    item = record { number = record { 0 = own }; ob = ob; op = op; ret = k.ret }
 
     adding : added (take i kept) k ≡ o ∷ []
     adding = added-is (take i kept) k u ob op operates

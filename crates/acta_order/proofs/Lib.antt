@@ -1,7 +1,9 @@
 pub mod Alike
 pub mod Answering
+pub mod Blocking
 pub mod Changing
 pub mod Committing
+pub mod DeadEnds
 pub mod First
 pub mod Gathering
 pub mod Placed

@@ -1,20 +1,24 @@
 -- Items done one after another: what they play, and the values that they leave.
-use Rattle.std.proofs.Common.{◌≡◌, ℕ, ◌+◌, ◌<◌, ◌==◌, Bool, true, false, ◌&&◌, List, [], ◌∷◌, ◌++◌, length, get_or, take, drop, map, fold, Option, Some, None, refl, sym, ap, ◌∙◌, subst}
+use Rattle.std.proofs.Common.{◌≡◌, ℕ, ◌+◌, ◌<◌, ◌≤◌, ◌==◌, Bool, true, false, ◌&&◌, List, [], ◌∷◌, ◌++◌, length, get_or, take, drop, map, fold, Option, Some, None, refl, sym, ap, ◌∙◌, subst}
 use Rattle.std.specs.Prelude.{if◌then◌else◌, option_map, slice_get}
 use Rattle.std.specs.List.{cons_option, flat_map, list_all}
 use Rattle.std.specs.Option.{option_map_or}
-use Rattle.std.proofs.lemmas.Bool.{and_parts, and_from, eqb-true}
+use Rattle.std.proofs.lemmas.Bool.{and_parts, and_from, eqb-true, true≢false}
 use Rattle.std.proofs.lemmas.Grind.{fold-append, flat_map-append}
-use Rattle.std.proofs.lemmas.List.{append-nil, append_assoc, map-append, take_more, take-append-drop}
+use Rattle.std.proofs.lemmas.List.{append-nil, append_assoc, map-append, take_all, take_at, take_more, take-append-drop}
 use Rattle.std.proofs.lemmas.List.Folds.{list_all-append}
 use Rattle.std.proofs.lemmas.List.Elements.{filter_map-append}
+use Rattle.std.proofs.lemmas.Option.{slice_get-get_or, slice_get_within, get_or_from_slice_get}
 use Rattle.std.specs.Prelude.{is_some}
+use Rattle.acta_table.specs.declared.event.Ret.{Ret}
 use Rattle.acta_table.specs.declared.model.Kind.{Kind}
 use Rattle.acta_objects.specs.Objects.{first_state, state_after, step, suits}
 use Rattle.acta_sets.specs.declared.held_op.HeldOp.{HeldOp}
 use Rattle.acta_values.specs.Live.{live_on, live_ops}
 use Rattle.acta_axioms.specs.Serial.{Values}
+use Rattle.acta_order.specs.Blocks.{HasDifference, IsPlayed}
 use Rattle.acta_order.specs.declared.item.Item.{Item}
+use Rattle.acta_order.specs.declared.replay.Difference.{Difference}
 use Rattle.acta_order.proofs.Placed.{AreWithin, within-top, within-below}
 use Rattle.acta_order.specs.Search.{Replaying, held, values_at, values_of, is_sound, after, at, placed, due, AreSound, Plays}
 
@@ -72,15 +76,35 @@ played-values A old b group i sound kinds done =
     values-fold {A = A} old.kinds old.done (take i group) (sound-front (is_sound old.kinds) group i sound)
     ∙ (λ x. values_at {A = A} (sym kinds x) (map held (sym done x)))
 
--- where one doesn't return what is recorded, the group doesn't play
-pub play-stuck : (A : Type 0) (old b : Replaying) (group : List Item) (i : ℕ) (d : Item) → i < length group → list_all (is_sound old.kinds) group ≡ true → b.kinds ≡ old.kinds → b.done ≡ old.done ++ take i group
-    → (due (values_of {A = A} b) (get_or group i d) ≡ (get_or group i d).ret → ⊥) → Plays (values_of {A = A} old) group → ⊥
-play-stuck A old b group i d within sound kinds done differs plays =
-    let x : Item = get_or group i d in
+-- where one doesn't return what is recorded, this is the first difference
+pub play-differs : (A : Type 0) (old b : Replaying) (group : List Item) (i : ℕ) (d : Item) (would : Option Ret) → i < length group → list_all (is_sound old.kinds) group ≡ true → b.kinds ≡ old.kinds → b.done ≡ old.done ++ take i group → Plays (values_of {A = A} old) (take i group)
+    → would ≡ due (values_of {A = A} b) (get_or group i d) → (would ≡ (get_or group i d).ret → ⊥) → HasDifference (values_of {A = A} old) group (record { place = i; would = would })
+play-differs A old b group i d would within sound kinds done plays is differs = record {
+  item = get_or group i d;
+  first = record {
+    there = slice_get-get_or group i d within;
+    front = plays;
+    returns = is ∙ ap (λ (v : Values A). due v (get_or group i d)) (sym (played-values A old b group i sound kinds done));
+    differs = differs;
+  };
+}
+
+-- and then those that were done are taken back
+pub play-back : (old b new : Replaying) (group : List Item) (i len : ℕ) → b.kinds ≡ old.kinds → b.done ≡ old.done ++ take i group → len ≡ length old.done → new ≡ record b { done = take len b.done } → new ≡ old
+play-back old b new group i len kinds done long cut =
+    cut ∙ (λ j. record { kinds = kinds j; done = (ap (take len) done ∙ take_at old.done (take i group) len (sym long)) j })
+
+-- and the group doesn't play
+pub play-stuck : {A : Type 0} (v : Values A) (group : List Item) (d : Difference) → HasDifference v group d → Plays v group → ⊥
+play-stuck {A} v group d h plays =
+    let i = d.place in
+    let first = h.first in
+    let x : Item = get_or group i h.item in
+    let same : x ≡ h.item = get_or_from_slice_get group i h.item h.item first.there in
     let whole : group ≡ take i group ++ x ∷ drop (i + 1) group =
-    sym (take-append-drop (i + 1) group) ∙ ap (λ (ys : List Item). ys ++ drop (i + 1) group) (take_more group i d within) ∙ append_assoc (take i group) (x ∷ []) (drop (i + 1) group) in
-    let back = plays-back (values_of {A = A} old) (take i group) (x ∷ drop (i + 1) group) (subst (Plays (values_of {A = A} old)) whole plays) in
-    differs (subst (λ (v : Values A). due v x ≡ x.ret) (played-values A old b group i sound kinds done) back.0)
+    sym (take-append-drop (i + 1) group) ∙ ap (λ (ys : List Item). ys ++ drop (i + 1) group) (take_more group i h.item (slice_get_within group i h.item first.there)) ∙ append_assoc (take i group) (x ∷ []) (drop (i + 1) group) in
+    let back = plays-back v (take i group) (x ∷ drop (i + 1) group) (subst (Plays v) whole plays) in
+    first.differs (first.returns ∙ subst (λ (y : Item). due (fold after v (take i group)) y ≡ y.ret) same back.0)
 
 -- where it does, one more is done and plays
 pub play-done : (old b new : Replaying) (group : List Item) (i : ℕ) (d : Item) → i < length group → b.done ≡ old.done ++ take i group → new ≡ record b { done = b.done ++ get_or group i d ∷ [] } → new.done ≡ old.done ++ take (i + 1) group
@@ -94,6 +118,18 @@ play-more A old b group i d within sound kinds done same plays =
     let x : Item = get_or group i d in
     subst (Plays (values_of {A = A} old)) (sym (take_more group i d within))
     (plays-both (values_of {A = A} old) (take i group) (x ∷ []) plays (subst (λ (v : Values A). due v x ≡ x.ret) (sym (played-values A old b group i sound kinds done)) same, tt))
+
+-- a group that is played
+pub play-all : (A : Type 0) (old b : Replaying) (group : List Item) (i : ℕ) → length group ≤ i → b.kinds ≡ old.kinds → b.done ≡ old.done ++ take i group → Plays (values_of {A = A} old) (take i group) → IsPlayed A old b group None
+play-all A old b group i past kinds done plays = (
+  (λ j. record { kinds = kinds j; done = (done ∙ ap (λ (xs : List Item). old.done ++ xs) (take_all i group past)) j }),
+  subst (Plays (values_of {A = A} old)) (take_all i group past) plays,
+)
+
+-- a group that is not
+pub played-some : (A : Type 0) (old new : Replaying) (group : List Item) (o : Option Difference) → is_some o ≡ true → IsPlayed A old new group o → (new ≡ old) × (Plays (values_of {A = A} old) group → ⊥)
+played-some A old new group None some is = absurd (true≢false (sym some))
+played-some A old new group (Some d) some is = (is.0, play-stuck (values_of {A = A} old) group d is.1)
 
 -- the groups that are placed can be replayed
 pub flat-one : (g : ℕ → List Item) (xs : List ℕ) (t : ℕ) → flat_map g (xs ++ t ∷ []) ≡ flat_map g xs ++ g t

@@ -1,3 +1,5 @@
+pub mod Answers
+pub mod Blocks
 pub mod Commits
 pub mod Earlier
 pub mod Faults

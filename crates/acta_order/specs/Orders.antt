@@ -11,10 +11,9 @@ use Rattle.acta_axioms.specs.Operations.{Operation}
 use Rattle.acta_axioms.specs.Values.{is_well_formed}
 use Rattle.acta_axioms.specs.Serial.{commit_order, group_of, replayed}
 use Rattle.acta_table.specs.declared.limits.TheConstants.{MOST_EVENTS}
+use Rattle.acta_order.specs.declared.dead_end.Block.{Block}
 use Rattle.acta_order.specs.declared.fault.OrderFault.{OrderFault}
 use Rattle.acta_order.specs.declared.fault.OrderFault.TheVariants.{TooMany, TooLong, Memory}
-use Rattle.acta_order.specs.declared.order.Order.{Order}
-use Rattle.acta_order.specs.declared.order.Order.TheVariants.{Found, NoOrder}
 use Rattle.acta_order.specs.declared.orders.Orders.{Orders}
 use Rattle.acta_order.specs.declared.orders.Orders.TheVariants.{All, RealTime}
 
@@ -72,16 +71,15 @@ pub record Replays {A : Type 0} (m : Parts A) (h : List (Kept A)) (order : List 
 abbrev pub numbers_of : List TxnId → List ℕ
 numbers_of ts = map (λ t. t.0) ts
 
+-- the numbers of the transactions that are blocked
+abbrev pub txns_of : List Block → List ℕ
+txns_of blocks = map (λ b. b.txn.0) blocks
+
 -- the order is serial, and is the order of the commits if that is serial
 pub record IsSerial {A : Type 0} (orders : Orders) (m : Parts A) (h : List (Kept A)) (order : List ℕ) : Type 0 where
   pub order_is : IsOrder orders h order
   pub replays : Replays m h order
   pub commits_first : IsOrder orders h (commit_order h) → Replays m h (commit_order h) → order ≡ commit_order h
-
--- the answer is right: the order is serial, or no order is
-abbrev pub IsAnswer : {A : Type 0} → Orders → Parts A → List (Kept A) → Order A → Type 0
-IsAnswer orders m h (Found order) = IsSerial orders m h (numbers_of order)
-IsAnswer orders m h NoOrder = (order : List ℕ) → IsOrder orders h order → Replays m h order → ⊥
 
 -- the list is none of these
 abbrev pub AreOthers : List ℕ → List (List ℕ) → Type 0

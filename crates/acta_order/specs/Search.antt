@@ -16,7 +16,7 @@ use Rattle.acta_order.specs.Orders.{IsOrderOf, is_in}
 
 -- an operation as it is replayed
 abbrev pub item_of : Operation → Item
-item_of o = record { ob = record { 0 = o.object }; op = o.op; ret = o.ret }
+item_of o = record { number = record { 0 = o.number }; ob = record { 0 = o.object }; op = o.op; ret = o.ret }
 
 -- the kinds of the objects, and the operations that are done
 pub record Replaying : Type 0 where

@@ -4,7 +4,7 @@ ghost use Rattle.acta_order.specs.Search.{item_of};
 
 use crate::item::Item;
 use acta_axioms::{Groups, Handle, Walk};
-use acta_table::{Event, Fate, Kept, MOST_EVENTS, Model};
+use acta_table::{Event, Fate, Kept, MOST_EVENTS, Model, OpNo};
 use std::alloc::{AllocError, Allocator};
 
 // A walk at the end of the list.
@@ -38,6 +38,7 @@ fn gathered<A: Handle>(alloc: A, walk: &Walk<'_, A>) -> Result<Groups<Item, A>, 
                     groups.put(
                         found.holder,
                         Item {
+                            number: OpNo(number as u32 + 1),
                             ob: *ob,
                             op: *op,
                             ret: k.ret,

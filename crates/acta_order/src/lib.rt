@@ -3,10 +3,12 @@
 //! function that allocates returns `Err` if memory runs out.
 #![tactic(auto)]
 
+mod dead_end;
 mod earlier;
 mod fault;
 mod groups;
 mod item;
+mod longest;
 mod memo;
 mod order;
 mod orders;
@@ -15,7 +17,8 @@ mod path;
 mod replay;
 mod search;
 
+pub use dead_end::{Block, DeadEnd};
 pub use fault::OrderFault;
 pub use item::Item;
-pub use order::{Order, serial_order_of};
+pub use order::{Cause, Order, serial_order_of};
 pub use orders::Orders;

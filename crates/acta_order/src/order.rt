@@ -3,19 +3,23 @@ ghost use Rattle.std.specs.List.{list_all};
 ghost use Rattle.acta_axioms.specs.Serial.{committed_by, commit_order};
 ghost use Rattle.acta_values.specs.KeptValues.{kinds_of};
 ghost use Rattle.acta_order.specs.Commits.{AreCommits};
-ghost use Rattle.acta_order.specs.Orders.{is_in, AreDistinct, numbers_of, IsAnswer, IsFault};
-ghost use Rattle.acta_order.specs.Search.{AreSound, at, is_sound};
+ghost use Rattle.acta_order.specs.Answers.{IsAnswer};
+ghost use Rattle.acta_order.specs.Blocks.{HasUnsound, HasUnsoundGroup};
+ghost use Rattle.acta_order.specs.Orders.{IsFault};
+ghost use Rattle.acta_order.specs.Search.{AreSound, is_sound};
 
+use crate::dead_end::{DeadEnd, dead_ends};
 use crate::earlier::Earlier;
 use crate::fault::OrderFault;
 use crate::groups::grouped;
 use crate::item::Item;
+use crate::longest::Longest;
 use crate::orders::Orders;
 use crate::path::Path;
-use crate::search::{at, search};
+use crate::search::{at, listed, search};
 use acta_axioms::{Groups, Handle};
 use acta_objects::is_of_kind;
-use acta_table::{Event, Items, Kept, MOST_EVENTS, Model, TxnId};
+use acta_table::{Event, Items, Kept, MOST_EVENTS, Model, OpNo, TxnId};
 use std::alloc::{AllocError, Allocator};
 
 /// The answer of a search for a serial order.
@@ -23,8 +27,17 @@ use std::alloc::{AllocError, Allocator};
 pub enum Order<A: Allocator> {
     /// A serial order of the committed transactions.
     Found(Items<TxnId, A>),
-    /// No order of the committed transactions is serial.
-    NoOrder,
+    /// No order of the committed transactions is serial, for this cause.
+    NoOrder(Cause<A>),
+}
+
+/// Why no order is serial.
+#[derive(Drop)]
+pub enum Cause<A: Allocator> {
+    /// The number of an operation of a committed transaction that can't be replayed.
+    Unsound(OpNo),
+    /// Some of the longest fronts of an order after which no transaction can be placed next.
+    DeadEnds(Items<DeadEnd<A>, A>),
 }
 
 // The transaction that the event commits.
@@ -73,56 +86,42 @@ fn is_sound<A: Allocator>(model: &Model<A>, item: &Item) -> bool
     }
 }
 
-// Whether all of these operations can be replayed.
-fn are_sound<A: Allocator>(model: &Model<A>, items: &[Item]) -> bool
-    ensures { result ≡ list_all (is_sound (kinds_of model.now.objects)) items.now }
+// The number of the first of these operations that can't be replayed.
+fn unsound_in<A: Allocator>(model: &Model<A>, items: &[Item]) -> Option<OpNo>
+    ensures { MatchOption result (list_all (is_sound (kinds_of model.now.objects)) items.now ≡ true) (HasUnsound (kinds_of model.now.objects) items.now) }
 {
     for item in items {
         if !is_sound(model, item) {
-            return false;
-        }
-    }
-    true
-}
-
-// The first position of a transaction with an operation that can't be replayed.
-fn first_unsound<A: Allocator + Copy>(
-    model: &Model<A>,
-    ts: &[usize],
-    groups: &Groups<Item, A>,
-) -> Option<usize>
-    ensures { MatchOption result (AreSound (kinds_of model.now.objects) (λ t. get_or groups.now t []) ts.now)
-        (λ j. (j < length ts.now) × (list_all (is_sound (kinds_of model.now.objects)) (get_or groups.now (at ts.now j) []) ≡ false)) }
-{
-    for j in 0..ts.len() {
-        if !are_sound(model, groups.of(at(ts, j))) {
-            return Some(j);
+            return Some(item.number);
         }
     }
     None
 }
 
-// The transactions at these positions.
-fn listed<A: Allocator + Copy>(
-    alloc: A,
+// The number of an operation that can't be replayed: the first one of the first transaction that has such operations.
+fn first_unsound<A: Allocator + Copy>(
+    model: &Model<A>,
     ts: &[usize],
-    taken: &[usize],
-) -> Result<Vec<TxnId, A>, AllocError>
-    requires within { (j : ℕ) → is_in taken.now j ≡ true → j < length ts.now }
-    requires low { (t : ℕ) → is_in ts.now t ≡ true → t < 65536 }
-    ensures { IfOk result (λ order. numbers_of order.items ≡ map (at ts.now) taken.now) }
+    groups: &Groups<Item, A>,
+) -> Option<OpNo>
+    ensures { MatchOption result (AreSound (kinds_of model.now.objects) (λ t. get_or groups.now t []) ts.now) (HasUnsoundGroup (kinds_of model.now.objects) (λ t. get_or groups.now t []) ts.now) }
 {
-    let mut order = Vec::with_capacity(alloc, taken.len())?;
-    for j in taken {
-        order.push(TxnId(at(ts, *j) as u16))?;
+    for j in 0..ts.len() {
+        if let Some(number) = unsound_in(model, groups.of(at(ts, j))) {
+            return Some(number);
+        }
     }
-    Ok(order)
+    None
 }
 
 /// Searches for a serial order of a list of kept events: an order of the committed transactions in which a replay of
 /// their committed operations gives each recorded return. The list need not be legal. A transaction's operations are
 /// those that it held last. An operation can't be replayed if its object doesn't exist or has another kind, or if no
 /// return is recorded; then no order is serial.
+///
+/// Where no order is serial, the answer says why: by an operation that can't be replayed, or by at most three of the longest
+/// fronts that the search came to, with a block for each transaction that could be placed next. That there is such a front
+/// is not promised.
 ///
 /// The answer is the order of the commits, if that is serial and allowed by `orders`. `TooLong` comes only from a list of
 /// more than `MOST_EVENTS` events. `TooMany` comes only if there are more than `most_states` states: a state is a list of
@@ -145,14 +144,26 @@ pub fn serial_order_of<A: Handle>(
     let _known = commits.first_open(0);
     let ts = commits.taken();
     let groups = grouped(alloc, model, kept)?;
-    if first_unsound(model, ts, &groups).is_some() {
-        return Ok(Order::NoOrder);
+    if let Some(number) = first_unsound(model, ts, &groups) {
+        return Ok(Order::NoOrder(Cause::Unsound(number)));
     }
-    match search(alloc, model, ts, &groups, &earlier, most_states)? {
+    let mut longest = Longest::new(alloc);
+    match search(
+        alloc,
+        model,
+        ts,
+        &groups,
+        &earlier,
+        most_states,
+        &mut longest,
+    )? {
         Some(path) => {
             let _known = path.first_open(0);
             Ok(Order::Found(Items::of(listed(alloc, ts, path.taken())?)))
         }
-        None => Ok(Order::NoOrder),
+        None => {
+            let ends = dead_ends(alloc, model, ts, &groups, &earlier, &longest)?;
+            Ok(Order::NoOrder(Cause::DeadEnds(ends)))
+        }
     }
 }

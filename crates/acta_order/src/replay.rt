@@ -9,7 +9,8 @@ ghost use Rattle.acta_sets.specs.Operations.{added};
 ghost use Rattle.acta_values.specs.KeptValues.{AreAfter, Takes, CameLast, IsUndoneAt, kinds_of};
 ghost use Rattle.acta_values.specs.LiveValues.{Counts};
 ghost use Rattle.acta_order.specs.Memos.{values_in};
-ghost use Rattle.acta_order.specs.Search.{held, values_at, values_of, is_sound, Plays};
+ghost use Rattle.acta_order.specs.Blocks.{IsPlayed};
+ghost use Rattle.acta_order.specs.Search.{held, values_at, values_of, is_sound};
 
 use crate::item::Item;
 use crate::memo::{Changed, is_first};
@@ -37,6 +38,14 @@ impl<A: Allocator> std::marker::Model for Replay<A> {
     ghost view = { λ b. record { kinds = b.kinds.items; done = b.done.items } };
 
     ghost invariant = { λ b. AreAfter b.kinds.items (map held b.done.items) b.values };
+}
+
+// The first operation of a group that would return something else than the history records: its position in the group, and
+// what it would return.
+#[derive(Clone, Copy)]
+pub(crate) struct Difference {
+    pub(crate) place: usize,
+    pub(crate) would: Option<Ret>,
 }
 
 // The kinds of the objects.
@@ -150,23 +159,23 @@ impl<A: Allocator + Copy> Replay<A> {
         }
     }
 
-    /// Does these operations if each has the return that is recorded. Else answers `false` and does none of them.
-    pub(crate) fn play(&mut self, group: &[Item]) -> Result<bool, AllocError>
+    /// Does these operations if each has the return that is recorded. Else answers the first that would return something
+    /// else, and does none of them.
+    pub(crate) fn play(&mut self, group: &[Item]) -> Result<Option<Difference>, AllocError>
         requires room { length self.old.done + length group.now ≤ MOST_EVENTS }
         requires sound { list_all (is_sound self.old.kinds) group.now ≡ true }
-        ensures played { IfOk result (λ yes. yes ≡ true → self.new ≡ record self.old { done = self.old.done ++ group.now }) }
-        ensures plays { IfOk result (λ yes. yes ≡ true → Plays (values_of {A = A} self.old) group.now) }
-        ensures same { IfOk result (λ yes. yes ≡ false → self.new ≡ self.old) }
-        ensures not { IfOk result (λ yes. yes ≡ false → Plays (values_of {A = A} self.old) group.now → ⊥) }
+        ensures { IfOk result (IsPlayed A self.old self.new group.now) }
     {
         let len = self.len();
-        for item in group {
-            if !is_same(self.due(item.ob, &item.op), item.ret) {
+        for place in 0..group.len() {
+            let item = group[place];
+            let would = self.due(item.ob, &item.op);
+            if !is_same(would, item.ret) {
                 self.cut(len);
-                return Ok(false);
+                return Ok(Some(Difference { place, would }));
             }
-            self.add(*item)?;
+            self.add(item)?;
         }
-        Ok(true)
+        Ok(None)
     }
 }

@@ -1,21 +1,22 @@
-ghost use Rattle.std.specs.Prelude.{◌≡◌, ◌<◌, ◌≤◌, ℕ, true, false, [], length, get_or, option_map, min, max, IfErr, IfOk, IfSome, OnOk};
+ghost use Rattle.std.specs.Prelude.{◌≡◌, ◌<◌, ◌≤◌, ℕ, true, false, [], length, map, get_or, option_map, min, max, IfErr, IfOk, IfSome, OnOk};
 ghost use Rattle.std.specs.List.{list_all};
 ghost use Rattle.acta_values.specs.KeptValues.{kinds_of};
 ghost use Rattle.acta_order.specs.Earlier.{limit};
 ghost use Rattle.acta_order.specs.Memos.{IsKnown, IsKept, IsFoundOrOver};
-ghost use Rattle.acta_order.specs.Orders.{AreDistinct};
+ghost use Rattle.acta_order.specs.Orders.{is_in, AreDistinct, numbers_of};
 ghost use Rattle.acta_order.specs.Faults.{AreFew, HasRoom, IsSearchFault};
 ghost use Rattle.acta_order.specs.Search.{AreInTurn, AreSound, IsFoundNext, IsFound, at, values_at, values_of};
 
 use crate::earlier::Earlier;
 use crate::fault::OrderFault;
 use crate::item::Item;
+use crate::longest::Longest;
 use crate::memo::Memo;
 use crate::packed::packed;
 use crate::path::Path;
 use crate::replay::Replay;
 use acta_axioms::Groups;
-use acta_table::Model;
+use acta_table::{Model, TxnId};
 use std::alloc::{AllocError, Allocator};
 
 /// The transaction at a position, or 0 after the last.
@@ -26,6 +27,23 @@ pub(crate) fn at(ts: &[usize], j: usize) -> usize
         Some(t) => *t,
         None => 0,
     }
+}
+
+/// The transactions at these positions.
+pub(crate) fn listed<A: Allocator + Copy>(
+    alloc: A,
+    ts: &[usize],
+    taken: &[usize],
+) -> Result<Vec<TxnId, A>, AllocError>
+    requires within { (j : ℕ) → is_in taken.now j ≡ true → j < length ts.now }
+    requires low { (t : ℕ) → is_in ts.now t ≡ true → t < 65536 }
+    ensures { IfOk result (λ order. numbers_of order.items ≡ map (at ts.now) taken.now) }
+{
+    let mut order = Vec::with_capacity(alloc, taken.len())?;
+    for j in taken {
+        order.push(TxnId(at(ts, *j) as u16))?;
+    }
+    Ok(order)
 }
 
 // The larger of two numbers.
@@ -60,7 +78,7 @@ fn next_fitting<A: Allocator + Copy>(
 {
     for c in from..ts.len() {
         let t = at(ts, c);
-        if !path.has(c) && earlier.of(t) <= low && replay.play(groups.of(t))? {
+        if !path.has(c) && earlier.of(t) <= low && replay.play(groups.of(t))?.is_none() {
             return Ok(Some(c));
         }
     }
@@ -141,6 +159,7 @@ fn next_new<A: Allocator + Copy>(
 /// Searches depth first for an order of these transactions in which each group gives its recorded returns. The positions
 /// are tried in ascending order, so that the transactions' own order is tried first. The search remembers each state from
 /// which it found no order. It goes back from another state that places the same transactions and leaves the same values.
+/// It notes the longest paths at which it turns back.
 pub(crate) fn search<A: Allocator + Copy>(
     alloc: A,
     model: &Model<A>,
@@ -148,6 +167,7 @@ pub(crate) fn search<A: Allocator + Copy>(
     groups: &Groups<Item, A>,
     earlier: &Earlier<A>,
     most_states: u64,
+    longest: &mut Longest<A>,
 ) -> Result<Option<Path<A>>, OrderFault>
     requires distinct { AreDistinct ts.now }
     requires sound { AreSound (kinds_of model.now.objects) (λ t. get_or groups.now t []) ts.now }
@@ -187,6 +207,7 @@ pub(crate) fn search<A: Allocator + Copy>(
                 next = 0;
             }
             None => {
+                longest.note(&path, next == 0)?;
                 remember(alloc, &mut memo, &path, &replay, next == 0)?;
                 let Some(c) = path.pop() else {
                     return Ok(None);

@@ -1,5 +1,5 @@
 -- What `serialize` writes for a history.
-use Rattle.std.specs.Prelude.{◌≡◌, ◌<◌, ◌⊎◌, ⊥, ℕ, false, true, List, [], ◌∷◌, ◌++◌, flat_map, length, codes, decimal, Option, Some, None, Result, Ok, Err}
+use Rattle.std.specs.Prelude.{◌≡◌, ◌<◌, ◌⊎◌, ℕ, false, true, List, [], ◌∷◌, ◌++◌, flat_map, length, codes, decimal, Option, Some, None, Result, Ok, Err}
 use Rattle.acta_table.specs.declared.event.Kept.{Kept}
 use Rattle.acta_table.specs.declared.limits.TheConstants.{MOST_EVENTS}
 use Rattle.acta_table.specs.declared.model.Parts.{Parts}
@@ -11,7 +11,8 @@ use Rattle.acta_tool.specs.declared.models.NoModel.{NoModel}
 use Rattle.acta_tool.specs.Models.{model_by}
 use Rattle.acta_tool.specs.Output.{Output, Said, refused_by, refused_model, said_in, stop_line}
 use Rattle.acta_order.specs.declared.orders.Orders.{Orders}
-use Rattle.acta_order.specs.Orders.{HasMoreStates, IsOrder, IsSerial, Replays}
+use Rattle.acta_order.specs.Answers.{IsImpossible}
+use Rattle.acta_order.specs.Orders.{HasMoreStates, IsSerial}
 
 -- order, and the transactions
 abbrev pub order_line : List ℕ → List ℕ
@@ -32,9 +33,9 @@ pub record HasOrder {A : Type 0} (orders : Orders) (m : Parts A) (h : List (Kept
 abbrev pub SaysNone : Output → Type 0
 SaysNone out = (why : List ℕ) × (out ≡ record { is_refused = false; text = text_of (codes "no serial order" ∷ []) ++ why })
 
--- it says that there is no serial order, and there is none
+-- it says that there is no serial order, and no order is serial
 pub record HasNone {A : Type 0} (orders : Orders) (m : Parts A) (h : List (Kept A)) (out : Output) : Type 0 where
-  pub none : (order : List ℕ) → IsOrder orders h order → Replays m h order → ⊥
+  pub none : IsImpossible orders m h
   pub says : SaysNone out
 
 -- the search was given up, since there are more states than it may come to

@@ -140,7 +140,7 @@ pub(crate) fn explain_cause<A: Handle>(
     match cause {
         Cause::Unsound(op) => prose = history.put_unsound(prose, *op),
         Cause::DeadEnds(ends) => {
-            for end in ends.iter() {
+            for end in ends.as_slice() {
                 prose = history.put_dead_end(prose, end);
             }
         }

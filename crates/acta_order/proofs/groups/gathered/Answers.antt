@@ -1,4 +1,4 @@
-use Rattle.std.proofs.Common.{arith, ◌≡◌, ℕ, ◌≤◌, length, get_or, sym, ap, ◌∙◌, subst, List}
+use Rattle.std.proofs.Common.{arith, ◌≡◌, ℕ, ◌+◌, ◌≤◌, length, get_or, refl, sym, ap, ◌∙◌, subst, List}
 use Rattle.acta_table.specs.declared.event.Kept.{Kept}
 use Rattle.acta_table.specs.declared.model.Parts.{Parts}
 use Rattle.acta_sets.specs.declared.held_op.HeldOp.{HeldOp}
@@ -23,7 +23,7 @@ loop-k-preserved g c =
                 record {
                   gathered =
                       same-gathered (sym w.number-is) (sym (w.groups-is ∙ u.groups-is))
-                      (gathered-next m kept c.loop-k.k-index c.k-item.result w.in-Operate.field-0 w.in-Operate.ob w.in-Operate.op c.loop-k.number u.in-Some.found.now c.loop-k.groups u.put.new.self c.loop-k-test.true c.k-item.is w.in-Operate.is
+                      (gathered-next m kept c.loop-k.k-index c.k-item.result w.in-Operate.field-0 w.in-Operate.ob w.in-Operate.op c.loop-k.number (c.loop-k.number + 1) u.in-Some.found.now c.loop-k.groups u.put.new.self refl c.loop-k-test.true c.k-item.is w.in-Operate.is
                       (u.in-Some.ensures.lookup.1 ∙ ap (λ (xs : List HeldOp). get_or xs c.loop-k.number u.in-Some.found.now) held) u.in-Committed.is c.loop-k.invariant.gathered u.in_ok-put.ensures.ok);
                   low = let e = w.number-is in omega (arith, e, c.loop-k.invariant.low);
                 }

@@ -1,7 +1,7 @@
 use Rattle.std.proofs.Common.{arith, ◌<◌, get_or}
 use Rattle.acta_order.specs.Search.{at}
 use Rattle.acta_order.proofs.Placed.{at-in}
-use Rattle.acta_order.proofs.order.listed.Goals as goal
+use Rattle.acta_order.proofs.search.listed.Goals as goal
 
 pub overflow_cast-at : goal.overflow_cast-at
 overflow_cast-at g c =
