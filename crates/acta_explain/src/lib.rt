@@ -35,7 +35,7 @@ pub use images::{Field, field_at};
 pub use layout::{digits, put_barred};
 pub use phrases::{name_text, put_lacking, put_return, put_standing};
 pub use prose::Prose;
-pub use reasons::{NEVER, Refused};
+pub use reasons::Refused;
 pub use report::{explain, explain_tool, write_words};
 pub use spoken::{Spoken, spoken_in};
 pub use tables::Table;

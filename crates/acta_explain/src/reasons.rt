@@ -1,5 +1,5 @@
-//! Why an event is refused, in words: the rule, what of the machine breaks it, and what would let the event go on, where
-//! that is sure. A reason is one line or a few, with line feeds between them.
+//! Why an event is refused, in words: the rule, what of the machine breaks it, and what hope there is. A reason is one line
+//! or a few, with line feeds between them.
 
 use crate::chronicle::Chronicle;
 use crate::listing::{put_chain, put_operations};
@@ -10,14 +10,12 @@ use crate::phrases::{
 };
 use crate::prose::Prose;
 use crate::put;
+use acta_hope::Hope;
 use acta_machine::{Barring, Clash, FormFault, Handle, Lack, Machine, NumberedOp, Reason};
 use acta_table::{
     AtCommit, Class, ClassId, Dep, Edge, Event, EventKind, Fate, Missing, Model, ObjId, Op, OpNo,
     Rule, Scope, Status, TxnId,
 };
-
-/// What is told of an event for which there is no hope.
-pub const NEVER: &str = "No later event can admit it.";
 
 /// An event that a machine with this model refuses, and what was told of its run so far.
 #[derive(Drop)]
@@ -86,44 +84,36 @@ fn cause_noun(kind: Dep) -> &'static str {
     }
 }
 
-// Adds what is told of hope where one would have to be in progress that stands so.
-fn put_hope<A: Handle>(prose: Prose<A>, txn: TxnId, status: Status) -> Prose<A> {
-    match status {
-        Status::NotBegun => put!(prose; "It can be admitted only once ", txn.0, " has begun."),
-        _ => prose.put(NEVER),
+// Adds what hope there is, as a line of its own; nothing where nothing is known.
+fn put_hope<A: Handle>(prose: Prose<A>, hope: Hope) -> Prose<A> {
+    if matches!(hope, Hope::Unknown) {
+        return prose;
+    }
+    if matches!(hope, Hope::Never) {
+        return prose.put("\nNo later event can admit it.");
+    }
+    let prose = prose.put("\nIt can be admitted only once ");
+    match hope {
+        Hope::OnceBegun(t) => put!(prose; t.0, " has begun."),
+        Hope::OnceHeld(t, op) => put!(prose; t.0, " holds operation ", op.0, "."),
+        Hope::OnceCommitted(t) => put!(prose; t.0, " has committed."),
+        Hope::OnceAborted(t) => put!(prose; t.0, " has aborted."),
+        Hope::OnceDecided(t) => put!(prose; t.0, " has committed or aborted."),
+        Hope::Never | Hope::Unknown => prose,
     }
 }
 
 // Adds why the set of a delegation or a split is bad: it names an operation of this number, where there are so many.
-fn put_bad_set<A: Handle>(
-    prose: Prose<A>,
-    number: OpNo,
-    operations: usize,
-    event: &Event<A>,
-) -> Prose<A> {
+fn put_bad_set<A: Handle>(prose: Prose<A>, number: OpNo, operations: usize) -> Prose<A> {
     let number = number.0;
     let prose = put!(prose; "BadSet: there is no operation ", number);
     if number == 0 {
-        put!(prose; "; they are numbered from 1.\n", NEVER)
+        prose.put("; they are numbered from 1.")
     } else if number > 65_536 {
-        put!(prose; "; a history has at most 65,536.\n", NEVER)
+        prose.put("; a history has at most 65,536.")
     } else {
-        put!(prose; "; the last so far has the number ", operations,
-            ".\nIt can be admitted only once there is an operation ", number, ", and ",
-            first_named(event).0, " holds it.")
+        put!(prose; "; the last so far has the number ", operations, ".")
     }
-}
-
-// Adds that there is no room for the edges that the event forms, beside so many.
-fn put_edges_full<A: Handle>(prose: Prose<A>, edges: usize, event: &Event<A>) -> Prose<A> {
-    let hope = match event {
-        Event::Operate(_, _, _) =>
-            "It can be admitted only once fewer transactions hold what conflicts with it.",
-        _ => NEVER,
-    };
-    put!(prose; "EdgesFull: ", edges,
-        " edges are in force, and with those that it forms there would be more than 16,384. None goes away.\n",
-        hope)
 }
 
 // Adds whom a transaction waits for, where some wait for one another there.
@@ -132,6 +122,16 @@ fn put_waits<A: Handle>(prose: Prose<A>, machine: &Machine<A>, t: TxnId) -> Pros
         Ok(Some(waits)) => put_closed(prose, waits.as_slice()),
         Ok(None) => prose,
         Err(_) => prose.fail(),
+    }
+}
+
+// Adds whom the one that depends waits for, where an edge bars its end.
+fn put_waits_of<A: Handle>(prose: Prose<A>, machine: &Machine<A>, reason: &Reason) -> Prose<A> {
+    match reason {
+        Reason::Barred(barring) if matches!(barring.rule, Rule::TerminationDep) => {
+            put_waits(prose, machine, barring.by.edge.j)
+        }
+        _ => prose,
     }
 }
 
@@ -175,62 +175,46 @@ fn put_ways<A: Handle>(mut prose: Prose<A>, ways: Ways, to: TxnId, object: &str)
     prose
 }
 
-// How many lines of a reason say what is so. Those after them say what would let the event go on.
-fn fact_lines(reason: &Reason) -> usize {
-    match reason {
-        // (of one that owes an event the second line says also what would pay)
-        Reason::Barred(barring) => match barring.rule {
-            Rule::OwesAbort | Rule::OwesCommit => 1,
-            _ => 2,
-        },
-        Reason::Clash(_) => 3,
-        _ => 1,
-    }
-}
-
 impl<'a, A: Handle> Refused<'a, A> {
-    /// Adds why it is refused, in lines, each with its line feed, but not what would let it go on.
-    pub fn put_facts(
-        &self,
-        mut prose: Prose<A>,
-        alloc: A,
-        machine: &Machine<A>,
-        reason: &Reason,
-    ) -> Prose<A> {
-        let (text, has_failed) = self
-            .put_reason(Prose::new(alloc), machine, false, reason)
-            .parts();
-        for line in text.lines().take(fact_lines(reason)) {
-            prose = put!(prose; line, "\n");
-        }
-        if has_failed { prose.fail() } else { prose }
-    }
-
-    /// Adds why it is refused, in lines. Whether it is looked for transactions that wait for one another, which takes a
-    /// look at each edge, is for the caller to say.
+    /// Adds why it is refused, and what hope there is. Whether it is looked for transactions that wait for one another, which
+    /// takes a look at each edge, is for the caller to say.
     pub fn put_reason(
         &self,
         prose: Prose<A>,
         machine: &Machine<A>,
         looks_for_waits: bool,
         reason: &Reason,
+        hope: Hope,
     ) -> Prose<A> {
+        let prose = self.put_facts(prose, machine, reason);
         match *reason {
-            Reason::Full => prose.put(
-                "Full: 65,536 events are kept, as many as a history may have.\nNo later event can be admitted.",
-            ),
-            Reason::EdgesFull => put_edges_full(prose, machine.edges().len(), self.event),
-            Reason::PartialDelegation(op) => self.put_partial_delegation(prose, machine, op),
-            Reason::Barred(barring) => {
-                let prose = self.put_barred(prose, &barring);
-                let waits = matches!(barring.rule, Rule::TerminationDep)
-                    && !matches!(barring.i, Status::Joined);
-                if waits && looks_for_waits {
-                    put_waits(prose, machine, barring.by.edge.j)
+            Reason::Conflict(op) => {
+                let prose = self.put_policy(prose, op.held.holder);
+                put_hope(self.put_releases(prose, op), hope)
+            }
+            Reason::PartialDelegation(_) => put_hope(self.put_whole(prose, machine), hope),
+            // (that it has to wait is said already)
+            Reason::Barred(_) if !matches!(hope, Hope::Never) => {
+                if looks_for_waits {
+                    put_waits_of(prose, machine, reason)
                 } else {
                     prose
                 }
             }
+            _ => put_hope(prose, hope),
+        }
+    }
+
+    /// Adds why it is refused, but not what would let it go on.
+    pub fn put_facts(&self, prose: Prose<A>, machine: &Machine<A>, reason: &Reason) -> Prose<A> {
+        match *reason {
+            Reason::Full => {
+                prose.put("Full: 65,536 events are kept, as many as a history may have.")
+            }
+            Reason::EdgesFull => put!(prose; "EdgesFull: ", machine.edges().len(),
+                " edges are in force, and with those that it forms there would be more than 16,384. None goes away."),
+            Reason::PartialDelegation(op) => self.put_partial_delegation(prose, op),
+            Reason::Barred(barring) => self.put_barred(prose, &barring),
             _ => self.put_other(prose, reason),
         }
     }
@@ -240,21 +224,18 @@ impl<'a, A: Handle> Refused<'a, A> {
         match *reason {
             Reason::Form(fault) => self.put_form(prose, fault),
             Reason::NotInProgress { txn, status } => {
-                let prose = self.put_stands(prose.put("NotInProgress: "), txn, status);
-                put_hope(prose.put(".\n"), txn, status)
+                self.put_stands(prose.put("NotInProgress: "), txn, status)
+                    .put(".")
             }
             Reason::AlreadyBegun { txn, status } => self.put_already_begun(prose, txn, status),
             Reason::NotInModel(lack) => self.put_not_in_model(prose, lack),
             Reason::PartnerNotInProgress { txn, status } => {
                 let prose = self.put_stands(prose.put("PartnerNotInProgress: "), txn, status);
                 let partner = to_partner(self.event.kind());
-                let prose = put!(prose; ", and only one in progress is ", partner, ".\n");
-                put_hope(prose, txn, status)
+                put!(prose; ", and only one in progress is ", partner, ".")
             }
             Reason::NotResponsible(op) => self.put_not_responsible(prose, op),
-            Reason::BadSet { number, operations } => {
-                put_bad_set(prose, number, operations, self.event)
-            }
+            Reason::BadSet { number, operations } => put_bad_set(prose, number, operations),
             Reason::Conflict(op) => self.put_conflict(prose, op),
             Reason::FormTooLate { txn, status } => self.put_form_too_late(prose, txn, status),
             Reason::Clash(clash) => self.put_clash(prose, &clash),
@@ -280,21 +261,21 @@ impl<'a, A: Handle> Refused<'a, A> {
         match fault {
             FormFault::BadNumber(number) => {
                 put!(prose; "BadNumber: no transaction has the number ", number,
-                    "; they are numbered from 1 to 16,383.\n", NEVER)
+                    "; they are numbered from 1 to 16,383.")
             }
             FormFault::BadClass(class) => {
-                put!(prose; "BadClass: the model has no class at position ", class.0, ".\n", NEVER)
+                put!(prose; "BadClass: the model has no class at position ", class.0, ".")
             }
             FormFault::BadObject(object) => {
-                put!(prose; "BadObject: the model has no object at position ", object.0, ".\n", NEVER)
+                put!(prose; "BadObject: the model has no object at position ", object.0, ".")
             }
             FormFault::BadOperation(object, op) => {
                 let prose = put_lacking(prose.put("BadOperation: "), self.model, object, op);
-                put!(prose; ".\n", NEVER)
+                put!(prose; ".")
             }
             FormFault::SameTransaction(txn) => {
                 put!(prose; "SameTransaction: ", txn.0, " is named twice, and no transaction ",
-                    of_itself(self.event.kind()), ".\n", NEVER)
+                    of_itself(self.event.kind()), ".")
             }
         }
     }
@@ -306,7 +287,7 @@ impl<'a, A: Handle> Refused<'a, A> {
             None => prose,
         };
         let prose = put_standing(prose, self.chronicle, txn, status);
-        put!(prose; ". Each transaction starts once.\n", NEVER)
+        put!(prose; ". Each transaction starts once.")
     }
 
     fn put_not_in_model(&self, prose: Prose<A>, lack: Lack) -> Prose<A> {
@@ -316,7 +297,7 @@ impl<'a, A: Handle> Refused<'a, A> {
                 self.put_may_not(prose, txn, class, allowing_word(kind))
             }
             Lack::Forming =>
-                put!(prose; "NotInModel: no class of the model has `form` in its `may`, so no edge is formed by an event of its own.\n", NEVER),
+                put!(prose; "NotInModel: no class of the model has `form` in its `may`, so no edge is formed by an event of its own."),
         }
     }
 
@@ -330,7 +311,7 @@ impl<'a, A: Handle> Refused<'a, A> {
             }
             None => put!(prose; "NotInModel: no transaction of class `", name, "` starts "),
         };
-        put!(prose; start, ".\n", NEVER)
+        put!(prose; start, ".")
     }
 
     // Adds that the class of the transaction doesn't have the word in its `may`.
@@ -346,10 +327,9 @@ impl<'a, A: Handle> Refused<'a, A> {
             Some(class) => {
                 let name = name_text(class.name.as_slice());
                 let prose = put!(prose; "class `", name, "` of ", txn.0, " has `");
-                put!(put_may(prose, class.may); "`, and no `", word, "`.\n", NEVER)
+                put!(put_may(prose, class.may); "`, and no `", word, "`.")
             }
-            None =>
-                put!(prose; txn.0, " has no class that has `", word, "` in its `may`.\n", NEVER),
+            None => put!(prose; txn.0, " has no class that has `", word, "` in its `may`."),
         }
     }
 
@@ -359,25 +339,25 @@ impl<'a, A: Handle> Refused<'a, A> {
         let ended = match op.held.fate {
             Fate::InProgress => {
                 return put!(prose; " is held by ", op.held.holder.0, ", and not by ", t,
-                    ", who hands over only what it holds in progress.\nIt can be admitted only once ", t,
-                    " holds operation ", op.number.0, ".");
+                    ", who hands over only what it holds in progress.");
             }
             Fate::Committed => "committed",
             Fate::Aborted => "aborted",
         };
-        put!(prose; " is ", ended, ", and ", t, " hands over only what it holds in progress.\n", NEVER)
+        put!(prose; " is ", ended, ", and ", t, " hands over only what it holds in progress.")
     }
 
-    fn put_partial_delegation(
-        &self,
-        prose: Prose<A>,
-        machine: &Machine<A>,
-        op: NumberedOp,
-    ) -> Prose<A> {
+    fn put_partial_delegation(&self, prose: Prose<A>, op: NumberedOp) -> Prose<A> {
         let t = first_named(self.event);
         let prose = put_operation(prose.put("PartialDelegation: "), self.chronicle, op.number);
-        let prose = put!(prose; " isn't named, and class `", self.class_name(t), "` of ", t.0,
-            " has `delegation whole`.\nName all that ", t.0, " holds in progress: ");
+        put!(prose; " isn't named, and class `", self.class_name(t), "` of ", t.0,
+            " has `delegation whole`.")
+    }
+
+    // Adds what has to be named.
+    fn put_whole(&self, prose: Prose<A>, machine: &Machine<A>) -> Prose<A> {
+        let t = first_named(self.event);
+        let prose = put!(prose; "\nName all that ", t.0, " holds in progress: ");
         match machine.access_set(t) {
             Ok(held) => put_operations(prose, held.as_slice()).put("."),
             Err(_) => prose.fail(),
@@ -387,7 +367,7 @@ impl<'a, A: Handle> Refused<'a, A> {
     fn put_form_too_late(&self, prose: Prose<A>, txn: TxnId, status: Status) -> Prose<A> {
         let prose = prose.put("FormTooLate: ");
         let Event::Form(kind, j, i) = self.event else {
-            return put!(self.put_stands(prose, txn, status); ".\n", NEVER);
+            return put!(self.put_stands(prose, txn, status); ".");
         };
         let edge = Edge {
             kind: *kind,
@@ -401,10 +381,10 @@ impl<'a, A: Handle> Refused<'a, A> {
                 Some(row) => put_row(prose.put(" ("), row).put(")"),
                 None => prose,
             };
-            put!(prose; ".\n", NEVER)
+            put!(prose; ".")
         } else {
             let prose = self.put_stands(prose, txn, status).put(", and an edge ");
-            put!(put_edge(prose, &edge); " is formed only before either of the two ends.\n", NEVER)
+            put!(put_edge(prose, &edge); " is formed only before either of the two ends.")
         }
     }
 
@@ -412,29 +392,33 @@ impl<'a, A: Handle> Refused<'a, A> {
         let t = first_named(self.event);
         let prose = put!(prose; "NoHeir: class `", self.class_name(t), "` of ", t.0,
             " has `commit toparent`, so its parent ", parent.0, " would get what ", t.0, " holds, and ");
-        put_hope(
-            self.put_stands(prose, parent, status).put(".\n"),
-            parent,
-            status,
-        )
+        self.put_stands(prose, parent, status).put(".")
     }
 }
 
 // Conflicts.
 impl<'a, A: Handle> Refused<'a, A> {
     fn put_conflict(&self, prose: Prose<A>, op: NumberedOp) -> Prose<A> {
-        let holder = op.held.holder;
-        let t = first_named(self.event);
         let prose = put_operation(prose.put("Conflict: "), self.chronicle, op.number);
-        let prose = put!(prose; " is in progress, held by ", holder.0,
-            ", and conflicts with it.\nClass `", self.class_name(t), "` of ", t.0, " has `policy refuse`");
-        // (why what an ancestor holds counts)
-        let prose = if is_ancestor(self.chronicle, holder, t) {
-            put!(prose; ", and `scope others`, by which what its ancestor ", holder.0, " holds counts too")
+        put!(prose; " is in progress, held by ", op.held.holder.0, ", and conflicts with it.")
+    }
+
+    // Adds why an operation that conflicts refuses the event.
+    fn put_policy(&self, prose: Prose<A>, holder: TxnId) -> Prose<A> {
+        let t = first_named(self.event);
+        let prose =
+            put!(prose; "\nClass `", self.class_name(t), "` of ", t.0, " has `policy refuse`");
+        if is_ancestor(self.chronicle, holder, t) {
+            put!(prose; ", and `scope others`, by which what its ancestor ", holder.0, " holds counts too.")
         } else {
-            prose
-        };
-        self.put_heir(self.put_release(prose.put("."), t, op), t, holder)
+            prose.put(".")
+        }
+    }
+
+    // Adds what the holder of an operation that stands in the way can do.
+    fn put_releases(&self, prose: Prose<A>, op: NumberedOp) -> Prose<A> {
+        let t = first_named(self.event);
+        self.put_heir(self.put_release(prose, t, op), t, op.held.holder)
     }
 
     // Adds what the holder of an operation can do, so that the operation no longer stands in the way of `t`.
@@ -455,11 +439,8 @@ impl<'a, A: Handle> Refused<'a, A> {
             let prose = put!(prose; "\nOperation ", op.number.0,
                 " no longer stands in its way once ", holder.0, " has ");
             put_ways(prose, ways, t, name).put(".")
-        } else if may.has(EventKind::Commit) || may.has(EventKind::Split) {
-            prose
         } else {
-            let prose = put_may(put!(prose; "\n", holder.0, " has `"), may);
-            put!(prose; "`, so it never lets go of operation ", op.number.0, ".\n", NEVER)
+            prose
         }
     }
 
@@ -534,12 +515,7 @@ impl<'a, A: Handle> Refused<'a, A> {
         let edge = barring.by.edge;
         let (before, after) = awaited(barring.rule);
         let prose = put!(prose; edge.j.0, before, edge.i.0, after);
-        let prose = self.put_stands(prose, edge.i, barring.i).put(".");
-        if is_over(barring) {
-            put!(prose; "\n", NEVER)
-        } else {
-            prose
-        }
+        self.put_stands(prose, edge.i, barring.i).put(".")
     }
 
     fn put_owes(&self, prose: Prose<A>, barring: &Barring) -> Prose<A> {
@@ -547,8 +523,7 @@ impl<'a, A: Handle> Refused<'a, A> {
         let missing = missing_word(payment(edge.kind));
         let prose = put!(prose; edge.j.0, " owes ", article(missing), " ", missing, ", since ");
         let prose = self.put_stands(prose, edge.i, barring.i);
-        put!(prose; ", and so may not ", event_word(self.event.kind()), ". Its ", missing,
-            " would pay.\n", NEVER)
+        put!(prose; ", and so may not ", event_word(self.event.kind()), ".")
     }
 
     // Adds that one may commit only before another begins, or commits.
@@ -565,7 +540,7 @@ impl<'a, A: Handle> Refused<'a, A> {
             }
         };
         let prose = put_standing(prose, self.chronicle, edge.j, barring.j);
-        put!(prose; ".\n", NEVER)
+        put!(prose; ".")
     }
 
     fn put_unpayable(&self, prose: Prose<A>, barring: &Barring) -> Prose<A> {
@@ -573,7 +548,7 @@ impl<'a, A: Handle> Refused<'a, A> {
         let missing = missing_word(payment(edge.kind));
         let prose = put!(prose; "By ", cause_noun(edge.kind), " of ", edge.i.0, ", ", edge.j.0,
             " would owe ", article(missing), " ", missing, ", which it can't do any more: ");
-        put!(self.put_stands(prose, edge.j, barring.j); ".\n", NEVER)
+        put!(self.put_stands(prose, edge.j, barring.j); ".")
     }
 
     fn put_clash(&self, prose: Prose<A>, clash: &Clash) -> Prose<A> {
@@ -585,23 +560,7 @@ impl<'a, A: Handle> Refused<'a, A> {
         let prose = put_formed_edge(prose, self.chronicle, number, &commit.edge);
         let number = u64::from(abort.number);
         let prose = prose.put("\nan abort by ");
-        let prose = put_formed_edge(prose, self.chronicle, number, &abort.edge).put("\n");
-        if self.clears_by_commit(clash) {
-            put!(prose; "It can be admitted only once ", j, " has committed.")
-        } else {
-            prose.put(NEVER)
-        }
-    }
-
-    // Whether a commit of the one that would owe both takes away this clash: its abort isn't owed yet, and by its edge
-    // it is not wanted of one that has committed.
-    fn clears_by_commit(&self, clash: &Clash) -> bool {
-        match self.event {
-            Event::Abort(t) => {
-                matches!(clash.abort.edge.kind, Dep::Wd) && clash.abort.edge.i.0 == t.0
-            }
-            _ => false,
-        }
+        put_formed_edge(prose, self.chronicle, number, &abort.edge)
     }
 }
 
@@ -616,15 +575,5 @@ fn awaited(rule: Rule) -> (&'static str, &'static str) {
             " may commit or abort only after ",
             " has committed or aborted; ",
         ),
-    }
-}
-
-// Whether the other can't do any more what the one that depends waits for.
-fn is_over(barring: &Barring) -> bool {
-    match barring.rule {
-        Rule::SerialDep | Rule::TerminationDep => matches!(barring.i, Status::Joined),
-        Rule::BeginOnCommit => matches!(barring.i, Status::Aborted | Status::Joined),
-        Rule::BeginOnAbort => matches!(barring.i, Status::Committed | Status::Joined),
-        _ => false,
     }
 }

@@ -7,6 +7,7 @@ use crate::prose::Prose;
 use crate::put;
 use crate::reasons::Refused;
 use crate::spoken::Spoken;
+use acta_hope::why_and_hope;
 use acta_machine::{Formed, Handle, Machine};
 use acta_script::answer_line;
 use acta_table::{Answer, Event, Model, Rule};
@@ -177,8 +178,10 @@ impl<A: Handle> Telling<A> {
             chronicle: &self.chronicle,
             event,
         };
-        match self.machine.why(event) {
-            Ok(Some(reason)) => refused.put_reason(prose, &self.machine, looks_for_waits, &reason),
+        match why_and_hope(&self.machine, event) {
+            Ok(Some((reason, hope))) => {
+                refused.put_reason(prose, &self.machine, looks_for_waits, &reason, hope)
+            }
             Ok(None) => prose,
             Err(_) => prose.fail(),
         }

@@ -81,7 +81,6 @@ fn put_bad_set<A: Handle>(
 // Adds why the event is refused: what is so, and not what would let it go on, since nothing comes any more.
 fn put_facts<A: Handle>(
     prose: Prose<A>,
-    alloc: A,
     run: &Telling<A>,
     event: &Event<A>,
     reason: &Reason,
@@ -91,7 +90,7 @@ fn put_facts<A: Handle>(
         chronicle: run.chronicle(),
         event,
     };
-    refused.put_facts(prose, alloc, run.machine(), reason)
+    refused.put_facts(prose, run.machine(), reason)
 }
 
 // Whether an event names an operation of the programs that was not done: the machine is then asked for operation 0.
@@ -124,7 +123,7 @@ fn put_reason<A: Handle>(
     if is_undone(&reason) {
         put_bad_set(prose, programs, outcome.lines.as_slice(), line, alternative)
     } else {
-        put_facts(prose, alloc, run, &event, &reason)
+        put_facts(prose, run, &event, &reason)
     }
 }
 

@@ -1,0 +1,135 @@
+-- As many edges are in force after some are formed, where there were more before.
+use Rattle.std.proofs.Common.{◌≡◌, ◌≤◌, ◌+◌, suc, Bool, true, false, ◌==◌, ◌&&◌, ◌||◌, List, [], ◌∷◌, ◌++◌, length, refl, sym, ap, ◌∙◌, inl, inr, ◌⊎◌, eq-eqb, eqb-true, length-append, arith}
+use Rattle.std.specs.Prelude.{if◌then◌else◌}
+use Rattle.std.proofs.lemmas.Bool.{true≢false, and_parts, or_cases}
+use Rattle.acta_table.specs.declared.dep.Edge.{Edge}
+use Rattle.acta_table.specs.Dependencies.{code_of}
+use Rattle.acta_table.specs.Edges.{same_kind, same_edge, is_among, formed}
+
+record AreSame (e f : Edge) : Type 0 where
+  kind : code_of e.kind ≡ code_of f.kind
+  j : e.j.0 ≡ f.j.0
+  i : e.i.0 ≡ f.i.0
+
+same-parts : (e f : Edge) → same_edge e f ≡ true → AreSame e f
+same-parts e f is =
+    let first = and_parts (same_kind e.kind f.kind && (e.j.0 == f.j.0)) (e.i.0 == f.i.0) is in
+    let second = and_parts (same_kind e.kind f.kind) (e.j.0 == f.j.0) first.0 in
+    record { kind = eqb-true (code_of e.kind) (code_of f.kind) second.0; j = eqb-true e.j.0 f.j.0 second.1; i = eqb-true e.i.0 f.i.0 first.1 }
+
+same-made : (e f : Edge) → AreSame e f → same_edge e f ≡ true
+same-made e f is = λ x. eq-eqb (code_of e.kind) (code_of f.kind) is.kind x && eq-eqb e.j.0 f.j.0 is.j x && eq-eqb e.i.0 f.i.0 is.i x
+
+same-on : (e f g : Edge) → same_edge e f ≡ true → same_edge f g ≡ true → same_edge e g ≡ true
+same-on e f g a b =
+    let p = same-parts e f a in
+    let q = same-parts f g b in
+    same-made e g (record { kind = p.kind ∙ q.kind; j = p.j ∙ q.j; i = p.i ∙ q.i })
+
+same-back : (e f : Edge) → same_edge e f ≡ true → same_edge f e ≡ true
+same-back e f a = let p = same-parts e f a in same-made f e (record { kind = sym p.kind; j = sym p.j; i = sym p.i })
+
+left-true : (a b : Bool) → a ≡ true → (a || b) ≡ true
+left-true true b is = refl
+left-true false b is = cc
+
+right-true : (a b : Bool) → b ≡ true → (a || b) ≡ true
+right-true true b is = refl
+right-true false b is = is
+
+-- one that is the same as one of them is among them
+among-same : (es : List Edge) (f g : Edge) → same_edge g f ≡ true → is_among es f ≡ true → is_among es g ≡ true
+among-same [] f g same is = is
+among-same (x ∷ es) f g same is =
+    elim (or_cases (same_edge f x) (is_among es f) is) [
+      | inl here ↦ left-true (same_edge g x) (is_among es g) (same-on g f x same here)
+      | inr there ↦ right-true (same_edge g x) (is_among es g) (among-same es f g same there)
+    ]
+
+among-before : (es : List Edge) (f g : Edge) → is_among es g ≡ true → is_among (es ++ f ∷ []) g ≡ true
+among-before [] f g is = cc
+among-before (x ∷ es) f g is =
+    elim (or_cases (same_edge g x) (is_among es g) is) [
+      | inl here ↦ left-true (same_edge g x) (is_among (es ++ f ∷ []) g) here
+      | inr there ↦ right-true (same_edge g x) (is_among (es ++ f ∷ []) g) (among-before es f g there)
+    ]
+
+among-last : (es : List Edge) (f g : Edge) → same_edge g f ≡ true → is_among (es ++ f ∷ []) g ≡ true
+among-last [] f g is = left-true (same_edge g f) false is
+among-last (x ∷ es) f g is = right-true (same_edge g x) (is_among (es ++ f ∷ []) g) (among-last es f g is)
+
+among-either : (es fs : List Edge) (g : Edge) → is_among (es ++ fs) g ≡ true → (is_among es g ≡ true) ⊎ (is_among fs g ≡ true)
+among-either [] fs g is = inr is
+among-either (x ∷ es) fs g is =
+    elim (or_cases (same_edge g x) (is_among (es ++ fs) g) is) [
+      | inl here ↦ inl (left-true (same_edge g x) (is_among es g) here)
+      | inr there ↦ elim (among-either es fs g there) [ inl a ↦ inl (right-true (same_edge g x) (is_among es g) a) | inr b ↦ inr b ]
+    ]
+
+one : (f g : Edge) → is_among (f ∷ []) g ≡ true → same_edge g f ≡ true
+one f g is = elim (or_cases (same_edge g f) false is) [ inl a ↦ a | inr b ↦ absurd (true≢false (sym b)) ]
+
+-- all but the first that is the same
+abbrev rest : Edge → List Edge → List Edge
+rest f [] = []
+rest f (x ∷ xs) = if same_edge f x then xs else x ∷ rest f xs
+
+rest-length : (f : Edge) (more : List Edge) → is_among more f ≡ true → suc (length (rest f more)) ≡ length more
+rest-length f [] is = cc
+rest-length f (x ∷ xs) is = of (same_edge f x) is (rest-length f xs)
+  where
+    of : (b : Bool) → (b || is_among xs f) ≡ true → (is_among xs f ≡ true → suc (length (rest f xs)) ≡ length xs) → suc (length (if b then xs else x ∷ rest f xs)) ≡ suc (length xs)
+    of true is later = refl
+    of false is later = ap suc (later is)
+
+rest-among : (f g : Edge) (more : List Edge) → is_among more g ≡ true → (same_edge g f ≡ true) ⊎ (is_among (rest f more) g ≡ true)
+rest-among f g [] is = cc
+rest-among f g (x ∷ xs) is = of (same_edge f x) refl (rest-among f g xs)
+  where
+    of : (b : Bool) → same_edge f x ≡ b → (is_among xs g ≡ true → (same_edge g f ≡ true) ⊎ (is_among (rest f xs) g ≡ true)) → (same_edge g f ≡ true) ⊎ (is_among (if b then xs else x ∷ rest f xs) g ≡ true)
+    of true same later =
+        elim (or_cases (same_edge g x) (is_among xs g) is) [ inl here ↦ inl (same-on g x f here (same-back f x same)) | inr there ↦ inr there ]
+    of false same later =
+        elim (or_cases (same_edge g x) (is_among xs g) is) [
+          | inl here ↦ inr (left-true (same_edge g x) (is_among (rest f xs) g) here)
+          | inr there ↦ elim (later there) [ inl a ↦ inl a | inr b ↦ inr (right-true (same_edge g x) (is_among (rest f xs) g) b) ]
+        ]
+
+-- each of the second is among the first or these
+abbrev Covers : List Edge → List Edge → List Edge → Type 0
+Covers es more fs = (g : Edge) → is_among fs g ≡ true → (is_among es g ≡ true) ⊎ (is_among more g ≡ true)
+
+longer : (es : List Edge) (f : Edge) → length (es ++ f ∷ []) ≡ length es + 1
+longer es f = length-append es (f ∷ [])
+
+grown : (due es more fs : List Edge) → Covers es more fs → length es + length more ≤ length fs → length (formed es due) ≤ length (formed fs due)
+grown [] es more fs covers few = omega (arith, few)
+grown (f ∷ due) es more fs covers few = of (is_among es f) (is_among fs f) refl refl (λ a b c. grown due a b c)
+  where
+    of : (a b : Bool) → is_among es f ≡ a → is_among fs f ≡ b → ((es more fs : List Edge) → Covers es more fs → length es + length more ≤ length fs → length (formed es due) ≤ length (formed fs due)) →
+        length (formed (if a then es else es ++ f ∷ []) due) ≤ length (formed (if b then fs else fs ++ f ∷ []) due)
+    of true true in_es in_fs later = later es more fs covers few
+    of true false in_es in_fs later =
+        later es more (fs ++ f ∷ [])
+        (λ g is. elim (among-either fs (f ∷ []) g is) [ inl a ↦ covers g a | inr b ↦ inl (among-same es f g (one f g b) in_es) ])
+        (let n = longer fs f in omega (arith, few, n))
+    of false false in_es in_fs later =
+        later (es ++ f ∷ []) more (fs ++ f ∷ [])
+        (λ g is. elim (among-either fs (f ∷ []) g is) [
+          | inl a ↦ elim (covers g a) [ inl c ↦ inl (among-before es f g c) | inr d ↦ inr d ]
+          | inr b ↦ inl (among-last es f g (one f g b))
+        ])
+        (let n = longer fs f in let k = longer es f in omega (arith, few, n, k))
+    of false true in_es in_fs later =
+        elim (covers f in_fs) [
+          | inl c ↦ absurd (true≢false (sym c ∙ in_es))
+          | inr d ↦ later (es ++ f ∷ []) (rest f more) fs
+              (λ g is. elim (covers g is) [
+                | inl c ↦ inl (among-before es f g c)
+                | inr k ↦ elim (rest-among f g more k) [ inl same ↦ inl (among-last es f g same) | inr r ↦ inr r ]
+              ])
+              (let n = rest-length f more d in let k = longer es f in omega (arith, few, n, k))
+        ]
+
+pub formed-more : (es more due : List Edge) → length (formed es due) ≤ length (formed (es ++ more) due)
+formed-more es more due = grown due es more (es ++ more) (λ g is. among-either es more g is) (let n = length-append es more in omega (arith, n))

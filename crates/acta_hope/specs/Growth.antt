@@ -1,0 +1,29 @@
+-- What later events leave of a history: how a summary comes after another.
+use Rattle.std.specs.Prelude.{◌≡◌, ◌≤◌, ℕ, true, false, ⊤, List, [], ◌∷◌, ◌++◌}
+use Rattle.acta_table.specs.declared.dep.Edge.{Edge}
+use Rattle.acta_table.specs.Fates.{is_open}
+use Rattle.acta_deps.specs.Statuses.{has_begun, has_ended}
+use Rattle.acta_sets.specs.declared.held_op.HeldOp.{HeldOp}
+use Rattle.acta_machine.specs.Summary.{Summary}
+
+-- an operation keeps its object and what it does, and its fate once it has one
+pub record IsOpLater (i j : HeldOp) : Type 0 where
+  pub object : j.ob ≡ i.ob
+  pub op : j.op ≡ i.op
+  pub fate : is_open i.fate ≡ false → j.fate ≡ i.fate
+
+-- of each operation so far there is the later one at its number, and there may be more
+abbrev pub AreLater : List HeldOp → List HeldOp → Type 0
+AreLater [] js = ⊤
+AreLater (i ∷ is) [] = ⊥
+AreLater (i ∷ is) (j ∷ js) = IsOpLater i j × AreLater is js
+
+-- what is so of the second summary, if it is the first or comes after it
+pub record IsLater (s l : Summary) : Type 0 where
+  pub kept : s.kept ≤ l.kept
+  pub begun : (t : ℕ) → has_begun (s.status t) ≡ true → has_begun (l.status t) ≡ true
+  pub ended : (t : ℕ) → has_ended (s.status t) ≡ true → l.status t ≡ s.status t
+  pub class : (t : ℕ) → has_begun (s.status t) ≡ true → l.class t ≡ s.class t
+  pub parent : (t : ℕ) → has_begun (s.status t) ≡ true → l.parent t ≡ s.parent t
+  pub operations : AreLater s.operations l.operations
+  pub edges : (more : List Edge) × (l.edges ≡ s.edges ++ more)

@@ -1,0 +1,62 @@
+-- What no later events change of the answer to an event.
+use Rattle.std.specs.Prelude.{◌≡◌, Bool, true, false, ⊤, List, None, Some, is_some}
+use Rattle.acta_table.specs.declared.answer.Rule.{Rule}
+use Rattle.acta_table.specs.declared.answer.Rule.TheVariants.{BeginDep, SerialDep, BeginOnCommit, BeginOnAbort, TerminationDep, OwesAbort, OwesCommit, CommitOrder, WeakBegin, Unpayable}
+use Rattle.acta_table.specs.declared.event.Event.{Event}
+use Rattle.acta_table.specs.declared.answer.Status.TheVariants.{Committed, Aborted}
+use Rattle.acta_deps.specs.Statuses.{has_begun, is_decided}
+use Rattle.acta_sets.specs.Operations.{is_held_in}
+use Rattle.acta_machine.specs.Changes.{summary_of}
+use Rattle.acta_machine.specs.Reasons.{refusal_of, IsSo}
+use Rattle.acta_machine.specs.Table.{State, after_all, operations_in, refusal_in, status_in}
+use Rattle.acta_machine.specs.declared.reason.Reason.{Reason}
+use Rattle.acta_machine.specs.declared.reason.Reason.TheVariants.{PartialDelegation, Conflict, EdgesFull, Barred, Clash}
+use Rattle.acta_hope.specs.declared.Hope.{Hope}
+use Rattle.acta_hope.specs.declared.Hope.TheVariants.{Never, OnceBegun, OnceHeld, OnceDecided, OnceCommitted, OnceAborted, Unknown}
+
+-- no later events let the machine admit it
+abbrev pub IsHopeless : {A : Type 0} → State A → Event A → Type 0
+IsHopeless {A} state e = (es : List (Event A)) → is_some (refusal_in (after_all state es) e) ≡ true
+
+-- it is admitted only where this holds
+abbrev pub OnlyWhere : {A : Type 0} → (State A → Type 0) → State A → Event A → Type 0
+OnlyWhere {A} P state e =
+    (es : List (Event A)) → refusal_in (after_all state es) e ≡ None → P (after_all state es)
+
+-- the reason is the one for which the event is refused, and what it says is so
+pub record IsWhy {A : Type 0} (state : State A) (e : Event A) (reason : Reason) : Type 0 where
+  pub refusal : refusal_in state e ≡ Some (refusal_of reason)
+  pub so : IsSo state.model (summary_of state.model state.kept) e reason
+
+-- what is said of hope is so
+abbrev pub Holds : {A : Type 0} → State A → Event A → Hope → Type 0
+Holds state e Never = IsHopeless state e
+Holds state e (OnceBegun t) = OnlyWhere (λ later. has_begun (status_in later t.0) ≡ true) state e
+Holds state e (OnceHeld t op) = OnlyWhere (λ later. is_held_in t.0 (operations_in later) op ≡ true) state e
+Holds state e (OnceDecided t) = OnlyWhere (λ later. is_decided (status_in later t.0) ≡ true) state e
+Holds state e (OnceCommitted t) = OnlyWhere (λ later. status_in later t.0 ≡ Committed) state e
+Holds state e (OnceAborted t) = OnlyWhere (λ later. status_in later t.0 ≡ Aborted) state e
+Holds state e Unknown = ⊤
+
+-- the rules by which an edge in force bars an event
+abbrev pub is_of_edge : Rule → Bool
+is_of_edge BeginDep = true
+is_of_edge SerialDep = true
+is_of_edge BeginOnCommit = true
+is_of_edge BeginOnAbort = true
+is_of_edge TerminationDep = true
+is_of_edge OwesAbort = true
+is_of_edge OwesCommit = true
+is_of_edge CommitOrder = true
+is_of_edge WeakBegin = true
+is_of_edge Unpayable = true
+is_of_edge _ = false
+
+-- the reasons for which nothing may be said
+abbrev pub MayBeUntold : Reason → Type 0
+MayBeUntold (PartialDelegation op) = ⊤
+MayBeUntold (Conflict op) = ⊤
+MayBeUntold EdgesFull = ⊤
+MayBeUntold (Barred barring) = is_of_edge barring.rule ≡ false
+MayBeUntold (Clash clash) = ⊤
+MayBeUntold _ = ⊥

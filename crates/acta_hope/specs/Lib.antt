@@ -1,0 +1,5 @@
+pub mod Bars
+pub mod Growth
+pub mod Hopes
+pub mod Parts
+pub mod Rulings

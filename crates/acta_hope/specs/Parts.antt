@@ -1,0 +1,82 @@
+-- Words of the code's own contracts: what hope is told where one has to be in progress, and where one has to hold an
+-- operation.
+use Rattle.std.specs.Prelude.{◌≡◌, ◌⊎◌, ◌||◌, not, ◌==◌, nat_lt, ℕ, Bool, true, false, None, Some}
+use Rattle.acta_table.specs.declared.answer.Status.{Status}
+use Rattle.acta_table.specs.declared.answer.Status.TheVariants.{InProgress}
+use Rattle.acta_table.specs.declared.event.Event.{Event}
+use Rattle.acta_table.specs.declared.event.Event.TheVariants.{Operate}
+use Rattle.acta_table.specs.declared.event.OpNo.{OpNo}
+use Rattle.acta_table.specs.declared.event.TxnId.{TxnId}
+use Rattle.acta_table.specs.declared.limits.TheConstants.{MOST_EVENTS}
+use Rattle.acta_table.specs.Events.{acting}
+use Rattle.acta_table.specs.declared.answer.Rule.{Rule}
+use Rattle.acta_table.specs.declared.answer.Rule.TheVariants.{BeginDep, SerialDep, BeginOnCommit, BeginOnAbort, TerminationDep, OwesAbort, OwesCommit, CommitOrder, WeakBegin, Unpayable}
+use Rattle.acta_deps.specs.declared.obstacle.Barring.{Barring}
+use Rattle.acta_deps.specs.Statuses.{has_ended}
+use Rattle.acta_hope.specs.declared.Hope.{Hope}
+use Rattle.acta_hope.specs.declared.Hope.TheVariants.{Never, OnceBegun, OnceHeld, OnceDecided, OnceCommitted, OnceAborted, Unknown}
+
+-- it never is where t has ended
+abbrev pub IsOfBegun : TxnId → Status → Hope → Type 0
+IsOfBegun t status Never = has_ended status ≡ true
+IsOfBegun t status (OnceBegun u) = u ≡ t
+IsOfBegun t status Unknown = status ≡ InProgress
+IsOfBegun t status _ = ⊥
+
+-- it is once the one that acts holds the operation
+abbrev pub IsOfHeld : {A : Type 0} → Event A → OpNo → Hope → Type 0
+IsOfHeld e n (OnceHeld t k) = (k ≡ n) × (acting e ≡ Some t.0)
+IsOfHeld e n Unknown = acting e ≡ None
+IsOfHeld e n _ = ⊥
+
+-- whether by the rule an edge bars for good, where its transactions stand so
+abbrev pub bars_for_good : Rule → Status → Status → Bool
+bars_for_good SerialDep j i = has_ended i
+bars_for_good BeginOnCommit j i = has_ended i
+bars_for_good BeginOnAbort j i = has_ended i
+bars_for_good TerminationDep j i = has_ended i
+bars_for_good OwesAbort j i = has_ended i
+bars_for_good OwesCommit j i = has_ended i
+bars_for_good CommitOrder j i = has_ended j
+bars_for_good Unpayable j i = has_ended j
+bars_for_good WeakBegin j i = true
+bars_for_good _ j i = false
+
+-- whether nothing may be said where an edge bars by the rule, and its transactions stand so
+abbrev pub may_be_untold : Rule → Status → Status → Bool
+may_be_untold BeginDep j i = false
+may_be_untold SerialDep j i = false
+may_be_untold BeginOnCommit j i = false
+may_be_untold BeginOnAbort j i = false
+may_be_untold TerminationDep j i = false
+may_be_untold WeakBegin j i = false
+may_be_untold OwesAbort j i = not (has_ended i)
+may_be_untold OwesCommit j i = not (has_ended i)
+may_be_untold CommitOrder j i = not (has_ended j)
+may_be_untold Unpayable j i = not (has_ended j)
+may_be_untold _ j i = true
+
+-- it is for good, or until the one on which the edge is has done what is awaited
+abbrev pub IsOfBarring : Barring → Hope → Type 0
+IsOfBarring b Never = bars_for_good b.rule b.j b.i ≡ true
+IsOfBarring b (OnceBegun t) = (b.rule ≡ BeginDep) × (t ≡ b.by.edge.i)
+IsOfBarring b (OnceDecided t) = ((b.rule ≡ SerialDep) ⊎ (b.rule ≡ TerminationDep)) × (t ≡ b.by.edge.i)
+IsOfBarring b (OnceCommitted t) = (b.rule ≡ BeginOnCommit) × (t ≡ b.by.edge.i)
+IsOfBarring b (OnceAborted t) = (b.rule ≡ BeginOnAbort) × (t ≡ b.by.edge.i)
+IsOfBarring b Unknown = may_be_untold b.rule b.j b.i ≡ true
+IsOfBarring b _ = ⊥
+
+-- whether no history can have an operation of this number
+abbrev pub is_no_operation : ℕ → Bool
+is_no_operation n = (n == 0) || nat_lt MOST_EVENTS n
+
+-- whether it is an operation
+abbrev pub is_operate : {A : Type 0} → Event A → Bool
+is_operate (Operate t ob op) = true
+is_operate _ = false
+
+-- it never is but for an operation
+abbrev pub IsOfEdges : {A : Type 0} → Event A → Hope → Type 0
+IsOfEdges e Never = is_operate e ≡ false
+IsOfEdges e Unknown = is_operate e ≡ true
+IsOfEdges e _ = ⊥
