@@ -42,8 +42,8 @@ use Rattle.acta_machine.proofs.Histories.{operations_few}
 use Rattle.acta_machine.proofs.Handing.{named-held}
 use Rattle.acta_machine.proofs.Unbroken.{linked-room, Unbroken, unbroken, none-earlier, none-heirless}
 use Rattle.acta_hope.specs.Growth.{IsLater}
-use Rattle.acta_hope.specs.Hopes.{IsHopeless}
-use Rattle.acta_hope.specs.Parts.{is_no_operation, is_operate}
+use Rattle.acta_hope.specs.Hopes.{IsHopeless, is_operate}
+use Rattle.acta_hope.specs.Parts.{is_no_operation}
 use Rattle.acta_hope.specs.Rulings.{IsBrokenBy}
 use Rattle.acta_hope.proofs.Counting.{formed-more}
 use Rattle.acta_hope.proofs.Growth.{summary_in, model-after_all, later-after_all, operation-later, IsThereLater}

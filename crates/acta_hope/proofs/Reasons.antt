@@ -20,8 +20,8 @@ use Rattle.acta_machine.specs.Table.{State, operations_in, status_in}
 use Rattle.acta_machine.specs.declared.reason.NumberedOp.{NumberedOp}
 use Rattle.acta_machine.specs.declared.reason.Reason.{Reason}
 use Rattle.acta_machine.specs.declared.reason.Reason.TheVariants.{Barred, EdgesFull, Full, Form, NotInProgress, AlreadyBegun, NotInModel, PartnerNotInProgress, NotResponsible, BadSet, FormTooLate, NoHeir}
-use Rattle.acta_hope.specs.declared.Hope.{Hope}
-use Rattle.acta_hope.specs.declared.Hope.TheVariants.{Never, OnceBegun, OnceHeld, OnceDecided, OnceCommitted, OnceAborted, Unknown}
+use Rattle.acta_hope.specs.declared.hoping.Hope.{Hope}
+use Rattle.acta_hope.specs.declared.hoping.Hope.TheVariants.{Never, OnceBegun, OnceHeld, OnceDecided, OnceCommitted, OnceAborted, Unknown}
 use Rattle.acta_hope.specs.Hopes.{IsHopeless, OnlyWhere, IsWhy, Holds, is_of_edge}
 use Rattle.acta_hope.specs.Parts.{IsOfBegun, IsOfHeld, IsOfBarring, IsOfEdges, may_be_untold, bars_for_good, is_no_operation}
 use Rattle.acta_hope.specs.Rulings.{IsBrokenBy}

@@ -3,6 +3,7 @@ use Rattle.std.specs.Prelude.{◌≡◌, Bool, true, false, ⊤, List, None, Som
 use Rattle.acta_table.specs.declared.answer.Rule.{Rule}
 use Rattle.acta_table.specs.declared.answer.Rule.TheVariants.{BeginDep, SerialDep, BeginOnCommit, BeginOnAbort, TerminationDep, OwesAbort, OwesCommit, CommitOrder, WeakBegin, Unpayable}
 use Rattle.acta_table.specs.declared.event.Event.{Event}
+use Rattle.acta_table.specs.declared.event.Event.TheVariants.{Operate}
 use Rattle.acta_table.specs.declared.answer.Status.TheVariants.{Committed, Aborted}
 use Rattle.acta_deps.specs.Statuses.{has_begun, is_decided}
 use Rattle.acta_sets.specs.Operations.{is_held_in}
@@ -11,8 +12,8 @@ use Rattle.acta_machine.specs.Reasons.{refusal_of, IsSo}
 use Rattle.acta_machine.specs.Table.{State, after_all, operations_in, refusal_in, status_in}
 use Rattle.acta_machine.specs.declared.reason.Reason.{Reason}
 use Rattle.acta_machine.specs.declared.reason.Reason.TheVariants.{PartialDelegation, Conflict, EdgesFull, Barred, Clash}
-use Rattle.acta_hope.specs.declared.Hope.{Hope}
-use Rattle.acta_hope.specs.declared.Hope.TheVariants.{Never, OnceBegun, OnceHeld, OnceDecided, OnceCommitted, OnceAborted, Unknown}
+use Rattle.acta_hope.specs.declared.hoping.Hope.{Hope}
+use Rattle.acta_hope.specs.declared.hoping.Hope.TheVariants.{Never, OnceBegun, OnceHeld, OnceDecided, OnceCommitted, OnceAborted, Unknown}
 
 -- no later events let the machine admit it
 abbrev pub IsHopeless : {A : Type 0} → State A → Event A → Type 0
@@ -52,11 +53,16 @@ is_of_edge WeakBegin = true
 is_of_edge Unpayable = true
 is_of_edge _ = false
 
--- the reasons for which nothing may be said
-abbrev pub MayBeUntold : Reason → Type 0
-MayBeUntold (PartialDelegation op) = ⊤
-MayBeUntold (Conflict op) = ⊤
-MayBeUntold EdgesFull = ⊤
-MayBeUntold (Barred barring) = is_of_edge barring.rule ≡ false
-MayBeUntold (Clash clash) = ⊤
-MayBeUntold _ = ⊥
+-- whether it is an operation
+abbrev pub is_operate : {A : Type 0} → Event A → Bool
+is_operate (Operate t ob op) = true
+is_operate _ = false
+
+-- the reasons for which nothing need be known
+abbrev pub MayBeUntold : {A : Type 0} → Event A → Reason → Type 0
+MayBeUntold e (PartialDelegation op) = ⊤
+MayBeUntold e (Conflict op) = ⊤
+MayBeUntold e EdgesFull = is_operate e ≡ true
+MayBeUntold e (Barred barring) = is_of_edge barring.rule ≡ false
+MayBeUntold e (Clash clash) = ⊤
+MayBeUntold e _ = ⊥

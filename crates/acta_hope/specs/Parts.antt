@@ -4,7 +4,6 @@ use Rattle.std.specs.Prelude.{◌≡◌, ◌⊎◌, ◌||◌, not, ◌==◌, nat
 use Rattle.acta_table.specs.declared.answer.Status.{Status}
 use Rattle.acta_table.specs.declared.answer.Status.TheVariants.{InProgress}
 use Rattle.acta_table.specs.declared.event.Event.{Event}
-use Rattle.acta_table.specs.declared.event.Event.TheVariants.{Operate}
 use Rattle.acta_table.specs.declared.event.OpNo.{OpNo}
 use Rattle.acta_table.specs.declared.event.TxnId.{TxnId}
 use Rattle.acta_table.specs.declared.limits.TheConstants.{MOST_EVENTS}
@@ -13,8 +12,9 @@ use Rattle.acta_table.specs.declared.answer.Rule.{Rule}
 use Rattle.acta_table.specs.declared.answer.Rule.TheVariants.{BeginDep, SerialDep, BeginOnCommit, BeginOnAbort, TerminationDep, OwesAbort, OwesCommit, CommitOrder, WeakBegin, Unpayable}
 use Rattle.acta_deps.specs.declared.obstacle.Barring.{Barring}
 use Rattle.acta_deps.specs.Statuses.{has_ended}
-use Rattle.acta_hope.specs.declared.Hope.{Hope}
-use Rattle.acta_hope.specs.declared.Hope.TheVariants.{Never, OnceBegun, OnceHeld, OnceDecided, OnceCommitted, OnceAborted, Unknown}
+use Rattle.acta_hope.specs.Hopes.{is_operate}
+use Rattle.acta_hope.specs.declared.hoping.Hope.{Hope}
+use Rattle.acta_hope.specs.declared.hoping.Hope.TheVariants.{Never, OnceBegun, OnceHeld, OnceDecided, OnceCommitted, OnceAborted, Unknown}
 
 -- it never is where t has ended
 abbrev pub IsOfBegun : TxnId → Status → Hope → Type 0
@@ -69,11 +69,6 @@ IsOfBarring b _ = ⊥
 -- whether no history can have an operation of this number
 abbrev pub is_no_operation : ℕ → Bool
 is_no_operation n = (n == 0) || nat_lt MOST_EVENTS n
-
--- whether it is an operation
-abbrev pub is_operate : {A : Type 0} → Event A → Bool
-is_operate (Operate t ob op) = true
-is_operate _ = false
 
 -- it never is but for an operation
 abbrev pub IsOfEdges : {A : Type 0} → Event A → Hope → Type 0

@@ -1,8 +1,9 @@
 use Rattle.std.proofs.Common.{inl, inr, sym, ap, subst, ◌∙◌}
 use Rattle.acta_table.specs.Fates.{is_open}
 use Rattle.acta_hope.specs.Hopes.{IsWhy, MayBeUntold}
+use Rattle.acta_hope.specs.Parts.{IsOfEdges}
 use Rattle.acta_hope.proofs.Reasons.{IsFinal, of-final, of-acting, of-partner, of-heir, of-responsible, of-ended, of-set, of-no-operation, of-barring, of-edges, told-acting, told-barring, told-partner, told-heir, told-responsible, told-set}
-use Rattle.acta_hope.proofs.hope_of.Goals as goal
+use Rattle.acta_hope.proofs.hoping.hope_of.Goals as goal
 
 pub returns-in-Full-clause-hope : goal.returns-in-Full-clause-hope
 returns-in-Full-clause-hope g c =
@@ -89,8 +90,12 @@ returns-in-EdgesFull-clause-hope g c =
     of-edges c.args.machine.now c.args.event.now c.too_many_edges.result c.too_many_edges.ensures
     (subst (IsWhy c.args.machine.now c.args.event.now) c.in-EdgesFull.is c.requires)
 
+pub returns-in-EdgesFull-clause-told : goal.returns-in-EdgesFull-clause-told
+returns-in-EdgesFull-clause-told g c = λ same.
+    subst (MayBeUntold c.args.event.now) (sym c.in-EdgesFull.is) (subst (IsOfEdges c.args.event.now) same c.too_many_edges.ensures)
+
 pub returns-in-Barred-clause-told : goal.returns-in-Barred-clause-told
 returns-in-Barred-clause-told g c = λ same.
-    subst MayBeUntold (sym c.in-Barred.is)
+    subst (MayBeUntold c.args.event.now) (sym c.in-Barred.is)
     (told-barring c.args.machine.now c.args.event.now c.in-Barred.barring c.barred.result c.barred.ensures
     (subst (IsWhy c.args.machine.now c.args.event.now) c.in-Barred.is c.requires) same)

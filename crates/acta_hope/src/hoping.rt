@@ -1,0 +1,159 @@
+//! What hope there is for a refused event, by the reason for which it is refused.
+
+ghost use Rattle.std.specs.Prelude.{◌≡◌, if◌then◌else◌, option_map, IfOk, IfSome};
+ghost use Rattle.acta_machine.specs.Changes.{summary_of};
+ghost use Rattle.acta_machine.specs.Reasons.{refusal_of, IsSo};
+ghost use Rattle.acta_machine.specs.Table.{refusal_in};
+ghost use Rattle.acta_deps.specs.Statuses.{has_ended};
+ghost use Rattle.acta_hope.specs.Hopes.{Holds, IsWhy, MayBeUntold};
+ghost use Rattle.acta_hope.specs.Parts.{IsOfBarring, IsOfBegun, IsOfEdges, IsOfHeld, is_no_operation};
+
+use acta_machine::{Barring, Handle, Machine, Reason};
+use acta_table::{Event, Fate, MOST_EVENTS, OpNo, Rule, Status, TxnId};
+use std::alloc::AllocError;
+
+/// What hope there is for an event that is refused (ours).
+#[derive(Clone, Copy, PartialEq, Eq, Debug)]
+pub enum Hope {
+    /// No later events let the machine admit it.
+    Never,
+    /// It is admitted only where the transaction has begun.
+    OnceBegun(TxnId),
+    /// It is admitted only where the transaction holds the operation in progress.
+    OnceHeld(TxnId, OpNo),
+    /// It is admitted only where the transaction has committed or aborted.
+    OnceDecided(TxnId),
+    /// It is admitted only where the transaction has committed.
+    OnceCommitted(TxnId),
+    /// It is admitted only where the transaction has aborted.
+    OnceAborted(TxnId),
+    /// Nothing is known.
+    Unknown,
+}
+
+// Where one has to be in progress that stands so.
+fn once_begun(txn: TxnId, status: Status) -> Hope
+    ensures { IsOfBegun txn status result }
+{
+    match status {
+        Status::NotBegun => Hope::OnceBegun(txn),
+        Status::InProgress => Hope::Unknown,
+        Status::Committed | Status::Aborted | Status::Joined => Hope::Never,
+    }
+}
+
+// Where the one that acts has to hold the operation in progress.
+fn once_held<A: Handle>(event: &Event<A>, number: OpNo) -> Hope
+    ensures { IsOfHeld event.now number result }
+{
+    match event.acting() {
+        Some(txn) => Hope::OnceHeld(txn, number),
+        None => Hope::Unknown,
+    }
+}
+
+fn has_ended(status: Status) -> bool
+    ensures { result ≡ has_ended status }
+{
+    !matches!(status, Status::NotBegun | Status::InProgress)
+}
+
+// Never, or this.
+fn never_or(is_over: bool, hope: Hope) -> Hope
+    ensures { result ≡ (if is_over then Hope.Never else hope) }
+{
+    if is_over { Hope::Never } else { hope }
+}
+
+// Where an edge in force bars it.
+fn barred(barring: &Barring) -> Hope
+    ensures { IsOfBarring barring.now result }
+{
+    let i = barring.by.edge.i;
+    let is_over = has_ended(barring.i);
+    let is_late = has_ended(barring.j);
+    match barring.rule {
+        Rule::BeginDep => Hope::OnceBegun(i),
+        Rule::SerialDep => never_or(is_over, Hope::OnceDecided(i)),
+        Rule::TerminationDep => never_or(is_over, Hope::OnceDecided(i)),
+        Rule::BeginOnCommit => never_or(is_over, Hope::OnceCommitted(i)),
+        Rule::BeginOnAbort => never_or(is_over, Hope::OnceAborted(i)),
+        Rule::OwesAbort => never_or(is_over, Hope::Unknown),
+        Rule::OwesCommit => never_or(is_over, Hope::Unknown),
+        Rule::CommitOrder => never_or(is_late, Hope::Unknown),
+        Rule::Unpayable => never_or(is_late, Hope::Unknown),
+        Rule::WeakBegin => Hope::Never,
+        _ => Hope::Unknown,
+    }
+}
+
+// Where more edges would be in force than there may be.
+fn too_many_edges<A: Handle>(event: &Event<A>) -> Hope
+    ensures { IsOfEdges event.now result }
+{
+    match event {
+        Event::Operate(_, _, _) => Hope::Unknown,
+        _ => Hope::Never,
+    }
+}
+
+// Whether no history can have an operation of this number.
+fn is_no_operation(number: OpNo) -> bool
+    ensures { result ≡ is_no_operation number.0 }
+{
+    number.0 == 0 || number.0 as usize > MOST_EVENTS
+}
+
+/// What hope there is for an event that the machine refuses for this reason.
+pub fn hope_of<A: Handle>(machine: &Machine<A>, event: &Event<A>, reason: &Reason) -> Hope
+    requires { IsWhy machine.now event.now reason.now }
+    ensures hope { Holds machine.now event.now result }
+    ensures told { result ≡ Hope.Unknown → MayBeUntold event.now reason.now }
+{
+    match *reason {
+        Reason::Full
+        | Reason::Form(_)
+        | Reason::AlreadyBegun { .. }
+        | Reason::NotInModel(_)
+        | Reason::FormTooLate { .. } => Hope::Never,
+        Reason::NotInProgress { txn, status } => once_begun(txn, status),
+        Reason::PartnerNotInProgress { txn, status } => once_begun(txn, status),
+        Reason::NoHeir { parent, status } => once_begun(parent, status),
+        Reason::NotResponsible(op) => {
+            match op.held.fate {
+                Fate::InProgress => once_held(event, op.number),
+                Fate::Committed | Fate::Aborted => Hope::Never,
+            }
+        }
+        Reason::BadSet { number, .. } => {
+            if is_no_operation(number) {
+                Hope::Never
+            } else {
+                once_held(event, number)
+            }
+        }
+        Reason::Barred(barring) => barred(&barring),
+        Reason::EdgesFull => too_many_edges(event),
+        Reason::PartialDelegation(_) | Reason::Conflict(_) | Reason::Clash(_) => Hope::Unknown,
+    }
+}
+
+/// Why the machine would refuse the event if it came next, and what hope there is then; `None` if it would be admitted.
+/// Returns `Err` if memory runs out.
+pub fn why_and_hope<A: Handle>(
+    machine: &Machine<A>,
+    event: &Event<A>,
+) -> Result<Option<(Reason, Hope)>, AllocError>
+    ensures refusal { IfOk result (λ told. option_map (λ pair. refusal_of pair.0) told ≡ refusal_in machine.now event.now) }
+    ensures so { IfOk result (λ told. IfSome told (λ pair. IsSo machine.now.model (summary_of machine.now.model machine.now.kept) event.now pair.0)) }
+    ensures hope { IfOk result (λ told. IfSome told (λ pair. Holds machine.now event.now pair.1)) }
+    ensures told { IfOk result (λ told. IfSome told (λ pair. pair.1 ≡ Hope.Unknown → MayBeUntold event.now pair.0)) }
+{
+    match machine.why(event)? {
+        Some(reason) => {
+            let hope = hope_of(machine, event, &reason);
+            Ok(Some((reason, hope)))
+        }
+        None => Ok(None),
+    }
+}
