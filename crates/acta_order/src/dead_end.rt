@@ -1,4 +1,4 @@
-ghost use Rattle.std.specs.Prelude.{◌≡◌, ◌<◌, ◌≤◌, ◌+◌, ℕ, true, [], get_or, length, All, IfOk, IfSome, IsSome, IsTrue};
+ghost use Rattle.std.specs.Prelude.{◌≡◌, ◌<◌, ◌≤◌, ◌+◌, ℕ, true, [], get_or, length, All, IfOk, IfSome, IsSome, Decides};
 ghost use Rattle.std.specs.List.{list_all};
 ghost use Rattle.acta_table.specs.declared.limits.TheConstants.{MOST_EVENTS};
 ghost use Rattle.acta_values.specs.KeptValues.{kinds_of};
@@ -41,7 +41,7 @@ pub struct DeadEnd<A: Allocator> {
 // Whether a group fits on the replay. It always does, since a history has no more events than a replay may have; this is
 // not proved.
 fn has_room<A: Allocator + Copy>(replay: &Replay<A>, group: &[Item]) -> bool
-    ensures { IsTrue result → length replay.now.done + length group.now ≤ MOST_EVENTS }
+    ensures { Decides result (length replay.now.done + length group.now ≤ MOST_EVENTS) }
 {
     group.len() <= MOST_EVENTS - replay.len()
 }

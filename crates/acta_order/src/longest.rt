@@ -4,8 +4,8 @@ use std::alloc::{AllocError, Allocator};
 // How many paths are kept.
 const MOST_PATHS: usize = 3;
 
-// The longest paths at which the search turned back, no two of the same positions. Nothing is promised of them: what is
-// answered about such a path is found out by a replay.
+// The longest paths at which the search turned back, no two of the same positions. Nothing is promised of them: a replay
+// finds out what holds at each.
 #[derive(Drop)]
 pub(crate) struct Longest<A: Allocator> {
     len: usize,
@@ -47,8 +47,8 @@ impl<A: Allocator + Copy> Longest<A> {
         false
     }
 
-    /// Keeps the path if the search turns back at it, and no longer one is kept. It has to be cheap: a search may turn back
-    /// a million times.
+    /// Keeps the path if the search turns back at it, and no longer one is kept. This has to be cheap: a search may turn
+    /// back millions of times.
     pub(crate) fn note(&mut self, path: &Path<A>, turns_back: bool) -> Result<(), AllocError> {
         let len = path.count();
         if !turns_back || len < self.len {

@@ -1,10 +1,10 @@
-ghost use Rattle.std.specs.Prelude.{◌≡◌, ◌<◌, ◌≤◌, ℕ, true, false, [], length, map, replicate, get_or, option_map, IfErr, IfOk, MatchOption};
+ghost use Rattle.std.specs.Prelude.{◌≡◌, ◌<◌, ◌≤◌, true, false, [], length, replicate, get_or, option_map, IfErr, IfOk, MatchOption};
 ghost use Rattle.std.specs.List.{list_all};
-ghost use Rattle.acta_axioms.specs.Serial.{committed_by, commit_order};
+ghost use Rattle.acta_axioms.specs.Serial.{committed_by};
 ghost use Rattle.acta_values.specs.KeptValues.{kinds_of};
-ghost use Rattle.acta_order.specs.Commits.{AreCommits};
 ghost use Rattle.acta_order.specs.Answers.{IsAnswer};
 ghost use Rattle.acta_order.specs.Blocks.{HasUnsound, HasUnsoundGroup};
+ghost use Rattle.acta_order.specs.Commits.{AreCommits};
 ghost use Rattle.acta_order.specs.Orders.{IsFault};
 ghost use Rattle.acta_order.specs.Search.{AreSound, is_sound};
 
@@ -119,9 +119,9 @@ fn first_unsound<A: Allocator + Copy>(
 /// those that it held last. An operation can't be replayed if its object doesn't exist or has another kind, or if no
 /// return is recorded; then no order is serial.
 ///
-/// Where no order is serial, the answer says why: by an operation that can't be replayed, or by at most three of the longest
-/// fronts that the search came to, with a block for each transaction that could be placed next. That there is such a front
-/// is not promised.
+/// Where no order is serial, the answer says why: by an operation that can't be replayed, or by dead ends. A dead end is
+/// one of the longest fronts that the search came to, with a block for each transaction that could be placed next. There
+/// are at most three, and no promise that there is one.
 ///
 /// The answer is the order of the commits, if that is serial and allowed by `orders`. `TooLong` comes only from a list of
 /// more than `MOST_EVENTS` events. `TooMany` comes only if there are more than `most_states` states: a state is a list of

@@ -1,15 +1,10 @@
-ghost use Rattle.std.specs.Prelude.{◌≡◌, ◌+◌, ◌<◌, ◌≤◌, ◌++◌, ◌-◌, ◌∷◌, Decides, [], true, false, List, length, map, take, slice_get, option_map, ℕ, IfOk, OnOk, OnErr};
-ghost use Rattle.std.specs.List.{HoldsAt, list_all};
-ghost use Rattle.acta_table.specs.declared.event.TxnId.{TxnId};
+ghost use Rattle.std.specs.Prelude.{◌≡◌, ◌+◌, ◌<◌, ◌≤◌, ◌++◌, ◌-◌, ◌∷◌, Decides, [], true, false, length, map, take, option_map, ℕ, IfOk, OnOk};
+ghost use Rattle.std.specs.List.{list_all};
 ghost use Rattle.acta_table.specs.declared.limits.TheConstants.{MOST_EVENTS};
-ghost use Rattle.acta_table.specs.declared.model.Kind.{Kind};
 ghost use Rattle.acta_objects.specs.Objects.{returned};
-ghost use Rattle.acta_sets.specs.declared.held_op.HeldOp.{HeldOp};
-ghost use Rattle.acta_sets.specs.Operations.{added};
-ghost use Rattle.acta_values.specs.KeptValues.{AreAfter, Takes, CameLast, IsUndoneAt, kinds_of};
-ghost use Rattle.acta_values.specs.LiveValues.{Counts};
-ghost use Rattle.acta_order.specs.Memos.{values_in};
+ghost use Rattle.acta_values.specs.KeptValues.{kinds_of};
 ghost use Rattle.acta_order.specs.Blocks.{IsPlayed};
+ghost use Rattle.acta_order.specs.Memos.{values_in};
 ghost use Rattle.acta_order.specs.Search.{held, values_at, values_of, is_sound};
 
 use crate::item::Item;
@@ -40,8 +35,8 @@ impl<A: Allocator> std::marker::Model for Replay<A> {
     ghost invariant = { λ b. AreAfter b.kinds.items (map held b.done.items) b.values };
 }
 
-// The first operation of a group that would return something else than the history records: its position in the group, and
-// what it would return.
+// The first operation of a group that would return something else than the history records: its position in the group,
+// and what it would return.
 #[derive(Clone, Copy)]
 pub(crate) struct Difference {
     pub(crate) place: usize,

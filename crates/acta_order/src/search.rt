@@ -1,5 +1,4 @@
-ghost use Rattle.std.specs.Prelude.{◌≡◌, ◌<◌, ◌≤◌, ℕ, true, false, [], length, map, get_or, option_map, min, max, IfErr, IfOk, IfSome, OnOk};
-ghost use Rattle.std.specs.List.{list_all};
+ghost use Rattle.std.specs.Prelude.{◌≡◌, ◌<◌, ℕ, true, false, [], length, map, get_or, option_map, min, max, IfErr, IfOk, IfSome, OnOk};
 ghost use Rattle.acta_values.specs.KeptValues.{kinds_of};
 ghost use Rattle.acta_order.specs.Earlier.{limit};
 ghost use Rattle.acta_order.specs.Memos.{IsKnown, IsKept, IsFoundOrOver};
