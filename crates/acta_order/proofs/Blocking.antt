@@ -1,31 +1,19 @@
 -- Fronts that are replayed, and the blocks after them.
-use Rattle.std.proofs.Common.{arith, ◌≡◌, ℕ, ◌+◌, ◌<◌, ◌==◌, Bool, true, false, ◌||◌, List, [], ◌∷◌, ◌++◌, length, get_or, map, fold, Option, refl, sym, ap, ◌∙◌, subst, inl, inr}
+use Rattle.std.proofs.Common.{arith, ◌≡◌, ℕ, ◌+◌, ◌<◌, ◌==◌, Bool, true, false, ◌||◌, List, [], ◌∷◌, ◌++◌, length, map, fold, refl, sym, ap, ◌∙◌, subst, inl, inr}
 use Rattle.std.specs.List.{flat_map}
-use Rattle.std.proofs.lemmas.Bool.{true≢false, cases_lt, or_left, or_right, eqb-true, eq-eqb}
+use Rattle.std.proofs.lemmas.Bool.{cases_lt, or_left, or_right, eqb-true, eq-eqb}
 use Rattle.std.proofs.lemmas.List.{map-append}
-use Rattle.std.proofs.lemmas.Option.{get_or_from_slice_get}
-use Rattle.acta_table.specs.declared.event.Ret.{Ret}
 use Rattle.acta_table.specs.declared.model.Kind.{Kind}
 use Rattle.acta_axioms.specs.Serial.{Values}
 use Rattle.acta_order.specs.declared.dead_end.Block.{Block}
 use Rattle.acta_order.specs.declared.item.Item.{Item}
-use Rattle.acta_order.specs.declared.replay.Difference.{Difference}
-use Rattle.acta_order.specs.Blocks.{HasDifference, IsBlocked, IsFirstDifference, IsFree, IsPlaced, IsReplayed}
+use Rattle.acta_order.specs.Blocks.{IsFree, IsPlaced, IsReplayed}
 use Rattle.acta_order.specs.Faults.{IsReached}
 use Rattle.acta_order.specs.Orders.{is_in, txns_of}
 use Rattle.acta_order.specs.Paths.{Steps}
 use Rattle.acta_order.specs.Search.{Replaying, AreSound, after, at, held, placed, Plays, values_at, values_of}
 use Rattle.acta_order.proofs.Placed.{AreWithin, is_in-append}
 use Rattle.acta_order.proofs.Playing.{flat-one, plays-both, sound-placed, values-fold}
-
--- at first nothing is placed
-pub replayed-first : (A : Type 0) (kinds : List Kind) (g : ℕ → List Item) (lim : ℕ → ℕ) (ts : List ℕ) (path : Steps) (replay : Replaying) → path.size ≡ length ts → path.stack ≡ [] → replay.done ≡ [] → replay.kinds ≡ kinds → IsReplayed A kinds g lim ts path replay
-replayed-first A kinds g lim ts path replay size none idle kinds_are = record {
-  size = size;
-  kinds_are = kinds_are;
-  done = idle ∙ sym (ap (λ (stack : List ℕ). flat_map g (placed ts stack)) none);
-  reached = subst (IsReached (values_at {A = A} kinds []) g lim ts) (sym none) (record { distinct = tt; within = λ j is. absurd (true≢false (sym is)); free = tt; plays = tt });
-}
 
 -- the values on the replay are those after what is placed
 pub replayed-values : (A : Type 0) (kinds : List Kind) (g : ℕ → List Item) (lim : ℕ → ℕ) (ts : List ℕ) (path : Steps) (replay : Replaying) → IsReplayed A kinds g lim ts path replay → AreSound kinds g ts → fold after (values_at {A = A} kinds []) (flat_map g (placed ts path.stack)) ≡ values_of replay
@@ -83,16 +71,3 @@ blocked-same lim ts stack low c blocks before not j below free =
       | inl lt ↦ before j lt free
       | inr ge ↦ absurd (not (subst (IsFree lim ts stack low) (let same : j ≡ c = omega (arith, ge, below) in same) free))
     ]
-
--- the block of a group that differs
-pub blocked-of : {A : Type 0} (v : Values A) (group : List Item) (t : ℕ) (d : Difference) (x : Item) (b : Block) → HasDifference v group d → x ≡ get_or group d.place x → b.txn.0 ≡ t → b.op ≡ x.number → b.returned ≡ x.ret → b.would ≡ d.would → IsBlocked v group t b
-blocked-of {A} v group t d x b h there txn op returned would =
-    let same : h.item ≡ x = sym (there ∙ get_or_from_slice_get group d.place h.item x h.first.there) in
-    record {
-      txn = txn;
-      place = d.place;
-      item = x;
-      first = subst (λ (w : Option Ret). IsFirstDifference v group d.place x w) (sym would) (subst (λ (y : Item). IsFirstDifference v group d.place y d.would) same h.first);
-      op = op;
-      returned = returned;
-    }
