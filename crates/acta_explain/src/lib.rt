@@ -30,13 +30,15 @@ mod words;
 
 pub use args::{Asked, called, flag, is_asked, matched, model_arg, option, parse, usage, with_arg};
 pub use chronicle::{Chronicle, Life, Row};
+pub use faults::{Stop, put_stop};
 pub use hints::nearest;
 pub use images::{Field, field_at};
 pub use layout::{digits, put_barred};
-pub use phrases::{name_text, put_lacking, put_return, put_standing};
+pub use listing::{first_listed, put_more};
+pub use phrases::{name_text, put_lacking, put_line, put_return, put_standing};
 pub use prose::Prose;
 pub use reasons::Refused;
-pub use report::{explain, explain_tool, write_words};
+pub use report::{explain, explain_tool, put_model_name, write_words};
 pub use spoken::{Spoken, spoken_in};
 pub use tables::Table;
 pub use telling::{MOST_TOLD, Telling};

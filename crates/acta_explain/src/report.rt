@@ -22,6 +22,14 @@ use acta_tool::{
 use std::alloc::{AllocError, Global};
 use std::thread::Threads;
 
+/// Adds how a command line names a model.
+pub fn put_model_name<A: Handle>(prose: Prose<A>, name: ModelName<'_>) -> Prose<A> {
+    match name {
+        ModelName::Standard(standard) => put!(prose; "@", standard.name()),
+        ModelName::Path(path) => prose.put(path),
+    }
+}
+
 // What is wrong with bytes that mean no model, in lines.
 fn fault_text<A: Handle>(
     alloc: A,
@@ -34,10 +42,7 @@ fn fault_text<A: Handle>(
         NoModel::Text(fault) => put!(prose; fault.code.name(), ", at "),
         NoModel::Image(fault) => put!(prose; fault.name(), " in "),
     };
-    let prose = match name {
-        ModelName::Standard(standard) => put!(prose; "@", standard.name()),
-        ModelName::Path(path) => prose.put(path),
-    };
+    let prose = put_model_name(prose, name);
     let prose = match fault {
         NoModel::Text(fault) => put_text_fault(prose, alloc, bytes, fault),
         NoModel::Image(fault) => put_image_fault(prose, bytes, fault),

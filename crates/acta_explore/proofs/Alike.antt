@@ -133,7 +133,7 @@ txn_status-decides a b =
 kind-decides : (k l : Dep) → Decides (code_of k == code_of l) (k ≡ l)
 kind-decides k l = (λ h. same_true dep_type (search rules) k l ((λ i. tagged k i == tagged l i) ∙ h), λ e. (Decides-eqb (code_of k) (code_of l)).1 (ap code_of e))
 
-debt-decides : (a b : Debt) → Decides (debt_eq a b) (a ≡ b)
+pub debt-decides : (a b : Debt) → Decides (debt_eq a b) (a ≡ b)
 debt-decides a b =
     Decides-like (debt_eq a b) (λ h. λ i. record { kind = h.0 i; txn = record { 0 = h.1.0 i }; on = record { 0 = h.1.1 i } })
     (λ e. (ap (λ (d : Debt). d.kind) e, (ap (λ (d : Debt). d.txn.0) e, ap (λ (d : Debt). d.on.0) e)))

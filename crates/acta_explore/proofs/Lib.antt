@@ -1,4 +1,4 @@
-mod Alike
+pub mod Alike
 mod Anys
 mod Circling
 mod Comparing

@@ -16,7 +16,7 @@ mod watch;
 
 pub use circle::deadlock;
 pub use debt::Debt;
-pub use outcome::{Outcome, TxnStatus, Value, Wait};
+pub use outcome::{Outcome, TxnStatus, Value, Wait, debts};
 pub use plan::Plan;
 pub use point::{Done, Point, Step, Turn};
 pub use search::{ExploreError, Explored, explore};

@@ -231,8 +231,8 @@ fn debt_set<A: Allocator + Copy>(
     Ok(debts)
 }
 
-// What is owed, in order.
-fn debts<A: Handle>(alloc: A, machine: &Machine<A>) -> Result<Vec<Debt, A>, AllocError>
+/// What is owed, in order, each debt once.
+pub fn debts<A: Handle>(alloc: A, machine: &Machine<A>) -> Result<Vec<Debt, A>, AllocError>
     ensures { IfOk result (λ debts. debts.items ≡ debts_of machine.now) }
 {
     let owed = machine.owed()?;

@@ -28,8 +28,8 @@ pub struct Asked<'a> {
     pub model: ModelName<'a>,
 }
 
-// How many points may be searched if the command line does not say.
-const MOST_POINTS: u32 = 1_000_000;
+/// How many points may be searched if the command line does not say.
+pub const MOST_POINTS: u32 = 1_000_000;
 
 const CONDITIONS: &str =
     "A CONDITION is a list of tests with `and` between them, each with an optional `not` before it:
@@ -42,6 +42,12 @@ const CONDITIONS: &str =
 fn number<'a>(alloc: Global, id: &'a str, value: &'a str, help: &'a str) -> Arg<'a> {
     let numbers = ValueParser::Unsigned(1, u64::from(u32::MAX));
     option(alloc, id, value, help).value_parser(numbers)
+}
+
+/// The option that bounds a search.
+pub fn most_option<'a>(alloc: Global) -> Arg<'a> {
+    let help = "Gives up where more than N points would have to be searched";
+    number(alloc, "most", "N", help).default_value("1000000")
 }
 
 // The command line that is taken.
@@ -63,9 +69,7 @@ fn surface<'a>(alloc: Global, name: &str) -> Result<Command<'a>, AllocError> {
     let command = with_arg(command, end);
     let help = "Keeps only the ends for which the condition holds";
     let command = with_arg(command, option(alloc, "where", "CONDITION", help));
-    let help = "Gives up where more than N points would have to be searched";
-    let most = number(alloc, "most", "N", help).default_value("1000000");
-    with_arg(command, most)
+    with_arg(command, most_option(alloc))
 }
 
 // The form that the matches ask for.

@@ -155,8 +155,8 @@ fn put_open<A: Handle>(
     put_debts(prose, &run, outcome.debts.as_slice())
 }
 
-// Adds the end at this place, from 0.
-fn put_end<A: Handle>(
+/// Adds the end at this place, from 0.
+pub fn put_end<A: Handle>(
     prose: Prose<A>,
     programs: &Programs<'_, A>,
     explored: &Explored<A>,
@@ -178,8 +178,8 @@ fn put_end<A: Handle>(
         .put("\n")
 }
 
-// Adds how many ends there are.
-fn put_count<A: Handle>(prose: Prose<A>, count: usize) -> Prose<A> {
+/// Adds how many ends there are.
+pub fn put_count<A: Handle>(prose: Prose<A>, count: usize) -> Prose<A> {
     match count {
         0 => prose.put("no end"),
         1 => prose.put("1 end"),
@@ -233,7 +233,7 @@ pub(crate) fn explain_ends<A: Handle>(
 }
 
 /// That the search was given up after so many points and ends, in words.
-pub(crate) fn explain_incomplete<A: Handle>(
+pub fn explain_incomplete<A: Handle>(
     alloc: A,
     most: u32,
     points: u64,

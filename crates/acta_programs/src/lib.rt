@@ -14,5 +14,8 @@ mod report;
 mod totals;
 mod waiting;
 
-pub use args::{Asked, Form, parse};
-pub use report::{explore_tool, explored};
+pub use args::{Asked, Form, MOST_POINTS, most_option, parse};
+pub use ends::{explain_incomplete, put_count, put_end};
+pub use programs::Programs;
+pub use report::{MOST_SEATS, explore_tool, explored};
+pub use waiting::put_debts;

@@ -10,15 +10,15 @@ use acta_words::words_of;
 
 /// Programs on a model.
 #[derive(Drop)]
-pub(crate) struct Programs<'a, A: Handle> {
-    pub(crate) alloc: A,
-    pub(crate) model: &'a Model<A>,
-    pub(crate) lines: &'a [ProgramLine<A>],
+pub struct Programs<'a, A: Handle> {
+    pub alloc: A,
+    pub model: &'a Model<A>,
+    pub lines: &'a [ProgramLine<A>],
     /// The number of each line in the input.
-    pub(crate) numbers: &'a [usize],
+    pub numbers: &'a [usize],
     /// Each line as the input has it.
-    pub(crate) texts: &'a [Spoken<'a>],
-    pub(crate) plan: &'a Plan<'a, A>,
+    pub texts: &'a [Spoken<'a>],
+    pub plan: &'a Plan<'a, A>,
 }
 
 impl<'a, A: Handle> Programs<'a, A> {

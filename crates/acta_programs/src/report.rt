@@ -25,8 +25,8 @@ use acta_tool::{
 };
 use std::alloc::AllocError;
 
-// The seats of programs are numbered from 1 to this.
-const MOST_SEATS: u8 = 16;
+/// The seats of programs are numbered from 1 to this.
+pub const MOST_SEATS: u8 = 16;
 
 // The ends in words.
 fn explain_explored<A: Handle>(

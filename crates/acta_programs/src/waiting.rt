@@ -229,11 +229,7 @@ fn put_debt<A: Handle>(prose: Prose<A>, run: &Telling<A>, debt: &Debt) -> Prose<
 }
 
 /// Adds what is owed.
-pub(crate) fn put_debts<A: Handle>(
-    mut prose: Prose<A>,
-    run: &Telling<A>,
-    debts: &[Debt],
-) -> Prose<A> {
+pub fn put_debts<A: Handle>(mut prose: Prose<A>, run: &Telling<A>, debts: &[Debt]) -> Prose<A> {
     for debt in debts {
         prose = put_debt(prose, run, debt);
     }
