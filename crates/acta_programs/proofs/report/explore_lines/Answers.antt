@@ -17,7 +17,7 @@ refused true fault out may h = h
 pub returns-in-Err-Fault : goal.returns-in-Err-Fault
 returns-in-Err-Fault g c =
     IfOk-weaker c.explain_condition.result _ _
-    (λ report h. inr (refused (is_some c.args.asked.condition) c.in-Err-Fault.fault (output_of report) c.in-Err-Fault.ensures.err h))
+    (λ report h. inr (refused (is_some c.args.asked.condition) c.in-Err-Fault.fault (output_of report) (subst (MayFail (is_some c.args.asked.condition)) c.in-Err-Fault.field-0-is c.in-Err-Fault.ensures.err) h))
     c.explain_condition.ensures
 
 pub returns : goal.returns
