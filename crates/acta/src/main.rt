@@ -5,10 +5,8 @@
 //! refused, 2 where the words are wrong, and 3 where a read, a write or the memory failed.
 #![tactic(auto)]
 
-mod hints;
 mod progress;
 
-use crate::hints::{Noted, Scanned, hint};
 use crate::progress::Progress;
 use acta_draw::{Drawing, Screen, draw_tool};
 use acta_explain::{explain_tool, is_asked, write_words};
@@ -56,25 +54,9 @@ fn model_bytes<R: Files + AllocGlobal>(rt: &R, name: ModelName<'_>) -> Result<Ve
     }
 }
 
-// Judges the standard input, and suggests on the standard error what to do next.
-fn judge_hinting<R: Eprint + Input + Print + AllocGlobal + Threads + Sync>(
+// Runs the tool over the standard input and output.
+fn serve_run<R: Files + Input + Print + AllocGlobal + Threads + Wait + Sync>(
     rt: &R,
-    args: &Args<'_>,
-    model: &[u8],
-) -> Outcome {
-    let mut input = Scanned::new(Metered::new(rt.reader()));
-    let mut output = Noted::new(Watched::new(io::writer(rt)));
-    let outcome = run_tool(rt, rt.alloc(), args, model, &mut input, &mut output);
-    if let Some(text) = hint(output.faults, input.has_return) {
-        let _ = eprintln!(rt; "{text}");
-    }
-    outcome
-}
-
-// Runs the tool over the standard input and output; the standard error may be a terminal.
-fn serve_run<R: Eprint + Files + Input + Print + AllocGlobal + Threads + Wait + Sync>(
-    rt: &R,
-    is_error_terminal: bool,
     args: &Args<'_>,
 ) -> Outcome {
     let model = match model_bytes(rt, args.model) {
@@ -82,9 +64,6 @@ fn serve_run<R: Eprint + Files + Input + Print + AllocGlobal + Threads + Wait + 
         Err(reason) => return Outcome::Unread(reason),
     };
     let model = model.as_slice();
-    if is_error_terminal && args.command == Command::Judge {
-        return judge_hinting(rt, args, model);
-    }
     let mut input = Metered::new(rt.reader());
     let mut output = Watched::new(io::writer(rt));
     match args.command {
@@ -219,7 +198,7 @@ fn serve<R: Clock + Env + Eprint + Files + Input + Print + AllocGlobal + Threads
         return serve_serialize(rt, words);
     }
     let args = parse(rt.alloc(), words)?;
-    Ok(serve_run(rt, is_error_terminal, &args))
+    Ok(serve_run(rt, &args))
 }
 
 // Lists the standard models.
