@@ -7,6 +7,8 @@
 
 mod progress;
 
+ghost use Rattle.std.specs.Prelude.{◌≤◌, IfOk, vec_len};
+
 use crate::progress::Progress;
 use acta_draw::{Drawing, Screen, draw_tool};
 use acta_explain::{explain_tool, is_asked, write_words};
@@ -38,6 +40,16 @@ fn words<R: Env + AllocGlobal>(rt: &R) -> Result<Vec<String>, UsageFault> {
     }
 }
 
+// The bytes of a model file, at most 16,777,216.
+fn file_bytes<R: Files + AllocGlobal>(rt: &R, path: &str) -> Result<Vec<u8>, ReadFault>
+    ensures { IfOk result (λ bytes. vec_len bytes ≤ 16777216) }
+{
+    match fs::open(rt, path) {
+        Ok(file) => read_all(rt.alloc(), &mut Metered::new(file)),
+        Err(_) => Err(ReadFault::Device),
+    }
+}
+
 // The bytes of the model of this name: of a file, or the text of a standard model.
 fn model_bytes<R: Files + AllocGlobal>(rt: &R, name: ModelName<'_>) -> Result<Vec<u8>, ReadFault> {
     match name {
@@ -47,10 +59,7 @@ fn model_bytes<R: Files + AllocGlobal>(rt: &R, name: ModelName<'_>) -> Result<Ve
                 Err(_) => Err(ReadFault::Memory),
             }
         }
-        ModelName::Path(path) => match fs::open(rt, path) {
-            Ok(file) => read_all(rt.alloc(), &mut Metered::new(file)),
-            Err(_) => Err(ReadFault::Device),
-        },
+        ModelName::Path(path) => file_bytes(rt, path),
     }
 }
 
