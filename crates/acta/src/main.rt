@@ -7,17 +7,19 @@
 
 mod progress;
 
-ghost use Rattle.std.specs.Prelude.{◌≤◌, IfOk, vec_len};
+ghost use Rattle.std.specs.Prelude.{◌≡◌, ◌≤◌, false, IfOk, vec_len};
+ghost use Rattle.acta_tool.specs.Outcome.{is_drive};
 
 use crate::progress::Progress;
+use acta_compare::compare_tool;
 use acta_draw::{Drawing, Screen, draw_tool};
-use acta_explain::{explain_tool, is_asked, write_words};
+use acta_explain::{Advice, advice, explain_tool, is_asked, write_words};
 use acta_models::Standard;
 use acta_programs::explore_tool;
 use acta_serialize::serialize_tool;
 use acta_tool::{
     Args, Command, Metered, ModelName, Outcome, ReadFault, UsageFault, Watched, drive_tool,
-    exit_status, parse, read_all, run_tool,
+    exit_status, parse, read_all, read_within, run_tool,
 };
 use std::alloc::AllocError;
 use std::env::Env;
@@ -63,9 +65,60 @@ fn model_bytes<R: Files + AllocGlobal>(rt: &R, name: ModelName<'_>) -> Result<Ve
     }
 }
 
-// Runs the tool over the standard input and output.
-fn serve_run<R: Files + Input + Print + AllocGlobal + Threads + Wait + Sync>(
+// Says what a verdict suggests.
+fn suggest<R: Eprint>(rt: &R, advice: Advice) {
+    let _ = match advice {
+        Advice::Serialize => {
+            eprintln!(rt;
+                "hint: each fault is a wrong return or a conflict; `serialize` finds out whether there is a serial order"
+            )
+        }
+        Advice::SayReturns => {
+            eprintln!(rt;
+                "hint: no line has a return; kept lines have one, as in `do 1 x read = 0`"
+            )
+        }
+    };
+}
+
+// Judges the lines of the standard input, and says on the standard error what the verdict suggests.
+fn judge_told<R: Eprint + Input + Print + AllocGlobal + Threads + Sync>(
     rt: &R,
+    args: &Args<'_>,
+    model: &[u8],
+) -> Outcome
+    requires { is_drive args.now.command ≡ false }
+{
+    let bytes = match read_within(
+        rt.alloc(),
+        args.command,
+        model,
+        &mut Metered::new(rt.reader()),
+    ) {
+        Ok(bytes) => bytes,
+        Err(reason) => return Outcome::Unread(reason),
+    };
+    let input = bytes.as_slice();
+    let outcome = run_tool(
+        rt,
+        rt.alloc(),
+        args,
+        model,
+        &mut Metered::new(input),
+        &mut Watched::new(io::writer(rt)),
+    );
+    if matches!(outcome, Outcome::Done) {
+        if let Ok(Some(advice)) = advice(rt, rt.alloc(), model, input) {
+            suggest(rt, advice);
+        }
+    }
+    outcome
+}
+
+// Runs the tool over the standard input and output; the standard error may be a terminal.
+fn serve_run<R: Eprint + Files + Input + Print + AllocGlobal + Threads + Wait + Sync>(
+    rt: &R,
+    is_terminal: bool,
     args: &Args<'_>,
 ) -> Outcome {
     let model = match model_bytes(rt, args.model) {
@@ -73,6 +126,9 @@ fn serve_run<R: Files + Input + Print + AllocGlobal + Threads + Wait + Sync>(
         Err(reason) => return Outcome::Unread(reason),
     };
     let model = model.as_slice();
+    if is_terminal && matches!(args.command, Command::Judge) {
+        return judge_told(rt, args, model);
+    }
     let mut input = Metered::new(rt.reader());
     let mut output = Watched::new(io::writer(rt));
     match args.command {
@@ -167,6 +223,32 @@ fn serve_explore<R: Clock + Eprint + Files + Input + Print + AllocGlobal>(
     ))
 }
 
+// Compares two models on the standard input; the standard error may be a terminal.
+fn serve_compare<R: Clock + Eprint + Files + Input + Print + AllocGlobal>(
+    rt: &R,
+    is_terminal: bool,
+    words: &[String],
+) -> Result<Outcome, UsageFault> {
+    let asked = acta_compare::parse(rt.alloc(), words)?;
+    let model = match model_bytes(rt, asked.model) {
+        Ok(model) => model,
+        Err(reason) => return Ok(Outcome::Unread(reason)),
+    };
+    let other = match model_bytes(rt, asked.other) {
+        Ok(other) => other,
+        Err(reason) => return Ok(Outcome::Unread(reason)),
+    };
+    Ok(compare_tool(
+        rt.alloc(),
+        asked,
+        model.as_slice(),
+        other.as_slice(),
+        &mut Metered::new(rt.reader()),
+        &mut Watched::new(io::writer(rt)),
+        &mut Progress::new(rt, is_terminal),
+    ))
+}
+
 // Finds a serial order of the kept lines of the standard input.
 fn serve_serialize<R: Files + Input + Print + AllocGlobal>(
     rt: &R,
@@ -203,11 +285,14 @@ fn serve<R: Clock + Env + Eprint + Files + Input + Print + AllocGlobal + Threads
     if is_asked(words, "explore") {
         return serve_explore(rt, is_error_terminal, words);
     }
+    if is_asked(words, "compare") {
+        return serve_compare(rt, is_error_terminal, words);
+    }
     if is_asked(words, "serialize") {
         return serve_serialize(rt, words);
     }
     let args = parse(rt.alloc(), words)?;
-    Ok(serve_run(rt, &args))
+    Ok(serve_run(rt, is_error_terminal, &args))
 }
 
 // Lists the standard models.

@@ -56,6 +56,11 @@ impl Columns {
         }
         columns
     }
+
+    /// How far in the lines are that stand below a row.
+    pub fn indent(self) -> usize {
+        self.number.saturating_add(4)
+    }
 }
 
 // Adds a text, and spaces up to this width, and two more.
@@ -87,8 +92,7 @@ pub fn put_row<A: Allocator>(prose: Prose<A>, columns: Columns, row: &Row<A>) ->
     } else {
         put_cell(prose, row.answer.as_str(), columns.answer).put(row.formed.as_str())
     };
-    let indent = columns.number.saturating_add(4);
-    put_barred(prose.put("\n"), indent, row.reason.as_str())
+    put_barred(prose.put("\n"), columns.indent(), row.reason.as_str())
 }
 
 /// Adds a debt below the events. By what it is owed comes next.

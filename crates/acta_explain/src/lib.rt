@@ -7,8 +7,11 @@
 //! machine and of the judge, and is put into sentences.
 #![tactic(auto)]
 
+mod advice;
 mod args;
 mod chronicle;
+mod deadlocks;
+mod debts;
 mod faults;
 mod hints;
 mod images;
@@ -28,8 +31,10 @@ mod telling;
 mod texts;
 mod words;
 
+pub use advice::{Advice, advice};
 pub use args::{Asked, called, flag, is_asked, matched, model_arg, option, parse, usage, with_arg};
 pub use chronicle::{Chronicle, Life, Row};
+pub use debts::put_prospect;
 pub use faults::{Stop, put_stop};
 pub use hints::nearest;
 pub use images::{Field, field_at};

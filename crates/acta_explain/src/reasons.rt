@@ -10,11 +10,11 @@ use crate::phrases::{
 };
 use crate::prose::Prose;
 use crate::put;
-use acta_hope::Hope;
+use acta_hope::{Hope, Release, endless_wait, heir, lets_go, operation_at};
 use acta_machine::{Barring, Clash, FormFault, Handle, Lack, Machine, NumberedOp, Reason};
 use acta_table::{
-    AtCommit, Class, ClassId, Dep, Edge, Event, EventKind, Fate, Missing, Model, ObjId, Op, OpNo,
-    Rule, Scope, Status, TxnId,
+    ClassId, Dep, Edge, Event, EventKind, Fate, Missing, Model, ObjId, Op, OpNo, Rule, Status,
+    TxnId,
 };
 
 /// An event that a machine with this model refuses, and what was told of its run so far.
@@ -84,22 +84,23 @@ fn cause_noun(kind: Dep) -> &'static str {
     }
 }
 
-// Adds what hope there is, as a line of its own; nothing where nothing is known.
-fn put_hope<A: Handle>(prose: Prose<A>, hope: Hope) -> Prose<A> {
-    if matches!(hope, Hope::Unknown) {
-        return prose;
-    }
-    if matches!(hope, Hope::Never) {
-        return prose.put("\nNo later event can admit it.");
-    }
-    let prose = prose.put("\nIt can be admitted only once ");
-    match hope {
-        Hope::OnceBegun(t) => put!(prose; t.0, " has begun."),
-        Hope::OnceHeld(t, op) => put!(prose; t.0, " holds operation ", op.0, "."),
-        Hope::OnceCommitted(t) => put!(prose; t.0, " has committed."),
-        Hope::OnceAborted(t) => put!(prose; t.0, " has aborted."),
-        Hope::OnceDecided(t) => put!(prose; t.0, " has committed or aborted."),
-        Hope::Never | Hope::Unknown => prose,
+// The ways in which the holder of an operation can let it go.
+const RELEASES: [Release; 5] = [
+    Release::Commit,
+    Release::Abort,
+    Release::Delegate,
+    Release::Join,
+    Release::Permit,
+];
+
+// Adds what the holder of an operation on the object does so that it lets it go for `t`.
+fn put_release<A: Handle>(prose: Prose<A>, release: Release, t: TxnId, object: &str) -> Prose<A> {
+    match release {
+        Release::Commit => prose.put("commits"),
+        Release::Abort => prose.put("aborts"),
+        Release::Delegate => put!(prose; "delegates it to ", t.0),
+        Release::Join => put!(prose; "joins ", t.0),
+        Release::Permit => put!(prose; "permits ", t.0, " to work on `", object, "`"),
     }
 }
 
@@ -118,7 +119,7 @@ fn put_bad_set<A: Handle>(prose: Prose<A>, number: OpNo, operations: usize) -> P
 
 // Adds whom a transaction waits for, where some wait for one another there.
 fn put_waits<A: Handle>(prose: Prose<A>, machine: &Machine<A>, t: TxnId) -> Prose<A> {
-    match machine.closed_wait(t) {
+    match endless_wait(machine, t) {
         Ok(Some(waits)) => put_closed(prose, waits.as_slice()),
         Ok(None) => prose,
         Err(_) => prose.fail(),
@@ -149,32 +150,6 @@ fn put_closed<A: Handle>(prose: Prose<A>, waits: &[TxnId]) -> Prose<A> {
     put!(prose; ". None of ", these, " can commit or abort any more.")
 }
 
-// The ways in which an operation no longer stands in the way of another, by what its holder does: it commits, aborts,
-// hands the operation over, or permits to work beside it.
-type Ways = [bool; 4];
-
-// Adds these ways: each is something that the holder has done.
-fn put_ways<A: Handle>(mut prose: Prose<A>, ways: Ways, to: TxnId, object: &str) -> Prose<A> {
-    let mut left = ways.iter().filter(|is_open| **is_open).count();
-    for (way, is_open) in ways.iter().enumerate() {
-        if *is_open {
-            prose = match way {
-                0 => prose.put("committed"),
-                1 => prose.put("aborted"),
-                2 => put!(prose; "handed it to ", to.0),
-                _ => put!(prose; "permitted ", to.0, " to work on `", object, "`"),
-            };
-            left = left.saturating_sub(1);
-            prose = prose.put(match left {
-                0 => "",
-                1 => " or ",
-                _ => ", ",
-            });
-        }
-    }
-    prose
-}
-
 impl<'a, A: Handle> Refused<'a, A> {
     /// Adds why it is refused, and what hope there is. Whether it is looked for transactions that wait for one another, which
     /// takes a look at each edge, is for the caller to say.
@@ -190,9 +165,12 @@ impl<'a, A: Handle> Refused<'a, A> {
         match *reason {
             Reason::Conflict(op) => {
                 let prose = self.put_policy(prose, op.held.holder);
-                put_hope(self.put_releases(prose, op), hope)
+                let prose = self.put_hope(prose, machine, hope);
+                self.put_heir(prose, machine, op)
             }
-            Reason::PartialDelegation(_) => put_hope(self.put_whole(prose, machine), hope),
+            Reason::PartialDelegation(_) => {
+                self.put_whole(self.put_hope(prose, machine, hope), machine)
+            }
             // (that it has to wait is said already)
             Reason::Barred(_) if !matches!(hope, Hope::Never) => {
                 if looks_for_waits {
@@ -201,7 +179,34 @@ impl<'a, A: Handle> Refused<'a, A> {
                     prose
                 }
             }
-            _ => put_hope(prose, hope),
+            _ => self.put_hope(prose, machine, hope),
+        }
+    }
+
+    // Adds what hope there is, as a line of its own; nothing where nothing is known.
+    fn put_hope(&self, prose: Prose<A>, machine: &Machine<A>, hope: Hope) -> Prose<A> {
+        if matches!(hope, Hope::Unknown) {
+            return prose;
+        }
+        if matches!(hope, Hope::Never) {
+            return prose.put("\nNo later event can admit it.");
+        }
+        let prose = prose.put("\nIt can be admitted only once ");
+        match hope {
+            Hope::OnceBegun(t) => put!(prose; t.0, " has begun."),
+            Hope::OnceHeld(t, op) => put!(prose; t.0, " holds operation ", op.0, "."),
+            Hope::OnceCommitted(t) => put!(prose; t.0, " has committed."),
+            Hope::OnceAborted(t) => put!(prose; t.0, " has aborted."),
+            Hope::OnceDecided(t) => put!(prose; t.0, " has committed or aborted."),
+            Hope::OnceFree(op) => {
+                let prose = put!(prose; "operation ", op.0, " no longer stands in its way");
+                self.put_releases(prose, machine, op).put(".")
+            }
+            Hope::OnceLetGo(t, op) => put!(prose; t.0, " no longer holds operation ", op.0, "."),
+            Hope::OnceFewer => {
+                prose.put("one of those who hold what conflicts with it no longer does.")
+            }
+            Hope::Never | Hope::Unknown => prose,
         }
     }
 
@@ -357,7 +362,7 @@ impl<'a, A: Handle> Refused<'a, A> {
     // Adds what has to be named.
     fn put_whole(&self, prose: Prose<A>, machine: &Machine<A>) -> Prose<A> {
         let t = first_named(self.event);
-        let prose = put!(prose; "\nName all that ", t.0, " holds in progress: ");
+        let prose = put!(prose; "\nAll that ", t.0, " holds in progress: ");
         match machine.access_set(t) {
             Ok(held) => put_operations(prose, held.as_slice()).put("."),
             Err(_) => prose.fail(),
@@ -415,79 +420,51 @@ impl<'a, A: Handle> Refused<'a, A> {
         }
     }
 
-    // Adds what the holder of an operation that stands in the way can do.
-    fn put_releases(&self, prose: Prose<A>, op: NumberedOp) -> Prose<A> {
-        let t = first_named(self.event);
-        self.put_heir(self.put_release(prose, t, op), t, op.held.holder)
-    }
-
-    // Adds what the holder of an operation can do, so that the operation no longer stands in the way of `t`.
-    fn put_release(&self, prose: Prose<A>, t: TxnId, op: NumberedOp) -> Prose<A> {
-        let holder = op.held.holder;
-        let Some(class) = class_of(self.model, self.chronicle, holder) else {
+    // Adds what the holder of an operation can do, so that right after it the operation no longer stands in the way.
+    fn put_releases(&self, prose: Prose<A>, machine: &Machine<A>, number: OpNo) -> Prose<A> {
+        let Some(op) = operation_at(machine, number) else {
             return prose;
         };
-        let may = class.may;
-        let ways = [
-            self.frees_at_commit(t, holder, class),
-            may.has(EventKind::Abort),
-            may.has(EventKind::Delegate) || may.has(EventKind::Join),
-            may.has(EventKind::Permit),
-        ];
-        if ways.contains(&true) {
-            let name = object_text(self.model, op.held.ob);
-            let prose = put!(prose; "\nOperation ", op.number.0,
-                " no longer stands in its way once ", holder.0, " has ");
-            put_ways(prose, ways, t, name).put(".")
-        } else {
-            prose
+        let t = first_named(self.event);
+        let object = object_text(self.model, op.ob);
+        let ways = RELEASES.map(|way| lets_go(machine, self.event, number, way));
+        let mut left = ways.iter().filter(|is_open| **is_open).count();
+        if left == 0 {
+            return prose;
         }
-    }
-
-    // Whether what this one holds would stand in the way of `t` no longer: it is `t`, or an ancestor that is left out.
-    fn is_exempt(&self, t: TxnId, holder: TxnId) -> bool {
-        holder.0 == t.0 || self.spares_ancestors(t) && is_ancestor(self.chronicle, holder, t)
-    }
-
-    // Whether the class of the transaction leaves out its ancestors.
-    fn spares_ancestors(&self, t: TxnId) -> bool {
-        match class_of(self.model, self.chronicle, t) {
-            Some(class) => matches!(class.scope, Scope::NonAncestors),
-            None => false,
+        let mut prose = put!(prose; ", as right after ", op.holder.0, " ");
+        for (way, is_open) in RELEASES.iter().zip(ways) {
+            if is_open {
+                left = left.saturating_sub(1);
+                prose = put_release(prose, *way, t, object).put(match left {
+                    0 => "",
+                    1 => " or ",
+                    _ => ", ",
+                });
+            }
         }
+        prose
     }
 
-    // The one to whom a commit of the holder would leave what it holds, where its class leaves it to parents.
-    fn heir_of(&self, holder: TxnId) -> Option<TxnId> {
-        let class = class_of(self.model, self.chronicle, holder)?;
-        if matches!(class.at_commit, AtCommit::ToParent) && class.may.has(EventKind::Commit) {
-            self.chronicle.life(holder).parent
-        } else {
-            None
+    // Adds who holds the operation after a commit of its holder, where that doesn't let it go.
+    fn put_heir(&self, prose: Prose<A>, machine: &Machine<A>, op: NumberedOp) -> Prose<A> {
+        let holder = op.held.holder;
+        if lets_go(machine, self.event, op.number, Release::Commit) || !self.may_commit(holder) {
+            return prose;
         }
-    }
-
-    // Adds what becomes of the operation at a commit of its holder, where that doesn't let it go.
-    fn put_heir(&self, prose: Prose<A>, t: TxnId, holder: TxnId) -> Prose<A> {
-        match self.heir_of(holder) {
-            Some(parent) if !self.is_exempt(t, parent) => {
+        match heir(machine, holder) {
+            Some(parent) => {
                 put!(prose; "\nAt a commit of ", holder.0, " its parent ", parent.0, " holds it.")
             }
-            _ => prose,
+            None => prose,
         }
     }
 
-    // Whether a commit of the holder, of this class, lets go of what it holds, as far as `t` goes.
-    fn frees_at_commit(&self, t: TxnId, holder: TxnId, class: &Class<A>) -> bool {
-        if !class.may.has(EventKind::Commit) {
-            return false;
-        }
-        match class.at_commit {
-            AtCommit::Keeps => true,
-            AtCommit::ToParent => match self.heir_of(holder) {
-                Some(parent) => self.is_exempt(t, parent),
-                None => false,
-            },
+    // Whether the class of the transaction has `commit` in its `may`.
+    fn may_commit(&self, t: TxnId) -> bool {
+        match class_of(self.model, self.chronicle, t) {
+            Some(class) => class.may.has(EventKind::Commit),
+            None => false,
         }
     }
 }

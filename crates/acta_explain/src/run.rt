@@ -5,8 +5,10 @@ ghost use Rattle.std.specs.Prelude.{◌≡◌, IfOk, is_some};
 ghost use Rattle.acta_script.specs.Reading.{event_of};
 ghost use Rattle.acta_tool.specs.Output.{said_in};
 
+use crate::deadlocks::put_deadlocks;
+use crate::debts::put_prospect;
 use crate::faults::{Stop, put_stop};
-use crate::layout::{Columns, put_debt, put_row};
+use crate::layout::{Columns, put_barred, put_debt, put_row};
 use crate::phrases::{name_text, put_numbered_edge, put_standing};
 use crate::prose::Prose;
 use crate::put;
@@ -54,6 +56,12 @@ fn put_debts<A: Handle>(
     };
     for owed in debts.as_slice() {
         prose = put_owed(prose, alloc, told, columns, owed);
+        let prospect = put_prospect(Prose::new(alloc), told, owed.txn, owed.missing);
+        let (prospect, has_failed) = prospect.parts();
+        prose = put_barred(prose, columns.indent(), prospect.as_str());
+        if has_failed {
+            return prose.fail();
+        }
     }
     prose
 }
@@ -81,7 +89,10 @@ fn put_told<A: Handle>(
             let stop = Stop::of(input, bad, false);
             put_stop(prose, alloc, told.machine().model(), &stop)
         }
-        None => put_debts(prose, alloc, told, columns),
+        None => {
+            let prose = put_debts(prose, alloc, told, columns);
+            put_deadlocks(prose, alloc, told, columns.indent().saturating_sub(2))
+        }
     }
 }
 

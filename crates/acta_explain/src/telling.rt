@@ -2,7 +2,7 @@
 
 use crate::chronicle::{Chronicle, Row, row_of};
 use crate::listing::{first_listed, put_more};
-use crate::phrases::{put_line, put_numbered_edge};
+use crate::phrases::{first_named, put_line, put_numbered_edge};
 use crate::prose::Prose;
 use crate::put;
 use crate::reasons::Refused;
@@ -10,7 +10,7 @@ use crate::spoken::Spoken;
 use acta_hope::why_and_hope;
 use acta_machine::{Formed, Handle, Machine};
 use acta_script::answer_line;
-use acta_table::{Answer, Event, Model, Rule};
+use acta_table::{Answer, Event, LAST_TXN, Model, Rule, TxnId};
 use std::alloc::AllocError;
 
 /// The most refused events that are told of a run, and the most faults of a verdict. Behind them they are counted, so
@@ -24,7 +24,7 @@ const MOST_REFUSED: usize = 64;
 // it is found in so many looks, so that a run with many edges and many waits isn't slow.
 const MOST_LOOKS: usize = 2_000_000;
 
-// An event that was refused since the last that was admitted, and its row.
+// An event that was refused, and its row.
 #[derive(Drop)]
 struct Again<A: Handle> {
     event: Event<A>,
@@ -37,7 +37,10 @@ pub struct Telling<A: Handle> {
     alloc: A,
     machine: Machine<A>,
     chronicle: Chronicle<A>,
+    // Those since the last event that was admitted.
     refused: Vec<Again<A>, A>,
+    // By transaction, its last event, where that was refused.
+    blocked: Vec<Option<Again<A>>, A>,
     refused_told: usize,
     untold: usize,
     looks_left: usize,
@@ -52,10 +55,16 @@ impl<A: Handle> Telling<A> {
             machine,
             chronicle: Chronicle::new(alloc),
             refused: Vec::new(alloc),
+            blocked: Vec::new(alloc),
             refused_told: 0,
             untold: 0,
             looks_left: MOST_LOOKS,
         })
+    }
+
+    /// Where its memory comes from.
+    pub fn allocator(&self) -> A {
+        self.alloc
     }
 
     /// The machine that has taken the events.
@@ -89,7 +98,10 @@ impl<A: Handle> Telling<A> {
                         ..
                     },
                 ),
-            ) => self.remember(event)?,
+            ) => {
+                self.block(&event)?;
+                self.remember(event)?;
+            }
             _ => drop(event),
         }
         told
@@ -103,6 +115,7 @@ impl<A: Handle> Telling<A> {
         }
         if let Answer::Admitted { .. } = formed.answer {
             self.refused.clear();
+            self.unblock(first_named(event));
             self.chronicle.note(event, self.machine.edges().len())?;
         }
         self.push_row(spoken, event, &formed)?;
@@ -139,6 +152,44 @@ impl<A: Handle> Telling<A> {
             self.put_reason(Prose::new(alloc), event, &formed.answer),
         )?;
         self.chronicle.push(row)
+    }
+
+    /// The last event of the transaction, where that was refused, and its row.
+    pub fn blocked(&self, t: TxnId) -> Option<(&Event<A>, usize)> {
+        match self.blocked.get(t.0 as usize)? {
+            Some(again) => Some((&again.event, again.row)),
+            None => None,
+        }
+    }
+
+    /// No transaction of this number or above has a last event that was refused.
+    pub fn blocked_below(&self) -> u16 {
+        u16::try_from(self.blocked.len()).unwrap_or(u16::MAX)
+    }
+
+    // Notes a refused event, whose row is the last, as the last of its transaction.
+    fn block(&mut self, event: &Event<A>) -> Result<(), AllocError> {
+        let t = first_named(event);
+        if t.0 > LAST_TXN {
+            return Ok(());
+        }
+        let t = t.0 as usize;
+        let row = self.chronicle.rows().len().saturating_sub(1);
+        while self.blocked.len() <= t {
+            self.blocked.push(None)?;
+        }
+        let event = event.copy()?;
+        if let Some(place) = self.blocked.get_mut(t) {
+            *place = Some(Again { event, row });
+        }
+        Ok(())
+    }
+
+    // Notes that the last event of the transaction was admitted.
+    fn unblock(&mut self, t: TxnId) {
+        if let Some(place) = self.blocked.get_mut(t.0 as usize) {
+            *place = None;
+        }
     }
 
     // Notes a refused event, whose row is the last, for where it comes again.

@@ -144,7 +144,7 @@ dependency-by (Permit t u ob) s r broken = absurd (cc)
 
 -- one edge of a list
 
-at-least : (test : Edge → Bool) (k : ℕ) (es : List Edge) (n : ℕ) → position_from test k es ≡ Some n → k ≤ n
+at-least : {X : Type 0} (test : X → Bool) (k : ℕ) (es : List X) (n : ℕ) → position_from test k es ≡ Some n → k ≤ n
 at-least test k [] n e = absurd (cc)
 at-least test k (x ∷ es) n e = of (test x) e (at-least test (k + 1) es n)
   where
@@ -153,7 +153,7 @@ at-least test k (x ∷ es) n e = of (test x) e (at-least test (k + 1) es n)
     of false e later = let more = later e in omega (arith, more)
 
 -- the first that passes is one that passes
-passes-from : (test : Edge → Bool) (k : ℕ) (es : List Edge) (i : ℕ) (f : Edge) → position_from test k es ≡ Some (k + i) → slice_get es i ≡ Some f → test f ≡ true
+passes-from : {X : Type 0} (test : X → Bool) (k : ℕ) (es : List X) (i : ℕ) (f : X) → position_from test k es ≡ Some (k + i) → slice_get es i ≡ Some f → test f ≡ true
 passes-from test k [] i f e at = absurd (cc)
 passes-from test k (x ∷ es) zero f e at = of (test x) refl e (λ h. at-least test (k + 1) es (k + 0) h)
   where
@@ -168,12 +168,12 @@ passes-from test k (x ∷ es) (suc i) f e at =
     of true e later = let same = same_Some k (k + suc i) e in absurd (omega (arith, same))
     of false e later = later e
 
-passes : (test : Edge → Bool) (es : List Edge) (n : ℕ) (f : Edge) → first_number test es ≡ Some n → item_at es n ≡ Some f → test f ≡ true
+passes : {X : Type 0} (test : X → Bool) (es : List X) (n : ℕ) (f : X) → first_number test es ≡ Some n → item_at es n ≡ Some f → test f ≡ true
 passes test es zero f e at = absurd (cc)
 passes test es (suc i) f e at = let same : suc i ≡ 1 + i = omega arith in passes-from test 1 es i f (e ∙ ap Some same) at
 
 -- where none passes this one does not
-fails-from : (test : Edge → Bool) (k : ℕ) (es : List Edge) (i : ℕ) (f : Edge) → position_from test k es ≡ None → slice_get es i ≡ Some f → test f ≡ false
+fails-from : {X : Type 0} (test : X → Bool) (k : ℕ) (es : List X) (i : ℕ) (f : X) → position_from test k es ≡ None → slice_get es i ≡ Some f → test f ≡ false
 fails-from test k [] i f e at = absurd (cc)
 fails-from test k (x ∷ es) zero f e at = of (test x) refl e
   where
@@ -186,7 +186,7 @@ fails-from test k (x ∷ es) (suc i) f e at = of (test x) e (λ h. fails-from te
     of true e later = absurd (cc)
     of false e later = later e
 
-none-passes-at : (test : Edge → Bool) (es : List Edge) (n : ℕ) (f : Edge) → first_number test es ≡ None → item_at es n ≡ Some f → test f ≡ false
+pub none-passes-at : {X : Type 0} (test : X → Bool) (es : List X) (n : ℕ) (f : X) → first_number test es ≡ None → item_at es n ≡ Some f → test f ≡ false
 none-passes-at test es zero f e at = absurd (cc)
 none-passes-at test es (suc i) f e at = fails-from test 1 es i f e at
 

@@ -1,17 +1,18 @@
 -- As many edges are in force after some are formed, where there were more before.
-use Rattle.std.proofs.Common.{◌≡◌, ◌≤◌, ◌+◌, suc, Bool, true, false, ◌==◌, ◌&&◌, ◌||◌, List, [], ◌∷◌, ◌++◌, length, refl, sym, ap, ◌∙◌, inl, inr, ◌⊎◌, eq-eqb, eqb-true, length-append, arith}
+use Rattle.std.proofs.Common.{◌≡◌, ◌≤◌, ◌+◌, suc, Bool, true, false, ◌==◌, ◌&&◌, ◌||◌, List, [], ◌∷◌, ◌++◌, length, refl, sym, ap, ◌∙◌, inl, inr, ◌⊎◌, eq-eqb, eqb-true, append_assoc, length-append, arith}
 use Rattle.std.specs.Prelude.{if◌then◌else◌}
 use Rattle.std.proofs.lemmas.Bool.{true≢false, and_parts, or_cases}
 use Rattle.acta_table.specs.declared.dep.Edge.{Edge}
 use Rattle.acta_table.specs.Dependencies.{code_of}
-use Rattle.acta_table.specs.Edges.{same_kind, same_edge, is_among, formed}
+use Rattle.acta_table.specs.Edges.{same_kind, same_edge, is_among, with_edge, formed}
+use Rattle.acta_hope.proofs.Growth.{edges-formed}
 
-record AreSame (e f : Edge) : Type 0 where
-  kind : code_of e.kind ≡ code_of f.kind
-  j : e.j.0 ≡ f.j.0
-  i : e.i.0 ≡ f.i.0
+pub record AreSame (e f : Edge) : Type 0 where
+  pub kind : code_of e.kind ≡ code_of f.kind
+  pub j : e.j.0 ≡ f.j.0
+  pub i : e.i.0 ≡ f.i.0
 
-same-parts : (e f : Edge) → same_edge e f ≡ true → AreSame e f
+pub same-parts : (e f : Edge) → same_edge e f ≡ true → AreSame e f
 same-parts e f is =
     let first = and_parts (same_kind e.kind f.kind && (e.j.0 == f.j.0)) (e.i.0 == f.i.0) is in
     let second = and_parts (same_kind e.kind f.kind) (e.j.0 == f.j.0) first.0 in
@@ -29,11 +30,11 @@ same-on e f g a b =
 same-back : (e f : Edge) → same_edge e f ≡ true → same_edge f e ≡ true
 same-back e f a = let p = same-parts e f a in same-made f e (record { kind = sym p.kind; j = sym p.j; i = sym p.i })
 
-left-true : (a b : Bool) → a ≡ true → (a || b) ≡ true
+pub left-true : (a b : Bool) → a ≡ true → (a || b) ≡ true
 left-true true b is = refl
 left-true false b is = cc
 
-right-true : (a b : Bool) → b ≡ true → (a || b) ≡ true
+pub right-true : (a b : Bool) → b ≡ true → (a || b) ≡ true
 right-true true b is = refl
 right-true false b is = is
 
@@ -58,7 +59,7 @@ among-last : (es : List Edge) (f g : Edge) → same_edge g f ≡ true → is_amo
 among-last [] f g is = left-true (same_edge g f) false is
 among-last (x ∷ es) f g is = right-true (same_edge g x) (is_among (es ++ f ∷ []) g) (among-last es f g is)
 
-among-either : (es fs : List Edge) (g : Edge) → is_among (es ++ fs) g ≡ true → (is_among es g ≡ true) ⊎ (is_among fs g ≡ true)
+pub among-either : (es fs : List Edge) (g : Edge) → is_among (es ++ fs) g ≡ true → (is_among es g ≡ true) ⊎ (is_among fs g ≡ true)
 among-either [] fs g is = inr is
 among-either (x ∷ es) fs g is =
     elim (or_cases (same_edge g x) (is_among (es ++ fs) g) is) [
@@ -133,3 +134,62 @@ grown (f ∷ due) es more fs covers few = of (is_among es f) (is_among fs f) ref
 
 pub formed-more : (es more due : List Edge) → length (formed es due) ≤ length (formed (es ++ more) due)
 formed-more es more due = grown due es more (es ++ more) (λ g is. among-either es more g is) (let n = length-append es more in omega (arith, n))
+
+pub among-left : (es fs : List Edge) (g : Edge) → is_among es g ≡ true → is_among (es ++ fs) g ≡ true
+among-left [] fs g is = cc
+among-left (x ∷ es) fs g is =
+    elim (or_cases (same_edge g x) (is_among es g) is) [
+      | inl here ↦ left-true (same_edge g x) (is_among (es ++ fs) g) here
+      | inr there ↦ right-true (same_edge g x) (is_among (es ++ fs) g) (among-left es fs g there)
+    ]
+
+pub among-right : (es fs : List Edge) (g : Edge) → is_among fs g ≡ true → is_among (es ++ fs) g ≡ true
+among-right [] fs g is = is
+among-right (x ∷ es) fs g is = right-true (same_edge g x) (is_among (es ++ fs) g) (among-right es fs g is)
+
+-- what is in force stays so
+among-still : (es due : List Edge) (g : Edge) → is_among es g ≡ true → is_among (formed es due) g ≡ true
+among-still es due g is =
+    let more = edges-formed es due in
+    ap (λ xs. is_among xs g) more.1 ∙ among-left es more.0 g is
+
+-- an edge that is to be formed is in force then
+among-with : (es : List Edge) (f g : Edge) → same_edge g f ≡ true → is_among (with_edge es f) g ≡ true
+among-with es f g same = of (is_among es f) refl
+  where
+    of : (b : Bool) → is_among es f ≡ b → is_among (if b then es else es ++ f ∷ []) g ≡ true
+    of true is = among-same es f g same is
+    of false is = among-last es f g same
+
+among-formed : (es due : List Edge) (g : Edge) → is_among due g ≡ true → is_among (formed es due) g ≡ true
+among-formed es [] g is = cc
+among-formed es (f ∷ due) g is =
+    elim (or_cases (same_edge g f) (is_among due g) is) [
+      | inl here ↦ among-still (with_edge es f) due g (among-with es f g here)
+      | inr there ↦ among-formed (with_edge es f) due g there
+    ]
+
+-- where all of them are in force, none is formed
+formed-there : (es due : List Edge) → ((g : Edge) → is_among due g ≡ true → is_among es g ≡ true) → formed es due ≡ es
+formed-there es [] all = refl
+formed-there es (f ∷ due) all =
+    of (is_among es f) (all f (left-true (same_edge f f) (is_among due f) (same-made f f (record { kind = refl; j = refl; i = refl }))))
+    (formed-there es due (λ g is. all g (right-true (same_edge g f) (is_among due g) is)))
+  where
+    of : (b : Bool) → b ≡ true → formed es due ≡ es → formed (if b then es else es ++ f ∷ []) due ≡ es
+    of true is rest = rest
+    of false is rest = cc
+
+-- as many edges are in force after some are formed, where there were more before, and all of these are formed
+pub formed-covered : (es more due due2 : List Edge) → ((g : Edge) → is_among due g ≡ true → is_among due2 g ≡ true) → length (formed es due) ≤ length (formed (es ++ more) due2)
+formed-covered es more due due2 all =
+    let fs = formed (es ++ more) due2 in
+    let grew = edges-formed (es ++ more) due2 in
+    let is : fs ≡ es ++ (more ++ grew.0) = grew.1 ∙ append_assoc es more grew.0 in
+    let covers : Covers es (more ++ grew.0) fs = λ g among. among-either es (more ++ grew.0) g (sym (ap (λ xs. is_among xs g) is) ∙ among) in
+    let long = ap length is in
+    let count = length-append es (more ++ grew.0) in
+    let fits : length es + length (more ++ grew.0) ≤ length fs = omega (arith, long, count) in
+    let here = ap length (formed-there fs due (λ g among. among-formed (es ++ more) due2 g (all g among))) in
+    let grow = grown due es (more ++ grew.0) fs covers fits in
+    omega (arith, grow, here)

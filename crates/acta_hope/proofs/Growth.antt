@@ -102,7 +102,7 @@ operation-later is js (suc k) a = got is js k a
 
 -- edges
 
-abbrev MoreEdges : List Edge → List Edge → Type 0
+abbrev pub MoreEdges : List Edge → List Edge → Type 0
 MoreEdges es fs = (more : List Edge) × (fs ≡ es ++ more)
 
 edges-nil : (es : List Edge) → es ≡ es ++ []
@@ -122,7 +122,7 @@ edges-with es f = of (is_among es f)
     of true = edges-same es
     of false = (f ∷ [], refl)
 
-edges-formed : (es due : List Edge) → MoreEdges es (formed es due)
+pub edges-formed : (es due : List Edge) → MoreEdges es (formed es due)
 edges-formed es [] = edges-same es
 edges-formed es (f ∷ due) = edges-on es (with_edge es f) (formed (with_edge es f) due) (edges-with es f) (edges-formed (with_edge es f) due)
 

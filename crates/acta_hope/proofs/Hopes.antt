@@ -70,11 +70,11 @@ never-later state e not es = is_something (refusal_in (after_all state es) e) (o
 
 -- what a broken rule tells
 
-if_some : (b : Bool) (rule : Rule) (r : Refusal) → broken_if b rule ≡ Some r → b ≡ true
+pub if_some : (b : Bool) (rule : Rule) (r : Refusal) → broken_if b rule ≡ Some r → b ≡ true
 if_some true rule r e = refl
 if_some false rule r e = cc
 
-by_some : (rule : Rule) (o : Option ℕ) (n : ℕ) → broken_by rule o ≡ Some (record { rule = rule; by = Some n }) → o ≡ Some n
+pub by_some : (rule : Rule) (o : Option ℕ) (n : ℕ) → broken_by rule o ≡ Some (record { rule = rule; by = Some n }) → o ≡ Some n
 by_some rule None n e = cc
 by_some rule (Some k) n e = let same = ap (λ x. x.by) (same_Some _ _ e) in same
 
@@ -449,10 +449,10 @@ once-heir m s e n broken l later none = ap has_begun (heir-on m s e n broken.0 b
 abbrev FormsSame : {A : Type 0} → Parts A → Summary → Event A → Type 0
 FormsSame m s e = (l : Summary) → edges_due m l e ≡ edges_due m s e
 
-pub not-few : {A : Type 0} (m : Parts A) (s : Summary) (e : Event A) (r : Refusal) → FormsSame m s e → edges_full m s e ≡ Some r → Not m s e
+pub not-few : {A : Type 0} (m : Parts A) (s : Summary) (e : Event A) (r : Refusal) → FormsSame m s e → (edges_full m s e ≡ Some r) × (not_in_progress s e ≡ None) → Not m s e
 unfolding edges_full
 not-few m s e r same broken l later none =
-    let many = ltb-true MOST_EDGES (length (formed s.edges (edges_due m s e))) (if_some _ EdgesFull r broken) in
+    let many = ltb-true MOST_EDGES (length (formed s.edges (edges_due m s e))) (if_some _ EdgesFull r broken.0) in
     let few : length (formed l.edges (edges_due m l e)) ≤ MOST_EDGES = linked-room m l e (rules_none m s e l none).edges in
     let more = formed-more s.edges later.edges.0 (edges_due m s e) in
     let is : formed l.edges (edges_due m l e) ≡ formed (s.edges ++ later.edges.0) (edges_due m s e) = λ i. formed (later.edges.1 i) (same l i) in

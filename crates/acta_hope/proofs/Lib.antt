@@ -3,5 +3,8 @@ pub mod Bars
 pub mod Counting
 pub mod Growth
 pub mod Hopes
+pub mod LettingGo
 pub mod Reasons
 pub mod Rulings
+pub mod Standing
+pub mod Waits

@@ -16,19 +16,20 @@ use Rattle.acta_deps.specs.declared.obstacle.Barring.{Barring}
 use Rattle.acta_sets.specs.Operations.{is_held, is_held_in, operation_at}
 use Rattle.acta_machine.specs.Reasons.{refusal_of}
 use Rattle.acta_machine.specs.Summary.{Summary}
-use Rattle.acta_machine.specs.Table.{State, operations_in, status_in}
+use Rattle.acta_machine.specs.Table.{State, after_all, operations_in, status_in}
 use Rattle.acta_machine.specs.declared.reason.NumberedOp.{NumberedOp}
 use Rattle.acta_machine.specs.declared.reason.Reason.{Reason}
-use Rattle.acta_machine.specs.declared.reason.Reason.TheVariants.{Barred, EdgesFull, Full, Form, NotInProgress, AlreadyBegun, NotInModel, PartnerNotInProgress, NotResponsible, BadSet, FormTooLate, NoHeir}
+use Rattle.acta_machine.specs.declared.reason.Reason.TheVariants.{Barred, Conflict, EdgesFull, PartialDelegation, Full, Form, NotInProgress, AlreadyBegun, NotInModel, PartnerNotInProgress, NotResponsible, BadSet, FormTooLate, NoHeir}
 use Rattle.acta_hope.specs.declared.hoping.Hope.{Hope}
-use Rattle.acta_hope.specs.declared.hoping.Hope.TheVariants.{Never, OnceBegun, OnceHeld, OnceDecided, OnceCommitted, OnceAborted, Unknown}
-use Rattle.acta_hope.specs.Hopes.{IsHopeless, OnlyWhere, IsWhy, Holds, is_of_edge}
-use Rattle.acta_hope.specs.Parts.{IsOfBegun, IsOfHeld, IsOfBarring, IsOfEdges, may_be_untold, bars_for_good, is_no_operation}
+use Rattle.acta_hope.specs.declared.hoping.Hope.TheVariants.{Never, OnceBegun, OnceHeld, OnceDecided, OnceCommitted, OnceAborted, OnceFree, OnceLetGo, OnceFewer, Unknown}
+use Rattle.acta_hope.specs.Hopes.{IsHopeless, OnlyWhere, IsWhy, Holds, is_of_edge, are_listed, opponents_of, stands_in}
+use Rattle.acta_hope.specs.Parts.{IsOfBegun, IsOfHeld, IsOfLeftOut, IsOfBarring, IsOfEdges, may_be_untold, bars_for_good, is_no_operation}
 use Rattle.acta_hope.specs.Rulings.{IsBrokenBy}
 use Rattle.acta_hope.proofs.BarringEdges.{barred-never, barred-told, barred-begun, barred-serial, barred-termination, barred-commit, barred-abort}
-use Rattle.acta_hope.proofs.Growth.{summary_in}
+use Rattle.acta_hope.proofs.Growth.{summary_in, model-after_all}
 use Rattle.acta_hope.proofs.Hopes.{Only, Not, only-later, never-later, not-full, not-formed, not-acting, once-acting, not-partner, once-partner, not-started, not-allowed, once-held, not-held, once-there, never-there, not-late, not-few, forms-same, not-heir, once-heir, acting-off, partner-off, heir-off, set-acts, responsible-acts}
 use Rattle.acta_hope.proofs.Rulings.{is-broken}
+use Rattle.acta_hope.proofs.Standing.{conflict-gone, fewer-then, left-let-go, whole-acts}
 
 -- the reasons that no later event takes away, whatever they name
 abbrev pub IsFinal : Reason → Type 0
@@ -121,12 +122,29 @@ module _ {A : Type 0} (state : State A) (e : Event A) where
       subst (λ (v : TxnId). OnlyWhere (λ later. status_in later v.0 ≡ Aborted) state e) (sym is.1)
       (only-later state e (λ l. l.status b.by.edge.i.0 ≡ Aborted) (barred-abort state.model s e b.by.number b.by.edge why.so.0 (by-rule b why BeginOnAbort is.0)))
   of-barring b (OnceHeld t k) is why = absurd is
+  of-barring b (OnceFree k) is why = absurd is
+  of-barring b (OnceLetGo t k) is why = absurd is
+  of-barring b OnceFewer is why = absurd is
   of-barring b Unknown is why = tt
 
   pub of-edges : (hope : Hope) → IsOfEdges e hope → IsWhy state e EdgesFull → Holds state e hope
   of-edges Never is why = never-later state e (not-few state.model s e (refusal_of EdgesFull) (forms-same state.model s e is) (broken EdgesFull why))
-  of-edges Unknown is why = tt
+  of-edges OnceFewer is why = λ es none.
+      ap (λ m. are_listed (opponents_of state.model s e) (opponents_of m (summary_in (after_all state es)) e)) (model-after_all state es)
+      ∙ only-later state e (λ l. are_listed (opponents_of state.model s e) (opponents_of state.model l e) ≡ false) (fewer-then state.model s e (refusal_of EdgesFull) is (broken EdgesFull why)) es none
   of-edges _ is why = absurd is
+
+  pub of-conflict : (op : NumberedOp) → IsWhy state e (Conflict op) → Holds state e (OnceFree op.number)
+  of-conflict op why = λ es none.
+      ap (λ m. stands_in m (summary_in (after_all state es)) e op.number.0) (model-after_all state es)
+      ∙ only-later state e (λ l. stands_in state.model l e op.number.0 ≡ false) (conflict-gone state.model s e op.number.0 (broken (Conflict op) why)) es none
+
+  pub of-left-out : (op : NumberedOp) (hope : Hope) → IsOfLeftOut e op.number hope → IsWhy state e (PartialDelegation op) → Holds state e hope
+  of-left-out op (OnceLetGo t k) is why =
+      subst (λ (n : OpNo). OnlyWhere (λ later. is_held_in t.0 (operations_in later) n ≡ false) state e) (sym is.0)
+      (only-later state e (λ l. option_map_or (is_held t.0) (operation_at l.operations op.number.0) false ≡ false) (left-let-go state.model s e t.0 op.number.0 is.1 (broken (PartialDelegation op) why)))
+  of-left-out op Unknown is why = tt
+  of-left-out op _ is why = absurd is
 
   -- of these reasons something is said
 
@@ -153,7 +171,15 @@ module _ {A : Type 0} (state : State A) (e : Event A) where
   pub told-set : (n : OpNo) (count : ℕ) (hope : Hope) → IsOfHeld e n hope → IsWhy state e (BadSet n count) → hope ≡ Unknown → ⊥
   told-set n count hope is why same = acts n hope is same (set-acts s e n.0 (broken (BadSet n count) why))
 
+  pub told-left-out : (op : NumberedOp) (hope : Hope) → IsOfLeftOut e op.number hope → IsWhy state e (PartialDelegation op) → hope ≡ Unknown → ⊥
+  told-left-out op Unknown is why same = whole-acts state.model s e op.number.0 (broken (PartialDelegation op) why).0 is
+  told-left-out op _ is why same = cc
+
   pub told-barring : (b : Barring) (hope : Hope) → IsOfBarring b hope → IsWhy state e (Barred b) → hope ≡ Unknown → is_of_edge b.rule ≡ false
   told-barring b Unknown is why same =
       barred-told state.model s e b.by.number b.by.edge why.so.0 b.rule ((λ k. may_be_untold b.rule (sym why.so.1 k) (sym why.so.2 k)) ∙ is) (broken (Barred b) why)
   told-barring b _ is why same = cc
+
+pub told-edges : {A : Type 0} (e : Event A) (hope : Hope) → IsOfEdges e hope → hope ≡ Unknown → ⊥
+told-edges e Unknown is same = is
+told-edges e _ is same = cc

@@ -14,6 +14,7 @@ use Rattle.acta_objects.specs.WellFormed.{bad_operation}
 use Rattle.acta_machine.specs.Exactness.{is_dependency_rule}
 use Rattle.acta_machine.specs.Summary.{Summary}
 use Rattle.acta_machine.specs.Rules.{full, not_in_progress, already_begun, not_in_model, partner_not_in_progress, not_responsible, partial_delegation, bad_set, conflict, form_too_late, edges_full, broken_before_conflict, broken_before_edges, earlier_broken, dependency, no_heir, lowest_broken}
+use Rattle.acta_machine.proofs.Broken.{or_none}
 use Rattle.acta_machine.proofs.Exactness.{dependency-rule}
 use Rattle.acta_hope.specs.Rulings.{IsBrokenBy, Cases}
 
@@ -33,6 +34,19 @@ found-from P r (x ∷ xs) (Some y) f g e = found-from P r xs (Some y) f (λ n. a
 
 pub found : (P : Type 0) (r : Refusal) (xs : List (Option Refusal)) → Cases P r xs → first_of xs ≡ Some r → P
 found P r xs cases e = found-from P r xs None (λ n. absurd (cc)) (λ n. cases) e
+
+-- where no rule is broken the first of some is not
+pub none-from : (z : Option Refusal) (xs : List (Option Refusal)) → fold option_or z xs ≡ None → z ≡ None
+none-from None xs e = refl
+none-from (Some r) [] e = cc
+none-from (Some r) (x ∷ xs) e = none-from (Some r) xs e
+
+-- where none of the rules before that on conflicts is broken, the one that acts is in progress
+none-acting : {A : Type 0} (m : Parts A) (s : Summary) (e : Event A) → broken_before_conflict m s e ≡ None → not_in_progress s e ≡ None
+none-acting m s e none =
+    (or_none (first_of (full s ∷ bad_number e ∷ bad_class m e ∷ bad_object m e ∷ bad_operation m e ∷ same_transaction e ∷ [])) (not_in_progress s e)
+    (none-from (first_of (full s ∷ bad_number e ∷ bad_class m e ∷ bad_object m e ∷ bad_operation m e ∷ same_transaction e ∷ not_in_progress s e ∷ []))
+    (already_begun s e ∷ not_in_model m s e ∷ partner_not_in_progress s e ∷ not_responsible s e ∷ partial_delegation m s e ∷ bad_set s e ∷ []) none)).1
 
 module _ {A : Type 0} (m : Parts A) (s : Summary) (e : Event A) (r : Refusal) where
   abbrev Is : Type 0
@@ -90,7 +104,7 @@ module _ {A : Type 0} (m : Parts A) (s : Summary) (e : Event A) (r : Refusal) wh
                           λ n10. (
                             (λ h. named NotResponsible (rule-by _ NotResponsible r h) h),
                             λ n11. (
-                              (λ h. named PartialDelegation (rule-by _ PartialDelegation r h) h),
+                              (λ h. named PartialDelegation (rule-by _ PartialDelegation r h) (h, n7)),
                               λ n12.
                                   ((λ h. named BadSet (rule-by _ BadSet r h) h), λ n13. tt),
                             ),
@@ -113,7 +127,7 @@ module _ {A : Type 0} (m : Parts A) (s : Summary) (e : Event A) (r : Refusal) wh
       found Is r (broken_before_conflict m s e ∷ conflict m s e ∷ form_too_late s e ∷ []) (
         before-conflict,
         λ n1. (
-          (λ h. named Conflict (rule-by _ Conflict r h) h),
+          (λ h. named Conflict (rule-by _ Conflict r h) (h, none-acting m s e n1)),
           λ n2.
               ((λ h. named FormTooLate (rule-by _ FormTooLate r h) h), λ n3. tt),
         ),
@@ -124,7 +138,7 @@ module _ {A : Type 0} (m : Parts A) (s : Summary) (e : Event A) (r : Refusal) wh
   unfolding edges_full
   earlier broken =
       found Is r (broken_before_edges m s e ∷ edges_full m s e ∷ [])
-      (before-edges, λ n1. ((λ h. named EdgesFull (rule-if _ EdgesFull r h) h), λ n2. tt))
+      (before-edges, λ n1. ((λ h. named EdgesFull (rule-if _ EdgesFull r h) (h, none-acting m s e (none-from (broken_before_conflict m s e) (conflict m s e ∷ form_too_late s e ∷ []) n1))), λ n2. tt))
       broken
 
   -- the rule that is named is broken
@@ -134,12 +148,6 @@ module _ {A : Type 0} (m : Parts A) (s : Summary) (e : Event A) (r : Refusal) wh
       found Is r (earlier_broken m s e ∷ dependency s e ∷ no_heir m s e ∷ [])
       (earlier, λ n1. (dependency-named n1, λ n2. ((λ h. named NoHeir (rule-by _ NoHeir r h) (h, n1)), λ n3. tt)))
       broken
-
--- where no rule is broken the first of some is not
-none-from : (z : Option Refusal) (xs : List (Option Refusal)) → fold option_or z xs ≡ None → z ≡ None
-none-from None xs e = refl
-none-from (Some r) [] e = cc
-none-from (Some r) (x ∷ xs) e = none-from (Some r) xs e
 
 pub none-full : {A : Type 0} (m : Parts A) (s : Summary) (e : Event A) → earlier_broken m s e ≡ None → full s ≡ None
 none-full m s e none =

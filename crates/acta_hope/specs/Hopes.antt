@@ -1,19 +1,25 @@
 -- What no later events change of the answer to an event.
-use Rattle.std.specs.Prelude.{◌≡◌, Bool, true, false, ⊤, List, None, Some, is_some}
+use Rattle.std.specs.Prelude.{◌≡◌, ◌==◌, ℕ, Bool, true, false, ⊤, List, [], None, Some, is_some}
+use Rattle.std.specs.List.{list_all, list_any}
+use Rattle.std.specs.Option.{option_map_or}
 use Rattle.acta_table.specs.declared.answer.Rule.{Rule}
 use Rattle.acta_table.specs.declared.answer.Rule.TheVariants.{BeginDep, SerialDep, BeginOnCommit, BeginOnAbort, TerminationDep, OwesAbort, OwesCommit, CommitOrder, WeakBegin, Unpayable}
 use Rattle.acta_table.specs.declared.event.Event.{Event}
 use Rattle.acta_table.specs.declared.event.Event.TheVariants.{Operate}
+use Rattle.acta_table.specs.declared.event.OpNo.{OpNo}
+use Rattle.acta_table.specs.declared.model.Parts.{Parts}
 use Rattle.acta_table.specs.declared.answer.Status.TheVariants.{Committed, Aborted}
 use Rattle.acta_deps.specs.Statuses.{has_begun, is_decided}
-use Rattle.acta_sets.specs.Operations.{is_held_in}
+use Rattle.acta_sets.specs.Operations.{is_held_in, operation_at}
 use Rattle.acta_machine.specs.Changes.{summary_of}
+use Rattle.acta_machine.specs.Conflicts.{stands_against, opponents}
 use Rattle.acta_machine.specs.Reasons.{refusal_of, IsSo}
+use Rattle.acta_machine.specs.Summary.{Summary}
 use Rattle.acta_machine.specs.Table.{State, after_all, operations_in, refusal_in, status_in}
 use Rattle.acta_machine.specs.declared.reason.Reason.{Reason}
-use Rattle.acta_machine.specs.declared.reason.Reason.TheVariants.{PartialDelegation, Conflict, EdgesFull, Barred, Clash}
+use Rattle.acta_machine.specs.declared.reason.Reason.TheVariants.{Barred, Clash}
 use Rattle.acta_hope.specs.declared.hoping.Hope.{Hope}
-use Rattle.acta_hope.specs.declared.hoping.Hope.TheVariants.{Never, OnceBegun, OnceHeld, OnceDecided, OnceCommitted, OnceAborted, Unknown}
+use Rattle.acta_hope.specs.declared.hoping.Hope.TheVariants.{Never, OnceBegun, OnceHeld, OnceDecided, OnceCommitted, OnceAborted, OnceFree, OnceLetGo, OnceFewer, Unknown}
 
 -- no later events let the machine admit it
 abbrev pub IsHopeless : {A : Type 0} → State A → Event A → Type 0
@@ -23,6 +29,32 @@ IsHopeless {A} state e = (es : List (Event A)) → is_some (refusal_in (after_al
 abbrev pub OnlyWhere : {A : Type 0} → (State A → Type 0) → State A → Event A → Type 0
 OnlyWhere {A} P state e =
     (es : List (Event A)) → refusal_in (after_all state es) e ≡ None → P (after_all state es)
+
+-- whether the operation of this number stands in the way of the event: it is in progress, conflicts with it, and is held
+-- by another, whom the class of the acting transaction doesn't spare, and who hasn't permitted it to work there
+abbrev pub stands_in : {A : Type 0} → Parts A → Summary → Event A → ℕ → Bool
+stands_in m s (Operate t ob op) n = option_map_or (stands_against m s t.0 ob op) (operation_at s.operations n) false
+stands_in m s _ n = false
+
+-- the same of a machine
+abbrev pub stands_in_way : {A : Type 0} → State A → Event A → OpNo → Bool
+stands_in_way state e op = stands_in state.model (summary_of state.model state.kept) e op.0
+
+-- who holds operations that stand in the way of the event
+abbrev pub opponents_of : {A : Type 0} → Parts A → Summary → Event A → List ℕ
+opponents_of m s (Operate t ob op) = opponents m s t.0 ob op
+opponents_of m s _ = []
+
+-- the same of a machine
+abbrev pub opponents_in : {A : Type 0} → State A → Event A → List ℕ
+opponents_in state e = opponents_of state.model (summary_of state.model state.kept) e
+
+-- whether the number is among these, and whether all of these are
+abbrev pub is_listed : List ℕ → ℕ → Bool
+is_listed vs u = list_any (λ v. v == u) vs
+
+abbrev pub are_listed : List ℕ → List ℕ → Bool
+are_listed us vs = list_all (is_listed vs) us
 
 -- the reason is the one for which the event is refused, and what it says is so
 pub record IsWhy {A : Type 0} (state : State A) (e : Event A) (reason : Reason) : Type 0 where
@@ -37,6 +69,9 @@ Holds state e (OnceHeld t op) = OnlyWhere (λ later. is_held_in t.0 (operations_
 Holds state e (OnceDecided t) = OnlyWhere (λ later. is_decided (status_in later t.0) ≡ true) state e
 Holds state e (OnceCommitted t) = OnlyWhere (λ later. status_in later t.0 ≡ Committed) state e
 Holds state e (OnceAborted t) = OnlyWhere (λ later. status_in later t.0 ≡ Aborted) state e
+Holds state e (OnceFree op) = OnlyWhere (λ later. stands_in_way later e op ≡ false) state e
+Holds state e (OnceLetGo t op) = OnlyWhere (λ later. is_held_in t.0 (operations_in later) op ≡ false) state e
+Holds state e OnceFewer = OnlyWhere (λ later. are_listed (opponents_in state e) (opponents_in later e) ≡ false) state e
 Holds state e Unknown = ⊤
 
 -- the rules by which an edge in force bars an event
@@ -59,10 +94,7 @@ is_operate (Operate t ob op) = true
 is_operate _ = false
 
 -- the reasons for which nothing need be known
-abbrev pub MayBeUntold : {A : Type 0} → Event A → Reason → Type 0
-MayBeUntold e (PartialDelegation op) = ⊤
-MayBeUntold e (Conflict op) = ⊤
-MayBeUntold e EdgesFull = is_operate e ≡ true
-MayBeUntold e (Barred barring) = is_of_edge barring.rule ≡ false
-MayBeUntold e (Clash clash) = ⊤
-MayBeUntold e _ = ⊥
+abbrev pub MayBeUntold : Reason → Type 0
+MayBeUntold (Barred barring) = is_of_edge barring.rule ≡ false
+MayBeUntold (Clash clash) = ⊤
+MayBeUntold _ = ⊥

@@ -14,7 +14,7 @@ use Rattle.acta_deps.specs.declared.obstacle.Barring.{Barring}
 use Rattle.acta_deps.specs.Statuses.{has_ended}
 use Rattle.acta_hope.specs.Hopes.{is_operate}
 use Rattle.acta_hope.specs.declared.hoping.Hope.{Hope}
-use Rattle.acta_hope.specs.declared.hoping.Hope.TheVariants.{Never, OnceBegun, OnceHeld, OnceDecided, OnceCommitted, OnceAborted, Unknown}
+use Rattle.acta_hope.specs.declared.hoping.Hope.TheVariants.{Never, OnceBegun, OnceHeld, OnceDecided, OnceCommitted, OnceAborted, OnceLetGo, OnceFewer, Unknown}
 
 -- it never is where t has ended
 abbrev pub IsOfBegun : TxnId → Status → Hope → Type 0
@@ -28,6 +28,12 @@ abbrev pub IsOfHeld : {A : Type 0} → Event A → OpNo → Hope → Type 0
 IsOfHeld e n (OnceHeld t k) = (k ≡ n) × (acting e ≡ Some t.0)
 IsOfHeld e n Unknown = acting e ≡ None
 IsOfHeld e n _ = ⊥
+
+-- it is once the one that acts no longer holds the operation
+abbrev pub IsOfLeftOut : {A : Type 0} → Event A → OpNo → Hope → Type 0
+IsOfLeftOut e n (OnceLetGo t k) = (k ≡ n) × (acting e ≡ Some t.0)
+IsOfLeftOut e n Unknown = acting e ≡ None
+IsOfLeftOut e n _ = ⊥
 
 -- whether by the rule an edge bars for good, where its transactions stand so
 abbrev pub bars_for_good : Rule → Status → Status → Bool
@@ -73,5 +79,5 @@ is_no_operation n = (n == 0) || nat_lt MOST_EVENTS n
 -- it never is but for an operation
 abbrev pub IsOfEdges : {A : Type 0} → Event A → Hope → Type 0
 IsOfEdges e Never = is_operate e ≡ false
-IsOfEdges e Unknown = is_operate e ≡ true
+IsOfEdges e OnceFewer = is_operate e ≡ true
 IsOfEdges e _ = ⊥

@@ -23,11 +23,11 @@ IsBrokenBy m s e r AlreadyBegun = already_begun s e ≡ Some r
 IsBrokenBy m s e r NotInModel = (not_in_model m s e ≡ Some r) × (not_in_progress s e ≡ None)
 IsBrokenBy m s e r PartnerNotInProgress = partner_not_in_progress s e ≡ Some r
 IsBrokenBy m s e r NotResponsible = not_responsible s e ≡ Some r
-IsBrokenBy m s e r PartialDelegation = partial_delegation m s e ≡ Some r
+IsBrokenBy m s e r PartialDelegation = (partial_delegation m s e ≡ Some r) × (not_in_progress s e ≡ None)
 IsBrokenBy m s e r BadSet = bad_set s e ≡ Some r
-IsBrokenBy m s e r Conflict = conflict m s e ≡ Some r
+IsBrokenBy m s e r Conflict = (conflict m s e ≡ Some r) × (not_in_progress s e ≡ None)
 IsBrokenBy m s e r FormTooLate = form_too_late s e ≡ Some r
-IsBrokenBy m s e r EdgesFull = edges_full m s e ≡ Some r
+IsBrokenBy m s e r EdgesFull = (edges_full m s e ≡ Some r) × (not_in_progress s e ≡ None)
 IsBrokenBy m s e r NoHeir = (no_heir m s e ≡ Some r) × (earlier_broken m s e ≡ None)
 IsBrokenBy m s e r _ = (dependency s e ≡ Some r) × (earlier_broken m s e ≡ None)
 

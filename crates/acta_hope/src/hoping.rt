@@ -6,7 +6,7 @@ ghost use Rattle.acta_machine.specs.Reasons.{refusal_of, IsSo};
 ghost use Rattle.acta_machine.specs.Table.{refusal_in};
 ghost use Rattle.acta_deps.specs.Statuses.{has_ended};
 ghost use Rattle.acta_hope.specs.Hopes.{Holds, IsWhy, MayBeUntold};
-ghost use Rattle.acta_hope.specs.Parts.{IsOfBarring, IsOfBegun, IsOfEdges, IsOfHeld, is_no_operation};
+ghost use Rattle.acta_hope.specs.Parts.{IsOfBarring, IsOfBegun, IsOfEdges, IsOfHeld, IsOfLeftOut, is_no_operation};
 
 use acta_machine::{Barring, Handle, Machine, Reason};
 use acta_table::{Event, Fate, MOST_EVENTS, OpNo, Rule, Status, TxnId};
@@ -27,6 +27,13 @@ pub enum Hope {
     OnceCommitted(TxnId),
     /// It is admitted only where the transaction has aborted.
     OnceAborted(TxnId),
+    /// It is admitted only where the operation no longer stands in its way: it has ended, the acting transaction or one that
+    /// its class spares holds it, or its holder has permitted the acting one to work on the object.
+    OnceFree(OpNo),
+    /// It is admitted only where the transaction no longer holds the operation in progress.
+    OnceLetGo(TxnId, OpNo),
+    /// It is admitted only where one of those who hold what stands in its way no longer does.
+    OnceFewer,
     /// Nothing is known.
     Unknown,
 }
@@ -48,6 +55,16 @@ fn once_held<A: Handle>(event: &Event<A>, number: OpNo) -> Hope
 {
     match event.acting() {
         Some(txn) => Hope::OnceHeld(txn, number),
+        None => Hope::Unknown,
+    }
+}
+
+// Where the one that acts may not hold the operation in progress.
+fn once_let_go<A: Handle>(event: &Event<A>, number: OpNo) -> Hope
+    ensures { IsOfLeftOut event.now number result }
+{
+    match event.acting() {
+        Some(txn) => Hope::OnceLetGo(txn, number),
         None => Hope::Unknown,
     }
 }
@@ -92,7 +109,7 @@ fn too_many_edges<A: Handle>(event: &Event<A>) -> Hope
     ensures { IsOfEdges event.now result }
 {
     match event {
-        Event::Operate(_, _, _) => Hope::Unknown,
+        Event::Operate(_, _, _) => Hope::OnceFewer,
         _ => Hope::Never,
     }
 }
@@ -108,7 +125,7 @@ fn is_no_operation(number: OpNo) -> bool
 pub fn hope_of<A: Handle>(machine: &Machine<A>, event: &Event<A>, reason: &Reason) -> Hope
     requires { IsWhy machine.now event.now reason.now }
     ensures hope { Holds machine.now event.now result }
-    ensures told { result ≡ Hope.Unknown → MayBeUntold event.now reason.now }
+    ensures told { result ≡ Hope.Unknown → MayBeUntold reason.now }
 {
     match *reason {
         Reason::Full
@@ -134,7 +151,9 @@ pub fn hope_of<A: Handle>(machine: &Machine<A>, event: &Event<A>, reason: &Reaso
         }
         Reason::Barred(barring) => barred(&barring),
         Reason::EdgesFull => too_many_edges(event),
-        Reason::PartialDelegation(_) | Reason::Conflict(_) | Reason::Clash(_) => Hope::Unknown,
+        Reason::PartialDelegation(op) => once_let_go(event, op.number),
+        Reason::Conflict(op) => Hope::OnceFree(op.number),
+        Reason::Clash(_) => Hope::Unknown,
     }
 }
 
@@ -147,7 +166,7 @@ pub fn why_and_hope<A: Handle>(
     ensures refusal { IfOk result (λ told. option_map (λ pair. refusal_of pair.0) told ≡ refusal_in machine.now event.now) }
     ensures so { IfOk result (λ told. IfSome told (λ pair. IsSo machine.now.model (summary_of machine.now.model machine.now.kept) event.now pair.0)) }
     ensures hope { IfOk result (λ told. IfSome told (λ pair. Holds machine.now event.now pair.1)) }
-    ensures told { IfOk result (λ told. IfSome told (λ pair. pair.1 ≡ Hope.Unknown → MayBeUntold event.now pair.0)) }
+    ensures told { IfOk result (λ told. IfSome told (λ pair. pair.1 ≡ Hope.Unknown → MayBeUntold pair.0)) }
 {
     match machine.why(event)? {
         Some(reason) => {

@@ -5,8 +5,14 @@
 //! operation or has ended, or for ever. A `Hope` says which, and holds for each list of later events.
 #![tactic(auto)]
 
+mod deadlock;
 mod hoping;
 mod laws;
+mod releases;
+mod waiting;
 
+pub use deadlock::{Wait, deadlocks, wait_of};
 pub use hoping::{Hope, hope_of, why_and_hope};
 pub use laws::later_events_take_nothing_back;
+pub use releases::{Release, heir, lets_go, operation_at};
+pub use waiting::endless_wait;

@@ -1,7 +1,7 @@
 //! Why seats wait at an end, which of them wait for one another, and what is owed.
 
 use crate::programs::Programs;
-use acta_explain::{Prose, Refused, Telling, put, put_barred, put_standing};
+use acta_explain::{Prose, Refused, Telling, put, put_barred, put_prospect, put_standing};
 use acta_explore::{Debt, Done, Outcome, Point, Wait, deadlock};
 use acta_machine::{Handle, Reason};
 use acta_table::{Event, Missing, OpNo, OpSet};
@@ -228,10 +228,17 @@ fn put_debt<A: Handle>(prose: Prose<A>, run: &Telling<A>, debt: &Debt) -> Prose<
     put_standing(prose, run.chronicle(), debt.txn, machine.status(debt.txn)).put("\n")
 }
 
-/// Adds what is owed.
+/// Adds what is owed, and of each debt whether it can be paid now, later or not any more.
 pub fn put_debts<A: Handle>(mut prose: Prose<A>, run: &Telling<A>, debts: &[Debt]) -> Prose<A> {
     for debt in debts {
         prose = put_debt(prose, run, debt);
+        let prospect = Prose::new(run.allocator());
+        let prospect = put_prospect(prospect, run, debt.txn, debt.missing());
+        let (prospect, has_failed) = prospect.parts();
+        prose = put_barred(prose, 4, prospect.as_str());
+        if has_failed {
+            return prose.fail();
+        }
     }
     prose
 }

@@ -1,8 +1,7 @@
 use Rattle.std.proofs.Common.{inl, inr, sym, ap, subst, ◌∙◌}
 use Rattle.acta_table.specs.Fates.{is_open}
 use Rattle.acta_hope.specs.Hopes.{IsWhy, MayBeUntold}
-use Rattle.acta_hope.specs.Parts.{IsOfEdges}
-use Rattle.acta_hope.proofs.Reasons.{IsFinal, of-final, of-acting, of-partner, of-heir, of-responsible, of-ended, of-set, of-no-operation, of-barring, of-edges, told-acting, told-barring, told-partner, told-heir, told-responsible, told-set}
+use Rattle.acta_hope.proofs.Reasons.{IsFinal, of-final, of-acting, of-partner, of-heir, of-responsible, of-ended, of-set, of-no-operation, of-barring, of-edges, of-conflict, of-left-out, told-acting, told-barring, told-partner, told-heir, told-responsible, told-set, told-left-out, told-edges}
 use Rattle.acta_hope.proofs.hoping.hope_of.Goals as goal
 
 pub returns-in-Full-clause-hope : goal.returns-in-Full-clause-hope
@@ -92,10 +91,24 @@ returns-in-EdgesFull-clause-hope g c =
 
 pub returns-in-EdgesFull-clause-told : goal.returns-in-EdgesFull-clause-told
 returns-in-EdgesFull-clause-told g c = λ same.
-    subst (MayBeUntold c.args.event.now) (sym c.in-EdgesFull.is) (subst (IsOfEdges c.args.event.now) same c.too_many_edges.ensures)
+    absurd (told-edges c.args.event.now c.too_many_edges.result c.too_many_edges.ensures same)
+
+pub returns-in-PartialDelegation-clause-hope : goal.returns-in-PartialDelegation-clause-hope
+returns-in-PartialDelegation-clause-hope g c =
+    of-left-out c.args.machine.now c.args.event.now c.in-PartialDelegation.op c.once_let_go.result c.once_let_go.ensures
+    (subst (IsWhy c.args.machine.now c.args.event.now) c.in-PartialDelegation.is c.requires)
+
+pub returns-in-PartialDelegation-clause-told : goal.returns-in-PartialDelegation-clause-told
+returns-in-PartialDelegation-clause-told g c = λ same.
+    absurd (told-left-out c.args.machine.now c.args.event.now c.in-PartialDelegation.op c.once_let_go.result c.once_let_go.ensures
+    (subst (IsWhy c.args.machine.now c.args.event.now) c.in-PartialDelegation.is c.requires) same)
+
+pub returns-in-Conflict-clause-hope : goal.returns-in-Conflict-clause-hope
+returns-in-Conflict-clause-hope g c =
+    of-conflict c.args.machine.now c.args.event.now c.in-Conflict.op (subst (IsWhy c.args.machine.now c.args.event.now) c.in-Conflict.is c.requires)
 
 pub returns-in-Barred-clause-told : goal.returns-in-Barred-clause-told
 returns-in-Barred-clause-told g c = λ same.
-    subst (MayBeUntold c.args.event.now) (sym c.in-Barred.is)
+    subst MayBeUntold (sym c.in-Barred.is)
     (told-barring c.args.machine.now c.args.event.now c.in-Barred.barring c.barred.result c.barred.ensures
     (subst (IsWhy c.args.machine.now c.args.event.now) c.in-Barred.is c.requires) same)

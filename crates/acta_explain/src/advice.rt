@@ -1,0 +1,98 @@
+//! What a verdict suggests to do next.
+
+ghost use Rattle.std.specs.Prelude.{◌≡◌, ◌≤◌, length, IfOk};
+ghost use Rattle.acta_explain.specs.Advice.{advice_by, advice_in, advice_of, has_return, is_mild};
+ghost use Rattle.acta_script.specs.Reading.{kept_of};
+ghost use Rattle.acta_table.specs.declared.limits.TheConstants.{MOST_EVENTS};
+ghost use Rattle.acta_tool.specs.declared.args.Command.TheVariants.{Judge};
+ghost use Rattle.acta_tool.specs.Models.{model_by};
+
+use acta_axioms::{Axiom, Fault};
+use acta_judge::judge;
+use acta_machine::Handle;
+use acta_table::{Kept, MOST_EVENTS, Model};
+use acta_tool::{Command, KeptLines, ModelError, read_lines, read_model};
+use std::alloc::AllocError;
+use std::thread::Threads;
+
+/// What a verdict on kept lines suggests (ours).
+#[derive(Clone, Copy, PartialEq, Eq, Debug)]
+pub enum Advice {
+    /// There are faults, each is a wrong return or a conflict, and some line has a return: there may be a serial order all the
+    /// same.
+    Serialize,
+    /// There are faults, each is a wrong return or a conflict, and no line has a return: they are perhaps event lines.
+    SayReturns,
+}
+
+// Whether it is a wrong return or a conflict.
+fn is_mild(fault: &Fault) -> bool
+    ensures { result ≡ is_mild fault }
+{
+    matches!(fault.broken, Axiom::Return | Axiom::Conflict)
+}
+
+// Whether the line has a return.
+fn has_return<A: Handle>(kept: &Kept<A>) -> bool
+    ensures { result ≡ has_return kept.now }
+{
+    kept.ret.is_some()
+}
+
+// What is suggested where these are the faults of the items.
+fn advice_in<A: Handle>(kept: &[Kept<A>], faults: &[Fault]) -> Option<Advice>
+    ensures { result ≡ advice_in kept.now faults.now }
+{
+    if faults.is_empty() || !faults.iter().all(is_mild) {
+        return None;
+    }
+    if kept.iter().any(has_return) {
+        Some(Advice::Serialize)
+    } else {
+        Some(Advice::SayReturns)
+    }
+}
+
+// What is suggested for kept items.
+fn advice_of<A: Handle + Send + Sync, R: Threads + Sync>(
+    rt: &R,
+    alloc: A,
+    model: &Model<A>,
+    kept: &[Kept<A>],
+) -> Result<Option<Advice>, AllocError>
+    ensures { IfOk result (λ advice. advice ≡ advice_of model.now kept.now) }
+{
+    if kept.len() > MOST_EVENTS {
+        return Ok(None);
+    }
+    match judge(rt, alloc, model, kept) {
+        Ok(verdict) => Ok(advice_in(kept, verdict.faults.as_slice())),
+        Err(_) => Err(AllocError),
+    }
+}
+
+/// What the verdict on the kept lines of an input suggests, for the bytes of a model. `None` where the model or a line is
+/// faulty, or the lines are too many. Returns `Err` if memory runs out.
+pub fn advice<A: Handle + Send + Sync, R: Threads + Sync>(
+    rt: &R,
+    alloc: A,
+    model: &[u8],
+    input: &[u8],
+) -> Result<Option<Advice>, AllocError>
+    ensures { IfOk result (λ advice. advice ≡ advice_by {A = A} (model_by Judge model.now) input.now) }
+{
+    let model = match read_model(alloc, Command::Judge, model) {
+        Ok(model) => model,
+        Err(ModelError::Fault(_)) => return Ok(None),
+        Err(ModelError::Memory) => return Err(AllocError),
+    };
+    let reader = KeptLines {
+        alloc,
+        model: &model,
+    };
+    let read = read_lines(alloc, &reader, input)?;
+    match read.stop {
+        Some(_) => Ok(None),
+        None => advice_of(rt, alloc, &model, read.said.as_slice()),
+    }
+}

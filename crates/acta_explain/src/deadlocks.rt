@@ -1,0 +1,123 @@
+//! Transactions whose last events are refused, and which of them wait for one another.
+
+use crate::chronicle::{Chronicle, Row};
+use crate::phrases::{put_operation, put_row};
+use crate::prose::Prose;
+use crate::put;
+use crate::telling::Telling;
+use acta_hope::{Hope, Wait, deadlocks, wait_of};
+use acta_machine::Handle;
+use acta_table::TxnId;
+use std::alloc::AllocError;
+
+// Transactions that wait, in the order of their numbers, and the row of the event of each.
+#[derive(Drop)]
+struct Waits<A: Handle> {
+    waits: Vec<Wait, A>,
+    rows: Vec<usize, A>,
+}
+
+// Those that wait, of which each did nothing since its last event was refused.
+fn waits_in<A: Handle>(alloc: A, told: &Telling<A>) -> Result<Waits<A>, AllocError> {
+    let mut found = Waits {
+        waits: Vec::new(alloc),
+        rows: Vec::new(alloc),
+    };
+    for number in 0..told.blocked_below() {
+        let txn = TxnId(number);
+        let Some((event, row)) = told.blocked(txn) else {
+            continue;
+        };
+        if let Some(wait) = wait_of(told.machine(), txn, event)? {
+            found.waits.push(wait)?;
+            found.rows.push(row)?;
+        }
+    }
+    Ok(found)
+}
+
+// Adds until when the event of the row is refused.
+fn put_wait<A: Handle>(
+    prose: Prose<A>,
+    chronicle: &Chronicle<A>,
+    wait: &Wait,
+    row: &Row<A>,
+) -> Prose<A> {
+    let prose = put_row(prose, row).put(", refused as long as ");
+    let next = wait.next.0;
+    match wait.until {
+        Hope::OnceFree(op) => {
+            let prose = put_operation(prose, chronicle, op);
+            put!(prose; ", held by ", next, ", stands in its way")
+        }
+        Hope::OnceBegun(_) => put!(prose; next, " has not begun"),
+        Hope::OnceCommitted(_) => put!(prose; next, " has not committed"),
+        Hope::OnceAborted(_) => put!(prose; next, " has not aborted"),
+        _ => put!(prose; next, " has neither committed nor aborted"),
+    }
+}
+
+impl<A: Handle> Waits<A> {
+    // Adds the transactions of a circle, each with the one for which it waits, and then until when its event is refused.
+    fn put_circle(
+        &self,
+        prose: Prose<A>,
+        told: &Telling<A>,
+        circle: &[usize],
+        indent: usize,
+    ) -> Prose<A> {
+        let mut prose = prose.pad(indent).put("deadlock: ");
+        let mut gap = "";
+        for place in circle {
+            if let Some(wait) = self.waits.get(*place) {
+                prose = put!(prose; gap, wait.txn.0);
+                gap = " waits for ";
+            }
+        }
+        prose = prose.put("\n");
+        for place in circle.iter().skip(1) {
+            prose = self.put_place(prose, told, *place, indent);
+        }
+        prose
+    }
+
+    // Adds until when the event of the one at this place is refused, as a line.
+    fn put_place(
+        &self,
+        prose: Prose<A>,
+        told: &Telling<A>,
+        place: usize,
+        indent: usize,
+    ) -> Prose<A> {
+        let chronicle = told.chronicle();
+        match (self.waits.get(place), self.rows.get(place)) {
+            (Some(wait), Some(row)) => match chronicle.rows().get(*row) {
+                Some(row) => {
+                    let prose = prose.pad(indent).put("  | ");
+                    put_wait(prose, chronicle, wait, row).put("\n")
+                }
+                None => prose,
+            },
+            _ => prose,
+        }
+    }
+}
+
+/// Adds the transactions that wait for one another, in lines behind so many spaces.
+pub fn put_deadlocks<A: Handle>(
+    mut prose: Prose<A>,
+    alloc: A,
+    told: &Telling<A>,
+    indent: usize,
+) -> Prose<A> {
+    let Ok(waits) = waits_in(alloc, told) else {
+        return prose.fail();
+    };
+    let Ok(circles) = deadlocks(alloc, waits.waits.as_slice()) else {
+        return prose.fail();
+    };
+    for circle in circles.iter() {
+        prose = waits.put_circle(prose, told, circle.as_slice(), indent);
+    }
+    prose
+}

@@ -1,0 +1,7 @@
+use Rattle.std.specs.List.{All}
+use Rattle.acta_hope.specs.Deadlocks.{IsCircle}
+use Rattle.acta_hope.proofs.deadlock.deadlocks.Given as goal
+
+-- those found so far are circles
+abbrev pub invariant-loop-start : goal.invariant-loop-start
+invariant-loop-start g l = All (IsCircle l.waits) l.circles.items

@@ -1,0 +1,28 @@
+//! Transactions that wait for one another to end, for ever.
+
+ghost use Rattle.std.specs.Prelude.{IfOk, IfSome};
+ghost use Rattle.acta_deps.specs.Waiting.{IsChain, IsClosed, StartsWith};
+ghost use Rattle.acta_machine.specs.Table.{edges_in, status_in};
+ghost use Rattle.acta_hope.specs.Waits.{NoneEnds};
+
+use acta_machine::{Handle, Machine};
+use acta_table::{Items, TxnId};
+use std::alloc::AllocError;
+
+/// A chain of transactions from `t` on, each of which waits for the next to commit or abort, by a termination dependency in
+/// force between the two; it ends with one that it met before. Whatever events come, none of them ever commits or aborts
+/// (they may still join others). `None` where no such chain was found. Returns `Err` if memory runs out (ours).
+pub fn endless_wait<A: Handle>(
+    machine: &Machine<A>,
+    t: TxnId,
+) -> Result<Option<Items<TxnId, A>>, AllocError>
+    ensures chain { IfOk result (λ found. IfSome found (IsChain (status_in machine.now) (edges_in machine.now))) }
+    ensures closed { IfOk result (λ found. IfSome found IsClosed) }
+    ensures start { IfOk result (λ found. IfSome found (StartsWith t)) }
+    ensures endless { IfOk result (λ found. IfSome found (NoneEnds machine.now)) }
+{
+    match machine.closed_wait(t)? {
+        Some(chain) => Ok(Some(chain)),
+        None => Ok(None),
+    }
+}
