@@ -11,7 +11,7 @@ use Rattle.acta_machine.specs.Changes.{summary_of}
 use Rattle.acta_machine.specs.Reasons.{refusal_of, IsSo}
 use Rattle.acta_machine.specs.Table.{State, after_all, operations_in, refusal_in, status_in}
 use Rattle.acta_machine.specs.declared.reason.Reason.{Reason}
-use Rattle.acta_machine.specs.declared.reason.Reason.TheVariants.{PartialDelegation, Conflict, EdgesFull, Barred, Clash}
+use Rattle.acta_machine.specs.declared.reason.Reason.TheVariants.{PartialDelegation, Conflict, EdgesFull, Barred}
 use Rattle.acta_hope.specs.declared.hoping.Hope.{Hope}
 use Rattle.acta_hope.specs.declared.hoping.Hope.TheVariants.{Never, OnceBegun, OnceHeld, OnceDecided, OnceCommitted, OnceAborted, Unknown}
 
@@ -64,5 +64,4 @@ MayBeUntold e (PartialDelegation op) = ⊤
 MayBeUntold e (Conflict op) = ⊤
 MayBeUntold e EdgesFull = is_operate e ≡ true
 MayBeUntold e (Barred barring) = is_of_edge barring.rule ≡ false
-MayBeUntold e (Clash clash) = ⊤
 MayBeUntold e _ = ⊥
