@@ -59,7 +59,7 @@ began-later : (kind : Dep) (x y : Status) → (has_begun x ≡ true → has_begu
 began-later Wcd x y later is = later is
 began-later _ x y later is = is
 
-right-false : (a b : Bool) → a ≡ true → (a && b) ≡ false → b ≡ false
+pub right-false : (a b : Bool) → a ≡ true → (a && b) ≡ false → b ≡ false
 right-false true b is e = e
 right-false false b is e = cc
 

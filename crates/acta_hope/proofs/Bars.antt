@@ -28,10 +28,10 @@ none-all-from (Some r) [] e = absurd (cc)
 none-all-from None (x ∷ xs) e = (refl, none-all-from x xs e)
 none-all-from (Some r) (x ∷ xs) e = let more = none-all-from (Some r) xs e in absurd (let h = more.0 in cc)
 
-none-all : (xs : List (Option Refusal)) → first_of xs ≡ None → AllByRecursion (λ x. x ≡ None) xs
+pub none-all : (xs : List (Option Refusal)) → first_of xs ≡ None → AllByRecursion (λ x. x ≡ None) xs
 none-all xs e = (none-all-from None xs e).1
 
-by-parts : (rule : Rule) (o : Option ℕ) (r : Refusal) → broken_by rule o ≡ Some r → (r.rule ≡ rule) × (o ≡ r.by)
+pub by-parts : (rule : Rule) (o : Option ℕ) (r : Refusal) → broken_by rule o ≡ Some r → (r.rule ≡ rule) × (o ≡ r.by)
 by-parts rule None r e = absurd (cc)
 by-parts rule (Some n) r e = let same = same_Some _ _ e in (ap (λ x. x.rule) (sym same), ap (λ x. x.by) same)
 
@@ -168,7 +168,7 @@ passes-from test k (x ∷ es) (suc i) f e at =
     of true e later = let same = same_Some k (k + suc i) e in absurd (omega (arith, same))
     of false e later = later e
 
-passes : {X : Type 0} (test : X → Bool) (es : List X) (n : ℕ) (f : X) → first_number test es ≡ Some n → item_at es n ≡ Some f → test f ≡ true
+pub passes : {X : Type 0} (test : X → Bool) (es : List X) (n : ℕ) (f : X) → first_number test es ≡ Some n → item_at es n ≡ Some f → test f ≡ true
 passes test es zero f e at = absurd (cc)
 passes test es (suc i) f e at = let same : suc i ≡ 1 + i = omega arith in passes-from test 1 es i f (e ∙ ap Some same) at
 
@@ -196,7 +196,7 @@ got-more [] more i f e = absurd (cc)
 got-more (x ∷ es) more zero f e = e
 got-more (x ∷ es) more (suc i) f e = got-more es more i f e
 
-item-more : (es more : List Edge) (n : ℕ) (f : Edge) → item_at es n ≡ Some f → item_at (es ++ more) n ≡ Some f
+pub item-more : (es more : List Edge) (n : ℕ) (f : Edge) → item_at es n ≡ Some f → item_at (es ++ more) n ≡ Some f
 item-more es more zero f e = absurd (cc)
 item-more es more (suc i) f e = got-more es more i f e
 

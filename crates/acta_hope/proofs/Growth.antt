@@ -1,23 +1,29 @@
 -- A summary with the effect of an event comes after the summary, and so on for later events.
-use Rattle.std.proofs.Common.{◌≡◌, ◌+◌, ℕ, suc, zero, Bool, true, false, ◌==◌, ◌&&◌, List, [], ◌∷◌, ◌++◌, map, Option, Some, None, refl, sym, ap, ◌∙◌, subst, append_assoc, eqb-true, arith}
+use Rattle.std.proofs.Common.{◌≡◌, ◌+◌, ℕ, suc, zero, Bool, true, false, ◌==◌, ◌&&◌, List, [], ◌∷◌, ◌++◌, map, Option, Some, None, refl, sym, ap, ◌∙◌, subst, ◌⊎◌, inl, inr, append_assoc, eqb-true, arith}
 use Rattle.std.specs.Prelude.{if◌then◌else◌, slice_get}
 use Rattle.std.proofs.lemmas.Bool.{true≢false}
 use Rattle.acta_table.specs.declared.answer.Fate.{Fate}
 use Rattle.acta_table.specs.declared.answer.Fate.TheVariants.{Committed, Aborted}
 use Rattle.acta_table.specs.declared.answer.Refusal.{Refusal}
-use Rattle.acta_table.specs.declared.answer.Rule.TheVariants.{NotInProgress, AlreadyBegun}
+use Rattle.acta_table.specs.declared.answer.Rule.TheVariants.{NotInProgress, AlreadyBegun, OwesAbort, OwesCommit}
 use Rattle.acta_table.specs.declared.answer.Status.{Status}
 use Rattle.acta_table.specs.declared.answer.Status.TheVariants.{NotBegun, InProgress, Committed as has_committed, Aborted as has_aborted, Joined as has_joined}
 use Rattle.acta_table.specs.declared.dep.Edge.{Edge}
+use Rattle.acta_table.specs.declared.dep.Missing.{Missing}
+use Rattle.acta_table.specs.declared.dep.Missing.TheVariants.{Commit as commit_due, Abort as abort_due}
 use Rattle.acta_table.specs.declared.event.ClassId.{ClassId}
 use Rattle.acta_table.specs.declared.event.OpNo.{OpNo}
 use Rattle.acta_table.specs.declared.event.TxnId.{TxnId}
 use Rattle.acta_table.specs.declared.event.Event.{Event}
 use Rattle.acta_table.specs.declared.event.Event.TheVariants.{Begin, Spawn, Split, Join, Delegate, Form, Operate, Commit, Abort, Permit}
 use Rattle.acta_table.specs.declared.model.Parts.{Parts}
+use Rattle.acta_table.specs.Dependencies.{is_commit, is_abort}
 use Rattle.acta_table.specs.Edges.{is_among, with_edge, formed}
 use Rattle.acta_table.specs.Fates.{is_open}
+use Rattle.acta_table.specs.Numbered.{item_at}
 use Rattle.acta_table.specs.Sets.{is_named}
+use Rattle.acta_deps.specs.Debts.{debt_by, debt_of, owes_commit, owes_abort}
+use Rattle.acta_deps.specs.Dependencies.{termination_dep, owing_abort, owing_commit, commit_order, weak_begin, unpayable_commit, unpayable_abort, clash, commit_refusal, abort_refusal, join_refusal}
 use Rattle.acta_deps.specs.Statuses.{has_begun, has_ended, with_status}
 use Rattle.acta_sets.specs.declared.held_op.HeldOp.{HeldOp}
 use Rattle.acta_sets.specs.Operations.{is_held, operation_at, moved_from, moved, ended_op, ended, handed_op, handed, added}
@@ -25,12 +31,14 @@ use Rattle.acta_sets.specs.Permits.{Permitted}
 use Rattle.acta_machine.specs.Summary.{Summary, with_entry, stood, terminated, permit_given, entered, linked, given, inherited, operated, fated, counted}
 use Rattle.acta_machine.specs.Changes.{edges_due, settled, effect, summary_of}
 use Rattle.acta_machine.specs.Families.{heir_of}
-use Rattle.acta_machine.specs.Rules.{not_in_progress, already_begun, lowest_broken}
+use Rattle.acta_machine.specs.Rules.{not_in_progress, already_begun, dependency, lowest_broken}
 use Rattle.acta_machine.specs.Table.{State, kept_as, moved_on, after, after_all}
-use Rattle.acta_machine.proofs.Broken.{in_progress, not_begun}
+use Rattle.acta_machine.proofs.Broken.{by_none, in_progress, not_begun}
 use Rattle.acta_machine.proofs.Histories.{summary_more}
-use Rattle.acta_machine.proofs.Unbroken.{Unbroken, unbroken, none-earlier}
-use Rattle.acta_hope.specs.Growth.{IsOpLater, AreLater, IsLater}
+use Rattle.acta_machine.proofs.Unbroken.{Unbroken, unbroken, none-earlier, none-dependency}
+use Rattle.acta_hope.specs.Growth.{IsOpLater, AreLater, StaysOwed, IsLater, paid}
+use Rattle.acta_hope.proofs.Bars.{none-all, none-passes-at, item-more}
+use Rattle.acta_hope.proofs.Debts.{debt-parts, debt-later}
 
 -- operations
 
@@ -143,6 +151,73 @@ begun-stays status t x begun u is = of (u == t)
     of true = begun
     of false = is
 
+-- debts
+
+-- where t starts, what is owed stays owed
+owed-started : (status : ℕ → Status) (t : ℕ) (f : Edge) (missing : Missing) → status t ≡ NotBegun → debt_of status f ≡ Some missing → debt_of (with_status status t InProgress) f ≡ Some missing
+owed-started status t f missing new owed =
+    let parts = debt-parts f.kind (status f.i.0) (status f.j.0) missing owed in
+    ap (λ i. debt_by f.kind i (with_status status t InProgress f.j.0)) (entry-stays has_ended status status t InProgress (ap has_ended new) f.i.0 parts.0)
+    ∙ of (f.j.0 == t)
+  where
+    of : (b : Bool) → debt_by f.kind (status f.i.0) (if b then InProgress else status f.j.0) ≡ Some missing
+    of true = debt-later f.kind (status f.i.0) (status f.j.0) InProgress missing owed (λ is. refl) refl
+    of false = owed
+
+-- by its new status t has done what it owed
+abbrev Pays : Summary → ℕ → Status → Type 0
+Pays s t x =
+    (n : ℕ) (f : Edge) (missing : Missing) → item_at s.edges n ≡ Some f → (f.j.0 == t) ≡ true → debt_of s.status f ≡ Some missing → x ≡ paid missing
+
+-- where t ends and pays, what others owe stays owed
+owed-ended : (s : Summary) (t : ℕ) (x : Status) → s.status t ≡ InProgress → Pays s t x → (n : ℕ) (f : Edge) (missing : Missing) → item_at s.edges n ≡ Some f → debt_of s.status f ≡ Some missing →
+    (debt_of (with_status s.status t x) f ≡ Some missing) ⊎ (with_status s.status t x f.j.0 ≡ paid missing)
+owed-ended s t x on pays n f missing at owed = of (f.j.0 == t) refl
+  where
+    stays : with_status s.status t x f.i.0 ≡ s.status f.i.0
+    stays = entry-stays has_ended s.status s.status t x (ap has_ended on) f.i.0 (debt-parts f.kind (s.status f.i.0) (s.status f.j.0) missing owed).0
+
+    of : (b : Bool) → (f.j.0 == t) ≡ b → (debt_by f.kind (with_status s.status t x f.i.0) (if b then x else s.status f.j.0) ≡ Some missing) ⊎ ((if b then x else s.status f.j.0) ≡ paid missing)
+    of true is = inr (pays n f missing at is owed)
+    of false is = inl (ap (λ i. debt_by f.kind i (s.status f.j.0)) stays ∙ owed)
+
+-- one that may commit, abort or join another pays
+
+none-abort : (s : Summary) (t : ℕ) → owing_abort s.status s.edges t ≡ None → (n : ℕ) (f : Edge) → item_at s.edges n ≡ Some f → (f.j.0 == t) ≡ true → debt_of s.status f ≡ Some abort_due → ⊥
+unfolding owing_abort
+none-abort s t none n f at is owed =
+    let owes : owes_abort s.status t f ≡ true = λ k. is k && is_abort (owed k) in
+    true≢false (sym owes ∙ none-passes-at (owes_abort s.status t) s.edges n f (by_none OwesAbort _ none) at)
+
+none-commit : (s : Summary) (t : ℕ) → owing_commit s.status s.edges t ≡ None → (n : ℕ) (f : Edge) → item_at s.edges n ≡ Some f → (f.j.0 == t) ≡ true → debt_of s.status f ≡ Some commit_due → ⊥
+unfolding owing_commit
+none-commit s t none n f at is owed =
+    let owes : owes_commit s.status t f ≡ true = λ k. is k && is_commit (owed k) in
+    true≢false (sym owes ∙ none-passes-at (owes_commit s.status t) s.edges n f (by_none OwesCommit _ none) at)
+
+commit-pays : (s : Summary) (t : ℕ) → commit_refusal s.status s.edges t ≡ None → Pays s t has_committed
+unfolding commit_refusal
+commit-pays s t none n f commit_due at is owed = refl
+commit-pays s t none n f abort_due at is owed =
+    let rules = termination_dep s.status s.edges t ∷ owing_abort s.status s.edges t ∷ commit_order s.status s.edges t ∷ weak_begin s.status s.edges t ∷ unpayable_commit s.status s.edges t ∷ clash s.status s.edges t has_committed ∷ [] in
+    absurd (none-abort s t (none-all rules none).1.0 n f at is owed)
+
+abort-pays : (s : Summary) (t : ℕ) → abort_refusal s.status s.edges t ≡ None → Pays s t has_aborted
+unfolding abort_refusal
+abort-pays s t none n f commit_due at is owed =
+    let rules = termination_dep s.status s.edges t ∷ owing_commit s.status s.edges t ∷ unpayable_abort s.status s.edges t ∷ clash s.status s.edges t has_aborted ∷ [] in
+    absurd (none-commit s t (none-all rules none).1.0 n f at is owed)
+abort-pays s t none n f abort_due at is owed = refl
+
+join-pays : (s : Summary) (t : ℕ) → join_refusal s.status s.edges t ≡ None → Pays s t has_joined
+unfolding join_refusal
+join-pays s t none n f commit_due at is owed =
+    let rules = owing_abort s.status s.edges t ∷ owing_commit s.status s.edges t ∷ [] in
+    absurd (none-commit s t (none-all rules none).1.0 n f at is owed)
+join-pays s t none n f abort_due at is owed =
+    let rules = owing_abort s.status s.edges t ∷ owing_commit s.status s.edges t ∷ [] in
+    absurd (none-abort s t (none-all rules none).0 n f at is owed)
+
 -- the three kinds of events: one that starts t, one that ends it, and one that does neither
 
 abbrev after_start : Summary → ℕ → Option ClassId → Option TxnId → List HeldOp → List Edge → Summary
@@ -165,6 +240,7 @@ later-start s t class parent operations edges new ops more = record {
   parent = entry-stays has_begun s.status s.parent t parent (ap has_begun new);
   operations = ops;
   edges = more;
+  debts = λ n f missing at owed. inl (owed-started s.status t f missing new owed);
 }
 
 abbrev after_end : Summary → ℕ → Status → List HeldOp → List Edge → Permitted → Summary
@@ -178,8 +254,8 @@ after_end s t x operations edges permits = record {
   permits = permits;
 }
 
-later-end : (s : Summary) (t : ℕ) (x : Status) (operations : List HeldOp) (edges : List Edge) (permits : Permitted) → s.status t ≡ InProgress → has_begun x ≡ true → AreLater s.operations operations → MoreEdges s.edges edges → IsLater s (after_end s t x operations edges permits)
-later-end s t x operations edges permits on begun ops more = record {
+later-end : (s : Summary) (t : ℕ) (x : Status) (operations : List HeldOp) (edges : List Edge) (permits : Permitted) → s.status t ≡ InProgress → has_begun x ≡ true → Pays s t x → AreLater s.operations operations → MoreEdges s.edges edges → IsLater s (after_end s t x operations edges permits)
+later-end s t x operations edges permits on begun pays ops more = record {
   kept = omega arith;
   begun = begun-stays s.status t x begun;
   ended = entry-stays has_ended s.status s.status t x (ap has_ended on);
@@ -187,6 +263,7 @@ later-end s t x operations edges permits on begun ops more = record {
   parent = λ u is. refl;
   operations = ops;
   edges = more;
+  debts = owed-ended s t x on pays;
 }
 
 abbrev after_rest : Summary → List HeldOp → List Edge → Permitted → Summary
@@ -209,29 +286,34 @@ later-rest s operations edges permits ops more = record {
   parent = λ u is. refl;
   operations = ops;
   edges = more;
+  debts = λ n f missing at owed. inl owed;
 }
 
 -- an event that breaks no rule
 
-later-commit : (s : Summary) (t : TxnId) (heir : Option TxnId) → s.status t.0 ≡ InProgress → IsLater s (counted (settled (terminated (linked s []) t has_committed) t heir))
+later-commit : (s : Summary) (t : TxnId) (heir : Option TxnId) → s.status t.0 ≡ InProgress → Pays s t.0 has_committed → IsLater s (counted (settled (terminated (linked s []) t has_committed) t heir))
 unfolding terminated linked fated inherited counted
-later-commit s t None on = later-end s t.0 has_committed (ended t.0 Committed s.operations) s.edges _ on refl (ops-ended t.0 Committed s.operations) (edges-same s.edges)
-later-commit s t (Some u) on = later-end s t.0 has_committed (handed t.0 u s.operations) s.edges _ on refl (ops-handed t.0 u s.operations) (edges-same s.edges)
+later-commit s t None on pays = later-end s t.0 has_committed (ended t.0 Committed s.operations) s.edges _ on refl pays (ops-ended t.0 Committed s.operations) (edges-same s.edges)
+later-commit s t (Some u) on pays = later-end s t.0 has_committed (handed t.0 u s.operations) s.edges _ on refl pays (ops-handed t.0 u s.operations) (edges-same s.edges)
 
-later-effect : {A : Type 0} (m : Parts A) (s : Summary) (e : Event A) → Unbroken m s e → IsLater s (effect m s e)
+later-effect : {A : Type 0} (m : Parts A) (s : Summary) (e : Event A) → Unbroken m s e → dependency s e ≡ None → IsLater s (effect m s e)
 unfolding stood terminated permit_given entered linked given inherited operated fated counted not_in_progress already_begun
-later-effect m s (Begin t class) u = later-start s t.0 (Some class) None s.operations s.edges (not_begun s AlreadyBegun t.0 u.begun) (ops-same s.operations) (edges-same s.edges)
-later-effect m s (Spawn t c class) u = later-start s c.0 (Some class) (Some t) s.operations _ (not_begun s AlreadyBegun c.0 u.begun) (ops-same s.operations) (edges-formed s.edges (edges_due m s (Spawn t c class)))
-later-effect m s (Split t v class ops) u = later-start s v.0 (Some class) None (moved ops v s.operations) _ (not_begun s AlreadyBegun v.0 u.begun) (ops-moved 1 ops v s.operations) (edges-formed s.edges (edges_due m s (Split t v class ops)))
-later-effect m s (Join t v) u = later-end s t.0 has_joined (handed t.0 v s.operations) s.edges _ (in_progress s NotInProgress t.0 u.progress) refl (ops-handed t.0 v s.operations) (edges-same s.edges)
-later-effect m s (Delegate t v ops) u = later-rest s (moved ops v s.operations) s.edges s.permits (ops-moved 1 ops v s.operations) (edges-same s.edges)
-later-effect m s (Form kind j i) u = later-rest s s.operations _ s.permits (ops-same s.operations) (edges-formed s.edges (edges_due m s (Form kind j i)))
-later-effect m s (Operate t ob op) u = later-rest s (added s.operations t ob op) _ s.permits (ops-more s.operations _) (edges-formed s.edges (edges_due m s (Operate t ob op)))
-later-effect m s (Commit t) u = later-commit s t (heir_of m (linked s []) t.0) (in_progress s NotInProgress t.0 u.progress)
-later-effect m s (Abort t) u = later-end s t.0 has_aborted (ended t.0 Aborted s.operations) s.edges _ (in_progress s NotInProgress t.0 u.progress) refl (ops-ended t.0 Aborted s.operations) (edges-same s.edges)
-later-effect m s (Permit t v ob) u = later-rest s s.operations s.edges _ (ops-same s.operations) (edges-same s.edges)
+later-effect m s (Begin t class) u fine = later-start s t.0 (Some class) None s.operations s.edges (not_begun s AlreadyBegun t.0 u.begun) (ops-same s.operations) (edges-same s.edges)
+later-effect m s (Spawn t c class) u fine = later-start s c.0 (Some class) (Some t) s.operations _ (not_begun s AlreadyBegun c.0 u.begun) (ops-same s.operations) (edges-formed s.edges (edges_due m s (Spawn t c class)))
+later-effect m s (Split t v class ops) u fine = later-start s v.0 (Some class) None (moved ops v s.operations) _ (not_begun s AlreadyBegun v.0 u.begun) (ops-moved 1 ops v s.operations) (edges-formed s.edges (edges_due m s (Split t v class ops)))
+later-effect m s (Join t v) u fine = later-end s t.0 has_joined (handed t.0 v s.operations) s.edges _ (in_progress s NotInProgress t.0 u.progress) refl (join-pays s t.0 fine) (ops-handed t.0 v s.operations) (edges-same s.edges)
+later-effect m s (Delegate t v ops) u fine = later-rest s (moved ops v s.operations) s.edges s.permits (ops-moved 1 ops v s.operations) (edges-same s.edges)
+later-effect m s (Form kind j i) u fine = later-rest s s.operations _ s.permits (ops-same s.operations) (edges-formed s.edges (edges_due m s (Form kind j i)))
+later-effect m s (Operate t ob op) u fine = later-rest s (added s.operations t ob op) _ s.permits (ops-more s.operations _) (edges-formed s.edges (edges_due m s (Operate t ob op)))
+later-effect m s (Commit t) u fine = later-commit s t (heir_of m (linked s []) t.0) (in_progress s NotInProgress t.0 u.progress) (commit-pays s t.0 fine)
+later-effect m s (Abort t) u fine = later-end s t.0 has_aborted (ended t.0 Aborted s.operations) s.edges _ (in_progress s NotInProgress t.0 u.progress) refl (abort-pays s t.0 fine) (ops-ended t.0 Aborted s.operations) (edges-same s.edges)
+later-effect m s (Permit t v ob) u fine = later-rest s s.operations s.edges _ (ops-same s.operations) (edges-same s.edges)
 
 -- one after another
+
+paid-ended : (missing : Missing) → has_ended (paid missing) ≡ true
+paid-ended commit_due = refl
+paid-ended abort_due = refl
 
 later-same : (s : Summary) → IsLater s s
 later-same s = record {
@@ -242,7 +324,15 @@ later-same s = record {
   parent = λ u is. refl;
   operations = ops-same s.operations;
   edges = edges-same s.edges;
+  debts = λ n f missing at owed. inl owed;
 }
+
+still-owed : (s l k : Summary) → IsLater s l → IsLater l k → StaysOwed s k
+still-owed s l k a b n f missing at owed =
+    elim (a.debts n f missing at owed) [
+      | inl still ↦ b.debts n f missing (ap (λ es. item_at es n) a.edges.1 ∙ item-more s.edges a.edges.0 n f at) still
+      | inr done ↦ inr (b.ended f.j.0 (ap has_ended done ∙ paid-ended missing) ∙ done)
+    ]
 
 later-on : (s l k : Summary) → IsLater s l → IsLater l k → IsLater s k
 later-on s l k a b = record {
@@ -253,6 +343,7 @@ later-on s l k a b = record {
   parent = λ u is. b.parent u (a.begun u is) ∙ a.parent u is;
   operations = ops-on s.operations l.operations k.operations a.operations b.operations;
   edges = edges-on s.edges l.edges k.edges a.edges b.edges;
+  debts = still-owed s l k a b;
 }
 
 -- the summary of what a machine kept
@@ -274,7 +365,7 @@ model-after_all s (e ∷ es) = model-after_all (after s e) es ∙ model-after s 
 later-moved : {A : Type 0} (s : State A) (e : Event A) (r : Option Refusal) → lowest_broken s.model (summary_in s) e ≡ r → IsLater (summary_in s) (summary_in (moved_on s e r))
 later-moved s e None none =
     subst (IsLater (summary_in s)) (sym (summary_more s.model s.kept (kept_as s e)))
-    (later-effect s.model (summary_in s) e (unbroken s.model (summary_in s) e (none-earlier s.model (summary_in s) e none)))
+    (later-effect s.model (summary_in s) e (unbroken s.model (summary_in s) e (none-earlier s.model (summary_in s) e none)) (none-dependency s.model (summary_in s) e none))
 later-moved s e (Some r) broken = later-same (summary_in s)
 
 pub later-after : {A : Type 0} (s : State A) (e : Event A) → IsLater (summary_in s) (summary_in (after s e))

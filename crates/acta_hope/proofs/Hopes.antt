@@ -208,7 +208,7 @@ not-allowed m s e r broken l later none =
 
 -- operations that are named
 
-none-smallest : (ns : List ℕ) → smallest ns ≡ None → ns ≡ []
+pub none-smallest : (ns : List ℕ) → smallest ns ≡ None → ns ≡ []
 none-smallest [] e = refl
 none-smallest (n ∷ ns) e = cc
 

@@ -1,6 +1,8 @@
 pub mod BarringEdges
 pub mod Bars
+pub mod Clashes
 pub mod Counting
+pub mod Debts
 pub mod Growth
 pub mod Hopes
 pub mod LettingGo

@@ -1,7 +1,13 @@
 -- What later events leave of a history: how a summary comes after another.
-use Rattle.std.specs.Prelude.{◌≡◌, ◌≤◌, ℕ, true, false, ⊤, List, [], ◌∷◌, ◌++◌}
+use Rattle.std.specs.Prelude.{◌≡◌, ◌≤◌, ◌⊎◌, ℕ, true, false, ⊤, List, [], ◌∷◌, ◌++◌, Some}
+use Rattle.acta_table.specs.declared.answer.Status.{Status}
+use Rattle.acta_table.specs.declared.answer.Status.TheVariants.{Committed, Aborted}
 use Rattle.acta_table.specs.declared.dep.Edge.{Edge}
+use Rattle.acta_table.specs.declared.dep.Missing.{Missing}
+use Rattle.acta_table.specs.declared.dep.Missing.TheVariants.{Commit, Abort}
 use Rattle.acta_table.specs.Fates.{is_open}
+use Rattle.acta_table.specs.Numbered.{item_at}
+use Rattle.acta_deps.specs.Debts.{debt_of}
 use Rattle.acta_deps.specs.Statuses.{has_begun, has_ended}
 use Rattle.acta_sets.specs.declared.held_op.HeldOp.{HeldOp}
 use Rattle.acta_machine.specs.Summary.{Summary}
@@ -18,6 +24,16 @@ AreLater [] js = ⊤
 AreLater (i ∷ is) [] = ⊥
 AreLater (i ∷ is) (j ∷ js) = IsOpLater i j × AreLater is js
 
+-- the status of a transaction that has done what it owed
+abbrev pub paid : Missing → Status
+paid Commit = Committed
+paid Abort = Aborted
+
+-- what is owed by an edge is still owed by it, or paid
+abbrev pub StaysOwed : Summary → Summary → Type 0
+StaysOwed s l =
+    (n : ℕ) (f : Edge) (missing : Missing) → item_at s.edges n ≡ Some f → debt_of s.status f ≡ Some missing → (debt_of l.status f ≡ Some missing) ⊎ (l.status f.j.0 ≡ paid missing)
+
 -- what is so of the second summary, if it is the first or comes after it
 pub record IsLater (s l : Summary) : Type 0 where
   pub kept : s.kept ≤ l.kept
@@ -27,3 +43,4 @@ pub record IsLater (s l : Summary) : Type 0 where
   pub parent : (t : ℕ) → has_begun (s.status t) ≡ true → l.parent t ≡ s.parent t
   pub operations : AreLater s.operations l.operations
   pub edges : (more : List Edge) × (l.edges ≡ s.edges ++ more)
+  pub debts : StaysOwed s l

@@ -17,7 +17,7 @@ use Rattle.acta_machine.specs.Reasons.{refusal_of, IsSo}
 use Rattle.acta_machine.specs.Summary.{Summary}
 use Rattle.acta_machine.specs.Table.{State, after_all, operations_in, refusal_in, status_in}
 use Rattle.acta_machine.specs.declared.reason.Reason.{Reason}
-use Rattle.acta_machine.specs.declared.reason.Reason.TheVariants.{Barred, Clash}
+use Rattle.acta_machine.specs.declared.reason.Reason.TheVariants.{Barred}
 use Rattle.acta_hope.specs.declared.hoping.Hope.{Hope}
 use Rattle.acta_hope.specs.declared.hoping.Hope.TheVariants.{Never, OnceBegun, OnceHeld, OnceDecided, OnceCommitted, OnceAborted, OnceFree, OnceLetGo, OnceFewer, Unknown}
 
@@ -96,5 +96,4 @@ is_operate _ = false
 -- the reasons for which nothing need be known
 abbrev pub MayBeUntold : Reason → Type 0
 MayBeUntold (Barred barring) = is_of_edge barring.rule ≡ false
-MayBeUntold (Clash clash) = ⊤
 MayBeUntold _ = ⊥

@@ -1,6 +1,6 @@
 -- Words of the code's own contracts: what hope is told where one has to be in progress, and where one has to hold an
 -- operation.
-use Rattle.std.specs.Prelude.{◌≡◌, ◌⊎◌, ◌||◌, not, ◌==◌, nat_lt, ℕ, Bool, true, false, None, Some}
+use Rattle.std.specs.Prelude.{◌≡◌, ◌⊎◌, ◌||◌, ◌&&◌, not, ◌==◌, nat_lt, ℕ, Bool, true, false, None, Some}
 use Rattle.acta_table.specs.declared.answer.Status.{Status}
 use Rattle.acta_table.specs.declared.answer.Status.TheVariants.{InProgress}
 use Rattle.acta_table.specs.declared.event.Event.{Event}
@@ -10,7 +10,10 @@ use Rattle.acta_table.specs.declared.limits.TheConstants.{MOST_EVENTS}
 use Rattle.acta_table.specs.Events.{acting}
 use Rattle.acta_table.specs.declared.answer.Rule.{Rule}
 use Rattle.acta_table.specs.declared.answer.Rule.TheVariants.{BeginDep, SerialDep, BeginOnCommit, BeginOnAbort, TerminationDep, OwesAbort, OwesCommit, CommitOrder, WeakBegin, Unpayable}
+use Rattle.acta_table.specs.declared.dep.Dep.{Dep}
+use Rattle.acta_table.specs.declared.dep.Dep.TheVariants.{Wd}
 use Rattle.acta_deps.specs.declared.obstacle.Barring.{Barring}
+use Rattle.acta_deps.specs.declared.obstacle.Clash.{Clash}
 use Rattle.acta_deps.specs.Statuses.{has_ended}
 use Rattle.acta_hope.specs.Hopes.{is_operate}
 use Rattle.acta_hope.specs.declared.hoping.Hope.{Hope}
@@ -71,6 +74,21 @@ IsOfBarring b (OnceCommitted t) = (b.rule ≡ BeginOnCommit) × (t ≡ b.by.edge
 IsOfBarring b (OnceAborted t) = (b.rule ≡ BeginOnAbort) × (t ≡ b.by.edge.i)
 IsOfBarring b Unknown = may_be_untold b.rule b.j b.i ≡ true
 IsOfBarring b _ = ⊥
+
+-- whether the kind is the weak-abort dependency, by which one that has committed owes nothing
+abbrev pub is_wd : Dep → Bool
+is_wd Wd = true
+is_wd _ = false
+
+-- whether a commit of the one that would owe both would help, where the one on which the edge of the abort is stands so
+abbrev pub is_helped : Clash → Status → Bool
+is_helped c i = is_wd c.abort.edge.kind && not (has_ended i)
+
+-- it never is but once the one that would owe both has committed
+abbrev pub IsOfClash : Clash → Status → Hope → Type 0
+IsOfClash c i Never = is_helped c i ≡ false
+IsOfClash c i (OnceCommitted t) = (is_helped c i ≡ true) × (t ≡ c.commit.edge.j)
+IsOfClash c i _ = ⊥
 
 -- whether no history can have an operation of this number
 abbrev pub is_no_operation : ℕ → Bool

@@ -6,10 +6,10 @@ ghost use Rattle.acta_machine.specs.Reasons.{refusal_of, IsSo};
 ghost use Rattle.acta_machine.specs.Table.{refusal_in};
 ghost use Rattle.acta_deps.specs.Statuses.{has_ended};
 ghost use Rattle.acta_hope.specs.Hopes.{Holds, IsWhy, MayBeUntold};
-ghost use Rattle.acta_hope.specs.Parts.{IsOfBarring, IsOfBegun, IsOfEdges, IsOfHeld, IsOfLeftOut, is_no_operation};
+ghost use Rattle.acta_hope.specs.Parts.{IsOfBarring, IsOfBegun, IsOfClash, IsOfEdges, IsOfHeld, IsOfLeftOut, is_no_operation, is_wd};
 
-use acta_machine::{Barring, Handle, Machine, Reason};
-use acta_table::{Event, Fate, MOST_EVENTS, OpNo, Rule, Status, TxnId};
+use acta_machine::{Barring, Clash, Handle, Machine, Reason};
+use acta_table::{Dep, Event, Fate, MOST_EVENTS, OpNo, Rule, Status, TxnId};
 use std::alloc::AllocError;
 
 /// What hope there is for an event that is refused (ours).
@@ -104,6 +104,24 @@ fn barred(barring: &Barring) -> Hope
     }
 }
 
+fn is_wd(kind: Dep) -> bool
+    ensures { result ≡ is_wd kind }
+{
+    matches!(kind, Dep::Wd)
+}
+
+// Where a transaction would owe both a commit and an abort. `i` is the status of the one on which the edge of the abort is.
+// By WD a transaction owes no abort if it committed before the other aborts.
+fn owes_both(clash: &Clash, i: Status) -> Hope
+    ensures { IsOfClash clash.now i result }
+{
+    if is_wd(clash.abort.edge.kind) && !has_ended(i) {
+        Hope::OnceCommitted(clash.commit.edge.j)
+    } else {
+        Hope::Never
+    }
+}
+
 // Where more edges would be in force than there may be.
 fn too_many_edges<A: Handle>(event: &Event<A>) -> Hope
     ensures { IsOfEdges event.now result }
@@ -150,10 +168,10 @@ pub fn hope_of<A: Handle>(machine: &Machine<A>, event: &Event<A>, reason: &Reaso
             }
         }
         Reason::Barred(barring) => barred(&barring),
+        Reason::Clash(clash) => owes_both(&clash, machine.status(clash.abort.edge.i)),
         Reason::EdgesFull => too_many_edges(event),
         Reason::PartialDelegation(op) => once_let_go(event, op.number),
         Reason::Conflict(op) => Hope::OnceFree(op.number),
-        Reason::Clash(_) => Hope::Unknown,
     }
 }
 

@@ -10,7 +10,8 @@ use std::alloc::Allocator;
 
 /// A law, for a machine and any later events. A transaction that has begun keeps its class and its parent; one that has
 /// ended keeps its status. The operations and the edges so far are still there, and more may follow them. An operation
-/// keeps its object and what it does, and its fate once it has ended. No fewer events are kept.
+/// keeps its object and what it does, and its fate once it has ended. What is owed by an edge stays owed until it is paid.
+/// No fewer events are kept.
 pub fn later_events_take_nothing_back<A: Allocator>()
     ensures { (state : State A) → (es : List (Event A)) → IsLater (summary_of state.model state.kept) (summary_of (after_all state es).model (after_all state es).kept) }
 {}

@@ -1,6 +1,7 @@
 use Rattle.std.proofs.Common.{inl, inr, sym, ap, subst, ◌∙◌}
 use Rattle.acta_table.specs.Fates.{is_open}
 use Rattle.acta_hope.specs.Hopes.{IsWhy, MayBeUntold}
+use Rattle.acta_hope.proofs.Clashes.{of-clash, told-clash}
 use Rattle.acta_hope.proofs.Reasons.{IsFinal, of-final, of-acting, of-partner, of-heir, of-responsible, of-ended, of-set, of-no-operation, of-barring, of-edges, of-conflict, of-left-out, told-acting, told-barring, told-partner, told-heir, told-responsible, told-set, told-left-out, told-edges}
 use Rattle.acta_hope.proofs.hoping.hope_of.Goals as goal
 
@@ -112,3 +113,12 @@ returns-in-Barred-clause-told g c = λ same.
     subst MayBeUntold (sym c.in-Barred.is)
     (told-barring c.args.machine.now c.args.event.now c.in-Barred.barring c.barred.result c.barred.ensures
     (subst (IsWhy c.args.machine.now c.args.event.now) c.in-Barred.is c.requires) same)
+
+pub returns-in-Clash-clause-hope : goal.returns-in-Clash-clause-hope
+returns-in-Clash-clause-hope g c =
+    of-clash c.args.machine.now c.args.event.now c.in-Clash.clash c.status.result c.owes_both.result c.owes_both.ensures c.status.ensures.status
+    (subst (IsWhy c.args.machine.now c.args.event.now) c.in-Clash.is c.requires)
+
+pub returns-in-Clash-clause-told : goal.returns-in-Clash-clause-told
+returns-in-Clash-clause-told g c = λ same.
+    absurd (told-clash c.in-Clash.clash c.status.result c.owes_both.result c.owes_both.ensures same)
