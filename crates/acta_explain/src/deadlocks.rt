@@ -71,12 +71,15 @@ impl<A: Handle> Waits<A> {
         for place in circle {
             if let Some(wait) = self.waits.get(*place) {
                 prose = put!(prose; gap, wait.txn.0);
-                gap = " waits for ";
+                gap = " -> ";
             }
         }
         prose = prose.put("\n");
-        for place in circle.iter().skip(1) {
-            prose = self.put_place(prose, told, *place, indent);
+        // (the last is the first again)
+        if let Some((_, places)) = circle.split_last() {
+            for place in places {
+                prose = self.put_place(prose, told, *place, indent);
+            }
         }
         prose
     }

@@ -260,3 +260,17 @@ module _ {A : Type 0} (m : Parts A) (s : Summary) (e : Event A) (n : ℕ) (f : E
   barred-told TerminationDep may b = absurd (true≢false (sym may))
   barred-told WeakBegin may b = absurd (true≢false (sym may))
   barred-told _ may b = refl
+
+  -- the edge that is named is one by which the rule bars the event
+  pub barred-force : (rule : Rule) → is_of_edge rule ≡ true → Broken rule → edge_test e rule s.status f ≡ true
+  barred-force BeginDep is b = (turns BeginDep (dependency-by e s (refusal BeginDep) b.0)).0
+  barred-force SerialDep is b = (turns SerialDep (dependency-by e s (refusal SerialDep) b.0)).0
+  barred-force BeginOnCommit is b = (turns BeginOnCommit (dependency-by e s (refusal BeginOnCommit) b.0)).0
+  barred-force BeginOnAbort is b = (turns BeginOnAbort (dependency-by e s (refusal BeginOnAbort) b.0)).0
+  barred-force TerminationDep is b = (turns TerminationDep (dependency-by e s (refusal TerminationDep) b.0)).0
+  barred-force OwesAbort is b = (turns OwesAbort (dependency-by e s (refusal OwesAbort) b.0)).0
+  barred-force OwesCommit is b = (turns OwesCommit (dependency-by e s (refusal OwesCommit) b.0)).0
+  barred-force CommitOrder is b = (turns CommitOrder (dependency-by e s (refusal CommitOrder) b.0)).0
+  barred-force WeakBegin is b = (turns WeakBegin (dependency-by e s (refusal WeakBegin) b.0)).0
+  barred-force Unpayable is b = (turns Unpayable (dependency-by e s (refusal Unpayable) b.0)).0
+  barred-force _ is b = absurd (true≢false (sym is))

@@ -22,14 +22,14 @@ use Rattle.acta_machine.specs.declared.reason.Reason.{Reason}
 use Rattle.acta_machine.specs.declared.reason.Reason.TheVariants.{Barred, Conflict, EdgesFull, PartialDelegation, Full, Form, NotInProgress, AlreadyBegun, NotInModel, PartnerNotInProgress, NotResponsible, BadSet, FormTooLate, NoHeir}
 use Rattle.acta_hope.specs.declared.hoping.Hope.{Hope}
 use Rattle.acta_hope.specs.declared.hoping.Hope.TheVariants.{Never, OnceBegun, OnceHeld, OnceDecided, OnceCommitted, OnceAborted, OnceFree, OnceLetGo, OnceFewer, Unknown}
-use Rattle.acta_hope.specs.Hopes.{IsHopeless, OnlyWhere, IsWhy, Holds, is_of_edge, are_listed, opponents_of, stands_in}
+use Rattle.acta_hope.specs.Hopes.{IsHopeless, OnlyWhere, IsWhy, Holds, HasForce, is_of_edge, are_listed, opponents_of, stands_in}
 use Rattle.acta_hope.specs.Parts.{IsOfBegun, IsOfHeld, IsOfLeftOut, IsOfBarring, IsOfEdges, may_be_untold, bars_for_good, is_no_operation}
 use Rattle.acta_hope.specs.Rulings.{IsBrokenBy}
-use Rattle.acta_hope.proofs.BarringEdges.{barred-never, barred-told, barred-begun, barred-serial, barred-termination, barred-commit, barred-abort}
+use Rattle.acta_hope.proofs.BarringEdges.{barred-never, barred-force, barred-told, barred-begun, barred-serial, barred-termination, barred-commit, barred-abort}
 use Rattle.acta_hope.proofs.Growth.{summary_in, model-after_all}
 use Rattle.acta_hope.proofs.Hopes.{Only, Not, only-later, never-later, not-full, not-formed, not-acting, once-acting, not-partner, once-partner, not-started, not-allowed, once-held, not-held, once-there, never-there, not-late, not-few, forms-same, not-heir, once-heir, acting-off, partner-off, heir-off, set-acts, responsible-acts}
 use Rattle.acta_hope.proofs.Rulings.{is-broken}
-use Rattle.acta_hope.proofs.Standing.{conflict-gone, fewer-then, left-let-go, whole-acts}
+use Rattle.acta_hope.proofs.Standing.{conflict-gone, conflict-stands, fewer-then, left-let-go, whole-acts}
 
 -- the reasons that no later event takes away, whatever they name
 abbrev pub IsFinal : Reason → Type 0
@@ -145,6 +145,12 @@ module _ {A : Type 0} (state : State A) (e : Event A) where
       (only-later state e (λ l. option_map_or (is_held t.0) (operation_at l.operations op.number.0) false ≡ false) (left-let-go state.model s e t.0 op.number.0 is.1 (broken (PartialDelegation op) why)))
   of-left-out op Unknown is why = tt
   of-left-out op _ is why = absurd is
+
+  -- what the reason names breaks the rule
+  pub force : (reason : Reason) → IsWhy state e reason → HasForce state e reason
+  force (Conflict op) why = conflict-stands state.model s e op.number.0 op.held why.so (broken (Conflict op) why).0
+  force (Barred b) why = λ is. barred-force state.model s e b.by.number b.by.edge why.so.0 b.rule is (broken (Barred b) why)
+  force _ why = tt
 
   -- of these reasons something is said
 

@@ -38,7 +38,7 @@ use Rattle.acta_machine.proofs.Broken.{by_none, in_progress}
 use Rattle.acta_machine.proofs.Unbroken.{linked-room, Unbroken, unbroken, none-earlier}
 use Rattle.acta_hope.specs.Growth.{IsLater}
 use Rattle.acta_hope.specs.Hopes.{stands_in, opponents_of, is_listed, are_listed, is_operate}
-use Rattle.acta_hope.proofs.Bars.{none-passes-at}
+use Rattle.acta_hope.proofs.Bars.{none-passes-at, passes}
 use Rattle.acta_hope.proofs.Counting.{among-left, among-right, among-either, formed-covered, left-true, right-true}
 use Rattle.acta_hope.proofs.Hopes.{Only, by_some, if_some}
 
@@ -84,6 +84,26 @@ conflict-gone m s (Form kind j i) n broken l later none = refl
 conflict-gone m s (Commit t) n broken l later none = refl
 conflict-gone m s (Abort t) n broken l later none = refl
 conflict-gone m s (Permit t u ob) n broken l later none = refl
+
+guard-only : (b : Bool) (o : Option ℕ) (n : ℕ) → (if b then o else None) ≡ Some n → o ≡ Some n
+guard-only true o n e = e
+guard-only false o n e = cc
+
+-- the operation that is named stands in the way
+pub conflict-stands : {A : Type 0} (m : Parts A) (s : Summary) (e : Event A) (n : ℕ) (i : HeldOp) → operation_at s.operations n ≡ Some i → conflict m s e ≡ Some (record { rule = Conflict; by = Some n }) → stands_in m s e n ≡ true
+unfolding conflict
+conflict-stands m s (Operate t ob op) n i at broken =
+    let first = guard-only (refuses_conflicts m s t.0) (first_number (stands_against m s t.0 ob op) s.operations) n (by_some Conflict _ n broken) in
+    ap (λ o. option_map_or (stands_against m s t.0 ob op) o false) at ∙ passes (stands_against m s t.0 ob op) s.operations n i first at
+conflict-stands m s (Begin t class) n i at broken = cc
+conflict-stands m s (Spawn t c class) n i at broken = cc
+conflict-stands m s (Split t u class ops) n i at broken = cc
+conflict-stands m s (Join t u) n i at broken = cc
+conflict-stands m s (Delegate t u ops) n i at broken = cc
+conflict-stands m s (Form kind j k) n i at broken = cc
+conflict-stands m s (Commit t) n i at broken = cc
+conflict-stands m s (Abort t) n i at broken = cc
+conflict-stands m s (Permit t u ob) n i at broken = cc
 
 -- edges for which there is no room
 

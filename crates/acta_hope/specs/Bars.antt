@@ -1,4 +1,4 @@
--- Words of the proofs: what each rule on dependencies, but for the clash, asks of an edge.
+-- What each rule on dependencies, but for the clash, asks of an edge; and words of the proofs.
 use Rattle.std.specs.Prelude.{◌≡◌, ⊤, ℕ, Bool, false, None}
 use Rattle.acta_table.specs.declared.answer.Refusal.{Refusal}
 use Rattle.acta_table.specs.declared.answer.Rule.{Rule}

@@ -17,7 +17,8 @@ use Rattle.acta_machine.specs.Reasons.{refusal_of, IsSo}
 use Rattle.acta_machine.specs.Summary.{Summary}
 use Rattle.acta_machine.specs.Table.{State, after_all, operations_in, refusal_in, status_in}
 use Rattle.acta_machine.specs.declared.reason.Reason.{Reason}
-use Rattle.acta_machine.specs.declared.reason.Reason.TheVariants.{Barred}
+use Rattle.acta_machine.specs.declared.reason.Reason.TheVariants.{Barred, Conflict}
+use Rattle.acta_hope.specs.Bars.{edge_test}
 use Rattle.acta_hope.specs.declared.hoping.Hope.{Hope}
 use Rattle.acta_hope.specs.declared.hoping.Hope.TheVariants.{Never, OnceBegun, OnceHeld, OnceDecided, OnceCommitted, OnceAborted, OnceFree, OnceLetGo, OnceFewer, Unknown}
 
@@ -97,3 +98,10 @@ is_operate _ = false
 abbrev pub MayBeUntold : Reason → Type 0
 MayBeUntold (Barred barring) = is_of_edge barring.rule ≡ false
 MayBeUntold _ = ⊥
+
+-- by what the reason names, the rule is broken: the operation stands in the way; or the edge is one by which the rule bars
+-- the event
+abbrev pub HasForce : {A : Type 0} → State A → Event A → Reason → Type 0
+HasForce state e (Conflict op) = stands_in_way state e op.number ≡ true
+HasForce state e (Barred barring) = is_of_edge barring.rule ≡ true → edge_test e barring.rule (status_in state) barring.by.edge ≡ true
+HasForce state e _ = ⊤

@@ -5,7 +5,7 @@ ghost use Rattle.acta_machine.specs.Changes.{summary_of};
 ghost use Rattle.acta_machine.specs.Reasons.{refusal_of, IsSo};
 ghost use Rattle.acta_machine.specs.Table.{refusal_in};
 ghost use Rattle.acta_deps.specs.Statuses.{has_ended};
-ghost use Rattle.acta_hope.specs.Hopes.{Holds, IsWhy, MayBeUntold};
+ghost use Rattle.acta_hope.specs.Hopes.{HasForce, Holds, IsWhy, MayBeUntold};
 ghost use Rattle.acta_hope.specs.Parts.{IsOfBarring, IsOfBegun, IsOfClash, IsOfEdges, IsOfHeld, IsOfLeftOut, is_no_operation, is_wd};
 
 use acta_machine::{Barring, Clash, Handle, Machine, Reason};
@@ -183,6 +183,7 @@ pub fn why_and_hope<A: Handle>(
 ) -> Result<Option<(Reason, Hope)>, AllocError>
     ensures refusal { IfOk result (λ told. option_map (λ pair. refusal_of pair.0) told ≡ refusal_in machine.now event.now) }
     ensures so { IfOk result (λ told. IfSome told (λ pair. IsSo machine.now.model (summary_of machine.now.model machine.now.kept) event.now pair.0)) }
+    ensures force { IfOk result (λ told. IfSome told (λ pair. HasForce machine.now event.now pair.0)) }
     ensures hope { IfOk result (λ told. IfSome told (λ pair. Holds machine.now event.now pair.1)) }
     ensures told { IfOk result (λ told. IfSome told (λ pair. pair.1 ≡ Hope.Unknown → MayBeUntold pair.0)) }
 {
