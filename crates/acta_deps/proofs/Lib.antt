@@ -7,4 +7,5 @@ mod SmallestSame
 mod Clashes
 pub mod Clear
 mod Parties
+mod NewEdges
 mod Refusals

@@ -10,7 +10,7 @@ ghost use Rattle.acta_deps.specs.Dependencies.{start_refusal, commit_refusal, ab
 
 use crate::clash::Change;
 use crate::edge_list::EdgeList;
-use crate::forming::new_among;
+use crate::lacking::is_named_before;
 use crate::places::Places;
 use crate::refused::{Refused, keep_refused, refusal_among};
 use acta_table::{Edge, LAST_TXN, MOST_EDGES, Refusal, Status, TABLE_SIZE, TxnId, lengthen};
@@ -168,6 +168,26 @@ impl<A: Allocator> Deps<A> {
         self.edges.has(edge)
     }
 
+    /// How many edges `form` would form of these: those not yet in force, each counted once. Takes no memory. Where they
+    /// come ascending by `i`, an edge is compared with those of the same `i` alone.
+    pub fn lacks(&self, more: &[Edge]) -> usize
+        ensures { length (formed self.now.edges more.now) ≡ length self.now.edges + result }
+    {
+        let mut count = 0;
+        // The highest `i` so far, and the first place that has it since none below did.
+        let (mut highest, mut start) = (TxnId(0), 0);
+        for (k, edge) in more.iter().enumerate() {
+            if !self.has(edge) && !is_named_before(edge, &more[..k], start, highest) {
+                count += 1;
+            }
+            if edge.i.0 > highest.0 {
+                highest = edge.i;
+                start = k;
+            }
+        }
+        count
+    }
+
     /// The transactions that depend, by the number of the edge.
     pub(crate) fn by_j(&self) -> &Places<A>
         ensures { result.now ≡ map (λ e. e.j.0) self.now.edges }
@@ -224,15 +244,6 @@ impl<A: Allocator + Copy> Deps<A> {
     /// The allocator of the lists.
     pub(crate) fn allocator(&self) -> A {
         self.edges.allocator()
-    }
-
-    /// How many edges `form` would form of these: those not yet in force, each counted once. `Err` where there is no
-    /// memory.
-    pub fn lacks(&self, more: &[Edge]) -> Result<usize, AllocError>
-        ensures { IfOk result (λ count. length (formed self.now.edges more.now) ≡ length self.now.edges + count) }
-    {
-        let new = new_among(self, more)?;
-        Ok(new.len())
     }
 
     /// Forms those of these edges, by which nothing is owed yet, that are not in force, in order, each once, and answers

@@ -9,7 +9,7 @@ use std::alloc::{AllocError, Allocator};
 use std::hash::{BuildHasherDefault, FoldHasher};
 
 // Edges in order of forming, each once.
-pub(crate) type Formed<A> = IndexSet<Edge, BuildHasherDefault<FoldHasher>, A>;
+type Formed<A> = IndexSet<Edge, BuildHasherDefault<FoldHasher>, A>;
 
 /// At most 16,384 edges in order of forming, with the places of each transaction among them. Contracts see the list.
 #[derive(Drop)]
@@ -36,7 +36,7 @@ impl<A: Allocator> std::marker::Model for EdgeList<A> {
 }
 
 // Puts the edge behind the others, unless it is among them. `Err` where there is no memory, and then it is not.
-pub(crate) fn insert<A: Allocator>(edges: &mut Formed<A>, edge: &Edge) -> Result<(), AllocError>
+fn insert<A: Allocator>(edges: &mut Formed<A>, edge: &Edge) -> Result<(), AllocError>
     ensures formed { OnOk result (edges.new.keys ≡ with_edge edges.old.keys edge.now) }
     ensures err { OnErr result (edges.new.keys ≡ edges.old.keys) }
 {

@@ -11,7 +11,7 @@ mod clash;
 mod debt;
 mod deps;
 mod edge_list;
-mod forming;
+mod lacking;
 mod obstacle;
 mod places;
 mod refused;

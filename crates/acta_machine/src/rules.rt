@@ -405,19 +405,19 @@ impl<A: Handle> Board<A> {
         Some(Reason::FormTooLate { txn, status })
     }
 
-    // More edges would be in force than there may be, where the event forms these. `Err` where there is no memory.
+    // More edges would be in force than there may be, where the event forms these.
     #[tactic(auto, unfolding(crate::specs::Rules::edges_full))]
-    fn edges_full(&self, event: &Event<A>, due: &[Edge]) -> Result<Option<Reason>, AllocError>
+    fn edges_full(&self, event: &Event<A>, due: &[Edge]) -> Option<Reason>
         requires { due.now ≡ edges_due self.now.model (shown self.now) event.now }
-        ensures refusal { IfOk result (λ reason. option_map refusal_of reason ≡ edges_full self.now.model (shown self.now) event.now) }
-        ensures so { IfOk result (λ reason. IfSome reason (λ it. it ≡ Reason.EdgesFull)) }
+        ensures refusal { option_map refusal_of result ≡ edges_full self.now.model (shown self.now) event.now }
+        ensures so { IfSome result (λ it. it ≡ Reason.EdgesFull) }
     {
         let room = MOST_EDGES - self.deps.edges().len();
         // (where all would fit, none need be looked for)
-        if due.len() > room && self.deps.lacks(due)? > room {
-            Ok(Some(Reason::EdgesFull))
+        if due.len() > room && self.deps.lacks(due) > room {
+            Some(Reason::EdgesFull)
         } else {
-            Ok(None)
+            None
         }
     }
 
@@ -511,26 +511,22 @@ impl<A: Handle> Board<A> {
     }
 
     /// The lowest rule that the event breaks, where it breaks none before that on too many edges, and forms these
-    /// edges. `Err` where there is no memory.
-    pub(crate) fn broken_from_edges(
-        &mut self,
-        event: &Event<A>,
-        due: &[Edge],
-    ) -> Result<Option<Refusal>, AllocError>
+    /// edges.
+    pub(crate) fn broken_from_edges(&mut self, event: &Event<A>, due: &[Edge]) -> Option<Refusal>
         requires due { due.now ≡ edges_due self.old.model (shown self.old) event.now }
         requires none_before { broken_before_edges self.old.model (shown self.old) event.now ≡ None }
-        ensures refusal { IfOk result (λ refusal. refusal ≡ lowest_broken self.old.model (shown self.old) event.now) }
+        ensures refusal { result ≡ lowest_broken self.old.model (shown self.old) event.now }
         ensures same { self.new ≡ self.old }
     {
-        if let Some(reason) = self.edges_full(event, due)? {
-            return Ok(Some(reason.refusal()));
+        if let Some(reason) = self.edges_full(event, due) {
+            return Some(reason.refusal());
         }
         if let Some(refusal) = self.dependency(event) {
-            return Ok(Some(refusal));
+            return Some(refusal);
         }
         match self.no_heir(event) {
-            Some(reason) => Ok(Some(reason.refusal())),
-            None => Ok(None),
+            Some(reason) => Some(reason.refusal()),
+            None => None,
         }
     }
 
@@ -550,7 +546,7 @@ impl<A: Handle> Board<A> {
             return Ok(Err(reason.refusal()));
         }
         let due = self.edges_due(event)?;
-        match self.broken_from_edges(event, &due)? {
+        match self.broken_from_edges(event, &due) {
             Some(refusal) => Ok(Err(refusal)),
             None => Ok(Ok(due)),
         }
@@ -595,7 +591,7 @@ impl<A: Handle> Board<A> {
             return Ok(Some(reason));
         }
         let due = self.edges_due(event)?;
-        if let Some(reason) = self.edges_full(event, &due)? {
+        if let Some(reason) = self.edges_full(event, &due) {
             return Ok(Some(reason));
         }
         Ok(self.why_by_edges(event).or_else(|| self.no_heir(event)))

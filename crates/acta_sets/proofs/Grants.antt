@@ -142,13 +142,18 @@ between_if Greater p q = refl
 small_enough : (n : ℕ) → (is_le (nat_cmp 0 n) && not (is_lt (nat_cmp 65535 n))) ≡ nat_le n 65535
 small_enough n = grind (arith, nat_tests)
 
+pub object-between : (ob : ℕ) (k : Grant)
+    → range_contains grant_cmp (Included (record { object = record { 0 = ob }; partner = record { 0 = 0 } })) (Included (record { object = record { 0 = ob }; partner = record { 0 = 65535 } })) k
+    ≡ ((k.object.0 == ob) && nat_le k.partner.0 65535)
+object-between ob k =
+    between_if (nat_cmp ob k.object.0) (nat_cmp 0 k.partner.0) (nat_cmp 65535 k.partner.0)
+    ∙ (λ i. at-number ob k.object.0 i && small_enough k.partner.0 i)
+
 one_on_object : (ob h : ℕ) (k : Grant)
     → (range_contains grant_cmp (Included (record { object = record { 0 = ob }; partner = record { 0 = 0 } })) (Included (record { object = record { 0 = ob }; partner = record { 0 = 65535 } })) k && (k.partner.0 == h))
     ≡ (is_grant ob h k && nat_le h 65535)
 one_on_object ob h k =
-    ap (λ b. b && (k.partner.0 == h))
-    (between_if (nat_cmp ob k.object.0) (nat_cmp 0 k.partner.0) (nat_cmp 65535 k.partner.0)
-    ∙ (λ i. at-number ob k.object.0 i && small_enough k.partner.0 i))
+    ap (λ b. b && (k.partner.0 == h)) (object-between ob k)
     ∙ of (k.partner.0 == h) refl
   where
     of : (b : Bool) → (k.partner.0 == h) ≡ b → (((k.object.0 == ob) && nat_le k.partner.0 65535) && b) ≡ (((k.object.0 == ob) && b) && nat_le h 65535)

@@ -11,3 +11,4 @@ mod Unnamed
 mod Grants
 mod Permitting
 mod PermitLists
+mod Partners

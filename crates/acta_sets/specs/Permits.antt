@@ -3,6 +3,7 @@ use Rattle.std.specs.Prelude.{ℕ, Bool, false, ◌&&◌, ◌||◌, not, ◌==�
 use Rattle.std.specs.List.{list_any}
 use Rattle.std.specs.declared.cmp.Ordering.{Ordering}
 use Rattle.std.specs.Ordering.{nat_cmp, ordering_then}
+use Rattle.acta_table.specs.declared.event.TxnId.{TxnId}
 use Rattle.acta_sets.specs.declared.grant.Grant.{Grant}
 use Rattle.acta_sets.specs.declared.permit.Permit.{Permit}
 
@@ -33,6 +34,10 @@ has_grant grants object partner = list_any (is_grant object partner) grants
 -- the order of grants: by object, and then by partner
 abbrev pub grant_cmp : Grant → Grant → Ordering
 grant_cmp g k = ordering_then (nat_cmp g.object.0 k.object.0) (nat_cmp g.partner.0 k.partner.0)
+
+-- the order of transactions: by number
+abbrev pub txn_cmp : TxnId → TxnId → Ordering
+txn_cmp t u = nat_cmp t.0 u.0
 
 -- whether it is the permit by h, to t, on the object
 abbrev pub is_permit : ℕ → ℕ → ℕ → Permit → Bool

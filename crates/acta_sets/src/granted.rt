@@ -2,7 +2,7 @@
 
 ghost use Rattle.std.specs.Prelude.{◌≡◌, ◌<◌, ◌≤◌, ◌==◌, ◌&&◌, ◌||◌, ◌++◌, ℕ, nat_le, length, not, IfOk, OnOk, OnErr};
 ghost use Rattle.acta_sets.specs.Operations.{is_among};
-ghost use Rattle.acta_sets.specs.Permits.{is_grant, has_grant, grant_cmp, is_listed, permit_cmp};
+ghost use Rattle.acta_sets.specs.Permits.{is_grant, has_grant, grant_cmp, is_listed, permit_cmp, txn_cmp};
 ghost use Rattle.std.specs.List.Sorted.{IsStrictlySortedBy};
 ghost use Rattle.acta_sets.specs.inside.Granted.{grant_lists, is_granted, partners_of, permits_to};
 
@@ -141,13 +141,14 @@ pub(crate) fn leave_out_each<A: Allocator + Copy>(
     }
 }
 
-// The partners of those of the grants that are on the object. `Err` where there is no memory.
+// The partners of those of the grants that are on the object, ascending. `Err` where there is no memory.
 fn partners_among<A: Allocator + Copy>(
     alloc: A,
     grants: &Grants<A>,
     ob: ObjId,
 ) -> Result<Vec<TxnId, A>, AllocError>
-    ensures { IfOk result (λ partners. (h : TxnId) → is_among partners.items h ≡ (has_grant grants.now.keys ob.0 h.0 && nat_le h.0 65535)) }
+    ensures named { IfOk result (λ partners. (h : TxnId) → is_among partners.items h ≡ (has_grant grants.now.keys ob.0 h.0 && nat_le h.0 65535)) }
+    ensures ascending { IfOk result (λ partners. IsStrictlySortedBy txn_cmp partners.items) }
 {
     let first = Grant {
         object: ob,
@@ -164,13 +165,14 @@ fn partners_among<A: Allocator + Copy>(
     Ok(partners)
 }
 
-/// The partners of those of a transaction's grants that are on the object. `Err` where there is no memory.
+/// The partners of those of a transaction's grants that are on the object, ascending. `Err` where there is no memory.
 pub(crate) fn partners<A: Allocator + Copy>(
     table: &Granted<A>,
     at: u16,
     ob: ObjId,
 ) -> Result<Vec<TxnId, A>, AllocError>
-    ensures { IfOk result (λ partners. (h : TxnId) → is_among partners.items h ≡ (is_granted table.now.items at ob.0 h.0 && nat_le h.0 65535)) }
+    ensures named { IfOk result (λ partners. (h : TxnId) → is_among partners.items h ≡ (is_granted table.now.items at ob.0 h.0 && nat_le h.0 65535)) }
+    ensures ascending { IfOk result (λ partners. IsStrictlySortedBy txn_cmp partners.items) }
 {
     let alloc = *table.allocator();
     match table.get(at as usize) {

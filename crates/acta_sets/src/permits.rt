@@ -1,7 +1,7 @@
 ghost use Rattle.std.specs.Prelude.{◌≡◌, ℕ, IfOk, OnOk, OnErr};
 ghost use Rattle.std.specs.List.Sorted.{IsStrictlySortedBy};
 ghost use Rattle.acta_sets.specs.Operations.{is_among};
-ghost use Rattle.acta_sets.specs.Permits.{none_permitted, with_permit, without_permits, has_grant, grant_cmp, is_listed, permit_cmp, permitted};
+ghost use Rattle.acta_sets.specs.Permits.{none_permitted, with_permit, without_permits, has_grant, grant_cmp, is_listed, permit_cmp, permitted, txn_cmp};
 
 use crate::grant::Grant;
 use crate::granted;
@@ -87,9 +87,10 @@ impl<A: Allocator + Copy> Permits<A> {
         granted::has(&self.taken, t.0, &taken)
     }
 
-    /// Who has permitted `t` to work on the object. `Err` where there is no memory.
+    /// Who has permitted `t` to work on the object, ascending. `Err` where there is no memory.
     pub fn permitters(&self, t: TxnId, ob: ObjId) -> Result<Vec<TxnId, A>, AllocError>
-        ensures { IfOk result (λ hs. (h : TxnId) → is_among hs.items h ≡ permitted self.now h.0 t.0 ob.0) }
+        ensures ascending { IfOk result (λ hs. IsStrictlySortedBy txn_cmp hs.items) }
+        ensures named { IfOk result (λ hs. (h : TxnId) → is_among hs.items h ≡ permitted self.now h.0 t.0 ob.0) }
     {
         granted::partners(&self.taken, t.0, ob)
     }

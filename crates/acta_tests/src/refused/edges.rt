@@ -43,7 +43,7 @@ const TD_OF_1: Edge = Edge {
 // Forms three edges, where there is room for them. Returns how many are new.
 fn form_three<A: Handle>(deps: &mut Deps<A>) -> Result<usize, AllocError> {
     let edges = [CD_OF_2, CD_OF_4, CD_OF_5];
-    let lacking = deps.lacks(&edges)?;
+    let lacking = deps.lacks(&edges);
     if lacking <= MOST_EDGES.saturating_sub(deps.edges().len()) {
         deps.form(&edges)
     } else {
@@ -54,7 +54,7 @@ fn form_three<A: Handle>(deps: &mut Deps<A>) -> Result<usize, AllocError> {
 // Forms the first of these and two more, of which one is named twice. Returns how many are new.
 fn form_more<A: Handle>(deps: &mut Deps<A>) -> Result<usize, AllocError> {
     let edges = [TD_OF_3, CD_OF_2, TD_OF_1, TD_OF_3];
-    let lacking = deps.lacks(&edges)?;
+    let lacking = deps.lacks(&edges);
     if lacking <= MOST_EDGES.saturating_sub(deps.edges().len()) {
         deps.form(&edges)
     } else {

@@ -41,6 +41,6 @@ returns g c =
     c.loop-s.invariant u
     ∙ ap (list_any counts) (take_all c.loop-s.s-index ts past)
     ∙ all-permitters c.args.self.now.front u c.args.t.0 c.args.object.0 ts
-    (ap (λ (ls : List TxnId). list_any (λ s. s.0 == u) ls) c.deref-s-items.ensures.value ∙ c.in_ok-left.ensures (record { 0 = u })
+    (ap (λ (ls : List TxnId). list_any (λ s. s.0 == u) ls) c.deref-s-items.ensures.value ∙ c.in_ok-left.ensures.named (record { 0 = u })
     ∙ c.self.invariant.permits_are u c.args.t.0 c.args.object.0
     ∙ ap (λ w. is_left w.front u c.args.t.0 c.args.object.0) c.self.view_is)

@@ -9,7 +9,7 @@ use Rattle.acta_table.specs.Refusals.{broken_if}
 use Rattle.acta_deps.proofs.FormedEdges.{few_formed}
 use Rattle.acta_machine.specs.Rules.{edges_full}
 use Rattle.acta_machine.proofs.board.Board.edges_full.Goals as goal
-use Rattle.acta_machine.proofs.board.Board.edges_full.Goals.{else-due-room-via-then-due-room+in_ok-lacks+else-branch-room, else-due-room-via-else-due-room}
+use Rattle.acta_machine.proofs.board.Board.edges_full.Goals.{else-due-room-via-then-due-room+else-lacks-room, else-due-room-via-else-due-room}
 
 pub returns-else-due-room : goal.returns-else-due-room
 unfolding edges_full
@@ -20,7 +20,7 @@ returns-else-due-room g c =
     let room : length edges ≤ MOST_EDGES = c.edges.ensures.few in
     let few : length (formed edges due) ≤ MOST_EDGES =
     elim c.else-due-room.branch [
-      | else-due-room-via-then-due-room+in_ok-lacks+else-branch-room w ↦ omega (arith, w.in_ok-lacks.ensures, w.if-branch-room.false, now, room)
+      | else-due-room-via-then-due-room+else-lacks-room w ↦ omega (arith, w.lacks.ensures, w.if-lacks-room.false, now, room)
       | else-due-room-via-else-due-room w ↦ omega (arith, few_formed edges due, w.if-due-room.false, now, room)
     ] in
     record {

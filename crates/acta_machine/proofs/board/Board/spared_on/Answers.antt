@@ -14,5 +14,5 @@ returns g c =
     all u
     ∙ ap (λ (ts : List TxnId). list_any (λ k. k == u) base || list_any (λ s. s.0 == u) ts) c.deref.ensures.value
     ∙ (λ i. (ap (λ (keys : List ℕ). list_any (λ k. k == u) keys) c.in_ok-spared_numbers.ensures ∙ in-spared c.args.self.now.model (shown c.args.self.now) c.args.t.0 u) i
-    || c.in_ok-permitters.ensures (record { 0 = u }) i))
+    || c.in_ok-permitters.ensures.named (record { 0 = u }) i))
     c.with_txns.ensures
