@@ -6,6 +6,7 @@ pub mod Debts
 pub mod Growth
 pub mod Hopes
 pub mod LettingGo
+pub mod NeverBegun
 pub mod Reasons
 pub mod Rulings
 pub mod Standing

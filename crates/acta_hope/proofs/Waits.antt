@@ -86,7 +86,7 @@ kept-undecided status t x u new old = of (u == t) refl
     of true is = new (eqb-true u t is)
     of false is = old
 
-settled-status : (s : Summary) (t : TxnId) (heir : Option TxnId) → (settled s t heir).status ≡ s.status
+pub settled-status : (s : Summary) (t : TxnId) (heir : Option TxnId) → (settled s t heir).status ≡ s.status
 unfolding fated inherited
 settled-status s t None = refl
 settled-status s t (Some u) = refl

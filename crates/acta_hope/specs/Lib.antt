@@ -5,4 +5,5 @@ pub mod Hopes
 pub mod Parts
 pub mod Releases
 pub mod Rulings
+pub mod Starts
 pub mod Waits

@@ -1,0 +1,32 @@
+-- Transactions that never begin.
+use Rattle.std.specs.Prelude.{◌≡◌, ◌≢◌, ℕ, Bool, true, false, ◌&&◌, List, get_or}
+use Rattle.acta_table.specs.declared.answer.Status.{Status}
+use Rattle.acta_table.specs.declared.answer.Status.TheVariants.{NotBegun, Committed, Aborted, Joined}
+use Rattle.acta_table.specs.declared.dep.Dep.{Dep}
+use Rattle.acta_table.specs.declared.dep.Dep.TheVariants.{Sd, Bcd, Bad}
+use Rattle.acta_table.specs.declared.dep.Edge.{Edge}
+use Rattle.acta_table.specs.declared.event.Event.{Event}
+use Rattle.acta_deps.specs.Statuses.{is_new}
+use Rattle.acta_machine.specs.Table.{State, after_all, status_in}
+
+-- whether by an edge of this kind no transaction ever starts, where the one on which it depends stands so: that has ended
+-- otherwise than it has to before
+abbrev pub bars_start : Dep → Status → Bool
+bars_start Bad Committed = true
+bars_start Bcd Aborted = true
+bars_start Sd Joined = true
+bars_start Bcd Joined = true
+bars_start Bad Joined = true
+bars_start _ _ = false
+
+-- whether by the edge the one that depends, which has not begun, never begins
+abbrev pub is_lost_by : (ℕ → Status) → Edge → Bool
+is_lost_by status e = is_new (status e.j.0) && bars_start e.kind (status e.i.0)
+
+-- whatever events come, the transaction has not begun
+abbrev pub NeverBegins : {A : Type 0} → State A → ℕ → Type 0
+NeverBegins {A} state t = (es : List (Event A)) → status_in (after_all state es) t ≡ NotBegun
+
+-- each transaction for which there is a number never begins
+abbrev pub AreLost : {A : Type 0} → State A → List ℕ → Type 0
+AreLost state lost = (t : ℕ) → get_or lost t 0 ≢ 0 → NeverBegins state t

@@ -1,0 +1,57 @@
+//! Transactions that never begin.
+
+ghost use Rattle.std.specs.Prelude.{◌≡◌, Some, IfOk};
+ghost use Rattle.acta_table.specs.Numbered.{item_at};
+ghost use Rattle.acta_machine.specs.Table.{edges_in, status_in};
+ghost use Rattle.acta_hope.specs.Starts.{AreLost, bars_start, is_lost_by};
+
+use acta_machine::{Handle, Machine};
+use acta_table::{Dep, Edge, Status, TABLE_SIZE};
+use std::alloc::AllocError;
+
+// Whether by an edge of this kind no transaction ever starts, where the one on which it depends stands so.
+fn bars_start(kind: Dep, status: Status) -> bool
+    ensures { result ≡ bars_start kind status }
+{
+    match status {
+        Status::NotBegun | Status::InProgress => false,
+        Status::Committed => matches!(kind, Dep::Bad),
+        Status::Aborted => matches!(kind, Dep::Bcd),
+        Status::Joined => matches!(kind, Dep::Sd | Dep::Bcd | Dep::Bad),
+    }
+}
+
+// Whether by the edge the one that depends, which has not begun, never begins.
+fn is_lost_by<A: Handle>(machine: &Machine<A>, edge: &Edge) -> bool
+    ensures { result ≡ is_lost_by (status_in machine.now) edge.now }
+{
+    matches!(machine.status(edge.j), Status::NotBegun)
+        && bars_start(edge.kind, machine.status(edge.i))
+}
+
+// Notes the edge of this number for the one that depends by it, if that never begins by it.
+fn note<A: Handle>(machine: &Machine<A>, number: u32, edge: &Edge, lost: &mut [u32])
+    requires at { item_at (edges_in machine.now) number ≡ Some edge.now }
+    requires lost { AreLost machine.now lost.old }
+    ensures { AreLost machine.now lost.new }
+{
+    let txn = edge.j.0 as usize;
+    if txn < lost.len() && is_lost_by(machine, edge) {
+        lost[txn] = number;
+    }
+}
+
+/// For each transaction, by its number, the last edge by which it never begins, as the number of the edge, or 0. By a
+/// dependency in force it begins only after another has committed, has aborted, or either; and that one has ended otherwise.
+/// Returns `Err` if memory runs out (ours).
+pub fn never_begin<A: Handle>(alloc: A, machine: &Machine<A>) -> Result<Vec<u32, A>, AllocError>
+    ensures { IfOk result (λ lost. AreLost machine.now lost.items) }
+{
+    let mut lost = Vec::new(alloc);
+    lost.resize(TABLE_SIZE, 0u32)?;
+    let edges = machine.edges();
+    for place in 0..edges.len() {
+        note(machine, place as u32 + 1, &edges[place], &mut lost);
+    }
+    Ok(lost)
+}
