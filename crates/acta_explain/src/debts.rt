@@ -1,6 +1,6 @@
 //! Whether what is owed can still be paid.
 
-use crate::phrases::event_word;
+use crate::phrases::{event_word, first_named, put_formed_edge, put_standing};
 use crate::prose::Prose;
 use crate::put;
 use crate::reasons::Refused;
@@ -9,37 +9,61 @@ use acta_hope::{Hope, why_and_hope};
 use acta_machine::Handle;
 use acta_table::{Event, Missing, TxnId};
 
-/// Adds whether the event that pays a debt of this transaction would be admitted now, or why it is refused, for now or for
-/// ever, in lines.
-pub fn put_prospect<A: Handle>(
-    prose: Prose<A>,
-    told: &Telling<A>,
-    debtor: TxnId,
-    missing: Missing,
-) -> Prose<A> {
+// Adds that the debtor never begins, by the edge of this number.
+fn put_lost<A: Handle>(prose: Prose<A>, told: &Telling<A>, debtor: TxnId, number: u32) -> Prose<A> {
     let machine = told.machine();
-    let payment: Event<A> = match missing {
-        Missing::Commit => Event::Commit(debtor),
-        Missing::Abort => Event::Abort(debtor),
-    };
-    let word = event_word(payment.kind());
+    let prose = put!(prose; "It can't be paid any more: ", debtor.0, " never begins");
+    match machine.edges().get((number as usize).wrapping_sub(1)) {
+        Some(edge) => {
+            let chronicle = told.chronicle();
+            let prose = put_formed_edge(prose.put(", by "), chronicle, u64::from(number), edge);
+            let prose = put!(prose; "\n", edge.i.0, " ");
+            put_standing(prose, chronicle, edge.i, machine.status(edge.i)).put(".")
+        }
+        None => prose.put("."),
+    }
+}
+
+// Adds whether the event that pays would be admitted, or why it is refused, for now or for ever.
+fn put_payment<A: Handle>(prose: Prose<A>, told: &Telling<A>, payment: &Event<A>) -> Prose<A> {
+    let machine = told.machine();
+    let (word, debtor) = (event_word(payment.kind()), first_named(payment).0);
     let refused = Refused {
         model: machine.model(),
         chronicle: told.chronicle(),
-        event: &payment,
+        event: payment,
     };
-    match why_and_hope(machine, &payment) {
-        Ok(None) => put!(prose; "It can be paid now: `", word, " ", debtor.0, "` is admitted."),
+    match why_and_hope(machine, payment) {
+        Ok(None) => put!(prose; "It can be paid now: `", word, " ", debtor, "` would be admitted."),
         Ok(Some((reason, Hope::Never))) => {
             let prose = put!(prose; "It can't be paid any more: no later event can admit `", word,
-                " ", debtor.0, "`.\n");
+                " ", debtor, "`.\n");
             refused.put_facts(prose, machine, &reason)
         }
         Ok(Some((reason, hope))) => {
             let prose =
-                put!(prose; "It can't be paid now: `", word, " ", debtor.0, "` is refused.\n");
+                put!(prose; "It can't be paid now: `", word, " ", debtor, "` is refused.\n");
             refused.put_reason(prose, machine, true, &reason, hope)
         }
         Err(_) => prose.fail(),
+    }
+}
+
+/// Adds whether a debt of this transaction can be paid now, later or not any more, in lines. `lost` is what `never_begin` of
+/// `acta_hope` says of the machine.
+pub fn put_prospect<A: Handle>(
+    prose: Prose<A>,
+    told: &Telling<A>,
+    lost: &[u32],
+    debtor: TxnId,
+    missing: Missing,
+) -> Prose<A> {
+    match lost.get(debtor.0 as usize) {
+        Some(number) if *number != 0 => return put_lost(prose, told, debtor, *number),
+        _ => {}
+    }
+    match missing {
+        Missing::Commit => put_payment(prose, told, &Event::Commit(debtor)),
+        Missing::Abort => put_payment(prose, told, &Event::Abort(debtor)),
     }
 }

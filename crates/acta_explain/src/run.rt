@@ -14,6 +14,7 @@ use crate::prose::Prose;
 use crate::put;
 use crate::spoken::{Spoken, spoken_in};
 use crate::telling::{MOST_TOLD, Telling};
+use acta_hope::never_begin;
 use acta_machine::Handle;
 use acta_script::owed_line;
 use acta_table::{Event, Model, Owed};
@@ -54,9 +55,15 @@ fn put_debts<A: Handle>(
     let Ok(debts) = told.machine().owed() else {
         return prose.fail();
     };
+    if debts.is_empty() {
+        return prose;
+    }
+    let Ok(lost) = never_begin(alloc, told.machine()) else {
+        return prose.fail();
+    };
     for owed in debts.as_slice() {
         prose = put_owed(prose, alloc, told, columns, owed);
-        let prospect = put_prospect(Prose::new(alloc), told, owed.txn, owed.missing);
+        let prospect = put_prospect(Prose::new(alloc), told, &lost, owed.txn, owed.missing);
         let (prospect, has_failed) = prospect.parts();
         prose = put_barred(prose, columns.indent(), prospect.as_str());
         if has_failed {

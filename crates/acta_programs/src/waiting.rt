@@ -3,6 +3,7 @@
 use crate::programs::Programs;
 use acta_explain::{Prose, Refused, Telling, put, put_barred, put_prospect, put_standing};
 use acta_explore::{Debt, Done, Outcome, Point, Wait, deadlock};
+use acta_hope::never_begin;
 use acta_machine::{Handle, Reason};
 use acta_table::{Event, Missing, OpNo, OpSet};
 
@@ -230,10 +231,16 @@ fn put_debt<A: Handle>(prose: Prose<A>, run: &Telling<A>, debt: &Debt) -> Prose<
 
 /// Adds what is owed, and of each debt whether it can be paid now, later or not any more.
 pub fn put_debts<A: Handle>(mut prose: Prose<A>, run: &Telling<A>, debts: &[Debt]) -> Prose<A> {
+    if debts.is_empty() {
+        return prose;
+    }
+    let Ok(lost) = never_begin(run.allocator(), run.machine()) else {
+        return prose.fail();
+    };
     for debt in debts {
         prose = put_debt(prose, run, debt);
         let prospect = Prose::new(run.allocator());
-        let prospect = put_prospect(prospect, run, debt.txn, debt.missing());
+        let prospect = put_prospect(prospect, run, &lost, debt.txn, debt.missing());
         let (prospect, has_failed) = prospect.parts();
         prose = put_barred(prose, 4, prospect.as_str());
         if has_failed {
