@@ -1,15 +1,14 @@
 -- What the workers hand back, put together.
-use Rattle.std.proofs.Common.{◌≡◌, ℕ, suc, ◌+◌, ◌-◌, ◌<◌, ◌≤◌, true, false, List, [], ◌∷◌, length, get_or, refl, sym, ap, subst, arith, true≢false}
+use Rattle.std.proofs.Common.{◌≡◌, ℕ, suc, ◌+◌, ◌-◌, ◌<◌, ◌≤◌, true, false, List, [], ◌∷◌, length, get_or, refl, sym, subst, arith, true≢false}
 use Rattle.std.specs.Prelude.{Result, Ok, Err, IfOk, IfErr, IsErrAnd, sum_by}
 use Rattle.acta_table.specs.declared.event.Event.{Event}
-use Rattle.acta_table.specs.declared.model.Parts.{Parts}
 use Rattle.acta_locked.specs.declared.book.Entry.{Entry}
 use Rattle.acta_locked.specs.declared.run.DriveError.{DriveError}
 use Rattle.acta_locked.specs.declared.run.DriveError.TheVariants as drive
 use Rattle.acta_locked.specs.declared.worker.Report.{Report}
 use Rattle.acta_locked.specs.declared.worker.WorkError.{WorkError}
 use Rattle.acta_locked.specs.declared.worker.WorkError.TheVariants.{BookFull, GaveUp, Memory}
-use Rattle.acta_locked.specs.Desks.{IsReport, IsSomeFullRun}
+use Rattle.acta_locked.specs.Desks.{IsReport}
 use Rattle.acta_locked.specs.Drives.{EachLetOn, MayFail, fault_by, is_of_scripts}
 use Rattle.acta_locked.specs.Gates.{LetOn}
 use Rattle.acta_locked.specs.inside.Outcomes.{IsOfGate, IsOutcome, is_of_judging}
@@ -19,49 +18,40 @@ let_on-weaker P pass Q go_on p q k [] all = tt
 let_on-weaker P pass Q go_on p q k (e ∷ es) all = (p k all.0, q k e all.1, let_on-weaker P pass Q go_on p q (suc k) es all.2)
 
 -- what a worker answered is an outcome of its seat
-module _ {A : Type 0} (S P : ℕ → ℕ → Type 0) (Q : ℕ → ℕ → Entry A → Type 0) (stop pass : ℕ → ℕ → Type 0) (go_on : ℕ → ℕ → Entry A → Type 0) (m : Parts A) (seat : ℕ) (script : List (Event A)) (of : IsOfGate S P Q stop pass go_on) where
+module _ {A : Type 0} (S P : ℕ → ℕ → Type 0) (Q : ℕ → ℕ → Entry A → Type 0) (stop pass : ℕ → ℕ → Type 0) (go_on : ℕ → ℕ → Entry A → Type 0) (seat : ℕ) (script : List (Event A)) (of : IsOfGate S P Q stop pass go_on) where
   outcome : (r : Result (Report A) WorkError) → IfOk r (λ report. IsReport (λ e. e.seat) (λ e. e.event) seat script report) → IfOk r (λ report. LetOn (P seat) (Q seat) 1 report.entries)
-      → ((n : ℕ) → r ≡ Err (GaveUp n) → n ≡ seat) → ((n : ℕ) → r ≡ Err (GaveUp n) → (k : ℕ) × (1 ≤ k) × (k ≤ length script) × S n k) → (r ≡ Err BookFull → IsSomeFullRun m)
-      → IsOutcome stop pass go_on m seat script r
-  outcome (Ok report) reports let_on gave_up stopped full = (reports, let_on-weaker (P seat) (pass seat) (Q seat) (go_on seat) (of.1 seat) (of.2 seat) 1 report.entries let_on)
-  outcome (Err (GaveUp n)) reports let_on gave_up stopped full =
+      → ((n : ℕ) → r ≡ Err (GaveUp n) → n ≡ seat) → ((n : ℕ) → r ≡ Err (GaveUp n) → (k : ℕ) × (1 ≤ k) × (k ≤ length script) × S n k)
+      → IsOutcome stop pass go_on seat script r
+  outcome (Ok report) reports let_on gave_up stopped = (reports, let_on-weaker (P seat) (pass seat) (Q seat) (go_on seat) (of.1 seat) (of.2 seat) 1 report.entries let_on)
+  outcome (Err (GaveUp n)) reports let_on gave_up stopped =
       let at = stopped n refl in
       (gave_up n refl, (at.0, at.1, at.2, of.0 n at.0 at.3))
-  outcome (Err BookFull) reports let_on gave_up stopped full = full refl
-  outcome (Err Memory) reports let_on gave_up stopped full = tt
+  outcome (Err BookFull) reports let_on gave_up stopped = tt
+  outcome (Err Memory) reports let_on gave_up stopped = tt
 
   pub outcome-of : (given : List (Event A)) (r : Result (Report A) WorkError) → script ≡ given → IfOk r (λ report. IsReport (λ e. e.seat) (λ e. e.event) seat script report) → IfOk r (λ report. LetOn (P seat) (Q seat) 1 report.entries)
-      → ((n : ℕ) → r ≡ Err (GaveUp n) → n ≡ seat) → ((n : ℕ) → r ≡ Err (GaveUp n) → (k : ℕ) × (1 ≤ k) × (k ≤ length script) × S n k) → (r ≡ Err BookFull → IsSomeFullRun m)
-      → IsOutcome stop pass go_on m seat given r
-  outcome-of given r same reports let_on gave_up stopped full = subst (λ s. IsOutcome stop pass go_on m seat s r) same (outcome r reports let_on gave_up stopped full)
+      → ((n : ℕ) → r ≡ Err (GaveUp n) → n ≡ seat) → ((n : ℕ) → r ≡ Err (GaveUp n) → (k : ℕ) × (1 ≤ k) × (k ≤ length script) × S n k)
+      → IsOutcome stop pass go_on seat given r
+  outcome-of given r same reports let_on gave_up stopped = subst (λ s. IsOutcome stop pass go_on seat s r) same (outcome r reports let_on gave_up stopped)
 
 -- a worker without a report says why the run has no result
-pub failed : {A : Type 0} (stop pass : ℕ → ℕ → Type 0) (go_on : ℕ → ℕ → Entry A → Type 0) (m : Parts A) (scripts : List (List (Event A))) (k : ℕ) (w : WorkError) → k < length scripts
-    → IsOutcome stop pass go_on m (k + 1) (get_or scripts k []) (Err w) → MayFail stop (IsSomeFullRun m) scripts (fault_by w)
-failed stop pass go_on m scripts k (GaveUp n) within (is, stopped) =
+pub failed : {A : Type 0} (stop pass : ℕ → ℕ → Type 0) (go_on : ℕ → ℕ → Entry A → Type 0) (scripts : List (List (Event A))) (k : ℕ) (w : WorkError) → k < length scripts
+    → IsOutcome stop pass go_on (k + 1) (get_or scripts k []) (Err w) → MayFail stop scripts (fault_by w)
+failed stop pass go_on scripts k (GaveUp n) within (is, stopped) =
     let j = stopped.0 in
     let place : k ≡ n - 1 = omega (arith, is) in
     (omega (arith, is), omega (arith, is, within), (j, stopped.1, subst (λ p. j ≤ length (get_or scripts p [])) place stopped.2, stopped.3))
-failed stop pass go_on m scripts k BookFull within full = full
-failed stop pass go_on m scripts k Memory within free = tt
+failed stop pass go_on scripts k BookFull within free = tt
+failed stop pass go_on scripts k Memory within free = tt
 
-pub fail-weaker : {A : Type 0} (stop : ℕ → ℕ → Type 0) (one two : Type 0) (scripts : List (List (Event A))) → (one → two) → (e : DriveError) → MayFail stop one scripts e → MayFail stop two scripts e
-fail-weaker stop one two scripts more drive.NoWorker may = tt
-fail-weaker stop one two scripts more drive.TooManyWorkers may = tt
-fail-weaker stop one two scripts more drive.TooManyEvents may = tt
-fail-weaker stop one two scripts more drive.Memory may = tt
-fail-weaker stop one two scripts more drive.NoThread may = tt
-fail-weaker stop one two scripts more (drive.GaveUp seat) may = may
-fail-weaker stop one two scripts more drive.Unsettled may = more may
-
-pub judging-may : {A : Type 0} (stop : ℕ → ℕ → Type 0) (unsettled : Type 0) (scripts : List (List (Event A))) (e : DriveError) → is_of_judging e ≡ true → unsettled → MayFail stop unsettled scripts e
-judging-may stop unsettled scripts drive.NoWorker is free = tt
-judging-may stop unsettled scripts drive.TooManyWorkers is free = tt
-judging-may stop unsettled scripts drive.TooManyEvents is free = tt
-judging-may stop unsettled scripts drive.Memory is free = tt
-judging-may stop unsettled scripts drive.NoThread is free = tt
-judging-may stop unsettled scripts (drive.GaveUp seat) is free = absurd (true≢false (sym is))
-judging-may stop unsettled scripts drive.Unsettled is free = free
+pub judging-may : {A : Type 0} (stop : ℕ → ℕ → Type 0) (scripts : List (List (Event A))) (e : DriveError) → is_of_judging e ≡ true → MayFail stop scripts e
+judging-may stop scripts drive.NoWorker is = tt
+judging-may stop scripts drive.TooManyWorkers is = tt
+judging-may stop scripts drive.TooManyEvents is = tt
+judging-may stop scripts drive.Memory is = tt
+judging-may stop scripts drive.NoThread is = tt
+judging-may stop scripts (drive.GaveUp seat) is = absurd (true≢false (sym is))
+judging-may stop scripts drive.Unsettled is = tt
 
 -- what is known of an error is known where it is passed on
 pub passed-on : {T E : Type 0} (r : Result T E) (x : E) (P : E → Type 0) → P x → IsErrAnd r (λ e. e ≡ x) → IfErr r P

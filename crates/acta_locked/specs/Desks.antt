@@ -74,7 +74,3 @@ Gives b [] c = c ≡ b
 Gives b (Ok e ∷ answers) c = Gives (entered b e) answers c
 Gives b (Err refusal.BookFull ∷ answers) c = (length b.entries ≡ MOST_EVENTS) × Gives b answers c
 Gives b (Err refusal.Memory ∷ answers) c = Gives b answers c
-
--- some book of the model is a run, and full
-abbrev pub IsSomeFullRun : {A : Type 0} → Parts A → Type 0
-IsSomeFullRun {A} m = (b : Entries A) × (b.model ≡ m) × IsRun b × (length b.entries ≡ MOST_EVENTS)

@@ -1,5 +1,5 @@
 -- What a driven run of scripts leaves, and what bars one.
-use Rattle.std.specs.Prelude.{◌≡◌, ◌==◌, ◌+◌, ◌-◌, ◌<◌, ◌≤◌, ◌⊎◌, ℕ, suc, Bool, true, false, List, [], ◌∷◌, length, get_or, sum_by}
+use Rattle.std.specs.Prelude.{◌≡◌, ◌==◌, ◌-◌, ◌≤◌, ℕ, suc, Bool, true, false, List, [], ◌∷◌, length, get_or, sum_by}
 use Rattle.std.specs.Prelude.{Option, Some, None, ⊤, nat_lt, if◌then◌else◌}
 use Rattle.std.specs.List.{AllByRecursion}
 use Rattle.acta_table.specs.declared.event.Event.{Event}
@@ -14,7 +14,6 @@ use Rattle.acta_locked.specs.declared.worker.Report.{Report}
 use Rattle.acta_locked.specs.declared.worker.WorkError.{WorkError}
 use Rattle.acta_locked.specs.declared.worker.WorkError.TheVariants as work
 use Rattle.acta_locked.specs.Books.{Entries, IsRun, events_of, seat_part}
-use Rattle.acta_locked.specs.Desks.{IsReport, IsSomeFullRun}
 use Rattle.acta_locked.specs.Gates.{LetOn}
 
 -- why scripts are not run: there is none, there are more than 16, or they have more than 65,536 events together
@@ -71,26 +70,8 @@ MayGiveUp may_stop scripts seat =
     (1 ≤ seat) × (seat ≤ length scripts)
     × ((k : ℕ) × (1 ≤ k) × (k ≤ length (get_or scripts (seat - 1) [])) × may_stop seat k)
 
--- there are as many reports as scripts, and each is one of its seat, from 1, whose events are its script
-pub record AreReports {A : Type 0} (scripts : List (List (Event A))) (reports : List (Report A)) : Type 0 where
-  pub many : length reports ≡ length scripts
-  pub each : (k : ℕ) (r : Report A) → k < length scripts
-      → IsReport (λ e. e.seat) (λ e. e.event) (k + 1) (get_or scripts k []) (get_or reports k r)
-
--- some book of the model, and reports of the scripts that have as many entries, of which not each is its part of the book
-abbrev pub MayDiffer : {A : Type 0} → Parts A → List (List (Event A)) → Type 0
-MayDiffer {A} m scripts =
-    (b : Entries A) × (reports : List (Report A)) × (b.model ≡ m) × IsRun b
-    × (length b.entries ≡ sum_by (λ (r : Report A). length r.entries) reports)
-    × AreReports scripts reports × (AreParts b 1 scripts reports → ⊥)
-
--- what has a run be unsettled: a worker met a full book, or a report is not its part
-abbrev pub MayBeUnsettled : {A : Type 0} → Parts A → List (List (Event A)) → Type 0
-MayBeUnsettled m scripts = IsSomeFullRun m ⊎ MayDiffer m scripts
-
--- what is known where a run has no result for this reason: of memory and of threads nothing, and of the scripts it is
--- said elsewhere
-abbrev pub MayFail : {A : Type 0} → (ℕ → ℕ → Type 0) → Type 0 → List (List (Event A)) → DriveError → Type 0
-MayFail may_stop unsettled scripts (GaveUp seat) = MayGiveUp may_stop scripts seat
-MayFail may_stop unsettled scripts Unsettled = unsettled
-MayFail may_stop unsettled scripts _ = ⊤
+-- what is known where a run has no result for this reason: of memory, of threads and of a run that is unsettled nothing,
+-- and of the scripts it is said elsewhere
+abbrev pub MayFail : {A : Type 0} → (ℕ → ℕ → Type 0) → List (List (Event A)) → DriveError → Type 0
+MayFail may_stop scripts (GaveUp seat) = MayGiveUp may_stop scripts seat
+MayFail may_stop scripts _ = ⊤

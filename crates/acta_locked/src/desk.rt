@@ -24,9 +24,6 @@ pub trait Desk<E, X> {
     // From the first state to the second the desk gave these answers, its errors among them, and no others.
     ghost gave: { Self → List (Result X Refusal) → Self → Type 0 };
 
-    // What is known of a desk that has no room for an entry; nothing, where it doesn't say.
-    ghost may_be_full: { Self → Type 0 } = { λ _. Unit {0} };
-
     /// The desk's seat, which no call changes.
     fn seat(&self) -> u8
         ensures { result ≡ seat_of self.now };
@@ -38,8 +35,7 @@ pub trait Desk<E, X> {
         ensures event { IfOk result (λ entry. event_in entry ≡ event) }
         ensures answered { IfOk result (λ entry. answered self.old (entry ∷ []) self.new) }
         ensures none { OnErr result (answered self.old [] self.new) }
-        ensures gave { gave self.old (result ∷ []) self.new }
-        ensures no_room { result ≡ Err TakeError.BookFull → may_be_full self.new };
+        ensures gave { gave self.old (result ∷ []) self.new };
 
     // A desk that stays as it is has answered nothing, and what it answered in two stretches it answered in both.
     ghost nothing: { (d : Self) → answered d [] d };
@@ -87,8 +83,6 @@ impl<A: Handle> Desk<Event<A>, Entry<A>> for PlainDesk<A> {
 
     ghost gave = { λ d answers e. Gives d.book answers e.book };
 
-    ghost may_be_full = { λ d. length d.book.entries ≡ MOST_EVENTS };
-
     fn seat(&self) -> u8 {
         self.seat
     }
@@ -102,7 +96,6 @@ impl<A: Handle> Desk<Event<A>, Entry<A>> for PlainDesk<A> {
         ensures answered { IfOk result (λ entry. self.new.book ≡ entered self.old.book entry) }
         ensures none { OnErr result (self.new.book ≡ with_entries self.old.book []) }
         ensures gave { Gives self.old.book (result ∷ []) self.new.book }
-        ensures no_room { result ≡ Err TakeError.BookFull → length self.new.book.entries ≡ MOST_EVENTS }
         ensures full { result ≡ Err TakeError.BookFull → length self.old.book.entries ≡ MOST_EVENTS }
         ensures barred { length self.old.book.entries ≡ MOST_EVENTS → result ≡ Err TakeError.BookFull }
     {

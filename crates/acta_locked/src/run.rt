@@ -2,8 +2,7 @@
 
 ghost use Rattle.std.specs.Prelude.{◌≡◌, ◌+◌, ◌<◌, ◌≤◌, Err, None, Some, false, true, length, sum_by, vec_len};
 ghost use Rattle.std.specs.Prelude.{Decides, IfErr, IfOk, IfSome};
-ghost use Rattle.acta_locked.specs.Desks.{IsSomeFullRun};
-ghost use Rattle.acta_locked.specs.Drives.{AreReports, EachLetOn, IsDriven, MayBeUnsettled, MayFail};
+ghost use Rattle.acta_locked.specs.Drives.{AreParts, EachLetOn, IsDriven, MayFail};
 ghost use Rattle.acta_locked.specs.Drives.{fault_by, is_of_scripts, scripts_fault};
 ghost use Rattle.acta_locked.specs.inside.Outcomes.{AreOutcomes, IsOfGate};
 ghost use Rattle.acta_locked.specs.declared.run.DriveError.TheVariants.{Memory, Unsettled};
@@ -109,10 +108,9 @@ pub(crate) fn gathered<A: Allocator, J: Job<A>>(
 ) -> Result<(Share<J>, Vec<Report<A>, A>), DriveError>
     requires parts { J.parts ≡ vec_len back.done + 1 }
     requires all { vec_len back.done ≡ length J.scripts }
-    requires each { AreOutcomes (λ done. done.outcome) J.may_stop J.may_pass J.may_go_on J.model J.scripts back.done.items }
-    ensures each { IfOk result (λ r. AreReports J.scripts r.1.items) }
+    requires each { AreOutcomes (λ done. done.outcome) J.may_stop J.may_pass J.may_go_on J.scripts back.done.items }
     ensures let_on { IfOk result (λ r. EachLetOn J.may_pass J.may_go_on r.1.items) }
-    ensures why { IfErr result (MayFail J.may_stop (IsSomeFullRun J.model) J.scripts) }
+    ensures why { IfErr result (MayFail J.may_stop J.scripts) }
     ensures parts { IfOk result (λ r. r.0.parts ≡ J.parts) }
     ensures counted { IfOk result (λ r. r.0.amount ≡ sum_by (λ report. length report.entries) r.1.items) }
     ensures late { IfErr result (λ e. is_of_scripts e ≡ false) }
@@ -142,9 +140,8 @@ pub(crate) fn settled<A: Handle, J: Job<A>>(
     requires few { length scripts.now ≤ MOST_WORKERS }
     requires parts { all.parts ≡ J.parts }
     requires counted { all.amount ≡ sum_by (λ report. length report.entries) reports.items }
-    requires each { AreReports scripts.now reports.items }
     ensures same { IfOk result (λ d. d.reports ≡ reports.items) }
-    ensures why { IfErr result (λ e. (e ≡ Unsettled) × MayBeUnsettled J.model scripts.now) }
+    ensures why { IfErr result (λ e. (e ≡ Unsettled) × (AreParts vault.book 1 scripts.now reports.items → ⊥)) }
     ensures driven { IfOk result (IsDriven J.model scripts.now) }
     ensures late { IfErr result (λ e. is_of_scripts e ≡ false) }
 {
@@ -181,7 +178,7 @@ fn run<
     requires of_gate { IsOfGate (G.may_stop gate.now) (G.may_pass gate.now) (G.may_go_on gate.now) J.may_stop J.may_pass J.may_go_on }
     requires of_scripts { scripts.now ≡ J.scripts }
     ensures let_on { IfOk result (λ d. EachLetOn J.may_pass J.may_go_on d.reports) }
-    ensures why { IfErr result (MayFail J.may_stop (MayBeUnsettled model scripts.now) scripts.now) }
+    ensures why { IfErr result (MayFail J.may_stop scripts.now) }
     ensures driven { IfOk result (IsDriven model scripts.now) }
     ensures late { IfErr result (λ e. is_of_scripts e ≡ false) }
 {
@@ -209,7 +206,7 @@ pub fn drive<A: Handle + Send + Sync, R: Threads + Wait + Sync, G: Gate<Entry<A>
     ensures barred { (e : DriveError) → scripts_fault scripts.now ≡ Some e → result ≡ Err e }
     ensures only { IfErr result (λ e. is_of_scripts e ≡ true → scripts_fault scripts.now ≡ Some e) }
     ensures let_on { IfOk result (λ d. EachLetOn (G.may_pass gate.now) (G.may_go_on gate.now) d.reports) }
-    ensures why { IfErr result (MayFail (G.may_stop gate.now) (MayBeUnsettled model scripts.now) scripts.now) }
+    ensures why { IfErr result (MayFail (G.may_stop gate.now) scripts.now) }
 {
     if let Some(fault) = fault_of(scripts) {
         return Err(fault);

@@ -54,7 +54,7 @@ fn sit<A: Handle, J: Job<A>, R: Wait, G: Gate<Entry<A>>>(
     requires none { share.amount ≡ 0 }
     requires of_gate { IsOfGate (G.may_stop gate.now) (G.may_pass gate.now) (G.may_go_on gate.now) J.may_stop J.may_pass J.may_go_on }
     requires of_seat { script.now ≡ get_or J.scripts (seat - 1) [] }
-    ensures { IsOutcome J.may_stop J.may_pass J.may_go_on J.model seat (get_or J.scripts (seat - 1) []) result.outcome }
+    ensures { IsOutcome J.may_stop J.may_pass J.may_go_on seat (get_or J.scripts (seat - 1) []) result.outcome }
 {
     let mut desk = LockedDesk {
         seat,
@@ -77,7 +77,7 @@ fn sit<A: Handle, J: Job<A>, R: Wait, G: Gate<Entry<A>>>(
 struct Seat(u8);
 
 impl<A: Allocator, J: Job<A>> Promise<Done<A, J>> for Seat {
-    ghost kept_by = { λ p done. IsOutcome J.may_stop J.may_pass J.may_go_on J.model p.0 (get_or J.scripts (p.0 - 1) []) done.outcome };
+    ghost kept_by = { λ p done. IsOutcome J.may_stop J.may_pass J.may_go_on p.0 (get_or J.scripts (p.0 - 1) []) done.outcome };
 }
 
 // A worker's thread, which is still to be joined.
@@ -113,7 +113,7 @@ fn started<
 {
     let job = move || -> Done<A, J>
         requires { (share.parts ≡ 1) × (share.amount ≡ 0) × IsOfGate (G.may_stop gate.now) (G.may_pass gate.now) (G.may_go_on gate.now) J.may_stop J.may_pass J.may_go_on × (script.now ≡ get_or J.scripts (seat - 1) []) }
-        ensures { IsOutcome J.may_stop J.may_pass J.may_go_on J.model seat (get_or J.scripts (seat - 1) []) result.outcome }
+        ensures { IsOutcome J.may_stop J.may_pass J.may_go_on seat (get_or J.scripts (seat - 1) []) result.outcome }
     { sit(rt, alloc, vault, seat, share, script, gate) };
     match scope.spawn_with(Seat(seat), job) {
         Ok(handle) => Ok(Running { handle }),
@@ -132,7 +132,7 @@ fn joined<A: Allocator, J: Job<A>, R: Threads>(
     requires seats { (k : ℕ) (r : _) → k < vec_len running → (get_or running.items k r).handle.promise.0 ≡ k + 1 }
     ensures all { vec_len result ≡ vec_len running }
     ensures each { (k : ℕ) (d : _) → k < vec_len running
-        → IsOutcome J.may_stop J.may_pass J.may_go_on J.model (k + 1) (get_or J.scripts k []) (get_or result.items k d).outcome }
+        → IsOutcome J.may_stop J.may_pass J.may_go_on (k + 1) (get_or J.scripts k []) (get_or result.items k d).outcome }
 {
     let mut done = done;
     for one in running {
@@ -167,7 +167,7 @@ pub fn run_in<
     requires of_gate { IsOfGate (G.may_stop gate.now) (G.may_pass gate.now) (G.may_go_on gate.now) J.may_stop J.may_pass J.may_go_on }
     requires of_scripts { scripts.now ≡ J.scripts }
     ensures all { IfOk result (λ back. vec_len back.done ≡ length scripts.now) }
-    ensures each { IfOk result (λ back. AreOutcomes (λ done. done.outcome) J.may_stop J.may_pass J.may_go_on J.model J.scripts back.done.items) }
+    ensures each { IfOk result (λ back. AreOutcomes (λ done. done.outcome) J.may_stop J.may_pass J.may_go_on J.scripts back.done.items) }
     ensures late { IfErr result (λ e. is_of_scripts e ≡ false) }
     ensures scarce { IfErr result (λ e. is_scarce e ≡ true) }
 {
@@ -216,7 +216,7 @@ pub fn in_scope<
     requires of_gate { IsOfGate (G.may_stop gate.now) (G.may_pass gate.now) (G.may_go_on gate.now) J.may_stop J.may_pass J.may_go_on }
     requires of_scripts { scripts.now ≡ J.scripts }
     ensures all { IfOk result (λ back. vec_len back.done ≡ length scripts.now) }
-    ensures each { IfOk result (λ back. AreOutcomes (λ done. done.outcome) J.may_stop J.may_pass J.may_go_on J.model J.scripts back.done.items) }
+    ensures each { IfOk result (λ back. AreOutcomes (λ done. done.outcome) J.may_stop J.may_pass J.may_go_on J.scripts back.done.items) }
     ensures late { IfErr result (λ e. is_of_scripts e ≡ false) }
     ensures scarce { IfErr result (λ e. is_scarce e ≡ true) }
 {
@@ -226,7 +226,7 @@ pub fn in_scope<
         |scope| -> Result<Back<A, J>, DriveError>
             requires { (length scripts.now ≤ MOST_WORKERS) × (rest.parts ≡ length scripts.now + 1) × (rest.amount ≡ 0) × IsOfGate (G.may_stop gate.now) (G.may_pass gate.now) (G.may_go_on gate.now) J.may_stop J.may_pass J.may_go_on × (scripts.now ≡ J.scripts) }
             ensures all { IfOk result (λ back. vec_len back.done ≡ length scripts.entry.now) }
-            ensures each { IfOk result (λ back. AreOutcomes (λ done. done.outcome) J.may_stop J.may_pass J.may_go_on J.model J.scripts back.done.items) }
+            ensures each { IfOk result (λ back. AreOutcomes (λ done. done.outcome) J.may_stop J.may_pass J.may_go_on J.scripts back.done.items) }
             ensures late { IfErr result (λ e. is_of_scripts e ≡ false) }
             ensures scarce { IfErr result (λ e. is_scarce e ≡ true) }
         { run_in(scope, rt, alloc, vault, rest, scripts, gate) },

@@ -129,7 +129,7 @@ pub struct LockedDesk<'a, A: Handle, J: Job<A>, R: Wait> {
 
 impl<'a, A: Handle, J: Job<A>, R: Wait> Desk<Event<A>, Entry<A>> for LockedDesk<'a, A, J, R> {
     ghost use Rattle.std.specs.Prelude.{◌≡◌, ◌∷◌, [], Err, IfOk, OnErr};
-    ghost use Rattle.acta_locked.specs.Desks.{Counts, IsOfSomeRun, IsSomeFullRun, entries_in};
+    ghost use Rattle.acta_locked.specs.Desks.{Counts, IsOfSomeRun, entries_in};
     ghost use Rattle.acta_locked.specs.inside.Growth.{count-nothing, count-further, counts-nothing, counts-further};
 
     ghost seat_of = { λ d. d.seat };
@@ -141,8 +141,6 @@ impl<'a, A: Handle, J: Job<A>, R: Wait> Desk<Event<A>, Entry<A>> for LockedDesk<
     ghost answered = { λ d es e. Counts d.share.parts d.share.amount es e.share.parts e.share.amount };
 
     ghost gave = { λ d answers e. Counts d.share.parts d.share.amount (entries_in answers) e.share.parts e.share.amount };
-
-    ghost may_be_full = { λ _. IsSomeFullRun J.model };
 
     fn seat(&self) -> u8 {
         self.seat
@@ -160,7 +158,6 @@ impl<'a, A: Handle, J: Job<A>, R: Wait> Desk<Event<A>, Entry<A>> for LockedDesk<
         ensures none { OnErr result
             (Counts {A = A} self.old.share.parts self.old.share.amount [] self.new.share.parts self.new.share.amount) }
         ensures gave { Counts self.old.share.parts self.old.share.amount (entries_in (result ∷ [])) self.new.share.parts self.new.share.amount }
-        ensures no_room { result ≡ Err TakeError.BookFull → IsSomeFullRun J.model }
     {
         let mut vault = self.vault.lock(self.rt);
         vault.take(self.seat, event, &mut self.share)

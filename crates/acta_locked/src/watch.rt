@@ -1,7 +1,7 @@
 //! A thread that judges the history while the workers make it.
 
 ghost use Rattle.std.specs.Prelude.{◌≡◌, ◌+◌, ◌≤◌, ◌++◌, ◌∷◌, [], true, false, drop, length, vec_len, Err, Ok, Some};
-ghost use Rattle.std.specs.Prelude.{IfErr, IfOk, MatchResult, ⊤};
+ghost use Rattle.std.specs.Prelude.{IfErr, IfOk, MatchResult};
 ghost use Rattle.acta_table.specs.declared.limits.TheConstants.{MOST_EVENTS};
 ghost use Rattle.acta_judge.specs.Verdicts.{verdict};
 ghost use Rattle.acta_locked.specs.Books.{state_of};
@@ -202,7 +202,7 @@ fn run_watched<
     requires of_gate { IsOfGate (G.may_stop gate.now) (G.may_pass gate.now) (G.may_go_on gate.now) J.may_stop J.may_pass J.may_go_on }
     requires of_scripts { scripts.now ≡ J.scripts }
     ensures all { IfOk result (λ r. vec_len r.0.done ≡ length scripts.now) }
-    ensures each { IfOk result (λ r. AreOutcomes (λ done. done.outcome) J.may_stop J.may_pass J.may_go_on J.model J.scripts r.0.done.items) }
+    ensures each { IfOk result (λ r. AreOutcomes (λ done. done.outcome) J.may_stop J.may_pass J.may_go_on J.scripts r.0.done.items) }
     ensures watched { IfOk result (λ r. MatchResult r.1 (λ w. length w.fronts ≡ turns) (λ e. is_of_judging e ≡ true)) }
     ensures late { IfErr result (λ e. is_of_scripts e ≡ false) }
     ensures scarce { IfErr result (λ e. is_scarce e ≡ true) }
@@ -244,7 +244,7 @@ fn in_watched_scope<
     requires of_gate { IsOfGate (G.may_stop gate.now) (G.may_pass gate.now) (G.may_go_on gate.now) J.may_stop J.may_pass J.may_go_on }
     requires of_scripts { scripts.now ≡ J.scripts }
     ensures all { IfOk result (λ r. vec_len r.0.done ≡ length scripts.now) }
-    ensures each { IfOk result (λ r. AreOutcomes (λ done. done.outcome) J.may_stop J.may_pass J.may_go_on J.model J.scripts r.0.done.items) }
+    ensures each { IfOk result (λ r. AreOutcomes (λ done. done.outcome) J.may_stop J.may_pass J.may_go_on J.scripts r.0.done.items) }
     ensures watched { IfOk result (λ r. MatchResult r.1 (λ w. length w.fronts ≡ turns) (λ e. is_of_judging e ≡ true)) }
     ensures late { IfErr result (λ e. is_of_scripts e ≡ false) }
     ensures scarce { IfErr result (λ e. is_scarce e ≡ true) }
@@ -255,7 +255,7 @@ fn in_watched_scope<
         |scope| -> Result<(Back<A, J>, Result<Watch<A, J>, DriveError>), DriveError>
             requires { (model.now ≡ J.model) × (length scripts.now ≤ MOST_WORKERS) × (rest.parts ≡ length scripts.now + 1) × (rest.amount ≡ 0) × IsOfGate (G.may_stop gate.now) (G.may_pass gate.now) (G.may_go_on gate.now) J.may_stop J.may_pass J.may_go_on × (scripts.now ≡ J.scripts) }
             ensures all { IfOk result (λ r. vec_len r.0.done ≡ length scripts.entry.now) }
-            ensures each { IfOk result (λ r. AreOutcomes (λ done. done.outcome) J.may_stop J.may_pass J.may_go_on J.model J.scripts r.0.done.items) }
+            ensures each { IfOk result (λ r. AreOutcomes (λ done. done.outcome) J.may_stop J.may_pass J.may_go_on J.scripts r.0.done.items) }
             ensures watched { IfOk result (λ r. MatchResult r.1 (λ w. length w.fronts ≡ turns) (λ e. is_of_judging e ≡ true)) }
             ensures late { IfErr result (λ e. is_of_scripts e ≡ false) }
             ensures scarce { IfErr result (λ e. is_scarce e ≡ true) }
@@ -317,7 +317,7 @@ fn watch_run<
     ensures fronts { IfOk result (λ w. AreFronts model (state_of w.driven.book).kept w.fronts) }
     ensures late { IfErr result (λ e. is_of_scripts e ≡ false) }
     ensures let_on { IfOk result (λ w. EachLetOn J.may_pass J.may_go_on w.driven.reports) }
-    ensures why { IfErr result (MayFail J.may_stop ⊤ scripts.now) }
+    ensures why { IfErr result (MayFail J.may_stop scripts.now) }
 {
     let (calls, rest) = blank.open::<J>();
     let copy = model.copy()?;
@@ -348,7 +348,7 @@ pub fn drive_watched<A: Handle + Send + Sync, R: Threads + Wait + Sync, G: Gate<
     ensures barred { (e : DriveError) → scripts_fault scripts.now ≡ Some e → result ≡ Err e }
     ensures only { IfErr result (λ e. is_of_scripts e ≡ true → scripts_fault scripts.now ≡ Some e) }
     ensures let_on { IfOk result (λ w. EachLetOn (G.may_pass gate.now) (G.may_go_on gate.now) w.driven.reports) }
-    ensures why { IfErr result (MayFail (G.may_stop gate.now) ⊤ scripts.now) }
+    ensures why { IfErr result (MayFail (G.may_stop gate.now) scripts.now) }
 {
     if let Some(fault) = fault_of(scripts) {
         return Err(fault);

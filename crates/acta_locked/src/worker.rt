@@ -120,7 +120,6 @@ pub fn work<A: Allocator + Copy, D: Desk<Event<A>, Entry<A>>, G: Gate<Entry<A>>>
     ensures gave_up { (seat : ℕ) → result ≡ Err (WorkError.GaveUp seat) → seat ≡ D.seat_of desk.old }
     ensures stopped { (seat : ℕ) → result ≡ Err (WorkError.GaveUp seat)
         → (k : ℕ) × (1 ≤ k) × (k ≤ length script.now) × G.may_stop gate.now seat k }
-    ensures no_room { result ≡ Err WorkError.BookFull → D.may_be_full desk.new }
     ensures before { OnErr result (IsStopped D.seat_in D.event_in (D.answered desk.old) (D.seat_of desk.old) script.now desk.new) }
     ensures let_on { IfOk result (λ report.
         LetOn (G.may_pass gate.now (D.seat_of desk.old)) (G.may_go_on gate.now (D.seat_of desk.old)) 1 report.entries) }

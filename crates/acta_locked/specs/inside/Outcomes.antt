@@ -1,25 +1,23 @@
 -- What the threads of a driven run hand back.
 use Rattle.std.specs.Prelude.{◌≡◌, ◌+◌, ◌<◌, ◌≤◌, ℕ, Bool, true, false, List, [], length, get_or, Result, Ok, Err, ⊤}
 use Rattle.acta_table.specs.declared.event.Event.{Event}
-use Rattle.acta_table.specs.declared.model.Parts.{Parts}
 use Rattle.acta_locked.specs.declared.book.Entry.{Entry}
 use Rattle.acta_locked.specs.declared.run.DriveError.{DriveError}
 use Rattle.acta_locked.specs.declared.run.DriveError.TheVariants as drive
 use Rattle.acta_locked.specs.declared.worker.Report.{Report}
 use Rattle.acta_locked.specs.declared.worker.WorkError.{WorkError}
-use Rattle.acta_locked.specs.declared.worker.WorkError.TheVariants.{BookFull, GaveUp, Memory}
-use Rattle.acta_locked.specs.Desks.{IsReport, IsSomeFullRun}
+use Rattle.acta_locked.specs.declared.worker.WorkError.TheVariants.{GaveUp}
+use Rattle.acta_locked.specs.Desks.{IsReport}
 use Rattle.acta_locked.specs.Gates.{LetOn}
 
 -- what the worker of a seat, with a script, at a gate, may hand back
-abbrev pub IsOutcome : {A : Type 0} → (ℕ → ℕ → Type 0) → (ℕ → ℕ → Type 0) → (ℕ → ℕ → Entry A → Type 0) → Parts A → ℕ
+abbrev pub IsOutcome : {A : Type 0} → (ℕ → ℕ → Type 0) → (ℕ → ℕ → Type 0) → (ℕ → ℕ → Entry A → Type 0) → ℕ
     → List (Event A) → Result (Report A) WorkError → Type 0
-IsOutcome may_stop may_pass may_go_on m seat script (Ok report) =
+IsOutcome may_stop may_pass may_go_on seat script (Ok report) =
     IsReport (λ e. e.seat) (λ e. e.event) seat script report × LetOn (may_pass seat) (may_go_on seat) 1 report.entries
-IsOutcome may_stop may_pass may_go_on m seat script (Err (GaveUp n)) =
+IsOutcome may_stop may_pass may_go_on seat script (Err (GaveUp n)) =
     (n ≡ seat) × ((k : ℕ) × (1 ≤ k) × (k ≤ length script) × may_stop n k)
-IsOutcome may_stop may_pass may_go_on m seat script (Err BookFull) = IsSomeFullRun m
-IsOutcome may_stop may_pass may_go_on m seat script (Err Memory) = ⊤
+IsOutcome may_stop may_pass may_go_on seat script (Err _) = ⊤
 
 -- where a gate may stop, pass and go on, the other may, too
 abbrev pub IsOfGate : {A : Type 0} → (ℕ → ℕ → Type 0) → (ℕ → ℕ → Type 0) → (ℕ → ℕ → Entry A → Type 0) → (ℕ → ℕ → Type 0)
@@ -30,10 +28,10 @@ IsOfGate {A} may_stop may_pass may_go_on stop pass go_on =
 
 -- each of the things has the outcome of its seat, from 1
 abbrev pub AreOutcomes : {A D : Type 0} → (D → Result (Report A) WorkError) → (ℕ → ℕ → Type 0) → (ℕ → ℕ → Type 0)
-    → (ℕ → ℕ → Entry A → Type 0) → Parts A → List (List (Event A)) → List D → Type 0
-AreOutcomes {A} {D} outcome may_stop may_pass may_go_on m scripts done =
+    → (ℕ → ℕ → Entry A → Type 0) → List (List (Event A)) → List D → Type 0
+AreOutcomes {A} {D} outcome may_stop may_pass may_go_on scripts done =
     (k : ℕ) (d : D) → k < length scripts
-    → IsOutcome may_stop may_pass may_go_on m (k + 1) (get_or scripts k []) (outcome (get_or done k d))
+    → IsOutcome may_stop may_pass may_go_on (k + 1) (get_or scripts k []) (outcome (get_or done k d))
 
 -- whether the fault is that there was no memory, or that a thread could not be started
 abbrev pub is_scarce : DriveError → Bool

@@ -1,7 +1,6 @@
 use Rattle.std.proofs.Common.{◌≡◌, ◌+◌, ◌<◌, ◌≤◌, ℕ, [], get_or, length, vec_len, vec_capacity}
 use Rattle.std.specs.Prelude.{sum_by}
 use Rattle.std.specs.Vec.Iter.{into_iter_items, into_iter_len}
-use Rattle.acta_locked.specs.Desks.{IsReport}
 use Rattle.acta_locked.specs.Drives.{EachLetOn}
 use Rattle.acta_locked.specs.inside.Outcomes.{IsOutcome}
 use Rattle.acta_locked.proofs.run.gathered.Given as goal
@@ -15,7 +14,6 @@ invariant-loop-one g l = record {
   all : vec_len l.reports + into_iter_len l.one-iterator ≡ vec_len l.fn.back.done;
   room : vec_len l.fn.back.done ≤ vec_capacity l.reports;
   rest : (k j : ℕ) (d : _) → k < into_iter_len l.one-iterator → j ≡ vec_len l.reports + k
-      → IsOutcome g.J.Job.may_stop g.J.Job.may_pass g.J.Job.may_go_on g.J.Job.model (j + 1) (get_or g.J.Job.scripts j []) (get_or (into_iter_items l.one-iterator) k d).outcome;
-  each : (k : ℕ) (r : _) → k < vec_len l.reports → IsReport (λ e. e.seat) (λ e. e.event) (k + 1) (get_or g.J.Job.scripts k []) (get_or l.reports.items k r);
+      → IsOutcome g.J.Job.may_stop g.J.Job.may_pass g.J.Job.may_go_on (j + 1) (get_or g.J.Job.scripts j []) (get_or (into_iter_items l.one-iterator) k d).outcome;
   let_on : EachLetOn g.J.Job.may_pass g.J.Job.may_go_on l.reports.items;
 }

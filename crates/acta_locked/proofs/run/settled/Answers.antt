@@ -1,5 +1,4 @@
-use Rattle.std.proofs.Common.{refl, inr, sym, subst, ◌∙◌, true≢false}
-use Rattle.acta_locked.specs.Books.{IsRun}
+use Rattle.std.proofs.Common.{refl, sym, subst, ◌∙◌, true≢false}
 use Rattle.acta_locked.specs.Drives.{AreParts}
 use Rattle.acta_locked.proofs.Settling.{is-driven}
 use Rattle.acta_locked.proofs.run.settled.Goals as goal
@@ -13,4 +12,4 @@ returns-clause-driven g c =
 
 pub returns-then-not-are_settled-clause-why : goal.returns-then-not-are_settled-clause-why
 returns-then-not-are_settled-clause-why g c =
-    (refl, inr (c.close-book.result, c.args.reports.items, c.close-book.ensures.of_model, subst IsRun c.book.view_is c.book.invariant.run, c.close-book.ensures.counted ∙ c.requires.counted, c.requires.each, λ parts. true≢false (sym (c.are_settled.ensures.1 (subst (AreParts c.close-book.result 1 c.args.scripts.now) (sym c.as_slice.ensures.value) parts)) ∙ c.if-not-are_settled.true)))
+    (refl, λ parts. true≢false (sym (c.are_settled.ensures.1 (subst (AreParts c.close-book.result 1 c.args.scripts.now) (sym c.as_slice.ensures.value) (subst (λ b. AreParts b 1 c.args.scripts.now c.args.reports.items) (sym c.close-book.ensures.book) parts))) ∙ c.if-not-are_settled.true))

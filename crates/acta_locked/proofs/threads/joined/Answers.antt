@@ -13,7 +13,7 @@ loop-one-preserved g c =
     let grown : vec_len c.push.new.self ≡ n + 1 = search rules in
     let seat : c.in-Some.one.handle.promise.0 ≡ n + 1 = let h = was.rest 0 c.in-Some.one in grind rules in
     let place : n + 1 - 1 ≡ n = omega arith in
-    let Kept : ℕ → ℕ → Done g.row.A.Denot g.row.J.Denot g.J.Job → Type 0 = λ seat k done. IsOutcome g.J.Job.may_stop g.J.Job.may_pass g.J.Job.may_go_on g.J.Job.model seat (get_or g.J.Job.scripts k []) done.outcome in
+    let Kept : ℕ → ℕ → Done g.row.A.Denot g.row.J.Denot g.J.Job → Type 0 = λ seat k done. IsOutcome g.J.Job.may_stop g.J.Job.may_pass g.J.Job.may_go_on seat (get_or g.J.Job.scripts k []) done.outcome in
     let Fits : ℕ → Type 0 = λ k. (d : _) → Kept (k + 1) k (get_or c.push.new.self.items k d) in
     let here : Fits n = λ d. subst (λ done. Kept (n + 1) n done) (sym (pushed.by_index.1 d refl)) (subst (λ k. Kept (n + 1) k c.join.result) place (subst (λ s. Kept s (s - 1) c.join.result) seat c.join.ensures)) in
     record {

@@ -10,5 +10,5 @@ invariant-loop-one g l = record {
   all : vec_len l.done + into_iter_len l.one-iterator ≡ vec_len l.fn.running;
   room : vec_len l.fn.running ≤ vec_capacity l.done;
   rest : (k : ℕ) (r : _) → k < into_iter_len l.one-iterator → (get_or (into_iter_items l.one-iterator) k r).handle.promise.0 ≡ vec_len l.done + k + 1;
-  each : (k : ℕ) (d : _) → k < vec_len l.done → IsOutcome g.J.Job.may_stop g.J.Job.may_pass g.J.Job.may_go_on g.J.Job.model (k + 1) (get_or g.J.Job.scripts k []) (get_or l.done.items k d).outcome;
+  each : (k : ℕ) (d : _) → k < vec_len l.done → IsOutcome g.J.Job.may_stop g.J.Job.may_pass g.J.Job.may_go_on (k + 1) (get_or g.J.Job.scripts k []) (get_or l.done.items k d).outcome;
 }

@@ -1,12 +1,10 @@
-use Rattle.std.proofs.Common.{◌≡◌, true, length, ap, sym, subst, ◌∙◌}
-use Rattle.std.specs.Prelude.{⊤}
+use Rattle.std.proofs.Common.{◌≡◌, true, length, sym, subst, ◌∙◌}
 use Rattle.std.proofs.lemmas.Result.{IfErr-weaker, IfOk-weaker, MatchResult-at_err, MatchResult-at_ok}
 use Rattle.acta_locked.specs.Books.{state_of}
-use Rattle.acta_locked.specs.Desks.{IsSomeFullRun}
 use Rattle.acta_locked.specs.Drives.{EachLetOn, IsDriven, MayFail}
 use Rattle.acta_locked.specs.Fronts.{AreFronts}
 use Rattle.acta_locked.specs.inside.Outcomes.{is_of_judging}
-use Rattle.acta_locked.proofs.Handing.{fail-weaker, judging-late, judging-may, passed-on}
+use Rattle.acta_locked.proofs.Handing.{judging-late, judging-may, passed-on}
 use Rattle.acta_locked.proofs.watch.watch_run.Goals as goal
 
 pub returns-clause-driven : goal.returns-clause-driven
@@ -34,16 +32,20 @@ returns-clause-let_on g c =
 
 pub returns-clause-why : goal.returns-clause-why
 returns-clause-why g c =
-    IfErr-weaker c.matched.result _ _ (λ e is. judging-may g.J.Job.may_stop ⊤ c.args.scripts.now e is tt) c.matched.ensures.late
+    IfErr-weaker c.matched.result _ _ (λ e is. judging-may g.J.Job.may_stop c.args.scripts.now e is) c.matched.ensures.late
 
 pub returns-in_err-all-clause-why : goal.returns-in_err-all-clause-why
 returns-in_err-all-clause-why g c =
-    let why = fail-weaker g.J.Job.may_stop (IsSomeFullRun g.J.Job.model) ⊤ g.J.Job.scripts (λ _. tt) c.in_err-all.field-0.0 c.in_err-all.ensures.why in
-    passed-on c.from_residual-in_err-all.result c.in_err-all.field-0.0 (MayFail g.J.Job.may_stop ⊤ c.args.scripts.now)
-    (subst (λ scripts. MayFail g.J.Job.may_stop ⊤ scripts c.in_err-all.field-0.0) (sym c.requires.of_scripts) why) c.from_residual-in_err-all.ensures.1
+    passed-on c.from_residual-in_err-all.result c.in_err-all.field-0.0 (MayFail g.J.Job.may_stop c.args.scripts.now)
+    (subst (λ scripts. MayFail g.J.Job.may_stop scripts c.in_err-all.field-0.0) (sym c.requires.of_scripts) c.in_err-all.ensures.why) c.from_residual-in_err-all.ensures.1
 
 pub returns-in_err-watch-clause-why : goal.returns-in_err-watch-clause-why
 returns-in_err-watch-clause-why g c =
     let is = MatchResult-at_err (λ w. length w.fronts ≡ c.args.turns) (λ e. is_of_judging e ≡ true) c.in_err-watch.field-0.0 c.in_err-watch.was c.in_ok-back.ensures.watched in
-    passed-on c.from_residual-in_err-watch.result c.in_err-watch.field-0.0 (MayFail g.J.Job.may_stop ⊤ c.args.scripts.now)
-    (judging-may g.J.Job.may_stop ⊤ c.args.scripts.now c.in_err-watch.field-0.0 is tt) c.from_residual-in_err-watch.ensures.1
+    passed-on c.from_residual-in_err-watch.result c.in_err-watch.field-0.0 (MayFail g.J.Job.may_stop c.args.scripts.now)
+    (judging-may g.J.Job.may_stop c.args.scripts.now c.in_err-watch.field-0.0 is) c.from_residual-in_err-watch.ensures.1
+
+pub returns-in_err-driven-clause-why : goal.returns-in_err-driven-clause-why
+returns-in_err-driven-clause-why g c =
+    passed-on c.from_residual-in_err-driven.result c.in_err-driven.field-0.0 (MayFail g.J.Job.may_stop c.args.scripts.now)
+    (subst (MayFail g.J.Job.may_stop c.args.scripts.now) (sym c.in_err-driven.ensures.why.0) tt) c.from_residual-in_err-driven.ensures.1
