@@ -1,6 +1,6 @@
 //! Transactions whose events wait for one another.
 
-ghost use Rattle.std.specs.Prelude.{◌≡◌, ◌<◌, ◌≤◌, ◌+◌, ℕ, All, true, IfOk, IfSome, OnOk, length, get_or};
+ghost use Rattle.std.specs.Prelude.{◌≡◌, ◌≢◌, ◌<◌, ◌≤◌, ◌+◌, ℕ, All, true, IfOk, IfSome, OnOk, length, get_or};
 ghost use Rattle.acta_hope.specs.Deadlocks.{Awaits, IsCircle, awaited_in, is_linked};
 
 use crate::hoping::{Hope, why_and_hope};
@@ -41,23 +41,24 @@ fn awaited_in<A: Handle>(machine: &Machine<A>, until: Hope) -> Option<TxnId>
     }
 }
 
-/// For whom the event of this transaction waits: for the one that has to begin, commit or abort before, or for the holder
-/// of an operation that stands in its way. `None` where the machine would admit the event, and where what is known is no
-/// wait for one transaction. Returns `Err` if memory runs out.
+/// For which other transaction the event of this one waits: for the one that has to begin, commit or abort before, or for the
+/// holder of an operation that stands in its way. `None` where the machine would admit the event, and where what is known is
+/// no wait for another transaction. Returns `Err` if memory runs out.
 pub fn wait_of<A: Handle>(
     machine: &Machine<A>,
     txn: TxnId,
     event: &Event<A>,
 ) -> Result<Option<Wait>, AllocError>
     ensures txn { IfOk result (λ found. IfSome found (λ wait. wait.txn ≡ txn)) }
+    ensures another { IfOk result (λ found. IfSome found (λ wait. wait.next ≢ txn)) }
     ensures awaits { IfOk result (λ found. IfSome found (λ wait. Awaits machine.now event.now wait.next wait.until)) }
 {
     let Some((_, until)) = why_and_hope(machine, event)? else {
         return Ok(None);
     };
     match awaited_in(machine, until) {
-        Some(next) => Ok(Some(Wait { txn, next, until })),
-        None => Ok(None),
+        Some(next) if next.0 != txn.0 => Ok(Some(Wait { txn, next, until })),
+        _ => Ok(None),
     }
 }
 
