@@ -38,19 +38,19 @@ one_error : {T E : Type 0} (e f : E) → ◌≡◌ {A = Result T E} (Err e) (Err
 one_error e f h = cc
 
 -- where no call may be stopped, no gate stopped a worker
-pub unstopped : {A : Type 0} (unsettled : Type 0) (scripts : List (List (Event A))) (e : DriveError) → MayFail (λ seat k. ⊥) unsettled scripts e → is_stop e ≡ false
-unstopped unsettled scripts NoWorker may = refl
-unstopped unsettled scripts TooManyWorkers may = refl
-unstopped unsettled scripts TooManyEvents may = refl
-unstopped unsettled scripts Memory may = refl
-unstopped unsettled scripts NoThread may = refl
-unstopped unsettled scripts (GaveUp seat) may = absurd may.2.3
-unstopped unsettled scripts Unsettled may = refl
+pub unstopped : {A : Type 0} (scripts : List (List (Event A))) (e : DriveError) → MayFail (λ seat k. ⊥) scripts e → is_stop e ≡ false
+unstopped scripts NoWorker may = refl
+unstopped scripts TooManyWorkers may = refl
+unstopped scripts TooManyEvents may = refl
+unstopped scripts Memory may = refl
+unstopped scripts NoThread may = refl
+unstopped scripts (GaveUp seat) may = absurd may.2.3
+unstopped scripts Unsettled may = refl
 
--- an error that no scripts have, and no gate, may always come
-pub other : {A : Type 0} (found : Result (Task A) (List ℕ)) (e : DriveError) → is_of_scripts e ≡ false → is_stop e ≡ false → MayCome found (Err e)
-other (Ok task) e is passed = ((λ of_scripts. absurd (true≢false (sym of_scripts ∙ is))), passed)
-other (Err line) e is passed = (is, passed)
+-- want of memory may always come
+pub short : {A : Type 0} (found : Result (Task A) (List ℕ)) (e : DriveError) → e ≡ Memory → MayCome found (Err e)
+short (Ok task) e is = ((λ of_scripts. absurd (true≢false (sym of_scripts ∙ ap is_of_scripts is))), ap is_stop is)
+short (Err line) e is = is
 
 -- a run that has a result is told
 pub driven : {A : Type 0} (task : Task A) (d : Driven A) (fs : List (Front A)) (r : Result (Report A) DriveError) → ((e : DriveError) → scripts_fault task.scripts ≡ Some e → Ok (let w : Watched A = record { driven = d; fronts = fs } in w) ≡ Err e) → IsDriven task.model task.scripts d → AreAsked task d fs
@@ -59,7 +59,7 @@ driven {A} task d fs (Ok report) barred is asked told memory =
     let free : (e : DriveError) → scripts_fault task.scripts ≡ Some e → ⊥ = λ e has. never (let w : Watched A = record { driven = d; fronts = fs } in w) e (barred e has) in
     subst (λ found. MayCome found (Ok (output_of report))) (sym (free_kept task (scripts_fault task.scripts) refl free))
     (none_of task (scripts_fault task.scripts) refl free, d, is, fs, asked, told)
-driven task d fs (Err e) barred is asked told memory = other (unless_too_long task) e (ap is_of_scripts memory) (ap is_stop memory)
+driven task d fs (Err e) barred is asked told memory = short (unless_too_long task) e memory
 
 undriven_by : {A : Type 0} (task : Task A) (e : DriveError) (fault : Option DriveError) → scripts_fault task.scripts ≡ fault → (is_of_scripts e ≡ true → scripts_fault task.scripts ≡ Some e) → is_stop e ≡ false
     → ((f : DriveError) → scripts_fault task.scripts ≡ Some f → ◌≡◌ {A = Result (Watched A) DriveError} (Err e) (Err f)) → e ≢ TooManyEvents → MayCome (by_fault task fault) (Err e)

@@ -11,7 +11,7 @@ use Rattle.acta_script.specs.Writing.{event_line}
 use Rattle.acta_machine.specs.Table.{debts_in}
 use Rattle.acta_locked.specs.declared.book.Entry.{Entry}
 use Rattle.acta_locked.specs.declared.run.DriveError.{DriveError}
-use Rattle.acta_locked.specs.declared.run.DriveError.TheVariants.{GaveUp, TooManyEvents}
+use Rattle.acta_locked.specs.declared.run.DriveError.TheVariants.{GaveUp, Memory, TooManyEvents}
 use Rattle.acta_locked.specs.declared.run.Driven.{Driven}
 use Rattle.acta_locked.specs.Books.{Entries, state_of}
 use Rattle.acta_locked.specs.declared.watch.Front.{Front}
@@ -88,7 +88,8 @@ task_of workers turns (Err fault) input = Err (no_model_line fault)
 task_of workers turns (Ok m) input = task_on workers turns m (said_in (seated_of m workers) input)
 
 -- what may be written: what some driven run of the task leaves, with any fronts that it asks for, or the line that
--- refuses it; and why nothing may be, which is no fault of the scripts unless they have it, and never a gate
+-- refuses it; and why nothing may be: of a task no fault of the scripts unless they have it, and never a gate, and in
+-- place of a line that refuses it only want of memory
 abbrev pub MayCome : {A : Type 0} → Result (Task A) (List ℕ) → Result Output DriveError → Type 0
 MayCome {A} (Ok task) (Ok out) =
     (scripts_fault task.scripts ≡ None) × (d : Driven A) × IsDriven task.model task.scripts d
@@ -96,7 +97,7 @@ MayCome {A} (Ok task) (Ok out) =
     × (out ≡ record { is_refused = false; text = text_of (book_lines d.book fs) })
 MayCome (Ok task) (Err e) = (is_of_scripts e ≡ true → scripts_fault task.scripts ≡ Some e) × (is_stop e ≡ false)
 MayCome (Err line) (Ok out) = out ≡ record { is_refused = true; text = text_of (line ∷ []) }
-MayCome (Err line) (Err e) = (is_of_scripts e ≡ false) × (is_stop e ≡ false)
+MayCome (Err line) (Err e) = e ≡ Memory
 
 -- what may come of the command `drive`, for the bytes of a model and of an input; A is the allocator's type
 abbrev pub MayWrite : (A : Type 0) → Command → List ℕ → List ℕ → Result Output DriveError → Type 0

@@ -5,7 +5,7 @@ use Rattle.acta_script.specs.Laws.{IsInModel}
 use Rattle.acta_tool.specs.Driving.{Task, scripts_of, unless_too_long}
 use Rattle.acta_tool.specs.inside.Reports.{MayComeOf}
 use Rattle.acta_tool.proofs.Seats.{of_scripts}
-use Rattle.acta_tool.proofs.Tasks.{other}
+use Rattle.acta_tool.proofs.Tasks.{short}
 use Rattle.acta_tool.proofs.drive.drive_said.Goals as goal
 
 pub drive_scripts-requires-after_bounds : goal.drive_scripts-requires-after_bounds
@@ -20,4 +20,4 @@ returns-in-Ok g c =
 pub returns-in-Err : goal.returns-in-Err
 returns-in-Err g c =
     let task : Task g.row.A.Denot = record { model = c.args.model; scripts = scripts_of c.args.workers c.args.said.now; turns = c.args.turns } in
-    other (unless_too_long task) Memory refl refl
+    short (unless_too_long task) Memory refl
