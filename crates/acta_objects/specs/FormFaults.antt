@@ -3,7 +3,6 @@ use Rattle.std.specs.Prelude.{◌≡◌, ⊤, Some, None}
 use Rattle.acta_table.specs.declared.event.Event.{Event}
 use Rattle.acta_table.specs.declared.event.Event.TheVariants.{Operate}
 use Rattle.acta_table.specs.declared.answer.Refusal.{Refusal}
-use Rattle.acta_table.specs.declared.answer.Rule.{Rule}
 use Rattle.acta_table.specs.declared.answer.Rule.TheVariants.{BadNumber as bad_number, BadClass as bad_class, BadObject as bad_object, BadOperation as bad_operation, SameTransaction as same_transaction}
 use Rattle.acta_table.specs.declared.event.ObjId.{ObjId}
 use Rattle.acta_table.specs.declared.event.Op.{Op}

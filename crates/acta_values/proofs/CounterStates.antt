@@ -6,7 +6,8 @@ use Rattle.std.proofs.lemmas.Int.{ints}
 use Rattle.acta_table.specs.declared.event.Op.{Op}
 use Rattle.acta_table.specs.declared.event.Op.TheVariants.{Add}
 use Rattle.acta_objects.specs.Objects.{counter_step}
-use Rattle.acta_objects.specs.Limits.{AmountFits, IsNear}
+use Rattle.acta_objects.specs.Limits.{AmountFits}
+use Rattle.acta_objects.proofs.Near.{IsNear}
 use Rattle.acta_values.specs.declared.trail.Numbered.{Numbered}
 use Rattle.acta_values.specs.LiveValues.{ops_of, amount}
 

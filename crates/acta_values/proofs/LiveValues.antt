@@ -13,7 +13,8 @@ use Rattle.acta_table.specs.declared.event.Op.{Op}
 use Rattle.acta_table.specs.declared.event.Op.TheVariants.{Write, Insert, Remove}
 use Rattle.acta_objects.specs.declared.state.ObjectState.TheVariants.{Register as register_state, Counter as counter_state, Elements as elements_state}
 use Rattle.acta_objects.specs.Objects.{first_state, state_after, register_step, counter_step, set_step}
-use Rattle.acta_objects.specs.Limits.{AmountFits, FirstFits, IsNear}
+use Rattle.acta_objects.specs.Limits.{AmountFits, FirstFits}
+use Rattle.acta_objects.proofs.Near.{IsNear}
 use Rattle.acta_values.specs.declared.live_value.LiveValue.{LiveValue}
 use Rattle.acta_values.specs.declared.live_value.LiveValue.TheVariants.{Register, Counter, Elements}
 use Rattle.acta_values.specs.declared.trail.Numbered.{Numbered}

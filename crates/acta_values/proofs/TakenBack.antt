@@ -1,7 +1,7 @@
 -- Kept values with the operations of a transaction taken back.
 use Rattle.std.proofs.Common.{◌≡◌, ◌≢◌, ℕ, zero, suc, ◌+◌, ◌-◌, ◌<◌, ◌≤◌, ◌==◌, Bool, true, false, not, ◌&&◌, ◌||◌, cond, inl, inr, List, [], ◌∷◌, ◌++◌, length, get_or, set, take, drop, filter, Option, Some, None, refl, sym, ap, ◌∙◌, subst, arith, eq-eqb, ne_eqb}
 use Rattle.std.specs.Prelude.{option_map, slice_get}
-use Rattle.std.specs.List.{AllByRecursion, Contains, cons_option}
+use Rattle.std.specs.List.{AllByRecursion, Contains, cons_option, list_any}
 use Rattle.std.proofs.lemmas.Bool.{cases_eq, and_parts}
 use Rattle.std.proofs.lemmas.Option.{slice_get_within, slice_get-get_or, get_or_from_slice_get}
 use Rattle.acta_table.specs.declared.answer.Fate.{Fate}
@@ -18,9 +18,22 @@ use Rattle.acta_values.specs.declared.live_value.LiveValue.{LiveValue}
 use Rattle.acta_values.specs.declared.trail.Numbered.{Numbered}
 use Rattle.acta_values.specs.LiveValues.{IsAfter, Counts}
 use Rattle.acta_values.specs.Trails.{without, AreAbove}
-use Rattle.acta_values.specs.KeptValues.{is_among, numbered_on, numbered_from, numbered_live, without_all, AreAfter, AreAfterBut, IsUndoneAt}
+use Rattle.acta_values.specs.KeptValues.{numbered_on, numbered_from, numbered_live, AreAfter, IsUndoneAt}
 use Rattle.acta_values.proofs.Added.{length_set}
 use Rattle.acta_values.proofs.Numbering.{above_from, live_at, live_off, set_same, set_other}
+
+-- whether a number is one of these
+abbrev pub is_among : List ℕ → ℕ → Bool
+is_among ns n = list_any (λ m. m == n) ns
+
+-- those of other numbers than these
+abbrev pub without_all : List ℕ → List (Numbered Op) → List (Numbered Op)
+without_all ns ops = filter (λ o. not (is_among ns o.number)) ops
+
+-- each value is that of its object after the operations that stay on it, but for these
+pub record AreAfterBut {A : Type 0} (kinds : List Kind) (items : List HeldOp) (ns : List ℕ) (values : List (LiveValue A)) : Type 0 where
+  pub long : length values ≡ length kinds
+  pub each : (k : ℕ) (kind : Kind) (value : LiveValue A) → slice_get kinds k ≡ Some kind → slice_get values k ≡ Some value → IsAfter kind (without_all ns (numbered_live items k)) value
 
 -- the numbers of the operations that t holds in progress, where the first has the number n
 abbrev pub held_from : ℕ → ℕ → List HeldOp → List ℕ

@@ -1,6 +1,6 @@
 -- Kept values of objects: that each is the value after the operations on its object that aren't aborted.
-use Rattle.std.specs.Prelude.{◌≡◌, ◌≢◌, ℕ, ◌+◌, ◌<◌, ◌≤◌, Bool, ◌&&◌, ◌==◌, not, List, [], ◌∷◌, map, filter, length, if◌then◌else◌, Option, Some, None, option_map, slice_get}
-use Rattle.std.specs.List.{Contains, cons_option, list_any}
+use Rattle.std.specs.Prelude.{◌≡◌, ◌≢◌, ℕ, ◌+◌, ◌<◌, ◌≤◌, ◌&&◌, ◌==◌, List, [], ◌∷◌, map, length, if◌then◌else◌, Option, Some, None, option_map, slice_get}
+use Rattle.std.specs.List.{Contains, cons_option}
 use Rattle.acta_table.specs.declared.event.Op.{Op}
 use Rattle.acta_table.specs.declared.event.ObjId.{ObjId}
 use Rattle.acta_table.specs.declared.event.TxnId.{TxnId}
@@ -34,19 +34,6 @@ numbered_from object n (i ∷ items) = cons_option (numbered_on object n i) (num
 -- the operations that stay on this object, by their numbers
 abbrev pub numbered_live : List HeldOp → ℕ → List (Numbered Op)
 numbered_live items object = numbered_from object 1 items
-
--- whether a number is one of these
-abbrev pub is_among : List ℕ → ℕ → Bool
-is_among ns n = list_any (λ m. m == n) ns
-
--- those of other numbers than these
-abbrev pub without_all : List ℕ → List (Numbered Op) → List (Numbered Op)
-without_all ns ops = filter (λ o. not (is_among ns o.number)) ops
-
--- each value is that of its object after the operations that stay on it, but for these
-pub record AreAfterBut {A : Type 0} (kinds : List Kind) (items : List HeldOp) (ns : List ℕ) (values : List (LiveValue A)) : Type 0 where
-  pub long : length values ≡ length kinds
-  pub each : (k : ℕ) (kind : Kind) (value : LiveValue A) → slice_get kinds k ≡ Some kind → slice_get values k ≡ Some value → IsAfter kind (without_all ns (numbered_live items k)) value
 
 -- each value is that of its object after the operations that stay on it
 pub record AreAfter {A : Type 0} (kinds : List Kind) (items : List HeldOp) (values : List (LiveValue A)) : Type 0 where

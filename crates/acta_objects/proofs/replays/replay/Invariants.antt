@@ -1,6 +1,6 @@
 use Rattle.std.proofs.Common.{◌≡◌, ◌+◌, ◌++◌, drop}
 use Rattle.acta_objects.specs.Objects.{first_state, state_after, returns_of}
-use Rattle.acta_objects.specs.Limits.{IsSmall}
+use Rattle.acta_objects.proofs.Near.{IsSmall}
 use Rattle.acta_objects.proofs.replays.replay.Given as goal
 
 -- what is left, from here, ends where all would; with what it returns, the returns are all

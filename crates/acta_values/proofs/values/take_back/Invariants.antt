@@ -1,6 +1,7 @@
 use Rattle.std.proofs.Common.{◌≤◌, List, length, drop}
 use Rattle.acta_table.specs.declared.model.Kind.{Kind}
-use Rattle.acta_values.specs.KeptValues.{AreAfter, AreAfterBut}
+use Rattle.acta_values.specs.KeptValues.{AreAfter}
+use Rattle.acta_values.proofs.TakenBack.{AreAfterBut}
 use Rattle.acta_values.proofs.values.take_back.Given as goal
 
 -- those from here on are taken back
