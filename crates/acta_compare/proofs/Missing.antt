@@ -10,9 +10,6 @@ use Rattle.std.proofs.lemmas.Option.{get_or_from_slice_get, slice_get-get_or, sl
 abbrev pub IsNotBefore : {X : Type 0} → List X → ℕ → X → Type 0
 IsNotBefore xs i x = (k : ℕ) → k < i → slice_get xs k ≡ Some x → ⊥
 
-pub not-first : {X : Type 0} (xs : List X) (x : X) → IsNotBefore xs 0 x
-not-first xs x k less is = omega arith
-
 split-less : (k i : ℕ) → k < i + 1 → (k ≡ i) ⊎ (k < i)
 split-less k i less = grind arith
 

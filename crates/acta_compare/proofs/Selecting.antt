@@ -22,10 +22,6 @@ drop-none [] (suc i) h = refl
 drop-none (y ∷ ys) zero h = cc
 drop-none (y ∷ ys) (suc i) h = drop-none ys i h
 
--- nothing is selected yet
-pub selected-start : {X : Type 0} (P : X → Type 0) (xs found : List X) → found ≡ [] → IsSoFar P xs 0 found
-selected-start P xs found none rest h = subst (λ (ys : List _). Selects P xs (ys ++ rest)) (sym none) h
-
 -- the next item is selected
 pub selected-item : {X : Type 0} (P : X → Type 0) (xs : List X) (i : ℕ) (x : X) (found : List X) → slice_get xs i ≡ Some x → P x → IsSoFar P xs i found → IsSoFar P xs (i + 1) (found ++ x ∷ [])
 selected-item P xs i x found is holds so_far rest h =

@@ -63,7 +63,7 @@ fn surface<'a>(alloc: Global, name: &str) -> Result<Command<'a>, AllocError> {
     let command = Command::new(alloc, "acta_tool explain")
         .no_binary_name(true)
         .about(
-            "Tells in words what a run answers, and why: the event lines of the standard input on MODEL, which rule refuses an event, what breaks it, and what would let it go on; or what a rule, an axiom or a code means",
+            "Tells in words what a run answers, and why: the event lines of the standard input on MODEL, which rule refuses an event, what breaks it, and what has to be so before it can be admitted; or what a rule, an axiom or a code means",
         )
         .bin_name(name);
     let command = with_arg(command, model_arg(alloc));

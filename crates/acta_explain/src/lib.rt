@@ -1,10 +1,10 @@
 //! The runs of histories, told in words. For each event there is its answer, and what it formed or why it is refused:
-//! the rule, what of the machine breaks it, and what would let the event go on. For a faulty line, text or image there
-//! is where the fault is, what stands there in a good one, and which word was perhaps meant. And each rule, axiom and
-//! code is told by its name.
+//! the rule, what of the machine breaks it, and what has to be so before it can be admitted. For a faulty line, text or
+//! image there is where the fault is, what stands there in a good one, and which word was perhaps meant. And each rule,
+//! axiom and code is told by its name.
 //!
-//! Nothing here decides anything: what is admitted, why an event is refused and what a history lacks is asked of the
-//! machine and of the judge, and is put into sentences.
+//! Nothing here decides anything: what is admitted, why an event is refused, what hope there is and what a history lacks is
+//! asked of the layers below, and is put into sentences.
 #![tactic(auto)]
 
 mod advice;

@@ -210,7 +210,7 @@ impl<'a, A: Handle> Refused<'a, A> {
         }
     }
 
-    /// Adds why it is refused, but not what would let it go on.
+    /// Adds why it is refused, but not what hope there is.
     pub fn put_facts(&self, prose: Prose<A>, machine: &Machine<A>, reason: &Reason) -> Prose<A> {
         match *reason {
             Reason::Full => {

@@ -79,7 +79,7 @@ fn put_bad_set<A: Handle>(
     }
 }
 
-// Adds why the event is refused: what is so, and not what would let it go on, since nothing comes any more.
+// Adds why the event is refused: what is so, and not what hope there is, since nothing comes any more.
 fn put_facts<A: Handle>(
     prose: Prose<A>,
     run: &Telling<A>,
