@@ -13,7 +13,7 @@ ghost use Rattle.acta_tool.specs.Outcome.{is_drive};
 use crate::progress::Progress;
 use acta_compare::compare_tool;
 use acta_draw::{Drawing, Screen, draw_tool};
-use acta_explain::{Advice, advice, explain_tool, is_asked, write_words};
+use acta_explain::{Advice, advice_for, explain_tool, is_asked, write_words};
 use acta_models::Standard;
 use acta_programs::explore_tool;
 use acta_serialize::serialize_tool;
@@ -108,7 +108,7 @@ fn judge_told<R: Eprint + Input + Print + AllocGlobal + Threads + Sync>(
         &mut Watched::new(io::writer(rt)),
     );
     if matches!(outcome, Outcome::Done) {
-        if let Ok(Some(advice)) = advice(rt, rt.alloc(), model, input) {
+        if let Ok(Some(advice)) = advice_for(rt, rt.alloc(), model, input) {
             suggest(rt, advice);
         }
     }

@@ -73,7 +73,7 @@ fn advice_of<A: Handle + Send + Sync, R: Threads + Sync>(
 
 /// What the verdict on the kept lines of an input suggests, for the bytes of a model. `None` where the model or a line is
 /// faulty, or the lines are too many. Returns `Err` if memory runs out.
-pub fn advice<A: Handle + Send + Sync, R: Threads + Sync>(
+pub fn advice_for<A: Handle + Send + Sync, R: Threads + Sync>(
     rt: &R,
     alloc: A,
     model: &[u8],

@@ -31,7 +31,7 @@ mod telling;
 mod texts;
 mod words;
 
-pub use advice::{Advice, advice};
+pub use advice::{Advice, advice_for};
 pub use args::{Asked, called, flag, is_asked, matched, model_arg, option, parse, usage, with_arg};
 pub use chronicle::{Chronicle, Life, Row};
 pub use debts::put_prospect;
