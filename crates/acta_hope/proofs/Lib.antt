@@ -4,6 +4,7 @@ pub mod Clashes
 pub mod Counting
 pub mod Debts
 pub mod Growth
+pub mod HeldOn
 pub mod Hopes
 pub mod LettingGo
 pub mod NeverBegun
