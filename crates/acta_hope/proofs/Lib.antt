@@ -5,6 +5,7 @@ pub mod Counting
 pub mod Debts
 pub mod Growth
 pub mod Hopes
+pub mod LastLost
 pub mod LettingGo
 pub mod NeverBegun
 pub mod Reasons
