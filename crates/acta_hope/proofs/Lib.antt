@@ -6,6 +6,7 @@ pub mod Debts
 pub mod Growth
 pub mod HeldOn
 pub mod Hopes
+pub mod LastLost
 pub mod LettingGo
 pub mod NeverBegun
 pub mod Reasons
