@@ -354,7 +354,7 @@ model-moved : {A : Type 0} (s : State A) (e : Event A) (r : Option Refusal) → 
 model-moved s e None = refl
 model-moved s e (Some r) = refl
 
-model-after : {A : Type 0} (s : State A) (e : Event A) → (after s e).model ≡ s.model
+pub model-after : {A : Type 0} (s : State A) (e : Event A) → (after s e).model ≡ s.model
 unfolding after
 model-after s e = model-moved s e (lowest_broken s.model (summary_in s) e)
 

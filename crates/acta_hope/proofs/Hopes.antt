@@ -61,7 +61,7 @@ pub only-later : {A : Type 0} (state : State A) (e : Event A) (P : Summary → T
 only-later state e P only es none =
     only (summary_in (after_all state es)) (later-after_all state es) (ap (λ m. lowest_broken m (summary_in (after_all state es)) e) (sym (model-after_all state es)) ∙ none)
 
-is_something : {X : Type 0} (o : Option X) → (o ≡ None → ⊥) → is_some o ≡ true
+pub is_something : {X : Type 0} (o : Option X) → (o ≡ None → ⊥) → is_some o ≡ true
 is_something None never = absurd (never refl)
 is_something (Some x) never = refl
 
@@ -254,7 +254,7 @@ and_then_some f (Some x) y e = (x, (refl, e))
 
 module _ {A : Type 0} (m : Parts A) (s : Summary) (e : Event A) where
   -- where it is admitted, the one that acts holds all that is named
-  held-then : (t : ℕ) → acting e ≡ Some t → (l : Summary) → lowest_broken m l e ≡ None → AllByRecursion (λ n. option_map_or (is_held t) (operation_at l.operations n) false ≡ true) (numbers_of (operations_named e))
+  pub held-then : (t : ℕ) → acting e ≡ Some t → (l : Summary) → lowest_broken m l e ≡ None → AllByRecursion (λ n. option_map_or (is_held t) (operation_at l.operations n) false ≡ true) (numbers_of (operations_named e))
   unfolding not_responsible bad_set
   held-then t acts l none =
       let u = rules_none m s e l none in

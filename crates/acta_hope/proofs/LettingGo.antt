@@ -83,11 +83,11 @@ module _ {A : Type 0} (m : Parts A) (l : Summary) (t : ℕ) (ob : ObjId) (op : O
 same_number : (n : ℕ) → (n == n) ≡ true
 same_number n = eq-eqb n n refl
 
-mapped-at : (f : HeldOp → HeldOp) (is : List HeldOp) (n : ℕ) (i : HeldOp) → operation_at is n ≡ Some i → operation_at (map f is) n ≡ Some (f i)
+pub mapped-at : (f : HeldOp → HeldOp) (is : List HeldOp) (n : ℕ) (i : HeldOp) → operation_at is n ≡ Some i → operation_at (map f is) n ≡ Some (f i)
 mapped-at f is zero i at = cc
 mapped-at f is (suc k) i at = slice_get-map f is k ∙ ap (option_map f) at
 
-moved-got : (k : ℕ) (ops : List OpNo) (u : TxnId) (is : List HeldOp) (j : ℕ) (i : HeldOp) → slice_get is j ≡ Some i → slice_get (moved_from k ops u is) j ≡ Some (if is_named ops (k + j) then record i { holder = u } else i)
+pub moved-got : (k : ℕ) (ops : List OpNo) (u : TxnId) (is : List HeldOp) (j : ℕ) (i : HeldOp) → slice_get is j ≡ Some i → slice_get (moved_from k ops u is) j ≡ Some (if is_named ops (k + j) then record i { holder = u } else i)
 moved-got k ops u [] j i at = cc
 moved-got k ops u (x ∷ is) zero i at =
     let same : k ≡ k + 0 = omega arith in

@@ -4,7 +4,9 @@ pub mod Clashes
 pub mod Counting
 pub mod Debts
 pub mod Growth
+pub mod HeldOn
 pub mod Hopes
+pub mod LastLost
 pub mod LettingGo
 pub mod NeverBegun
 pub mod Reasons

@@ -1,7 +1,6 @@
 -- A transaction of which an edge bars the start for ever never begins.
-use Rattle.std.proofs.Common.{◌≡◌, ◌<◌, ◌≤◌, ℕ, zero, suc, ◌+◌, Bool, true, false, ◌==◌, ◌&&◌, not, List, [], ◌∷◌, ◌++◌, length, Option, Some, None, refl, sym, ap, ◌∙◌, subst, ◌⊎◌, inl, inr, eqb-true, eq-eqb, arith}
+use Rattle.std.proofs.Common.{◌≡◌, ◌<◌, ◌≤◌, ℕ, zero, suc, ◌+◌, Bool, true, false, ◌==◌, ◌&&◌, List, [], ◌∷◌, length, Option, Some, None, refl, sym, ap, ◌∙◌, subst, ◌⊎◌, inl, inr, eqb-true, eq-eqb, arith}
 use Rattle.std.specs.Prelude.{if◌then◌else◌, get_or, replicate, set, slice_get}
-use Rattle.std.specs.List.{AllByRecursion}
 use Rattle.std.proofs.lemmas.Bool.{true≢false, and_parts, cases_lt}
 use Rattle.std.proofs.lemmas.List.{get_or-replicate, get_or-set_other, get_or_past, length-replicate}
 use Rattle.acta_table.specs.declared.answer.Refusal.{Refusal}
@@ -13,16 +12,15 @@ use Rattle.acta_table.specs.declared.dep.Dep.TheVariants.{Sd, Bcd, Bad}
 use Rattle.acta_table.specs.declared.dep.Edge.{Edge}
 use Rattle.acta_table.specs.declared.event.Event.{Event}
 use Rattle.acta_table.specs.declared.event.Event.TheVariants as event
-use Rattle.acta_table.specs.declared.event.TxnId.{TxnId}
 use Rattle.acta_table.specs.declared.model.Parts.{Parts}
 use Rattle.acta_table.specs.Numbered.{item_at}
 use Rattle.acta_deps.specs.Dependencies.{awaits_end, awaits_commit, awaits_abort, begin_dep, serial_dep, begin_on_commit, begin_on_abort, clash, start_refusal, depends}
 use Rattle.acta_deps.specs.Statuses.{has_ended, is_new, with_status}
 use Rattle.acta_machine.specs.Changes.{effect}
 use Rattle.acta_machine.specs.Families.{heir_of}
-use Rattle.acta_machine.specs.Rules.{dependency, lowest_broken, not_in_progress}
+use Rattle.acta_machine.specs.Rules.{lowest_broken, not_in_progress}
 use Rattle.acta_machine.specs.Summary.{Summary, stood, terminated, permit_given, entered, linked, given, inherited, operated, fated, counted}
-use Rattle.acta_machine.specs.Table.{State, after, after_all, kept_as, moved_on}
+use Rattle.acta_machine.specs.Table.{State, after, kept_as, moved_on}
 use Rattle.acta_machine.proofs.Broken.{by_none, in_progress}
 use Rattle.acta_machine.proofs.Histories.{summary_more}
 use Rattle.acta_machine.proofs.Unbroken.{unbroken, none-earlier, none-dependency}
@@ -158,10 +156,11 @@ lost-set state lost t number low old new u noted = of (u == t) refl
     of true is = subst (NeverBegins state) (sym (eqb-true u t is)) new
     of false is = old u (λ none. noted (get_or-set_other lost t u number 0 (λ same. true≢false (sym (eq-eqb u t same) ∙ is)) ∙ none))
 
-abbrev zeros : ℕ → List ℕ
+abbrev pub zeros : ℕ → List ℕ
 zeros n = replicate n 0
 
-zero-at : (n t : ℕ) → get_or (zeros n) t 0 ≡ zero
+-- each is 0 where all are
+pub zero-at : (n t : ℕ) → get_or (zeros n) t 0 ≡ zero
 zero-at n t =
     elim (cases_lt t n) [
       | inl low ↦ get_or-replicate n t 0 0 low

@@ -8,6 +8,7 @@ use Rattle.acta_table.specs.declared.answer.Status.TheVariants.{Committed, Abort
 use Rattle.acta_table.specs.declared.answer.Status.{Status}
 use Rattle.acta_table.specs.declared.event.Event.{Event}
 use Rattle.acta_table.specs.declared.event.OpNo.{OpNo}
+use Rattle.acta_table.specs.declared.model.Parts.{Parts}
 use Rattle.acta_table.specs.declared.event.TxnId.{TxnId}
 use Rattle.acta_table.specs.Events.{acting}
 use Rattle.acta_table.specs.Fates.{is_open}
@@ -23,12 +24,13 @@ use Rattle.acta_machine.specs.declared.reason.Reason.TheVariants.{Barred, Confli
 use Rattle.acta_hope.specs.declared.hoping.Hope.{Hope}
 use Rattle.acta_hope.specs.declared.hoping.Hope.TheVariants.{Never, OnceBegun, OnceHeld, OnceDecided, OnceCommitted, OnceAborted, OnceFree, OnceLetGo, OnceFewer, Unknown}
 use Rattle.acta_hope.specs.Hopes.{IsHopeless, OnlyWhere, IsWhy, Holds, HasForce, is_of_edge, are_listed, opponents_of, stands_in}
-use Rattle.acta_hope.specs.Parts.{IsOfBegun, IsOfHeld, IsOfLeftOut, IsOfBarring, IsOfEdges, may_be_untold, bars_for_good, is_no_operation}
+use Rattle.acta_hope.specs.Parts.{IsOfBegun, IsOfConflict, IsOfHeld, IsOfLeftOut, IsOfBarring, IsOfEdges, may_be_untold, bars_for_good, is_no_operation}
 use Rattle.acta_hope.specs.Rulings.{IsBrokenBy}
 use Rattle.acta_hope.proofs.BarringEdges.{barred-never, barred-force, barred-told, barred-begun, barred-serial, barred-termination, barred-commit, barred-abort}
 use Rattle.acta_hope.proofs.Growth.{summary_in, model-after_all}
 use Rattle.acta_hope.proofs.Hopes.{Only, Not, only-later, never-later, not-full, not-formed, not-acting, once-acting, not-partner, once-partner, not-started, not-allowed, once-held, not-held, once-there, never-there, not-late, not-few, forms-same, not-heir, once-heir, acting-off, partner-off, heir-off, set-acts, responsible-acts}
 use Rattle.acta_hope.proofs.Rulings.{is-broken}
+use Rattle.acta_hope.proofs.HeldOn.{held-never}
 use Rattle.acta_hope.proofs.Standing.{conflict-gone, conflict-stands, fewer-then, left-let-go, whole-acts}
 
 -- the reasons that no later event takes away, whatever they name
@@ -134,10 +136,13 @@ module _ {A : Type 0} (state : State A) (e : Event A) where
       ∙ only-later state e (λ l. are_listed (opponents_of state.model s e) (opponents_of state.model l e) ≡ false) (fewer-then state.model s e (refusal_of EdgesFull) is (broken EdgesFull why)) es none
   of-edges _ is why = absurd is
 
-  pub of-conflict : (op : NumberedOp) → IsWhy state e (Conflict op) → Holds state e (OnceFree op.number)
-  of-conflict op why = λ es none.
-      ap (λ m. stands_in m (summary_in (after_all state es)) e op.number.0) (model-after_all state es)
+  pub of-conflict : (op : NumberedOp) (hope : Hope) → IsOfConflict state.model s e op hope → IsWhy state e (Conflict op) → Holds state e hope
+  of-conflict op Never is why = held-never state e op is why.so (broken (Conflict op) why)
+  of-conflict op (OnceFree k) is why = λ es none.
+      ap (λ m. stands_in m (summary_in (after_all state es)) e k.0) (model-after_all state es)
+      ∙ ap (λ (j : OpNo). stands_in state.model (summary_in (after_all state es)) e j.0) is.1
       ∙ only-later state e (λ l. stands_in state.model l e op.number.0 ≡ false) (conflict-gone state.model s e op.number.0 (broken (Conflict op) why)) es none
+  of-conflict op _ is why = absurd is
 
   pub of-left-out : (op : NumberedOp) (hope : Hope) → IsOfLeftOut e op.number hope → IsWhy state e (PartialDelegation op) → Holds state e hope
   of-left-out op (OnceLetGo t k) is why =
@@ -189,3 +194,7 @@ module _ {A : Type 0} (state : State A) (e : Event A) where
 pub told-edges : {A : Type 0} (e : Event A) (hope : Hope) → IsOfEdges e hope → hope ≡ Unknown → ⊥
 told-edges e Unknown is same = is
 told-edges e _ is same = cc
+
+pub told-conflict : {A : Type 0} (m : Parts A) (s : Summary) (e : Event A) (op : NumberedOp) (hope : Hope) → IsOfConflict m s e op hope → hope ≡ Unknown → ⊥
+told-conflict m s e op Unknown is same = is
+told-conflict m s e op _ is same = cc

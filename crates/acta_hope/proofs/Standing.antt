@@ -46,7 +46,7 @@ use Rattle.acta_hope.proofs.Hopes.{Only, by_some, if_some}
 pub class-stays : {A : Type 0} (m : Parts A) (s l : Summary) → IsLater s l → (t : ℕ) → s.status t ≡ InProgress → class_of m l t ≡ class_of m s t
 class-stays m s l later t on = ap (option_and_then (λ c. class_at m c.0)) (later.class t (ap has_begun on))
 
-has-stays : {A : Type 0} (test : Class A → Bool) (m : Parts A) (s l : Summary) → IsLater s l → (t : ℕ) → s.status t ≡ InProgress → has_class test m l t ≡ has_class test m s t
+pub has-stays : {A : Type 0} (test : Class A → Bool) (m : Parts A) (s l : Summary) → IsLater s l → (t : ℕ) → s.status t ≡ InProgress → has_class test m l t ≡ has_class test m s t
 has-stays test m s l later t on = ap (λ c. option_map_or test c false) (class-stays m s l later t on)
 
 -- conflicts

@@ -3,7 +3,11 @@
 use Rattle.std.specs.Prelude.{◌≡◌, ◌⊎◌, ◌||◌, ◌&&◌, not, ◌==◌, nat_lt, ℕ, Bool, true, false, None, Some}
 use Rattle.acta_table.specs.declared.answer.Status.{Status}
 use Rattle.acta_table.specs.declared.answer.Status.TheVariants.{InProgress}
+use Rattle.acta_table.specs.declared.event.EventKind.TheVariants as kind
 use Rattle.acta_table.specs.declared.event.Event.{Event}
+use Rattle.acta_table.specs.declared.event.Event.TheVariants.{Operate}
+use Rattle.acta_table.specs.declared.model.Parts.{Parts}
+use Rattle.acta_table.specs.Classes.{spares}
 use Rattle.acta_table.specs.declared.event.OpNo.{OpNo}
 use Rattle.acta_table.specs.declared.event.TxnId.{TxnId}
 use Rattle.acta_table.specs.declared.limits.TheConstants.{MOST_EVENTS}
@@ -14,10 +18,14 @@ use Rattle.acta_table.specs.declared.dep.Dep.{Dep}
 use Rattle.acta_table.specs.declared.dep.Dep.TheVariants.{Wd}
 use Rattle.acta_deps.specs.declared.obstacle.Barring.{Barring}
 use Rattle.acta_deps.specs.declared.obstacle.Clash.{Clash}
-use Rattle.acta_deps.specs.Statuses.{has_ended}
+use Rattle.acta_deps.specs.Statuses.{has_begun, has_ended}
+use Rattle.acta_machine.specs.Families.{has_class}
+use Rattle.acta_machine.specs.Rules.{txn_may}
+use Rattle.acta_machine.specs.Summary.{Summary}
+use Rattle.acta_machine.specs.declared.reason.NumberedOp.{NumberedOp}
 use Rattle.acta_hope.specs.Hopes.{is_operate}
 use Rattle.acta_hope.specs.declared.hoping.Hope.{Hope}
-use Rattle.acta_hope.specs.declared.hoping.Hope.TheVariants.{Never, OnceBegun, OnceHeld, OnceDecided, OnceCommitted, OnceAborted, OnceLetGo, OnceFewer, Unknown}
+use Rattle.acta_hope.specs.declared.hoping.Hope.TheVariants.{Never, OnceBegun, OnceHeld, OnceDecided, OnceCommitted, OnceAborted, OnceFree, OnceLetGo, OnceFewer, Unknown}
 
 -- it never is where t has ended
 abbrev pub IsOfBegun : TxnId → Status → Hope → Type 0
@@ -99,3 +107,26 @@ abbrev pub IsOfEdges : {A : Type 0} → Event A → Hope → Type 0
 IsOfEdges e Never = is_operate e ≡ false
 IsOfEdges e OnceFewer = is_operate e ≡ true
 IsOfEdges e _ = ⊥
+
+-- whether h has begun, and its class lets it do nothing by which it lets go of what it holds, or permits another to work
+-- beside it
+abbrev pub holds_on : {A : Type 0} → Parts A → Summary → ℕ → Bool
+holds_on m s h =
+    has_begun (s.status h)
+    && not (txn_may m s h kind.Commit) && not (txn_may m s h kind.Abort) && not (txn_may m s h kind.Join)
+    && not (txn_may m s h kind.Delegate) && not (txn_may m s h kind.Split) && not (txn_may m s h kind.Permit)
+
+-- whether the class of t spares none of its ancestors
+abbrev pub spares_none : {A : Type 0} → Parts A → Summary → ℕ → Bool
+spares_none m s t = not (has_class (λ k. spares k.scope) m s t)
+
+-- an operation that stands in the way of t never lets it by where its holder holds on, and t's class spares nobody
+abbrev pub is_held_on : {A : Type 0} → Parts A → Summary → Event A → ℕ → Bool
+is_held_on m s (Operate t ob op) h = spares_none m s t.0 && holds_on m s h
+is_held_on m s _ h = false
+
+-- it never is where the holder holds on
+abbrev pub IsOfConflict : {A : Type 0} → Parts A → Summary → Event A → NumberedOp → Hope → Type 0
+IsOfConflict m s e op Never = is_held_on m s e op.held.holder.0 ≡ true
+IsOfConflict m s e op (OnceFree k) = (is_held_on m s e op.held.holder.0 ≡ false) × (k ≡ op.number)
+IsOfConflict m s e op _ = ⊥

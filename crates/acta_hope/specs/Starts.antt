@@ -1,11 +1,12 @@
 -- Transactions that never begin.
-use Rattle.std.specs.Prelude.{◌≡◌, ◌≢◌, ℕ, Bool, true, false, ◌&&◌, List, get_or}
+use Rattle.std.specs.Prelude.{◌≡◌, ◌≢◌, ◌<◌, ◌≤◌, ℕ, Bool, true, false, ◌&&◌, List, length, get_or, Some}
 use Rattle.acta_table.specs.declared.answer.Status.{Status}
 use Rattle.acta_table.specs.declared.answer.Status.TheVariants.{NotBegun, Committed, Aborted, Joined}
 use Rattle.acta_table.specs.declared.dep.Dep.{Dep}
 use Rattle.acta_table.specs.declared.dep.Dep.TheVariants.{Sd, Bcd, Bad}
 use Rattle.acta_table.specs.declared.dep.Edge.{Edge}
 use Rattle.acta_table.specs.declared.event.Event.{Event}
+use Rattle.acta_table.specs.Numbered.{item_at}
 use Rattle.acta_deps.specs.Statuses.{is_new}
 use Rattle.acta_machine.specs.Table.{State, after_all, status_in}
 
@@ -30,3 +31,15 @@ NeverBegins {A} state t = (es : List (Event A)) → status_in (after_all state e
 -- each transaction for which there is a number never begins
 abbrev pub AreLost : {A : Type 0} → State A → List ℕ → Type 0
 AreLost state lost = (t : ℕ) → get_or lost t 0 ≢ 0 → NeverBegins state t
+
+-- each number is that of an edge by which the transaction never begins
+abbrev pub AreNamed : (ℕ → Status) → List Edge → List ℕ → Type 0
+AreNamed status edges lost =
+    (t : ℕ) → get_or lost t 0 ≢ 0
+    → (e : Edge) × (item_at edges (get_or lost t 0) ≡ Some e) × (e.j.0 ≡ t) × (is_lost_by status e ≡ true)
+
+-- of the edges by which a transaction of the list never begins, none has a higher number
+abbrev pub AreLast : (ℕ → Status) → List Edge → List ℕ → Type 0
+AreLast status edges lost =
+    (number : ℕ) (e : Edge) → e.j.0 < length lost → item_at edges number ≡ Some e → is_lost_by status e ≡ true
+    → number ≤ get_or lost e.j.0 0

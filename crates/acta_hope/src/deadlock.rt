@@ -1,6 +1,7 @@
 //! Transactions whose events wait for one another.
 
-ghost use Rattle.std.specs.Prelude.{◌≡◌, ◌≢◌, ◌<◌, ◌≤◌, ◌+◌, ℕ, All, true, IfOk, IfSome, OnOk, length, get_or};
+ghost use Rattle.std.specs.Prelude.{◌≡◌, ◌≢◌, ◌<◌, ◌≤◌, ◌+◌, ℕ, All, true, IfOk, IfSome, None, OnOk, length, get_or};
+ghost use Rattle.acta_machine.specs.Table.{refusal_in};
 ghost use Rattle.acta_hope.specs.Deadlocks.{Awaits, IsCircle, awaited_in, is_linked};
 
 use crate::hoping::{Hope, why_and_hope};
@@ -52,6 +53,7 @@ pub fn wait_of<A: Handle>(
     ensures txn { IfOk result (λ found. IfSome found (λ wait. wait.txn ≡ txn)) }
     ensures another { IfOk result (λ found. IfSome found (λ wait. wait.next ≢ txn)) }
     ensures awaits { IfOk result (λ found. IfSome found (λ wait. Awaits machine.now event.now wait.next wait.until)) }
+    ensures admitted { IfOk result (λ found. refusal_in machine.now event.now ≡ None → found ≡ None) }
 {
     let Some((_, until)) = why_and_hope(machine, event)? else {
         return Ok(None);

@@ -6,10 +6,11 @@ ghost use Rattle.acta_machine.specs.Reasons.{refusal_of, IsSo};
 ghost use Rattle.acta_machine.specs.Table.{refusal_in};
 ghost use Rattle.acta_deps.specs.Statuses.{has_ended};
 ghost use Rattle.acta_hope.specs.Hopes.{HasForce, Holds, IsWhy, MayBeUntold};
-ghost use Rattle.acta_hope.specs.Parts.{IsOfBarring, IsOfBegun, IsOfClash, IsOfEdges, IsOfHeld, IsOfLeftOut, is_no_operation, is_wd};
+ghost use Rattle.acta_hope.specs.Parts.{IsOfBarring, IsOfBegun, IsOfClash, IsOfConflict, IsOfEdges, IsOfHeld, IsOfLeftOut, holds_on, is_no_operation, is_wd, spares_none};
 
-use acta_machine::{Barring, Clash, Handle, Machine, Reason};
-use acta_table::{Dep, Event, Fate, MOST_EVENTS, OpNo, Rule, Status, TxnId};
+use crate::releases::{class_of, may_do};
+use acta_machine::{Barring, Clash, Handle, Machine, NumberedOp, Reason};
+use acta_table::{Dep, Event, EventKind, Fate, MOST_EVENTS, OpNo, Rule, Scope, Status, TxnId};
 use std::alloc::AllocError;
 
 /// What hope there is for an event that is refused (ours).
@@ -122,6 +123,40 @@ fn owes_both(clash: &Clash, i: Status) -> Hope
     }
 }
 
+// Whether the transaction has begun, and its class lets it do nothing by which it lets go of what it holds.
+fn holds_on<A: Handle>(machine: &Machine<A>, holder: TxnId) -> bool
+    ensures { result ≡ holds_on machine.now.model (summary_of machine.now.model machine.now.kept) holder.0 }
+{
+    !matches!(machine.status(holder), Status::NotBegun)
+        && !may_do(machine, holder, EventKind::Commit)
+        && !may_do(machine, holder, EventKind::Abort)
+        && !may_do(machine, holder, EventKind::Join)
+        && !may_do(machine, holder, EventKind::Delegate)
+        && !may_do(machine, holder, EventKind::Split)
+        && !may_do(machine, holder, EventKind::Permit)
+}
+
+// Whether the class of the transaction spares none of its ancestors.
+fn spares_none<A: Handle>(machine: &Machine<A>, txn: TxnId) -> bool
+    ensures { result ≡ spares_none machine.now.model (summary_of machine.now.model machine.now.kept) txn.0 }
+{
+    match class_of(machine, txn) {
+        Some(class) => matches!(class.scope, Scope::Others),
+        None => true,
+    }
+}
+
+// Where an operation stands in the way.
+fn in_conflict<A: Handle>(machine: &Machine<A>, event: &Event<A>, op: &NumberedOp) -> Hope
+    ensures { IsOfConflict machine.now.model (summary_of machine.now.model machine.now.kept) event.now op.now result }
+{
+    match event {
+        Event::Operate(txn, _, _)
+            if spares_none(machine, *txn) && holds_on(machine, op.held.holder) => { Hope::Never }
+        _ => Hope::OnceFree(op.number),
+    }
+}
+
 // Where more edges would be in force than there may be.
 fn too_many_edges<A: Handle>(event: &Event<A>) -> Hope
     ensures { IsOfEdges event.now result }
@@ -171,7 +206,7 @@ pub fn hope_of<A: Handle>(machine: &Machine<A>, event: &Event<A>, reason: &Reaso
         Reason::Clash(clash) => owes_both(&clash, machine.status(clash.abort.edge.i)),
         Reason::EdgesFull => too_many_edges(event),
         Reason::PartialDelegation(op) => once_let_go(event, op.number),
-        Reason::Conflict(op) => Hope::OnceFree(op.number),
+        Reason::Conflict(op) => in_conflict(machine, event, &op),
     }
 }
 

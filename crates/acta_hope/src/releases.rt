@@ -27,16 +27,16 @@ pub enum Release {
     Permit,
 }
 
-// The class that the transaction began with.
-fn class_of<A: Handle>(machine: &Machine<A>, t: TxnId) -> Option<&Class<A>>
+/// The class that the transaction began with.
+pub(crate) fn class_of<A: Handle>(machine: &Machine<A>, t: TxnId) -> Option<&Class<A>>
     ensures { option_map (λ class. class.now) result ≡ class_of machine.now.model (summary_of machine.now.model machine.now.kept) t.0 }
 {
     let class = machine.class(t)?;
     machine.model().class(class)
 }
 
-// Whether the class of the transaction has the event in its `may`.
-fn may_do<A: Handle>(machine: &Machine<A>, t: TxnId, kind: EventKind) -> bool
+/// Whether the class of the transaction has the event in its `may`.
+pub(crate) fn may_do<A: Handle>(machine: &Machine<A>, t: TxnId, kind: EventKind) -> bool
     ensures { result ≡ txn_may machine.now.model (summary_of machine.now.model machine.now.kept) t.0 kind }
 {
     match class_of(machine, t) {

@@ -1,9 +1,9 @@
 //! Transactions that never begin.
 
-ghost use Rattle.std.specs.Prelude.{◌≡◌, Some, IfOk};
+ghost use Rattle.std.specs.Prelude.{◌≡◌, Some, IfOk, false, length, set, true};
 ghost use Rattle.acta_table.specs.Numbered.{item_at};
 ghost use Rattle.acta_machine.specs.Table.{edges_in, status_in};
-ghost use Rattle.acta_hope.specs.Starts.{AreLost, bars_start, is_lost_by};
+ghost use Rattle.acta_hope.specs.Starts.{AreLast, AreLost, AreNamed, bars_start, is_lost_by};
 
 use acta_machine::{Handle, Machine};
 use acta_table::{Dep, Edge, Status, TABLE_SIZE};
@@ -33,7 +33,9 @@ fn is_lost_by<A: Handle>(machine: &Machine<A>, edge: &Edge) -> bool
 fn note<A: Handle>(machine: &Machine<A>, number: u32, edge: &Edge, lost: &mut [u32])
     requires at { item_at (edges_in machine.now) number ≡ Some edge.now }
     requires lost { AreLost machine.now lost.old }
-    ensures { AreLost machine.now lost.new }
+    ensures lost { AreLost machine.now lost.new }
+    ensures noted { is_lost_by (status_in machine.now) edge.now ≡ true → lost.new ≡ set lost.old edge.now.j.0 number }
+    ensures same { is_lost_by (status_in machine.now) edge.now ≡ false → lost.new ≡ lost.old }
 {
     let txn = edge.j.0 as usize;
     if txn < lost.len() && is_lost_by(machine, edge) {
@@ -45,7 +47,10 @@ fn note<A: Handle>(machine: &Machine<A>, number: u32, edge: &Edge, lost: &mut [u
 /// dependency in force it begins only after another has committed, has aborted, or either; and that one has ended otherwise.
 /// Returns `Err` if memory runs out (ours).
 pub fn never_begin<A: Handle>(alloc: A, machine: &Machine<A>) -> Result<Vec<u32, A>, AllocError>
-    ensures { IfOk result (λ lost. AreLost machine.now lost.items) }
+    ensures lost { IfOk result (λ lost. AreLost machine.now lost.items) }
+    ensures long { IfOk result (λ lost. length lost.items ≡ TABLE_SIZE) }
+    ensures named { IfOk result (λ lost. AreNamed (status_in machine.now) (edges_in machine.now) lost.items) }
+    ensures last { IfOk result (λ lost. AreLast (status_in machine.now) (edges_in machine.now) lost.items) }
 {
     let mut lost = Vec::new(alloc);
     lost.resize(TABLE_SIZE, 0u32)?;

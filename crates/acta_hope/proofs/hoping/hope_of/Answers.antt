@@ -1,8 +1,9 @@
 use Rattle.std.proofs.Common.{inl, inr, sym, ap, subst, ◌∙◌}
 use Rattle.acta_table.specs.Fates.{is_open}
 use Rattle.acta_hope.specs.Hopes.{IsWhy, MayBeUntold}
+use Rattle.acta_hope.proofs.Growth.{summary_in}
 use Rattle.acta_hope.proofs.Clashes.{of-clash, told-clash}
-use Rattle.acta_hope.proofs.Reasons.{IsFinal, of-final, of-acting, of-partner, of-heir, of-responsible, of-ended, of-set, of-no-operation, of-barring, of-edges, of-conflict, of-left-out, told-acting, told-barring, told-partner, told-heir, told-responsible, told-set, told-left-out, told-edges}
+use Rattle.acta_hope.proofs.Reasons.{IsFinal, of-final, of-acting, of-partner, of-heir, of-responsible, of-ended, of-set, of-no-operation, of-barring, of-edges, of-conflict, of-left-out, told-acting, told-barring, told-partner, told-heir, told-responsible, told-set, told-left-out, told-edges, told-conflict}
 use Rattle.acta_hope.proofs.hoping.hope_of.Goals as goal
 
 pub returns-in-Full-clause-hope : goal.returns-in-Full-clause-hope
@@ -106,7 +107,12 @@ returns-in-PartialDelegation-clause-told g c = λ same.
 
 pub returns-in-Conflict-clause-hope : goal.returns-in-Conflict-clause-hope
 returns-in-Conflict-clause-hope g c =
-    of-conflict c.args.machine.now c.args.event.now c.in-Conflict.op (subst (IsWhy c.args.machine.now c.args.event.now) c.in-Conflict.is c.requires)
+    of-conflict c.args.machine.now c.args.event.now c.in-Conflict.op c.in_conflict.result c.in_conflict.ensures
+    (subst (IsWhy c.args.machine.now c.args.event.now) c.in-Conflict.is c.requires)
+
+pub returns-in-Conflict-clause-told : goal.returns-in-Conflict-clause-told
+returns-in-Conflict-clause-told g c = λ same.
+    absurd (told-conflict c.args.machine.now.model (summary_in c.args.machine.now) c.args.event.now c.in-Conflict.op c.in_conflict.result c.in_conflict.ensures same)
 
 pub returns-in-Barred-clause-told : goal.returns-in-Barred-clause-told
 returns-in-Barred-clause-told g c = λ same.
