@@ -1,5 +1,5 @@
 -- What a verdict suggests to do next.
-use Rattle.std.specs.Prelude.{ℕ, Bool, true, false, ◌||◌, not, List, [], ◌∷◌, length, nat_lt, if◌then◌else◌, Option, Some, None, is_some, Result, Ok, Err}
+use Rattle.std.specs.Prelude.{ℕ, Bool, true, false, ◌||◌, ◌==◌, not, List, length, nat_lt, if◌then◌else◌, Option, Some, None, is_some, Result, Ok, Err}
 use Rattle.std.specs.List.{list_all, list_any}
 use Rattle.acta_table.specs.declared.event.Kept.{Kept}
 use Rattle.acta_table.specs.declared.limits.TheConstants.{MOST_EVENTS}
@@ -29,15 +29,10 @@ is_mild fault = is_mild_axiom fault.broken
 abbrev pub has_return : {A : Type 0} → Kept A → Bool
 has_return kept = is_some kept.ret
 
--- whether there are none
-abbrev pub is_empty : List Fault → Bool
-is_empty [] = true
-is_empty (f ∷ fs) = false
-
 -- what is suggested where these are the faults of the items
 abbrev pub advice_in : {A : Type 0} → List (Kept A) → List Fault → Option Advice
 advice_in kept faults =
-    if is_empty faults || not (list_all is_mild faults) then None
+    if (length faults == 0) || not (list_all is_mild faults) then None
     else if list_any has_return kept then Some Serialize else Some SayReturns
 
 -- what is suggested for kept items

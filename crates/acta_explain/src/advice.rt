@@ -1,9 +1,8 @@
 //! What a verdict suggests to do next.
 
-ghost use Rattle.std.specs.Prelude.{◌≡◌, ◌≤◌, length, IfOk};
+ghost use Rattle.std.specs.Prelude.{◌≡◌, IfOk};
+ghost use Rattle.std.specs.List.{list_all, list_any};
 ghost use Rattle.acta_explain.specs.Advice.{advice_by, advice_in, advice_of, has_return, is_mild};
-ghost use Rattle.acta_script.specs.Reading.{kept_of};
-ghost use Rattle.acta_table.specs.declared.limits.TheConstants.{MOST_EVENTS};
 ghost use Rattle.acta_tool.specs.declared.args.Command.TheVariants.{Judge};
 ghost use Rattle.acta_tool.specs.Models.{model_by};
 
@@ -27,7 +26,7 @@ pub enum Advice {
 
 // Whether it is a wrong return or a conflict.
 fn is_mild(fault: &Fault) -> bool
-    ensures { result ≡ is_mild fault }
+    ensures { result ≡ is_mild fault.now }
 {
     matches!(fault.broken, Axiom::Return | Axiom::Conflict)
 }
@@ -39,14 +38,27 @@ fn has_return<A: Handle>(kept: &Kept<A>) -> bool
     kept.ret.is_some()
 }
 
+// Whether each is a wrong return or a conflict.
+fn are_mild(faults: &[Fault]) -> bool
+    ensures { result ≡ list_all is_mild faults.now }
+{
+    faults.iter().all(|fault| is_mild(fault))
+}
+
+// Whether a line has a return.
+fn have_return<A: Handle>(kept: &[Kept<A>]) -> bool
+    ensures { result ≡ list_any has_return kept.now }
+{
+    kept.iter().any(|one| has_return(one))
+}
+
 // What is suggested where these are the faults of the items.
 fn advice_in<A: Handle>(kept: &[Kept<A>], faults: &[Fault]) -> Option<Advice>
     ensures { result ≡ advice_in kept.now faults.now }
 {
-    if faults.is_empty() || !faults.iter().all(is_mild) {
-        return None;
-    }
-    if kept.iter().any(has_return) {
+    if faults.len() == 0 || !are_mild(faults) {
+        None
+    } else if have_return(kept) {
         Some(Advice::Serialize)
     } else {
         Some(Advice::SayReturns)

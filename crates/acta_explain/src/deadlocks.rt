@@ -58,7 +58,19 @@ fn put_wait<A: Handle>(
 }
 
 impl<A: Handle> Waits<A> {
-    // Adds the transactions of a circle, each with the one for which it waits, and then until when its event is refused.
+    // Adds the transactions of a circle, each with the one for which it waits.
+    fn put_txns(&self, mut prose: Prose<A>, circle: &[usize]) -> Prose<A> {
+        let mut is_first = true;
+        for place in circle {
+            if let Some(wait) = self.waits.get(*place) {
+                prose = put!(prose; if is_first { "" } else { " -> " }, wait.txn.0);
+            }
+            is_first = false;
+        }
+        prose
+    }
+
+    // Adds a circle, and until when the event of each is refused.
     fn put_circle(
         &self,
         prose: Prose<A>,
@@ -66,20 +78,14 @@ impl<A: Handle> Waits<A> {
         circle: &[usize],
         indent: usize,
     ) -> Prose<A> {
-        let mut prose = prose.pad(indent).put("deadlock: ");
-        let mut gap = "";
-        for place in circle {
-            if let Some(wait) = self.waits.get(*place) {
-                prose = put!(prose; gap, wait.txn.0);
-                gap = " -> ";
-            }
-        }
-        prose = prose.put("\n");
+        let prose = prose.pad(indent).put("deadlock: ");
+        let mut prose = self.put_txns(prose, circle).put("\n");
         // (the last is the first again)
-        if let Some((_, places)) = circle.split_last() {
-            for place in places {
-                prose = self.put_place(prose, told, *place, indent);
-            }
+        let Some((_, places)) = circle.split_last() else {
+            return prose;
+        };
+        for place in places {
+            prose = self.put_place(prose, told, *place, indent);
         }
         prose
     }

@@ -175,7 +175,7 @@ impl<A: Handle> Telling<A> {
         }
         let t = t.0 as usize;
         let row = self.chronicle.rows().len().saturating_sub(1);
-        while self.blocked.len() <= t {
+        for _ in self.blocked.len()..t + 1 {
             self.blocked.push(None)?;
         }
         let event = event.copy()?;
