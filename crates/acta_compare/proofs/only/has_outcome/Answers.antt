@@ -1,7 +1,7 @@
 use Rattle.std.proofs.Common.{◌≤◌, ℕ, Some, true≢false, ap, refl, subst, sym, ◌∙◌}
 use Rattle.acta_explore.specs.inside.Shown.{shown}
 use Rattle.acta_explore.proofs.Alike.{outcome-shown}
-use Rattle.acta_compare.proofs.Missing.{contains-at, ended-at, not-contained, not-first, not-next}
+use Rattle.acta_compare.proofs.Missing.{contains-at, ended-at, not-contained, not-next}
 use Rattle.acta_compare.proofs.only.has_outcome.Goals as goal
 
 pub loop-place-preserved : goal.loop-place-preserved
