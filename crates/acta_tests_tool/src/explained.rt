@@ -1,9 +1,8 @@
-//! Runs of `explain`, `draw`, `explore`, `compare` and `serialize`, each allocation refused in turn; and events that no line can have,
+//! Runs of `explain`, `draw`, `explore` and `serialize`, each allocation refused in turn; and events that no line can have,
 //! explained.
 
 use crate::expecting::{MOST, at_least, holds, made, tells};
 use crate::runs::ends;
-use acta_compare::{Asked as AskedModels, Compared, compare_tool};
 use acta_draw::{Choice, Drawing, Form, Screen, draw_tool};
 use acta_explain::{Spoken, Telling, explain_tool};
 use acta_lang::assemble;
@@ -27,7 +26,6 @@ enum Ask {
     DrawSvg,
     Explore(Ends, Option<&'static str>),
     Serialize(Orders, u32),
-    Compare(Compared, Standard),
 }
 
 // Runs a command on an input.
@@ -63,15 +61,6 @@ fn serve<R: Threads + Sync, B: Allocator + Send + Sync>(
                 model: name,
             };
             return serialize_tool(heap, asked, model, &mut input, &mut output);
-        }
-        Ask::Compare(compared, standard) => {
-            let asked = AskedModels {
-                compared,
-                model: name,
-                other: ModelName::Standard(standard),
-            };
-            let other = standard.text().as_bytes();
-            return compare_tool(heap, asked, model, other, &mut input, &mut output, &mut ());
         }
         Ask::Draw => Form::Text { width: Some(100) },
         Ask::DrawSvg => Form::Svg,
@@ -226,22 +215,6 @@ fn serialized(rt: HostRuntime) {
         (Orders::All, FAULTY, 100, "1"),
     ] {
         let ask = Ask::Serialize(orders, most);
-        refuse_run(&rt, (&heap, rt.alloc()), (ask, input), (due, 20));
-    }
-}
-
-#[test]
-fn compared(rt: HostRuntime) {
-    let heap = Refusing::new(rt.alloc());
-    let ends = Compared::Ends(1_000);
-    for (compared, standard, input, due) in [
-        (Compared::Answers, Standard::Atomic, EVENTS, "0"),
-        (Compared::Answers, Standard::Recoverable, EVENTS, "0"),
-        (ends, Standard::Recoverable, CHOICE, "0"),
-        (ends, Standard::Atomic, CHOICE, "1"),
-        (Compared::Ends(1), Standard::Recoverable, CHOICE, "1"),
-    ] {
-        let ask = Ask::Compare(compared, standard);
         refuse_run(&rt, (&heap, rt.alloc()), (ask, input), (due, 20));
     }
 }

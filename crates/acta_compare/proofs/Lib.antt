@@ -1,4 +1,0 @@
-mod Missing
-mod Selecting
-mod Trying
-mod Zipping

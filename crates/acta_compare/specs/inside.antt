@@ -1,2 +1,0 @@
--- What the contracts inside the crate cite.
-pub mod Lines
