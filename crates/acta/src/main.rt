@@ -11,6 +11,7 @@ ghost use Rattle.std.specs.Prelude.{◌≡◌, ◌≤◌, false, IfOk, vec_len};
 ghost use Rattle.acta_tool.specs.Outcome.{is_drive};
 
 use crate::progress::Progress;
+use acta_compare::compare_tool;
 use acta_draw::{Drawing, Screen, draw_tool};
 use acta_explain::{Advice, advice_for, explain_tool, is_asked, write_words};
 use acta_models::Standard;
@@ -222,6 +223,32 @@ fn serve_explore<R: Clock + Eprint + Files + Input + Print + AllocGlobal>(
     ))
 }
 
+// Compares two models on the standard input; the standard error may be a terminal.
+fn serve_compare<R: Clock + Eprint + Files + Input + Print + AllocGlobal>(
+    rt: &R,
+    is_terminal: bool,
+    words: &[String],
+) -> Result<Outcome, UsageFault> {
+    let asked = acta_compare::parse(rt.alloc(), words)?;
+    let model = match model_bytes(rt, asked.model) {
+        Ok(model) => model,
+        Err(reason) => return Ok(Outcome::Unread(reason)),
+    };
+    let other = match model_bytes(rt, asked.other) {
+        Ok(other) => other,
+        Err(reason) => return Ok(Outcome::Unread(reason)),
+    };
+    Ok(compare_tool(
+        rt.alloc(),
+        asked,
+        model.as_slice(),
+        other.as_slice(),
+        &mut Metered::new(rt.reader()),
+        &mut Watched::new(io::writer(rt)),
+        &mut Progress::new(rt, is_terminal),
+    ))
+}
+
 // Finds a serial order of the kept lines of the standard input.
 fn serve_serialize<R: Files + Input + Print + AllocGlobal>(
     rt: &R,
@@ -257,6 +284,9 @@ fn serve<R: Clock + Env + Eprint + Files + Input + Print + AllocGlobal + Threads
     }
     if is_asked(words, "explore") {
         return serve_explore(rt, is_error_terminal, words);
+    }
+    if is_asked(words, "compare") {
+        return serve_compare(rt, is_error_terminal, words);
     }
     if is_asked(words, "serialize") {
         return serve_serialize(rt, words);

@@ -1,12 +1,26 @@
 //! The run of an input as lanes and rows: a row for each event with its answer, what it formed and why it was refused,
 //! and for each transaction from which row to which its lane goes.
 
+ghost use Rattle.std.specs.Prelude.{◌≡◌};
+ghost use Rattle.acta_trace.specs.Steps.{is_admitted};
+ghost use Rattle.acta_draw.specs.Rows.{place_after, returned};
+
 use crate::marks::{Deed, Figure, figure_of};
-use acta_explain::{Row as ToldRow, Spoken, Telling, spoken_in};
+use acta_explain::{RunTrace, Spoken, spoken_in};
+use acta_hope::heir;
 use acta_machine::Handle;
-use acta_table::{Answer, AtCommit, Edge, Event, Model, OpNo, Owed, TxnId};
+use acta_table::{Answer, Edge, Event, Model, OpNo, Owed, Ret, TxnId};
 use acta_tool::{BadLine, Input};
-use std::alloc::AllocError;
+use acta_trace::Step;
+use std::alloc::{AllocError, Allocator};
+
+/// The words of a row: the number of its line, its event as the input has it, and why it was refused, in lines.
+#[derive(Clone, Copy)]
+pub struct RowText<'a> {
+    pub line: usize,
+    pub event: &'a str,
+    pub reason: &'a str,
+}
 
 /// An event of the input, with what became of it.
 #[derive(Clone, Copy)]
@@ -31,9 +45,65 @@ impl Row {
     }
 
     /// Whether it was admitted.
-    pub fn is_admitted(&self) -> bool {
+    pub fn is_admitted(&self) -> bool
+        ensures { result ≡ is_admitted self.now.answer }
+    {
         matches!(self.answer, Answer::Admitted { .. })
     }
+
+    /// What its operation returned.
+    pub fn returned(&self) -> Option<Ret>
+        ensures { result ≡ returned self.now.answer }
+    {
+        match self.answer {
+            Answer::Admitted { ret, .. } => ret,
+            Answer::Refused { .. } => None,
+        }
+    }
+}
+
+// The row of a step, before which this is the last place. What happens at it is `deed`.
+fn row_of<A: Allocator>(step: &Step<A>, deed: Deed, last: u32) -> Row
+    ensures answer { result.answer ≡ step.now.answer }
+    ensures place { result.place ≡ place_after last step.now.answer }
+    ensures op { result.op ≡ step.now.op }
+    ensures before { result.edges_before ≡ step.now.edges_before }
+    ensures after { result.edges_after ≡ step.now.edges_after }
+{
+    Row {
+        deed,
+        answer: step.answer,
+        place: match step.answer {
+            Answer::Admitted { place, .. } => place,
+            Answer::Refused { .. } => last.saturating_add(1),
+        },
+        op: step.op,
+        edges_before: step.edges_before,
+        edges_after: step.edges_after,
+    }
+}
+
+// The parent that holds after a commit what its child held in progress, if the event is such a commit.
+fn heir_by<A: Handle>(run: &RunTrace<A>, event: &Event<A>) -> Option<TxnId> {
+    match event {
+        Event::Commit(t) => heir(run.machine(), *t),
+        _ => None,
+    }
+}
+
+// A row for each step.
+fn rows_of<A: Handle>(alloc: A, run: &RunTrace<A>) -> Result<Vec<Row, A>, AllocError> {
+    let mut rows = Vec::new(alloc);
+    let mut last = 0u32;
+    for step in run.steps() {
+        let deed = Deed::of(&step.event, heir_by(run, &step.event));
+        let row = row_of(step, deed, last);
+        if row.is_admitted() {
+            last = row.place;
+        }
+        rows.push(row)?;
+    }
+    Ok(rows)
 }
 
 /// From which row to which a lane goes, as far as it began and has ended.
@@ -73,7 +143,7 @@ impl Reach {
 #[derive(Drop)]
 pub struct Lanes<A: Handle> {
     alloc: A,
-    telling: Telling<A>,
+    run: RunTrace<A>,
     rows: Vec<Row, A>,
     owed: Vec<Owed, A>,
     stop: Option<BadLine>,
@@ -97,10 +167,10 @@ impl<A: Handle> Lanes<A> {
     ) -> Result<Lanes<A>, AllocError> {
         let Input { said, stop } = read;
         let lines = spoken_in(alloc, input)?;
-        let telling = Telling::new(alloc, model)?;
+        let run = RunTrace::new(alloc, model)?;
         let mut lanes = Lanes {
             alloc,
-            telling,
+            run,
             rows: Vec::new(alloc),
             owed: Vec::new(alloc),
             stop,
@@ -119,55 +189,13 @@ impl<A: Handle> Lanes<A> {
         lines: Vec<Spoken<'_>, A>,
     ) -> Result<(), AllocError> {
         for (event, line) in events.into_iter().zip(lines) {
-            self.take(line, event)?;
+            self.run.take(line, event)?;
         }
+        self.rows = rows_of(self.alloc, &self.run)?;
         if self.stop.is_none() {
-            self.owed = self.telling.machine().owed()?;
+            self.owed = self.run.machine().owed()?;
         }
         Ok(())
-    }
-
-    // Takes an event, and notes its row, if it is told.
-    fn take(&mut self, spoken: Spoken<'_>, event: Event<A>) -> Result<(), AllocError> {
-        let deed = Deed::of(&event, self.heir(&event));
-        let Some(formed) = self.telling.take(spoken, event)? else {
-            return Ok(());
-        };
-        let row = Row {
-            deed,
-            answer: formed.answer,
-            place: self.place(&formed.answer),
-            op: formed.op,
-            edges_before: formed.edges_before,
-            edges_after: self.telling.machine().edges().len(),
-        };
-        self.rows.push(row)?;
-        Ok(())
-    }
-
-    // The place that an event with this answer has, or would have had.
-    fn place(&self, answer: &Answer) -> u32 {
-        match answer {
-            Answer::Admitted { place, .. } => *place,
-            Answer::Refused { .. } => (self
-                .telling
-                .machine()
-                .history()
-                .len() as u32).saturating_add(1),
-        }
-    }
-
-    // The parent to whom a commit leaves what is held, where the event is such a commit.
-    fn heir(&self, event: &Event<A>) -> Option<TxnId> {
-        let Event::Commit(t) = event else {
-            return None;
-        };
-        let life = self.telling.chronicle().life(*t);
-        let class = self.telling.machine().model().class(life.class?)?;
-        match class.at_commit {
-            AtCommit::ToParent => life.parent,
-            AtCommit::Keeps => None,
-        }
     }
 }
 
@@ -179,7 +207,7 @@ impl<A: Handle> Lanes<A> {
 
     /// The model of the run.
     pub fn model(&self) -> &Model<A> {
-        self.telling.machine().model()
+        self.run.machine().model()
     }
 
     /// The rows, in order.
@@ -187,14 +215,19 @@ impl<A: Handle> Lanes<A> {
         self.rows.as_slice()
     }
 
-    /// What is told of the row of this number: its line, its event, its answer and the reason of a refusal.
-    pub fn told(&self, row: usize) -> Option<&ToldRow<A>> {
-        self.telling.chronicle().rows().get(row)
+    /// The words of the row of this number.
+    pub fn told(&self, row: usize) -> Option<RowText<'_>> {
+        let text = self.run.texts().get(row)?;
+        Some(RowText {
+            line: self.run.steps().get(row)?.line,
+            event: text.event.as_str(),
+            reason: text.reason.as_str(),
+        })
     }
 
     /// How many refused events have no row, since so many have one.
     pub fn untold(&self) -> usize {
-        self.telling.untold()
+        self.run.untold()
     }
 
     /// What is owed in the end; nothing of it where a faulty line stopped the run.
@@ -210,7 +243,7 @@ impl<A: Handle> Lanes<A> {
     /// The edges that the row formed.
     pub fn formed(&self, row: &Row) -> &[Edge] {
         behind(
-            self.telling.machine().edges(),
+            self.run.machine().edges(),
             row.edges_before,
             row.edges_after,
         )
@@ -219,26 +252,26 @@ impl<A: Handle> Lanes<A> {
     /// The edge of this number.
     pub fn edge(&self, number: u64) -> Option<&Edge> {
         let place = (number as usize).checked_sub(1)?;
-        self.telling.machine().edges().get(place)
+        self.run.machine().edges().get(place)
     }
 
     /// How many operations were done.
     pub fn operations(&self) -> usize {
-        self.telling.machine().operations().len()
+        self.run.machine().operations().len()
     }
 
     /// From which row to which the lane of the transaction goes.
     pub fn reach(&self, t: TxnId) -> Reach {
-        let life = self.telling.chronicle().life(t);
+        let steps = self.run.trace().steps();
         Reach {
-            began: life.began,
-            ended: life.ended,
+            began: steps.begin_of(t),
+            ended: steps.end_of(t),
         }
     }
 
     /// The name of the class with which the transaction began.
     pub fn class_name(&self, t: TxnId) -> Option<&str> {
-        let class = self.model().class(self.telling.chronicle().life(t).class?)?;
+        let class = self.model().class(self.run.machine().class(t)?)?;
         std::str::from_utf8(class.name.as_slice()).ok()
     }
 }

@@ -1,11 +1,11 @@
 //! What is said of a row beside its marks: what it formed, why it was refused, and each of its marks in words.
 
 use crate::choice::Picked;
-use crate::lanes::{Lanes, Row};
+use crate::lanes::{Lanes, Row, RowText};
 use crate::marks::{Deed, Mark};
-use acta_explain::{MOST_TOLD, Prose, Row as ToldRow, put};
+use acta_explain::{MOST_TOLD, Prose, digits, put, put_return};
 use acta_machine::Handle;
-use acta_table::{Edge, Missing, Owed, TxnId};
+use acta_table::{Edge, Missing, Owed, Ret, TxnId};
 use std::alloc::Allocator;
 use unicode_width::UnicodeWidthStr;
 
@@ -34,29 +34,34 @@ fn words_behind(line: &str, count: usize) -> &str {
     rest
 }
 
-/// What an admitted operation returned, by its answer `ok PLACE RETURN`.
-pub fn returned<A: Allocator>(told: &ToldRow<A>) -> Option<&str> {
-    match words_behind(told.answer.as_str(), 2) {
-        "" => None,
-        ret => Some(ret),
+/// Adds the event of a row; after an operation, and a `=`, what it returned.
+pub fn put_event<A: Allocator>(prose: Prose<A>, row: &Row, told: RowText<'_>) -> Prose<A> {
+    let prose = prose.put(told.event);
+    match row.returned() {
+        Some(ret) => put_return(prose.put(" = "), ret),
+        None => prose,
     }
 }
 
-/// Adds the event of a row; behind an operation, and a `=`, what it returned.
-pub fn put_event<A: Allocator>(prose: Prose<A>, row: &Row, told: &ToldRow<A>) -> Prose<A> {
-    let prose = prose.put(told.event.as_str());
-    match returned(told) {
-        Some(ret) if row.op.is_some() => put!(prose; " = ", ret),
-        _ => prose,
+// The width of what an operation returned.
+fn return_width(ret: Ret) -> usize {
+    match ret {
+        Ret::Done => 4,
+        Ret::Flag(true) => 3,
+        Ret::Flag(false) => 2,
+        Ret::Value(value) => {
+            let sign = if value < 0 { 1 } else { 0 };
+            digits(value.unsigned_abs() as usize).saturating_add(sign)
+        }
     }
 }
 
 /// The width of that text.
-pub fn event_width<A: Allocator>(row: &Row, told: &ToldRow<A>) -> usize {
-    let event = told.event.as_str().width();
-    match returned(told) {
-        Some(ret) if row.op.is_some() => event.saturating_add(ret.width()).saturating_add(3),
-        _ => event,
+pub fn event_width(row: &Row, told: RowText<'_>) -> usize {
+    let event = told.event.width();
+    match row.returned() {
+        Some(ret) => event.saturating_add(return_width(ret)).saturating_add(3),
+        None => event,
     }
 }
 
@@ -145,9 +150,9 @@ fn put_deed<A: Handle>(
     prose: Prose<A>,
     lanes: &Lanes<A>,
     row: &Row,
-    told: &ToldRow<A>,
+    told: RowText<'_>,
 ) -> Prose<A> {
-    let event = told.event.as_str();
+    let event = told.event;
     match row.deed {
         Deed::Begins(t) => put_class(put!(prose; t.0, " begins"), lanes, t),
         Deed::Spawns(t, c) => put_class(put!(prose; t.0, " spawns ", c.0), lanes, c),
@@ -171,8 +176,12 @@ fn put_deed<A: Handle>(
                 Some(op) => op.0,
                 None => 0,
             };
-            put!(prose; "operation ", number, ": ", t.0, " does ", words_behind(event, 2),
-                ", which returns ", returned(told).unwrap_or("nothing"))
+            let prose = put!(prose; "operation ", number, ": ", t.0, " does ",
+                words_behind(event, 2), ", which returns ");
+            match row.returned() {
+                Some(ret) => put_return(prose, ret),
+                None => prose.put("nothing"),
+            }
         }
         Deed::Commits(t) => put!(prose; t.0, " commits"),
         Deed::CommitsTo(t, parent) => {
@@ -195,13 +204,13 @@ pub fn put_title<A: Handle>(
     prose: Prose<A>,
     lanes: &Lanes<A>,
     row: &Row,
-    told: &ToldRow<A>,
+    told: RowText<'_>,
 ) -> Prose<A> {
     if row.is_admitted() {
         let prose = put!(prose; "place ", row.place, " (line ", told.line, "): ");
         put_deed(prose, lanes, row, told)
     } else {
-        put!(prose; "refused (line ", told.line, "): ", told.event.as_str(), "\n", told.reason.as_str())
+        put!(prose; "refused (line ", told.line, "): ", told.event, "\n", told.reason)
     }
 }
 

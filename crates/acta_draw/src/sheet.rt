@@ -2,11 +2,11 @@
 
 use crate::arrows::{Arrow, push_arrows};
 use crate::choice::Picked;
-use crate::lanes::{Lanes, Row};
+use crate::lanes::{Lanes, Row, RowText};
 use crate::marks::Deed;
 use crate::sentences::{put_event, put_note};
 use crate::wrapping::put_cut;
-use acta_explain::{Prose, Row as ToldRow};
+use acta_explain::Prose;
 use acta_machine::Handle;
 use acta_table::TxnId;
 use std::alloc::AllocError;
@@ -127,7 +127,7 @@ impl<A: Handle> Strip<A> {
         picked: &Picked<A>,
         number: usize,
         row: &Row,
-        told: &ToldRow<A>,
+        told: RowText<'_>,
         top: usize,
     ) -> Result<Strip<A>, AllocError> {
         let alloc = lanes.allocator();

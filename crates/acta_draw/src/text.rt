@@ -2,7 +2,7 @@
 
 use crate::canvas::{Canvas, Ink};
 use crate::choice::{Choice, Picked};
-use crate::lanes::{Lanes, Row};
+use crate::lanes::{Lanes, Row, RowText};
 use crate::layout::{Layout, PLACE, most_lanes};
 use crate::marks::{Mark, Marked, Tie, has_lane};
 use crate::screen::Screen;
@@ -10,7 +10,7 @@ use crate::sentences::{
     event_width, glyph, line_text, put_debt_note, put_event, put_left_out, put_note,
 };
 use crate::wrapping::{put_cut, put_list, wrapped};
-use acta_explain::{Prose, Row as ToldRow, digits, put};
+use acta_explain::{Prose, digits, put};
 use acta_machine::Handle;
 use acta_script::owed_line;
 use acta_table::{Edge, Owed, TxnId};
@@ -328,7 +328,7 @@ fn words_of<A: Handle>(
     lanes: &Lanes<A>,
     number: usize,
     row: &Row,
-    told: &ToldRow<A>,
+    told: RowText<'_>,
 ) -> Result<(String<A>, String<A>), AllocError> {
     let alloc = lanes.allocator();
     let note = put_note(Prose::new(alloc), lanes, number).done()?;

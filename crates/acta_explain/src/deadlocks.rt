@@ -1,10 +1,10 @@
 //! Transactions whose last events are refused, and which of them wait for one another.
 
-use crate::chronicle::{Chronicle, Row};
-use crate::phrases::{put_operation, put_row};
+use crate::phrases::{put_line_text, put_operation};
 use crate::prose::Prose;
 use crate::put;
-use crate::telling::Telling;
+use crate::run_trace::RunTrace;
+use crate::told::{LineIndex, LineText};
 use acta_hope::{Hope, Wait, deadlocks, wait_of};
 use acta_machine::Handle;
 use acta_table::TxnId;
@@ -18,7 +18,7 @@ struct Waits<A: Handle> {
 }
 
 // Those that wait, of which each did nothing since its last event was refused.
-fn waits_in<A: Handle>(alloc: A, told: &Telling<A>) -> Result<Waits<A>, AllocError> {
+fn waits_in<A: Handle>(alloc: A, told: &RunTrace<A>) -> Result<Waits<A>, AllocError> {
     let mut found = Waits {
         waits: Vec::new(alloc),
         rows: Vec::new(alloc),
@@ -39,15 +39,15 @@ fn waits_in<A: Handle>(alloc: A, told: &Telling<A>) -> Result<Waits<A>, AllocErr
 // Adds until when the event of the row is refused.
 fn put_wait<A: Handle>(
     prose: Prose<A>,
-    chronicle: &Chronicle<A>,
+    lines: LineIndex<'_, A>,
     wait: &Wait,
-    row: &Row<A>,
+    line: LineText<'_>,
 ) -> Prose<A> {
-    let prose = put_row(prose, row).put(", refused as long as ");
+    let prose = put_line_text(prose, line).put(", refused as long as ");
     let next = wait.next.0;
     match wait.until {
         Hope::OnceFree(op) => {
-            let prose = put_operation(prose, chronicle, op);
+            let prose = put_operation(prose, lines, op);
             put!(prose; ", held by ", next, ", stands in its way")
         }
         Hope::OnceBegun(_) => put!(prose; next, " has not begun"),
@@ -74,7 +74,7 @@ impl<A: Handle> Waits<A> {
     fn put_circle(
         &self,
         prose: Prose<A>,
-        told: &Telling<A>,
+        told: &RunTrace<A>,
         circle: &[usize],
         indent: usize,
     ) -> Prose<A> {
@@ -94,16 +94,16 @@ impl<A: Handle> Waits<A> {
     fn put_place(
         &self,
         prose: Prose<A>,
-        told: &Telling<A>,
+        told: &RunTrace<A>,
         place: usize,
         indent: usize,
     ) -> Prose<A> {
-        let chronicle = told.chronicle();
+        let lines = told.lines();
         match (self.waits.get(place), self.rows.get(place)) {
-            (Some(wait), Some(row)) => match chronicle.rows().get(*row) {
-                Some(row) => {
+            (Some(wait), Some(row)) => match lines.at(*row) {
+                Some(line) => {
                     let prose = prose.pad(indent).put("  | ");
-                    put_wait(prose, chronicle, wait, row).put("\n")
+                    put_wait(prose, lines, wait, line).put("\n")
                 }
                 None => prose,
             },
@@ -116,7 +116,7 @@ impl<A: Handle> Waits<A> {
 pub fn put_deadlocks<A: Handle>(
     mut prose: Prose<A>,
     alloc: A,
-    told: &Telling<A>,
+    told: &RunTrace<A>,
     indent: usize,
 ) -> Prose<A> {
     let Ok(waits) = waits_in(alloc, told) else {

@@ -4,33 +4,38 @@ use crate::phrases::{event_word, first_named, put_formed_edge, put_standing};
 use crate::prose::Prose;
 use crate::put;
 use crate::reasons::Refused;
-use crate::telling::Telling;
+use crate::run_trace::RunTrace;
 use acta_hope::{Hope, why_and_hope};
 use acta_machine::Handle;
 use acta_table::{Event, Missing, TxnId};
 
 // Adds that the debtor never begins, by the edge of this number.
-fn put_lost<A: Handle>(prose: Prose<A>, told: &Telling<A>, debtor: TxnId, number: u32) -> Prose<A> {
+fn put_lost<A: Handle>(
+    prose: Prose<A>,
+    told: &RunTrace<A>,
+    debtor: TxnId,
+    number: u32,
+) -> Prose<A> {
     let machine = told.machine();
     let prose = put!(prose; "It can't be paid any more: ", debtor.0, " never begins");
     match machine.edges().get((number as usize).wrapping_sub(1)) {
         Some(edge) => {
-            let chronicle = told.chronicle();
-            let prose = put_formed_edge(prose.put(", by "), chronicle, u64::from(number), edge);
+            let lines = told.lines();
+            let prose = put_formed_edge(prose.put(", by "), lines, u64::from(number), edge);
             let prose = put!(prose; "\n", edge.i.0, " ");
-            put_standing(prose, chronicle, edge.i, machine.status(edge.i)).put(".")
+            put_standing(prose, lines, edge.i, machine.status(edge.i)).put(".")
         }
         None => prose.put("."),
     }
 }
 
 // Adds whether the event that pays would be admitted, or why it is refused, for now or for ever.
-fn put_payment<A: Handle>(prose: Prose<A>, told: &Telling<A>, payment: &Event<A>) -> Prose<A> {
+fn put_payment<A: Handle>(prose: Prose<A>, told: &RunTrace<A>, payment: &Event<A>) -> Prose<A> {
     let machine = told.machine();
     let (word, debtor) = (event_word(payment.kind()), first_named(payment).0);
     let refused = Refused {
-        model: machine.model(),
-        chronicle: told.chronicle(),
+        machine,
+        lines: told.lines(),
         event: payment,
     };
     match why_and_hope(machine, payment) {
@@ -38,12 +43,12 @@ fn put_payment<A: Handle>(prose: Prose<A>, told: &Telling<A>, payment: &Event<A>
         Ok(Some((reason, Hope::Never))) => {
             let prose = put!(prose; "It can't be paid any more: no later event can admit `", word,
                 " ", debtor, "`.\n");
-            refused.put_facts(prose, machine, &reason)
+            refused.put_facts(prose, &reason)
         }
         Ok(Some((reason, hope))) => {
             let prose =
                 put!(prose; "It can't be paid now: `", word, " ", debtor, "` is refused.\n");
-            refused.put_reason(prose, machine, true, &reason, hope)
+            refused.put_reason(prose, true, &reason, hope)
         }
         Err(_) => prose.fail(),
     }
@@ -53,7 +58,7 @@ fn put_payment<A: Handle>(prose: Prose<A>, told: &Telling<A>, payment: &Event<A>
 /// `acta_hope` says of the machine.
 pub fn put_prospect<A: Handle>(
     prose: Prose<A>,
-    told: &Telling<A>,
+    told: &RunTrace<A>,
     lost: &[u32],
     debtor: TxnId,
     missing: Missing,

@@ -6,23 +6,24 @@ ghost use Rattle.acta_script.specs.Reading.{kept_of};
 ghost use Rattle.acta_table.specs.declared.limits.TheConstants.{MOST_EVENTS};
 ghost use Rattle.acta_tool.specs.Output.{judge_on, judged_on, said_in};
 
-use crate::chronicle::{Chronicle, Row, row_of};
 use crate::faults::{Stop, put_lines, put_stop};
 use crate::phrases::{
-    class_at, class_of, name_text, put_formed_edge, put_line, put_may, put_operation, put_return,
-    put_row, put_starts,
+    class_at, name_text, put_formed_edge, put_line, put_line_text, put_may, put_operation,
+    put_return, put_starts,
 };
 use crate::prose::Prose;
 use crate::put;
+use crate::run_trace::MOST_TOLD;
 use crate::spoken::{Spoken, spoken_in};
-use crate::telling::MOST_TOLD;
+use crate::told::{LineIndex, LineText, StepText};
 use acta_axioms::{Axiom, Fault, Walk};
 use acta_judge::{Verdict, judge};
 use acta_machine::Handle;
 use acta_objects::form_fault;
 use acta_script::{fault_line, owed_line};
-use acta_table::{Edge, Event, Kept, LAST_TXN, MOST_EVENTS, Model, OpNo, Owed, Ret, TxnId};
+use acta_table::{Answer, Event, Kept, LAST_TXN, MOST_EVENTS, Model, OpNo, Owed, Ret, TxnId};
 use acta_tool::{KeptLines, Report, read_lines};
+use acta_trace::{Step, Steps};
 use std::alloc::AllocError;
 use std::thread::Threads;
 
@@ -30,10 +31,11 @@ use std::thread::Threads;
 #[derive(Drop)]
 struct Scene<'a, A: Handle> {
     alloc: A,
-    model: &'a Model<A>,
     kept: &'a [Kept<A>],
-    chronicle: Chronicle<A>,
-    edges: Vec<Edge, A>,
+    // After the last place.
+    walk: Walk<'a, A>,
+    steps: Steps<A>,
+    texts: Vec<StepText<A>, A>,
     due: Vec<Due, A>,
 }
 
@@ -80,22 +82,13 @@ fn scene_of<'a, A: Handle>(
 {
     let mut scene = Scene {
         alloc,
-        model,
         kept,
-        chronicle: Chronicle::new(alloc),
-        edges: Vec::new(alloc),
+        walk: Walk::of(alloc, model, kept)?,
+        steps: Steps::new(alloc),
+        texts: Vec::new(alloc),
         due: Vec::new(alloc),
     };
-    let mut walk = match Walk::of(alloc, model, kept) {
-        Ok(walk) => walk,
-        Err(e) => {
-            drop(scene);
-            return Err(e);
-        }
-    };
-    let walked = scene.walk(&mut walk, lines, faults);
-    drop(walk);
-    match walked {
+    match scene.walk_along(lines, faults) {
         Ok(()) => Ok(scene),
         Err(e) => {
             drop(scene);
@@ -106,46 +99,65 @@ fn scene_of<'a, A: Handle>(
 
 impl<'a, A: Handle> Scene<'a, A> {
     // Notes what the items are, of which the lines say each, as a walk along them goes.
-    fn walk(
-        &mut self,
-        walk: &mut Walk<'a, A>,
-        lines: &[Spoken<'_>],
-        faults: &[Fault],
-    ) -> Result<(), AllocError> {
+    fn walk_along(&mut self, lines: &[Spoken<'_>], faults: &[Fault]) -> Result<(), AllocError> {
         let mut place = 0u32;
+        let mut operations = 0u32;
         for (item, line) in self.kept.iter().zip(lines) {
             place = place.saturating_add(1);
-            self.step(walk, is_off(faults, place), place)?;
-            self.chronicle.note(&item.event, walk.edges().len())?;
-            self.push_row(*line)?;
+            let op = match item.event {
+                Event::Operate(_, _, _) => {
+                    operations = operations.saturating_add(1);
+                    Some(OpNo(operations))
+                }
+                _ => None,
+            };
+            let edges_before = self.walk.edges().len();
+            self.step(is_off(faults, place), place)?;
+            self.steps.push(Step {
+                line: line.line,
+                event: item.event.copy()?,
+                answer: Answer::Admitted {
+                    place,
+                    ret: item.ret,
+                },
+                op,
+                edges_before,
+                edges_after: self.walk.edges().len(),
+            })?;
+            self.push_text(*line)?;
         }
-        self.edges.extend_from_slice(walk.edges())
+        Ok(())
     }
 
     // Goes one place further, and notes what its operation should return, where it returns something else.
-    fn step(&mut self, walk: &mut Walk<'a, A>, is_off: bool, place: u32) -> Result<(), AllocError> {
+    fn step(&mut self, is_off: bool, place: u32) -> Result<(), AllocError> {
         if is_off {
-            let ret = due_next(walk)?;
+            let ret = due_next(&self.walk)?;
             self.due.push(Due { place, ret })?;
         }
-        if walk.ahead().is_empty() {
+        if self.walk.ahead().is_empty() {
             Ok(())
         } else {
-            walk.step()
+            self.walk.step()
         }
     }
 
-    // Puts the row of a kept line behind the others.
-    fn push_row(&mut self, line: Spoken<'_>) -> Result<(), AllocError> {
-        let alloc = self.alloc;
-        let row = row_of(
-            line.line,
-            line.put_words(Prose::new(alloc), alloc),
-            Prose::new(alloc),
-            Prose::new(alloc),
-            Prose::new(alloc),
-        )?;
-        self.chronicle.push(row)
+    // Adds the words of a kept line.
+    fn push_text(&mut self, line: Spoken<'_>) -> Result<(), AllocError> {
+        let event = line.put_words(Prose::new(self.alloc), self.alloc).done()?;
+        self.texts.push(StepText {
+            event,
+            reason: String::new(self.alloc),
+        })?;
+        Ok(())
+    }
+
+    // The lines of the places.
+    fn lines(&self) -> LineIndex<'_, A> {
+        LineIndex {
+            steps: &self.steps,
+            texts: self.texts.as_slice(),
+        }
     }
 
     // The event of a place.
@@ -154,15 +166,15 @@ impl<'a, A: Handle> Scene<'a, A> {
         Some(&kept.event)
     }
 
-    // The row of a place.
-    fn at(&self, place: u32) -> Option<&Row<A>> {
-        self.chronicle.rows().get((place as usize).checked_sub(1)?)
+    // The line of a place.
+    fn at(&self, place: u32) -> Option<LineText<'_>> {
+        self.lines().at((place as usize).checked_sub(1)?)
     }
 
     // Adds an edge, with its number and the line that forms it.
     fn put_edge(&self, prose: Prose<A>, number: u64) -> Prose<A> {
-        match self.edges.get((number as usize).wrapping_sub(1)) {
-            Some(edge) => put_formed_edge(prose, &self.chronicle, number, edge),
+        match self.walk.edges().get((number as usize).wrapping_sub(1)) {
+            Some(edge) => put_formed_edge(prose, self.lines(), number, edge),
             None => put!(prose; "edge ", number),
         }
     }
@@ -174,12 +186,12 @@ impl<'a, A: Handle> Scene<'a, A> {
             return prose;
         }
         let t = TxnId(number as u16);
-        let prose = match self.chronicle.of_begin(t) {
-            Some(row) => put!(prose; ", which begins at line ", row.line),
+        let prose = match self.lines().begin(t) {
+            Some(line) => put!(prose; ", which begins at line ", line.line),
             None => prose.put(", which never begins"),
         };
-        match self.chronicle.of_end(t) {
-            Some(row) => put_row(prose.put("; it ends at "), row),
+        match self.lines().end(t) {
+            Some(line) => put_line_text(prose.put("; it ends at "), line),
             None => prose,
         }
     }
@@ -214,7 +226,7 @@ impl<'a, A: Handle> Scene<'a, A> {
             Axiom::Dependency(_) => self.put_edge(prose, fault.by),
             Axiom::Responsible | Axiom::HandsWhole | Axiom::Conflict => {
                 let op = OpNo(u32::try_from(fault.by).unwrap_or(0));
-                put_operation(prose, &self.chronicle, op)
+                put_operation(prose, self.lines(), op)
             }
             Axiom::Heir if fault.by == 0 => prose.put("a commit of one without a parent"),
             _ => self.put_txn(prose, fault.by),
@@ -223,7 +235,7 @@ impl<'a, A: Handle> Scene<'a, A> {
 
     // Adds what is wrong with the form of an event, by the rule on it that it breaks.
     fn put_form(&self, prose: Prose<A>, event: &Event<A>) -> Prose<A> {
-        match form_fault(self.model, event) {
+        match form_fault(self.walk.model(), event) {
             Some(fault) => {
                 let rule = fault.refusal().rule;
                 put!(prose; "\nrule ", rule.name(), ": ", rule.sentence())
@@ -234,7 +246,7 @@ impl<'a, A: Handle> Scene<'a, A> {
 
     // Adds the `may` line of the class with which the transaction first began.
     fn put_may_of(&self, prose: Prose<A>, t: TxnId) -> Prose<A> {
-        match class_of(self.model, &self.chronicle, t) {
+        match self.walk.class(t) {
             Some(class) => {
                 let name = name_text(class.name.as_slice());
                 let prose = put!(prose; "\nclass `", name, "` of ", t.0, " has `");
@@ -246,7 +258,7 @@ impl<'a, A: Handle> Scene<'a, A> {
 
     // Adds what the classes allow that the event is of.
     fn put_allowed(&self, prose: Prose<A>, event: &Event<A>) -> Prose<A> {
-        let prose = match class_at(self.model, event.class()) {
+        let prose = match class_at(self.walk.model(), event.class()) {
             Some(class) => {
                 let name = name_text(class.name.as_slice());
                 put_starts(put!(prose; "\nclass `", name, "` has `"), class.starts).put("`")
@@ -267,7 +279,7 @@ impl<'a, A: Handle> Scene<'a, A> {
     fn put_told(&self, prose: Prose<A>, fault: &Fault) -> Prose<A> {
         let prose = prose.put(fault.broken.name());
         let prose = match self.at(fault.place) {
-            Some(row) => put_row(prose.put(", broken at "), row),
+            Some(line) => put_line_text(prose.put(", broken at "), line),
             None => prose,
         };
         let prose = self.put_breaker(prose, fault);

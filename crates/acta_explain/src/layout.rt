@@ -1,10 +1,24 @@
-//! How rows are laid out: the number of the line, the event, the answer and what it formed, in columns, and below them
-//! the reason, each of its lines behind a bar.
+//! How the steps of a run are laid out: the number of the line, the event, the answer and what it formed, in columns, and
+//! below them the reason, each of its lines behind a bar.
 
-use crate::chronicle::Row;
 use crate::prose::Prose;
 use crate::put;
 use std::alloc::Allocator;
+
+/// A step in words.
+#[derive(Clone, Copy)]
+pub struct Row<'a> {
+    /// The number of its line in the input, from 1.
+    pub line: usize,
+    /// The event, as the input has it.
+    pub event: &'a str,
+    /// The answer to it, as other commands print it.
+    pub answer: &'a str,
+    /// What it formed.
+    pub formed: &'a str,
+    /// Why it is refused, in lines.
+    pub reason: &'a str,
+}
 
 /// The widths of the columns.
 #[derive(Clone, Copy)]
@@ -42,19 +56,22 @@ pub fn digits(number: usize) -> usize {
 }
 
 impl Columns {
-    /// The columns of these rows.
-    pub fn of<A: Allocator>(rows: &[Row<A>]) -> Columns {
-        let mut columns = Columns {
+    /// Columns for no rows.
+    pub fn new() -> Columns {
+        Columns {
             number: NUMBER.0,
             event: EVENT.0,
             answer: ANSWER.0,
-        };
-        for row in rows {
-            columns.number = widened(columns.number, NUMBER.1, digits(row.line));
-            columns.event = widened(columns.event, EVENT.1, row.event.len());
-            columns.answer = widened(columns.answer, ANSWER.1, row.answer.len());
         }
-        columns
+    }
+
+    /// The columns with room for a row whose line has this number, and whose event and answer are so long.
+    pub fn with(self, line: usize, event: usize, answer: usize) -> Columns {
+        Columns {
+            number: widened(self.number, NUMBER.1, digits(line)),
+            event: widened(self.event, EVENT.1, event),
+            answer: widened(self.answer, ANSWER.1, answer),
+        }
     }
 
     /// How far in the lines are that stand below a row.
@@ -80,19 +97,15 @@ pub fn put_barred<A: Allocator>(mut prose: Prose<A>, indent: usize, lines: &str)
 }
 
 /// Adds a row, and its reason below it.
-pub fn put_row<A: Allocator>(prose: Prose<A>, columns: Columns, row: &Row<A>) -> Prose<A> {
+pub fn put_row<A: Allocator>(prose: Prose<A>, columns: Columns, row: Row<'_>) -> Prose<A> {
     let prose = prose.pad(columns.number.saturating_sub(digits(row.line)));
-    let prose = put_cell(
-        put!(prose; row.line, "  "),
-        row.event.as_str(),
-        columns.event,
-    );
+    let prose = put_cell(put!(prose; row.line, "  "), row.event, columns.event);
     let prose = if row.formed.is_empty() {
-        prose.put(row.answer.as_str())
+        prose.put(row.answer)
     } else {
-        put_cell(prose, row.answer.as_str(), columns.answer).put(row.formed.as_str())
+        put_cell(prose, row.answer, columns.answer).put(row.formed)
     };
-    put_barred(prose.put("\n"), columns.indent(), row.reason.as_str())
+    put_barred(prose.put("\n"), columns.indent(), row.reason)
 }
 
 /// Adds a debt below the events. By what it is owed comes next.

@@ -9,7 +9,6 @@
 
 mod advice;
 mod args;
-mod chronicle;
 mod deadlocks;
 mod debts;
 mod faults;
@@ -25,15 +24,15 @@ mod prose;
 mod reasons;
 mod report;
 mod run;
+mod run_trace;
 mod spoken;
 mod tables;
-mod telling;
 mod texts;
+mod told;
 mod words;
 
 pub use advice::{Advice, advice_for};
 pub use args::{Asked, called, flag, is_asked, matched, model_arg, option, parse, usage, with_arg};
-pub use chronicle::{Chronicle, Life, Row};
 pub use debts::put_prospect;
 pub use faults::{Stop, put_stop};
 pub use hints::nearest;
@@ -44,9 +43,10 @@ pub use phrases::{name_text, put_lacking, put_line, put_return, put_standing};
 pub use prose::Prose;
 pub use reasons::Refused;
 pub use report::{explain, explain_tool, put_model_name, write_words};
+pub use run_trace::{MOST_TOLD, RunTrace};
 pub use spoken::{Spoken, spoken_in};
 pub use tables::Table;
-pub use telling::{MOST_TOLD, Telling};
+pub use told::{LineIndex, LineText, StepText};
 pub use words::{
     AXIOMS, Entry, IMAGE_FAULTS, LINE_CODES, MODEL_FAULTS, RULES, TEXT_CODES, axiom_entry,
     image_entry, line_entry, model_entry, rule_entry, text_entry,

@@ -1,8 +1,8 @@
 //! How transactions, classes, operations and edges are named in a sentence.
 
-use crate::chronicle::{Chronicle, Row};
 use crate::prose::Prose;
 use crate::put;
+use crate::told::{LineIndex, LineText};
 use acta_table::{
     Class, ClassId, Edge, Event, EventKind, Kind, Kinds, Model, ObjId, Op, OpNo, Ret, Starts,
     Status, TxnId,
@@ -160,13 +160,13 @@ pub fn put_edge<A: Allocator>(prose: Prose<A>, edge: &Edge) -> Prose<A> {
     put!(prose; edge.kind.word(), " ", edge.j.0, " on ", edge.i.0)
 }
 
-/// Adds a row, as a sentence refers to it: the number of its line, and as much of its event as a sentence tells.
-pub fn put_row<A: Allocator>(prose: Prose<A>, row: &Row<A>) -> Prose<A> {
-    let mut prose = put!(prose; "line ", row.line, ": ");
-    if row.event.len() <= MOST_OF_EVENT {
-        return prose.put(row.event.as_str());
+/// Adds a line, as a sentence refers to it: its number, and as much of its event as a sentence tells.
+pub fn put_line_text<A: Allocator>(prose: Prose<A>, line: LineText<'_>) -> Prose<A> {
+    let mut prose = put!(prose; "line ", line.line, ": ");
+    if line.event.len() <= MOST_OF_EVENT {
+        return prose.put(line.event);
     }
-    for c in row.event.chars().take(MOST_OF_EVENT) {
+    for c in line.event.chars().take(MOST_OF_EVENT) {
         prose = prose.put(c);
     }
     prose.put(" ..")
@@ -175,26 +175,22 @@ pub fn put_row<A: Allocator>(prose: Prose<A>, row: &Row<A>) -> Prose<A> {
 /// Adds how the transaction stands, with the line by which it ended.
 pub fn put_standing<A: Allocator>(
     prose: Prose<A>,
-    chronicle: &Chronicle<A>,
+    lines: LineIndex<'_, A>,
     t: TxnId,
     status: Status,
 ) -> Prose<A> {
     let prose = prose.put(status_words(status));
-    match chronicle.of_end(t) {
-        Some(row) if has_ended(status) => put!(prose; " (line ", row.line, ")"),
+    match lines.end(t) {
+        Some(line) if has_ended(status) => put!(prose; " (line ", line.line, ")"),
         _ => prose,
     }
 }
 
 /// Adds the operation of this number, with the line by which it was done.
-pub fn put_operation<A: Allocator>(
-    prose: Prose<A>,
-    chronicle: &Chronicle<A>,
-    op: OpNo,
-) -> Prose<A> {
+pub fn put_operation<A: Allocator>(prose: Prose<A>, lines: LineIndex<'_, A>, op: OpNo) -> Prose<A> {
     let prose = put!(prose; "operation ", op.0);
-    match chronicle.of_operation(op) {
-        Some(row) => put_row(prose.put(" ("), row).put(")"),
+    match lines.operation(op) {
+        Some(line) => put_line_text(prose.put(" ("), line).put(")"),
         None => prose,
     }
 }
@@ -207,13 +203,13 @@ pub fn put_numbered_edge<A: Allocator>(prose: Prose<A>, number: u64, edge: &Edge
 /// Adds the edge, with its number and the line by which it was formed.
 pub fn put_formed_edge<A: Allocator>(
     prose: Prose<A>,
-    chronicle: &Chronicle<A>,
+    lines: LineIndex<'_, A>,
     number: u64,
     edge: &Edge,
 ) -> Prose<A> {
     let prose = put_numbered_edge(prose, number, edge);
-    match chronicle.of_edge(number) {
-        Some(row) => put_row(prose.put(", formed at "), row),
+    match lines.edge(number) {
+        Some(line) => put_line_text(prose.put(", formed at "), line),
         None => prose,
     }
 }
@@ -221,28 +217,6 @@ pub fn put_formed_edge<A: Allocator>(
 /// The class of this number, where there is one.
 pub fn class_at<A: Allocator>(model: &Model<A>, class: Option<ClassId>) -> Option<&Class<A>> {
     model.class(class?)
-}
-
-/// The class with which the transaction began.
-pub fn class_of<'a, A: Allocator>(
-    model: &'a Model<A>,
-    chronicle: &Chronicle<A>,
-    t: TxnId,
-) -> Option<&'a Class<A>> {
-    model.class(chronicle.life(t).class?)
-}
-
-/// Whether `a` is an ancestor of `t`: its parent, or an ancestor of that.
-pub fn is_ancestor<A: Allocator>(chronicle: &Chronicle<A>, a: TxnId, t: TxnId) -> bool {
-    let mut one = t;
-    for _ in 0..u16::MAX {
-        match chronicle.life(one).parent {
-            Some(parent) if parent.0 == a.0 => return true,
-            Some(parent) => one = parent,
-            None => return false,
-        }
-    }
-    false
 }
 
 /// The one that the event starts, that depends by it or that does it: the first that it names.

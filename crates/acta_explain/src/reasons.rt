@@ -1,27 +1,25 @@
 //! Why an event is refused, in words: the rule, what of the machine breaks it, and what hope there is. A reason is one line
 //! or a few, with line feeds between them.
 
-use crate::chronicle::Chronicle;
 use crate::listing::{put_chain, put_operations};
 use crate::phrases::{
-    allowing_word, class_at, class_of, class_text, event_word, first_named, is_ancestor, name_text,
-    object_text, put_edge, put_formed_edge, put_lacking, put_may, put_operation, put_row,
-    put_standing, put_starts,
+    allowing_word, class_at, class_text, event_word, first_named, name_text, object_text, put_edge,
+    put_formed_edge, put_lacking, put_line_text, put_may, put_operation, put_standing, put_starts,
 };
 use crate::prose::Prose;
 use crate::put;
-use acta_hope::{Hope, Release, endless_wait, heir, lets_go, operation_at};
+use crate::told::LineIndex;
+use acta_hope::{Hope, Release, endless_wait, heir, is_ancestor, lets_go, operation_at};
 use acta_machine::{Barring, Clash, FormFault, Handle, Lack, Machine, NumberedOp, Reason};
 use acta_table::{
-    ClassId, Dep, Edge, Event, EventKind, Fate, Missing, Model, ObjId, Op, OpNo, Rule, Status,
-    TxnId,
+    ClassId, Dep, Edge, Event, EventKind, Fate, Missing, ObjId, Op, OpNo, Rule, Status, TxnId,
 };
 
-/// An event that a machine with this model refuses, and what was told of its run so far.
-#[derive(Drop)]
+/// An event that a machine refuses, and the lines of its run so far.
+#[derive(Clone, Copy)]
 pub struct Refused<'a, A: Handle> {
-    pub model: &'a Model<A>,
-    pub chronicle: &'a Chronicle<A>,
+    pub machine: &'a Machine<A>,
+    pub lines: LineIndex<'a, A>,
     pub event: &'a Event<A>,
 }
 
@@ -156,35 +154,32 @@ impl<'a, A: Handle> Refused<'a, A> {
     pub fn put_reason(
         &self,
         prose: Prose<A>,
-        machine: &Machine<A>,
         looks_for_waits: bool,
         reason: &Reason,
         hope: Hope,
     ) -> Prose<A> {
-        let prose = self.put_facts(prose, machine, reason);
+        let prose = self.put_facts(prose, reason);
         match *reason {
             Reason::Conflict(op) => {
                 let prose = self.put_policy(prose, op.held.holder);
-                let prose = self.put_hope(prose, machine, hope);
-                self.put_heir(prose, machine, op)
+                let prose = self.put_hope(prose, hope);
+                self.put_heir(prose, op)
             }
-            Reason::PartialDelegation(_) => {
-                self.put_whole(self.put_hope(prose, machine, hope), machine)
-            }
+            Reason::PartialDelegation(_) => { self.put_whole(self.put_hope(prose, hope)) }
             // (that it has to wait is said already)
             Reason::Barred(_) if !matches!(hope, Hope::Never) => {
                 if looks_for_waits {
-                    put_waits_of(prose, machine, reason)
+                    put_waits_of(prose, self.machine, reason)
                 } else {
                     prose
                 }
             }
-            _ => self.put_hope(prose, machine, hope),
+            _ => self.put_hope(prose, hope),
         }
     }
 
     // Adds what hope there is, as a line of its own; nothing where nothing is known.
-    fn put_hope(&self, prose: Prose<A>, machine: &Machine<A>, hope: Hope) -> Prose<A> {
+    fn put_hope(&self, prose: Prose<A>, hope: Hope) -> Prose<A> {
         if matches!(hope, Hope::Unknown) {
             return prose;
         }
@@ -200,7 +195,7 @@ impl<'a, A: Handle> Refused<'a, A> {
             Hope::OnceDecided(t) => put!(prose; t.0, " has committed or aborted."),
             Hope::OnceFree(op) => {
                 let prose = put!(prose; "operation ", op.0, " no longer stands in its way");
-                self.put_releases(prose, machine, op).put(".")
+                self.put_releases(prose, op).put(".")
             }
             Hope::OnceLetGo(t, op) => put!(prose; t.0, " no longer holds operation ", op.0, "."),
             Hope::OnceFewer => {
@@ -211,12 +206,12 @@ impl<'a, A: Handle> Refused<'a, A> {
     }
 
     /// Adds why it is refused, but not what hope there is.
-    pub fn put_facts(&self, prose: Prose<A>, machine: &Machine<A>, reason: &Reason) -> Prose<A> {
+    pub fn put_facts(&self, prose: Prose<A>, reason: &Reason) -> Prose<A> {
         match *reason {
             Reason::Full => {
                 prose.put("Full: 65,536 events are kept, as many as a history may have.")
             }
-            Reason::EdgesFull => put!(prose; "EdgesFull: ", machine.edges().len(),
+            Reason::EdgesFull => put!(prose; "EdgesFull: ", self.machine.edges().len(),
                 " edges are in force, and with those that it forms there would be more than 16,384. None goes away."),
             Reason::PartialDelegation(op) => self.put_partial_delegation(prose, op),
             Reason::Barred(barring) => self.put_barred(prose, &barring),
@@ -251,12 +246,12 @@ impl<'a, A: Handle> Refused<'a, A> {
 
     // Adds how a transaction stands.
     fn put_stands(&self, prose: Prose<A>, t: TxnId, status: Status) -> Prose<A> {
-        put_standing(put!(prose; t.0, " "), self.chronicle, t, status)
+        put_standing(put!(prose; t.0, " "), self.lines, t, status)
     }
 
     // The name of the class with which the transaction began.
     fn class_name(&self, t: TxnId) -> &str {
-        match class_of(self.model, self.chronicle, t) {
+        match class_at(self.machine.model(), self.machine.class(t)) {
             Some(class) => name_text(class.name.as_slice()),
             None => "?",
         }
@@ -275,7 +270,12 @@ impl<'a, A: Handle> Refused<'a, A> {
                 put!(prose; "BadObject: the model has no object at position ", object.0, ".")
             }
             FormFault::BadOperation(object, op) => {
-                let prose = put_lacking(prose.put("BadOperation: "), self.model, object, op);
+                let prose = put_lacking(
+                    prose.put("BadOperation: "),
+                    self.machine.model(),
+                    object,
+                    op,
+                );
                 put!(prose; ".")
             }
             FormFault::SameTransaction(txn) => {
@@ -287,11 +287,11 @@ impl<'a, A: Handle> Refused<'a, A> {
 
     fn put_already_begun(&self, prose: Prose<A>, txn: TxnId, status: Status) -> Prose<A> {
         let prose = put!(prose; "AlreadyBegun: ", txn.0, " ");
-        let prose = match self.chronicle.of_begin(txn) {
-            Some(row) => put_row(prose.put("began ("), row).put("), and "),
+        let prose = match self.lines.begin(txn) {
+            Some(line) => put_line_text(prose.put("began ("), line).put("), and "),
             None => prose,
         };
-        let prose = put_standing(prose, self.chronicle, txn, status);
+        let prose = put_standing(prose, self.lines, txn, status);
         put!(prose; ". Each transaction starts once.")
     }
 
@@ -308,8 +308,8 @@ impl<'a, A: Handle> Refused<'a, A> {
 
     // Adds that no transaction of the class starts so.
     fn put_no_start(&self, prose: Prose<A>, class: ClassId, start: &str) -> Prose<A> {
-        let name = class_text(self.model, class);
-        let prose = match self.model.class(class) {
+        let name = class_text(self.machine.model(), class);
+        let prose = match self.machine.model().class(class) {
             Some(class) => {
                 let prose = put!(prose; "NotInModel: class `", name, "` has `");
                 put_starts(prose, class.starts).put("`, so no transaction of it starts ")
@@ -328,7 +328,7 @@ impl<'a, A: Handle> Refused<'a, A> {
         word: &str,
     ) -> Prose<A> {
         let prose = prose.put("NotInModel: ");
-        match class_at(self.model, class) {
+        match class_at(self.machine.model(), class) {
             Some(class) => {
                 let name = name_text(class.name.as_slice());
                 let prose = put!(prose; "class `", name, "` of ", txn.0, " has `");
@@ -340,7 +340,7 @@ impl<'a, A: Handle> Refused<'a, A> {
 
     fn put_not_responsible(&self, prose: Prose<A>, op: NumberedOp) -> Prose<A> {
         let t = first_named(self.event).0;
-        let prose = put_operation(prose.put("NotResponsible: "), self.chronicle, op.number);
+        let prose = put_operation(prose.put("NotResponsible: "), self.lines, op.number);
         let ended = match op.held.fate {
             Fate::InProgress => {
                 return put!(prose; " is held by ", op.held.holder.0, ", and not by ", t,
@@ -354,16 +354,16 @@ impl<'a, A: Handle> Refused<'a, A> {
 
     fn put_partial_delegation(&self, prose: Prose<A>, op: NumberedOp) -> Prose<A> {
         let t = first_named(self.event);
-        let prose = put_operation(prose.put("PartialDelegation: "), self.chronicle, op.number);
+        let prose = put_operation(prose.put("PartialDelegation: "), self.lines, op.number);
         put!(prose; " isn't named, and class `", self.class_name(t), "` of ", t.0,
             " has `delegation whole`.")
     }
 
     // Adds what has to be named.
-    fn put_whole(&self, prose: Prose<A>, machine: &Machine<A>) -> Prose<A> {
+    fn put_whole(&self, prose: Prose<A>) -> Prose<A> {
         let t = first_named(self.event);
         let prose = put!(prose; "\nAll that ", t.0, " holds in progress: ");
-        match machine.access_set(t) {
+        match self.machine.access_set(t) {
             Ok(held) => put_operations(prose, held.as_slice()).put("."),
             Err(_) => prose.fail(),
         }
@@ -382,8 +382,8 @@ impl<'a, A: Handle> Refused<'a, A> {
         if kind.is_begin_kind() {
             let prose = put_edge(prose.put("an edge "), &edge);
             let prose = put!(prose; " limits when ", txn.0, " begins, and ", txn.0, " has begun");
-            let prose = match self.chronicle.of_begin(txn) {
-                Some(row) => put_row(prose.put(" ("), row).put(")"),
+            let prose = match self.lines.begin(txn) {
+                Some(line) => put_line_text(prose.put(" ("), line).put(")"),
                 None => prose,
             };
             put!(prose; ".")
@@ -404,7 +404,7 @@ impl<'a, A: Handle> Refused<'a, A> {
 // Conflicts.
 impl<'a, A: Handle> Refused<'a, A> {
     fn put_conflict(&self, prose: Prose<A>, op: NumberedOp) -> Prose<A> {
-        let prose = put_operation(prose.put("Conflict: "), self.chronicle, op.number);
+        let prose = put_operation(prose.put("Conflict: "), self.lines, op.number);
         put!(prose; " is in progress, held by ", op.held.holder.0, ", and conflicts with it.")
     }
 
@@ -413,7 +413,7 @@ impl<'a, A: Handle> Refused<'a, A> {
         let t = first_named(self.event);
         let prose =
             put!(prose; "\nClass `", self.class_name(t), "` of ", t.0, " has `policy refuse`");
-        if is_ancestor(self.chronicle, holder, t) {
+        if is_ancestor(self.machine, t, holder) {
             put!(prose; ", and `scope others`, by which what its ancestor ", holder.0, " holds counts too.")
         } else {
             prose.put(".")
@@ -421,13 +421,13 @@ impl<'a, A: Handle> Refused<'a, A> {
     }
 
     // Adds what the holder of an operation can do, so that right after it the operation no longer stands in the way.
-    fn put_releases(&self, prose: Prose<A>, machine: &Machine<A>, number: OpNo) -> Prose<A> {
-        let Some(op) = operation_at(machine, number) else {
+    fn put_releases(&self, prose: Prose<A>, number: OpNo) -> Prose<A> {
+        let Some(op) = operation_at(self.machine, number) else {
             return prose;
         };
         let t = first_named(self.event);
-        let object = object_text(self.model, op.ob);
-        let ways = RELEASES.map(|way| lets_go(machine, self.event, number, way));
+        let object = object_text(self.machine.model(), op.ob);
+        let ways = RELEASES.map(|way| lets_go(self.machine, self.event, number, way));
         let mut left = ways.iter().filter(|is_open| **is_open).count();
         if left == 0 {
             return prose;
@@ -447,12 +447,14 @@ impl<'a, A: Handle> Refused<'a, A> {
     }
 
     // Adds who holds the operation after a commit of its holder, where that doesn't let it go.
-    fn put_heir(&self, prose: Prose<A>, machine: &Machine<A>, op: NumberedOp) -> Prose<A> {
+    fn put_heir(&self, prose: Prose<A>, op: NumberedOp) -> Prose<A> {
         let holder = op.held.holder;
-        if lets_go(machine, self.event, op.number, Release::Commit) || !self.may_commit(holder) {
+        if lets_go(self.machine, self.event, op.number, Release::Commit)
+            || !self.may_commit(holder)
+        {
             return prose;
         }
-        match heir(machine, holder) {
+        match heir(self.machine, holder) {
             Some(parent) => {
                 put!(prose; "\nAt a commit of ", holder.0, " its parent ", parent.0, " holds it.")
             }
@@ -462,7 +464,7 @@ impl<'a, A: Handle> Refused<'a, A> {
 
     // Whether the class of the transaction has `commit` in its `may`.
     fn may_commit(&self, t: TxnId) -> bool {
-        match class_of(self.model, self.chronicle, t) {
+        match class_at(self.machine.model(), self.machine.class(t)) {
             Some(class) => class.may.has(EventKind::Commit),
             None => false,
         }
@@ -474,7 +476,7 @@ impl<'a, A: Handle> Refused<'a, A> {
     fn put_barred(&self, prose: Prose<A>, barring: &Barring) -> Prose<A> {
         let number = u64::from(barring.by.number);
         let prose = put!(prose; barring.rule.name(), ", by ");
-        let prose = put_formed_edge(prose, self.chronicle, number, &barring.by.edge).put("\n");
+        let prose = put_formed_edge(prose, self.lines, number, &barring.by.edge).put("\n");
         match barring.rule {
             Rule::BeginDep
             | Rule::SerialDep
@@ -511,12 +513,12 @@ impl<'a, A: Handle> Refused<'a, A> {
             put!(prose; " does, and ", edge.j.0, " ")
         } else {
             let prose = put!(prose; " begins; ", edge.j.0, " has begun");
-            match self.chronicle.of_begin(edge.j) {
-                Some(row) => put!(prose; " (line ", row.line, "), and "),
+            match self.lines.begin(edge.j) {
+                Some(line) => put!(prose; " (line ", line.line, "), and "),
                 None => prose.put(", and "),
             }
         };
-        let prose = put_standing(prose, self.chronicle, edge.j, barring.j);
+        let prose = put_standing(prose, self.lines, edge.j, barring.j);
         put!(prose; ".")
     }
 
@@ -534,10 +536,10 @@ impl<'a, A: Handle> Refused<'a, A> {
         let prose =
             put!(prose; "Clash: ", j, " would owe both a commit and an abort:\na commit by ");
         let number = u64::from(commit.number);
-        let prose = put_formed_edge(prose, self.chronicle, number, &commit.edge);
+        let prose = put_formed_edge(prose, self.lines, number, &commit.edge);
         let number = u64::from(abort.number);
         let prose = prose.put("\nan abort by ");
-        put_formed_edge(prose, self.chronicle, number, &abort.edge)
+        put_formed_edge(prose, self.lines, number, &abort.edge)
     }
 }
 

@@ -2,30 +2,33 @@
 //! what is owed.
 
 ghost use Rattle.std.specs.Prelude.{◌≡◌, IfOk, is_some};
+ghost use Rattle.acta_script.specs.Answers.{answer_line};
 ghost use Rattle.acta_script.specs.Reading.{event_of};
 ghost use Rattle.acta_tool.specs.Output.{said_in};
 
 use crate::deadlocks::put_deadlocks;
 use crate::debts::put_prospect;
 use crate::faults::{Stop, put_stop};
-use crate::layout::{Columns, put_barred, put_debt, put_row};
+use crate::layout::{Columns, Row, put_barred, put_debt, put_row};
 use crate::phrases::{name_text, put_numbered_edge, put_standing};
 use crate::prose::Prose;
 use crate::put;
+use crate::run_trace::{MOST_TOLD, RunTrace};
 use crate::spoken::{Spoken, spoken_in};
-use crate::telling::{MOST_TOLD, Telling};
+use crate::told::StepText;
 use acta_hope::never_begin;
 use acta_machine::Handle;
-use acta_script::owed_line;
+use acta_script::{answer_line, owed_line};
 use acta_table::{Event, Model, Owed};
 use acta_tool::{BadLine, EventLines, Input, Report, read_lines};
+use acta_trace::Step;
 use std::alloc::AllocError;
 
 // Adds a debt, with the edge by which it is owed, and how the one stands on which it depends.
 fn put_owed<A: Handle>(
     prose: Prose<A>,
     alloc: A,
-    told: &Telling<A>,
+    told: &RunTrace<A>,
     columns: Columns,
     owed: &Owed,
 ) -> Prose<A> {
@@ -39,7 +42,7 @@ fn put_owed<A: Handle>(
         Some(edge) => {
             let prose = put_numbered_edge(prose.put("by "), number, edge);
             let prose = put!(prose; ": ", edge.i.0, " ");
-            put_standing(prose, told.chronicle(), edge.i, machine.status(edge.i)).put("\n")
+            put_standing(prose, told.lines(), edge.i, machine.status(edge.i)).put("\n")
         }
         None => prose.put("\n"),
     }
@@ -49,7 +52,7 @@ fn put_owed<A: Handle>(
 fn put_debts<A: Handle>(
     mut prose: Prose<A>,
     alloc: A,
-    told: &Telling<A>,
+    told: &RunTrace<A>,
     columns: Columns,
 ) -> Prose<A> {
     let Ok(debts) = told.machine().owed() else {
@@ -73,18 +76,60 @@ fn put_debts<A: Handle>(
     prose
 }
 
+// The answer to the event of a step, as other commands print it.
+fn answer_text<A: Handle>(alloc: A, step: &Step<A>) -> Result<Vec<u8, A>, AllocError>
+    ensures { IfOk result (λ text. text.items ≡ answer_line step.now.answer) }
+{
+    answer_line(alloc, &step.answer)
+}
+
+// The columns with room for all steps.
+fn columns_of<A: Handle>(alloc: A, told: &RunTrace<A>) -> Result<Columns, AllocError> {
+    let mut columns = Columns::new();
+    for (step, text) in told.steps().iter().zip(told.texts()) {
+        let answer = answer_text(alloc, step)?;
+        columns = columns.with(step.line, text.event.len(), answer.len());
+    }
+    Ok(columns)
+}
+
+// Adds a step, and why its event is refused, if it is.
+fn put_step<A: Handle>(
+    prose: Prose<A>,
+    alloc: A,
+    told: &RunTrace<A>,
+    columns: Columns,
+    step: &Step<A>,
+    text: &StepText<A>,
+) -> Prose<A> {
+    let Ok(answer) = answer_text(alloc, step) else {
+        return prose.fail();
+    };
+    let (formed, has_failed) = told.put_formed(Prose::new(alloc), step).parts();
+    let row = Row {
+        line: step.line,
+        event: text.event.as_str(),
+        answer: name_text(answer.as_slice()),
+        formed: formed.as_str(),
+        reason: text.reason.as_str(),
+    };
+    let prose = put_row(prose, columns, row);
+    if has_failed { prose.fail() } else { prose }
+}
+
 // Adds the whole of what is told. `stop` is the faulty line of the input.
 fn put_told<A: Handle>(
     mut prose: Prose<A>,
     alloc: A,
-    told: &Telling<A>,
+    told: &RunTrace<A>,
     input: &[u8],
     stop: Option<BadLine>,
 ) -> Prose<A> {
-    let rows = told.chronicle().rows();
-    let columns = Columns::of(rows);
-    for row in rows {
-        prose = put_row(prose, columns, row);
+    let Ok(columns) = columns_of(alloc, told) else {
+        return prose.fail();
+    };
+    for (step, text) in told.steps().iter().zip(told.texts()) {
+        prose = put_step(prose, alloc, told, columns, step, text);
     }
     let untold = told.untold();
     if untold > 0 {
@@ -105,7 +150,7 @@ fn put_told<A: Handle>(
 
 // Takes all events, each of which its line says.
 fn take_all<A: Handle>(
-    told: &mut Telling<A>,
+    told: &mut RunTrace<A>,
     events: Vec<Event<A>, A>,
     lines: Vec<Spoken<'_>, A>,
 ) -> Result<(), AllocError> {
@@ -124,7 +169,7 @@ fn run_text<A: Handle>(
     stop: Option<BadLine>,
 ) -> Result<String<A>, AllocError> {
     let lines = spoken_in(alloc, input)?;
-    let mut told = Telling::new(alloc, model)?;
+    let mut told = RunTrace::new(alloc, model)?;
     let text = match take_all(&mut told, events, lines) {
         Ok(()) => put_told(Prose::new(alloc), alloc, &told, input, stop).done(),
         Err(e) => Err(e),

@@ -59,8 +59,8 @@ pub fn heir<A: Handle>(machine: &Machine<A>, t: TxnId) -> Option<TxnId>
     }
 }
 
-// Whether `u` is an ancestor of `t`.
-fn is_ancestor<A: Handle>(machine: &Machine<A>, t: TxnId, u: TxnId) -> bool
+/// Whether `u` is an ancestor of `t`: its parent, or an ancestor of its parent.
+pub fn is_ancestor<A: Handle>(machine: &Machine<A>, t: TxnId, u: TxnId) -> bool
     ensures { result ≡ is_among (ancestors_of (summary_of machine.now.model machine.now.kept) t.0) u }
 {
     let mut next = machine.parent(t);

@@ -6,7 +6,7 @@ use crate::programs::Programs;
 use crate::totals::{Totals, kind_words};
 use crate::waiting::{put_deadlocks, put_debts, put_waits};
 use acta_ends::{Condition, kept_ends};
-use acta_explain::{Prose, Spoken, Telling, name_text, put};
+use acta_explain::{Prose, RunTrace, Spoken, name_text, put};
 use acta_explore::{Done, Explored, Outcome, Point, TxnStatus, Value};
 use acta_machine::Handle;
 use acta_table::{Ret, Status};
@@ -114,7 +114,7 @@ fn put_lines<A: Handle>(
 
 // Takes the events of the order by which a point was reached, each by its line.
 fn take_all<A: Handle>(
-    run: &mut Telling<A>,
+    run: &mut RunTrace<A>,
     programs: &Programs<'_, A>,
     point: &Point<A>,
 ) -> Result<(), AllocError> {
@@ -144,7 +144,7 @@ fn put_open<A: Handle>(
     let Ok(model) = programs.model.copy() else {
         return prose.fail();
     };
-    let Ok(mut run) = Telling::new(programs.alloc, model) else {
+    let Ok(mut run) = RunTrace::new(programs.alloc, model) else {
         return prose.fail();
     };
     if take_all(&mut run, programs, point).is_err() {

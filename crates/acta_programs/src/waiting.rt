@@ -1,7 +1,7 @@
 //! Why seats wait at an end, which of them wait for one another, and what is owed.
 
 use crate::programs::Programs;
-use acta_explain::{Prose, Refused, Telling, put, put_barred, put_prospect, put_standing};
+use acta_explain::{Prose, Refused, RunTrace, put, put_barred, put_prospect, put_standing};
 use acta_explore::{Debt, Done, Outcome, Point, Wait, deadlock};
 use acta_hope::never_begin;
 use acta_machine::{Handle, Reason};
@@ -82,16 +82,16 @@ fn put_bad_set<A: Handle>(
 // Adds why the event is refused: what is so, and not what hope there is, since nothing comes any more.
 fn put_facts<A: Handle>(
     prose: Prose<A>,
-    run: &Telling<A>,
+    run: &RunTrace<A>,
     event: &Event<A>,
     reason: &Reason,
 ) -> Prose<A> {
     let refused = Refused {
-        model: run.machine().model(),
-        chronicle: run.chronicle(),
+        machine: run.machine(),
+        lines: run.lines(),
         event,
     };
-    refused.put_facts(prose, run.machine(), reason)
+    refused.put_facts(prose, reason)
 }
 
 // Whether an event names an operation of the programs that was not done: the machine is then asked for operation 0.
@@ -106,7 +106,7 @@ fn is_undone(reason: &Reason) -> bool {
 fn put_reason<A: Handle>(
     prose: Prose<A>,
     programs: &Programs<'_, A>,
-    (outcome, point, run): (&Outcome<A>, &Point<A>, &Telling<A>),
+    (outcome, point, run): (&Outcome<A>, &Point<A>, &RunTrace<A>),
     line: usize,
     alternative: usize,
 ) -> Prose<A> {
@@ -132,7 +132,7 @@ fn put_reason<A: Handle>(
 fn put_alternative<A: Handle>(
     prose: Prose<A>,
     programs: &Programs<'_, A>,
-    end: (&Outcome<A>, &Point<A>, &Telling<A>),
+    end: (&Outcome<A>, &Point<A>, &RunTrace<A>),
     line: usize,
     alternative: usize,
 ) -> Prose<A> {
@@ -148,7 +148,7 @@ fn put_alternative<A: Handle>(
 fn put_wait<A: Handle>(
     prose: Prose<A>,
     programs: &Programs<'_, A>,
-    end: (&Outcome<A>, &Point<A>, &Telling<A>),
+    end: (&Outcome<A>, &Point<A>, &RunTrace<A>),
     wait: &Wait<A>,
 ) -> Prose<A> {
     let line = wait.line;
@@ -169,7 +169,7 @@ fn put_wait<A: Handle>(
 pub(crate) fn put_waits<A: Handle>(
     mut prose: Prose<A>,
     programs: &Programs<'_, A>,
-    end: (&Outcome<A>, &Point<A>, &Telling<A>),
+    end: (&Outcome<A>, &Point<A>, &RunTrace<A>),
 ) -> Prose<A> {
     for wait in end.0.waits.iter() {
         prose = put_wait(prose, programs, end, wait);
@@ -216,7 +216,7 @@ pub(crate) fn put_deadlocks<A: Handle>(
 }
 
 // Adds a debt, and how the two transactions are.
-fn put_debt<A: Handle>(prose: Prose<A>, run: &Telling<A>, debt: &Debt) -> Prose<A> {
+fn put_debt<A: Handle>(prose: Prose<A>, run: &RunTrace<A>, debt: &Debt) -> Prose<A> {
     let owed = match debt.missing() {
         Missing::Commit => "a commit",
         Missing::Abort => "an abort",
@@ -224,13 +224,13 @@ fn put_debt<A: Handle>(prose: Prose<A>, run: &Telling<A>, debt: &Debt) -> Prose<
     let machine = run.machine();
     let prose = put!(prose; "  ", debt.txn.0, " owes ", owed, " by ", debt.kind.word(), " ",
         debt.txn.0, " on ", debt.on.0, ": ", debt.on.0, " ");
-    let prose = put_standing(prose, run.chronicle(), debt.on, machine.status(debt.on));
+    let prose = put_standing(prose, run.lines(), debt.on, machine.status(debt.on));
     let prose = put!(prose; ", ", debt.txn.0, " ");
-    put_standing(prose, run.chronicle(), debt.txn, machine.status(debt.txn)).put("\n")
+    put_standing(prose, run.lines(), debt.txn, machine.status(debt.txn)).put("\n")
 }
 
 /// Adds what is owed, and of each debt whether it can be paid now, later or not any more.
-pub fn put_debts<A: Handle>(mut prose: Prose<A>, run: &Telling<A>, debts: &[Debt]) -> Prose<A> {
+pub fn put_debts<A: Handle>(mut prose: Prose<A>, run: &RunTrace<A>, debts: &[Debt]) -> Prose<A> {
     if debts.is_empty() {
         return prose;
     }

@@ -1,10 +1,11 @@
-//! Runs of `explain`, `draw`, `explore` and `serialize`, each allocation refused in turn; and events that no line can have,
+//! Runs of `explain`, `draw`, `explore`, `compare` and `serialize`, each allocation refused in turn; and events that no line can have,
 //! explained.
 
 use crate::expecting::{MOST, at_least, holds, made, tells};
 use crate::runs::ends;
+use acta_compare::{Asked as AskedModels, Compared, compare_tool};
 use acta_draw::{Choice, Drawing, Form, Screen, draw_tool};
-use acta_explain::{Spoken, Telling, explain_tool};
+use acta_explain::{RunTrace, Spoken, explain_tool};
 use acta_lang::assemble;
 use acta_models::Standard;
 use acta_order::Orders;
@@ -26,6 +27,7 @@ enum Ask {
     DrawSvg,
     Explore(Ends, Option<&'static str>),
     Serialize(Orders, u32),
+    Compare(Compared, Standard),
 }
 
 // Runs a command on an input.
@@ -61,6 +63,15 @@ fn serve<R: Threads + Sync, B: Allocator + Send + Sync>(
                 model: name,
             };
             return serialize_tool(heap, asked, model, &mut input, &mut output);
+        }
+        Ask::Compare(compared, standard) => {
+            let asked = AskedModels {
+                compared,
+                model: name,
+                other: ModelName::Standard(standard),
+            };
+            let other = standard.text().as_bytes();
+            return compare_tool(heap, asked, model, other, &mut input, &mut output, &mut ());
         }
         Ask::Draw => Form::Text { width: Some(100) },
         Ask::DrawSvg => Form::Svg,
@@ -220,6 +231,22 @@ fn serialized(rt: HostRuntime) {
 }
 
 #[test]
+fn compared(rt: HostRuntime) {
+    let heap = Refusing::new(rt.alloc());
+    let ends = Compared::Ends(1_000);
+    for (compared, standard, input, due) in [
+        (Compared::Answers, Standard::Atomic, EVENTS, "0"),
+        (Compared::Answers, Standard::Recoverable, EVENTS, "0"),
+        (ends, Standard::Recoverable, CHOICE, "0"),
+        (ends, Standard::Atomic, CHOICE, "1"),
+        (Compared::Ends(1), Standard::Recoverable, CHOICE, "1"),
+    ] {
+        let ask = Ask::Compare(compared, standard);
+        refuse_run(&rt, (&heap, rt.alloc()), (ask, input), (due, 20));
+    }
+}
+
+#[test]
 fn explained(rt: HostRuntime) {
     let heap = Refusing::new(rt.alloc());
     refuse_run(&rt, (&heap, rt.alloc()), (Ask::Explain, EVENTS), ("0", 50));
@@ -254,13 +281,12 @@ fn drawn_as_svg(rt: HostRuntime) {
 // Explains an event of a class or an object that the model lacks, which no line can have.
 fn explain_lacking(rt: &impl Abort, alloc: Global, event: Event<Global>, due: &str) {
     let model = made(rt, assemble(alloc, Standard::Atomic.text().as_bytes()), due);
-    let mut telling = made(rt, Telling::new(alloc, model), due);
+    let mut run = made(rt, RunTrace::new(alloc, model), due);
     let (line, bytes) = (1, b"".as_slice());
-    made(rt, telling.take(Spoken { line, bytes }, event), due);
-    let rows = telling.chronicle().rows();
-    let reason = rows.first().map_or("", |row| row.reason.as_str());
+    made(rt, run.take(Spoken { line, bytes }, event), due);
+    let reason = run.texts().first().map_or("", |text| text.reason.as_str());
     tells(rt, reason.as_bytes(), due.as_bytes(), due);
-    drop(telling);
+    drop(run);
 }
 
 #[test]

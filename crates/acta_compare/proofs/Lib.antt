@@ -1,0 +1,4 @@
+mod Missing
+mod Selecting
+mod Trying
+mod Zipping

@@ -1,0 +1,41 @@
+-- What `compare` writes for two models.
+use Rattle.std.specs.Prelude.{◌≡◌, ⊤, ℕ, true, false, List, length, nat_lt, if◌then◌else◌, Option, None, Result, Ok, Err}
+use Rattle.acta_table.specs.declared.model.Parts.{Parts}
+use Rattle.acta_script.specs.Reading.{program_line_of}
+use Rattle.acta_tool.specs.declared.args.Command.TheVariants.{Run}
+use Rattle.acta_tool.specs.declared.input.BadLine.{BadLine}
+use Rattle.acta_tool.specs.declared.models.NoModel.{NoModel}
+use Rattle.acta_tool.specs.Models.{model_by}
+use Rattle.acta_tool.specs.Output.{Output, refused_model, said_in}
+use Rattle.acta_compare.specs.declared.args.Compared.{Compared}
+use Rattle.acta_compare.specs.declared.args.Compared.TheVariants.{Answers, Ends}
+
+-- the longer of the bytes of two models
+abbrev pub longer : List ℕ → List ℕ → List ℕ
+longer model other = if nat_lt (length model) (length other) then other else model
+
+-- programs are refused where a model can't read a line of them
+abbrev pub IsAnswerUnless : Option BadLine → Option BadLine → Output → Type 0
+IsAnswerUnless None None out = ⊤
+IsAnswerUnless _ _ out = out.is_refused ≡ true
+
+-- the output on two models for an input: event lines are never refused; the seats of programs are numbered from 1 to 16
+abbrev pub IsAnswerOn : {A : Type 0} → Compared → Parts A → Parts A → List ℕ → Output → Type 0
+IsAnswerOn Answers m other input out = out.is_refused ≡ false
+IsAnswerOn (Ends most) m other input out =
+    IsAnswerUnless (said_in (program_line_of m 16) input).stop (said_in (program_line_of other 16) input).stop out
+
+-- the output on a model, where this is what the bytes of the second mean
+abbrev pub IsAnswerWith : {A : Type 0} → Compared → Parts A → Result (Parts A) NoModel → List ℕ → Output → Type 0
+IsAnswerWith what m (Err fault) input out = out.is_refused ≡ true
+IsAnswerWith what m (Ok other) input out = IsAnswerOn what m other input out
+
+-- the output where this is what the bytes of the models mean
+abbrev pub IsAnswerBy : {A : Type 0} → Compared → Result (Parts A) NoModel → Result (Parts A) NoModel → List ℕ → Output → Type 0
+IsAnswerBy what (Err fault) other input out = out ≡ refused_model fault
+IsAnswerBy what (Ok m) other input out = IsAnswerWith what m other input out
+
+-- the output for the bytes of two models and of an input; A is the allocator's type, which makes no difference
+abbrev pub IsAnswer : (A : Type 0) → Compared → List ℕ → List ℕ → List ℕ → Output → Type 0
+IsAnswer A what model other input out =
+    IsAnswerBy {A = A} what (model_by (Run false) model) (model_by (Run false) other) input out

@@ -1,0 +1,6 @@
+pub mod Answers
+pub mod Differences
+pub mod OnlyIn
+pub mod Seen
+pub mod Selected
+pub mod inside

@@ -1,0 +1,2 @@
+-- What the contracts inside the crate cite.
+pub mod Lines

@@ -1,0 +1,26 @@
+//! The command `compare`: where two models differ on the same input.
+//!
+//! Both models answer the same event lines, or run the same programs in every order. For a reader the first line with
+//! different answers is put into words, with both reasons, and then which other lines differ and what only one of the two
+//! owes. Of programs the ends are shown that only one model has. A call that allocates returns `Err` if memory runs out.
+#![tactic(auto)]
+
+mod answers;
+mod args;
+mod differences;
+mod ends;
+mod only;
+mod owed;
+mod report;
+mod seen;
+mod side;
+mod told;
+mod trial;
+
+pub use args::{Asked, Compared, parse};
+pub use differences::{Comparison, Difference};
+pub use only::only_in;
+pub use owed::owed_only;
+pub use report::{compare_tool, compared};
+pub use seen::Seen;
+pub use trial::Trial;

@@ -1,0 +1,12 @@
+//! One of the two models that are compared.
+
+use acta_machine::Handle;
+use acta_table::Model;
+use acta_tool::ModelName;
+
+/// A model, and how the command line names it.
+#[derive(Drop)]
+pub(crate) struct Side<'a, A: Handle> {
+    pub(crate) name: ModelName<'a>,
+    pub(crate) model: &'a Model<A>,
+}

@@ -1,0 +1,3 @@
+-- What the contracts inside the crate cite.
+pub mod Firsts
+pub mod Kept

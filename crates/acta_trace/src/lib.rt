@@ -1,0 +1,16 @@
+//! A run as a list of steps: for each event the line that says it, the answer, and what it formed.
+//!
+//! Renderers of a run read its steps: a table of answers, a picture, a witness. What a sentence refers to, as the line of an
+//! operation or of the event that ended a transaction, is a step that this crate finds. A call that allocates returns `Err`
+//! if memory runs out.
+#![tactic(auto)]
+
+mod firsts;
+mod index;
+mod step;
+mod steps;
+mod trace;
+
+pub use step::Step;
+pub use steps::Steps;
+pub use trace::Trace;
