@@ -11,16 +11,17 @@ ghost use Rattle.std.specs.Prelude.{◌≡◌, ◌≤◌, false, IfOk, vec_len};
 ghost use Rattle.acta_tool.specs.Outcome.{is_drive};
 
 use crate::progress::Progress;
-use acta_compare::compare_tool;
-use acta_draw::{Drawing, Screen, draw_tool};
-use acta_explain::{Advice, advice_for, explain_tool, is_asked, write_words};
-use acta_models::Standard;
-use acta_programs::explore_tool;
-use acta_serialize::serialize_tool;
-use acta_tool::{
-    Args, Command, Metered, ModelName, Outcome, ReadFault, UsageFault, Watched, drive_tool,
-    exit_status, parse, read_all, read_within, run_tool,
+use acta_args::{
+    ModelName, UsageFault, VERSION, is_command, nearest, parse, refuse_words, turn_help,
 };
+use acta_compare::{CompareLine, compare_tool};
+use acta_draw::{DrawLine, Screen, draw_tool};
+use acta_explain::{Advice, Asked, ExplainLine, advice_for, explain_tool, write_words};
+use acta_io::{Metered, Outcome, ReadFault, Watched, read_all, read_within};
+use acta_models::Standard;
+use acta_programs::{ExploreLine, explore_tool};
+use acta_serialize::{SerializeLine, serialize_tool};
+use acta_tool::{Args, Command, Failure, drive_tool, exit_status, run_tool};
 use std::alloc::AllocError;
 use std::env::Env;
 use std::fs::Files;
@@ -31,10 +32,14 @@ use std::thread::Threads;
 use std::time::Clock;
 use std::{env, fs, io};
 
-// The words of the command line; the first is the program's name.
+// The words of the command line; the first is the program's name. `help COMMAND` becomes `COMMAND --help`.
 fn words<R: Env + AllocGlobal>(rt: &R) -> Result<Vec<String>, UsageFault> {
     match env::args(rt) {
-        Ok(words) => Ok(words.collect(rt.alloc())?),
+        Ok(words) => {
+            let mut words = words.collect(rt.alloc())?;
+            turn_help(rt.alloc(), &mut words)?;
+            Ok(words)
+        }
         Err(e) => match e.kind() {
             io::ErrorKind::OutOfMemory => Err(UsageFault::Memory(AllocError)),
             _ => Err(UsageFault::NotText),
@@ -89,12 +94,7 @@ fn judge_told<R: Eprint + Input + Print + AllocGlobal + Threads + Sync>(
 ) -> Outcome
     requires { is_drive args.now.command ≡ false }
 {
-    let bytes = match read_within(
-        rt.alloc(),
-        args.command,
-        model,
-        &mut Metered::new(rt.reader()),
-    ) {
+    let bytes = match read_within(rt.alloc(), model, &mut Metered::new(rt.reader())) {
         Ok(bytes) => bytes,
         Err(reason) => return Outcome::Unread(reason),
     };
@@ -115,25 +115,30 @@ fn judge_told<R: Eprint + Input + Print + AllocGlobal + Threads + Sync>(
     outcome
 }
 
-// Runs the tool over the standard input and output; the standard error may be a terminal.
+// Runs a command with a specified format over the standard input and output; the standard error may be a terminal.
 fn serve_run<R: Eprint + Files + Input + Print + AllocGlobal + Threads + Wait + Sync>(
     rt: &R,
     is_terminal: bool,
     args: &Args<'_>,
-) -> Outcome {
+) -> Result<Outcome, Failure> {
     let model = match model_bytes(rt, args.model) {
         Ok(model) => model,
-        Err(reason) => return Outcome::Unread(reason),
+        Err(reason) => return Ok(Outcome::Unread(reason)),
     };
     let model = model.as_slice();
     if is_terminal && matches!(args.command, Command::Judge) {
-        return judge_told(rt, args, model);
+        return Ok(judge_told(rt, args, model));
     }
     let mut input = Metered::new(rt.reader());
     let mut output = Watched::new(io::writer(rt));
     match args.command {
-        Command::Drive { .. } => drive_tool(rt, rt.alloc(), args, model, &mut input, &mut output),
-        _ => run_tool(rt, rt.alloc(), args, model, &mut input, &mut output),
+        Command::Drive { .. } => {
+            match drive_tool(rt, rt.alloc(), args, model, &mut input, &mut output) {
+                Ok(outcome) => Ok(outcome),
+                Err(e) => Err(Failure::Undriven(e)),
+            }
+        }
+        _ => Ok(run_tool(rt, rt.alloc(), args, model, &mut input, &mut output)),
     }
 }
 
@@ -163,32 +168,11 @@ fn serve_explain<R: Files + Input + Print + AllocGlobal + Threads + Sync>(
     rt: &R,
     words: &[String],
 ) -> Result<Outcome, UsageFault> {
-    Ok(match acta_explain::parse(rt.alloc(), words)? {
-        acta_explain::Asked::Run(name) => explain_by(rt, false, name),
-        acta_explain::Asked::Judged(name) => explain_by(rt, true, name),
-        acta_explain::Asked::Words(told) => { write_words(told, &mut Watched::new(io::writer(rt))) }
+    Ok(match parse::<ExplainLine>(rt.alloc(), words)? {
+        Asked::Run(name) => explain_by(rt, false, name),
+        Asked::Judged(name) => explain_by(rt, true, name),
+        Asked::Words(told) => write_words(told, &mut Watched::new(io::writer(rt))),
     })
-}
-
-// Draws the lines of the standard input on the model of this name.
-fn draw_by<R: Files + Input + Print + AllocGlobal>(
-    rt: &R,
-    screen: Screen,
-    drawing: &Drawing,
-    name: ModelName<'_>,
-) -> Outcome {
-    let model = match model_bytes(rt, name) {
-        Ok(model) => model,
-        Err(reason) => return Outcome::Unread(reason),
-    };
-    draw_tool(
-        rt.alloc(),
-        drawing,
-        screen,
-        model.as_slice(),
-        &mut Metered::new(rt.reader()),
-        &mut Watched::new(io::writer(rt)),
-    )
 }
 
 // Draws what the words ask for.
@@ -198,8 +182,19 @@ fn serve_draw<R: Env + Files + Input + Print + AllocGlobal>(
     words: &[String],
 ) -> Result<Outcome, UsageFault> {
     let screen = Screen::of(rt, is_terminal);
-    let asked = acta_draw::parse(rt.alloc(), words)?;
-    Ok(draw_by(rt, screen, &asked.drawing, asked.model))
+    let asked = parse::<DrawLine>(rt.alloc(), words)?;
+    let model = match model_bytes(rt, asked.model) {
+        Ok(model) => model,
+        Err(reason) => return Ok(Outcome::Unread(reason)),
+    };
+    Ok(draw_tool(
+        rt.alloc(),
+        &asked.drawing,
+        screen,
+        model.as_slice(),
+        &mut Metered::new(rt.reader()),
+        &mut Watched::new(io::writer(rt)),
+    ))
 }
 
 // Finds how the programs of the standard input can end; the standard error may be a terminal.
@@ -208,7 +203,7 @@ fn serve_explore<R: Clock + Eprint + Files + Input + Print + AllocGlobal>(
     is_terminal: bool,
     words: &[String],
 ) -> Result<Outcome, UsageFault> {
-    let asked = acta_programs::parse(rt.alloc(), words)?;
+    let asked = parse::<ExploreLine>(rt.alloc(), words)?;
     let model = match model_bytes(rt, asked.model) {
         Ok(model) => model,
         Err(reason) => return Ok(Outcome::Unread(reason)),
@@ -229,7 +224,7 @@ fn serve_compare<R: Clock + Eprint + Files + Input + Print + AllocGlobal>(
     is_terminal: bool,
     words: &[String],
 ) -> Result<Outcome, UsageFault> {
-    let asked = acta_compare::parse(rt.alloc(), words)?;
+    let asked = parse::<CompareLine>(rt.alloc(), words)?;
     let model = match model_bytes(rt, asked.model) {
         Ok(model) => model,
         Err(reason) => return Ok(Outcome::Unread(reason)),
@@ -254,7 +249,7 @@ fn serve_serialize<R: Files + Input + Print + AllocGlobal>(
     rt: &R,
     words: &[String],
 ) -> Result<Outcome, UsageFault> {
-    let asked = acta_serialize::parse(rt.alloc(), words)?;
+    let asked = parse::<SerializeLine>(rt.alloc(), words)?;
     let model = match model_bytes(rt, asked.model) {
         Ok(model) => model,
         Err(reason) => return Ok(Outcome::Unread(reason)),
@@ -268,35 +263,60 @@ fn serve_serialize<R: Files + Input + Print + AllocGlobal>(
     ))
 }
 
-// Does what the words ask for; the standard output and the standard error may be terminals.
+// Tells the version.
+fn tell_version<R: Print>(rt: &R) -> Outcome {
+    match println!(rt; "acta {VERSION}") {
+        Ok(()) => Outcome::Done,
+        Err(_) => Outcome::Unwritten,
+    }
+}
+
+// Runs the command that the words name. The standard output and the standard error may be terminals.
 fn serve<R: Clock + Env + Eprint + Files + Input + Print + AllocGlobal + Threads + Wait + Sync>(
     rt: &R,
     is_output_terminal: bool,
     is_error_terminal: bool,
-) -> Result<Outcome, UsageFault> {
-    let words = words(rt)?;
-    let words = words.as_slice();
-    if is_asked(words, "draw") {
-        return serve_draw(rt, is_output_terminal, words);
+    words: &[String],
+) -> Result<Outcome, Failure> {
+    let command = match words.get(1) {
+        Some(command) => command.as_str(),
+        None => "",
+    };
+    Ok(match command {
+        "draw" => serve_draw(rt, is_output_terminal, words)?,
+        "explain" => serve_explain(rt, words)?,
+        "explore" => serve_explore(rt, is_error_terminal, words)?,
+        "compare" => serve_compare(rt, is_error_terminal, words)?,
+        "serialize" => serve_serialize(rt, words)?,
+        "--version" | "-V" => tell_version(rt),
+        _ if is_command(command) => {
+            let args = acta_tool::parse(rt.alloc(), words)?;
+            serve_run(rt, is_error_terminal, &args)?
+        }
+        _ => return Err(Failure::Words(refuse_words(rt.alloc(), words))),
+    })
+}
+
+// Says which standard model was perhaps meant by a word that begins with `@`.
+fn hint_at_standard(rt: &HostRuntime, words: &[String]) {
+    let known = [
+        "@atomic",
+        "@nested",
+        "@split_join",
+        "@recoverable",
+        "@contingent",
+    ];
+    for word in words {
+        if word.as_str().starts_with('@') {
+            if let Ok(Some(meant)) = nearest(rt.alloc(), word.as_bytes(), known.as_slice()) {
+                let _ = eprintln!(rt; "did you mean {meant}?");
+            }
+        }
     }
-    if is_asked(words, "explain") {
-        return serve_explain(rt, words);
-    }
-    if is_asked(words, "explore") {
-        return serve_explore(rt, is_error_terminal, words);
-    }
-    if is_asked(words, "compare") {
-        return serve_compare(rt, is_error_terminal, words);
-    }
-    if is_asked(words, "serialize") {
-        return serve_serialize(rt, words);
-    }
-    let args = parse(rt.alloc(), words)?;
-    Ok(serve_run(rt, is_error_terminal, &args))
 }
 
 // Lists the standard models.
-fn tell_standards(rt: &HostRuntime) {
+fn list_standards(rt: &HostRuntime) {
     let _ = eprintln!(rt; "the standard models are:");
     for name in Standard::ALL {
         let name = name.name();
@@ -304,8 +324,8 @@ fn tell_standards(rt: &HostRuntime) {
     }
 }
 
-// Says why the words ask for nothing. Where there is no memory, nothing is said.
-fn tell_usage(rt: &HostRuntime, fault: &UsageFault) {
+// Says why the words ask for nothing, or what they ask to be told. If memory ran out, nothing is said.
+fn tell_usage(rt: &HostRuntime, words: &[String], fault: &UsageFault) {
     match fault {
         UsageFault::Memory(_) => {}
         UsageFault::Usage(e) => {
@@ -316,15 +336,28 @@ fn tell_usage(rt: &HostRuntime, fault: &UsageFault) {
         }
         UsageFault::UnknownModel => {
             let _ = eprintln!(rt; "{fault}");
-            tell_standards(rt);
+            hint_at_standard(rt, words);
+            list_standards(rt);
         }
     }
 }
 
 fn main(rt: HostRuntime) -> ExitCode {
-    let outcome = serve(&rt, rt.stdout().is_terminal(), rt.stderr().is_terminal());
-    if let Err(fault) = &outcome {
-        tell_usage(&rt, fault);
+    let none = Vec::new(rt.alloc());
+    let (words, outcome) = match words(&rt) {
+        Ok(words) => {
+            let outcome = serve(
+                &rt,
+                rt.stdout().is_terminal(),
+                rt.stderr().is_terminal(),
+                words.as_slice(),
+            );
+            (words, outcome)
+        }
+        Err(fault) => (none, Err(Failure::Words(fault))),
+    };
+    if let Err(Failure::Words(fault)) = &outcome {
+        tell_usage(&rt, words.as_slice(), fault);
     }
     ExitCode::from(exit_status(&outcome))
 }

@@ -9,8 +9,8 @@ use Rattle.acta_table.specs.Numbered.{numbers_from}
 use Rattle.acta_words.specs.Text.{words_of}
 use Rattle.acta_script.specs.declared.fault.LineFault.{LineFault}
 use Rattle.acta_script.specs.Reading.{event_of}
-use Rattle.acta_tool.specs.Output.{said_by}
-use Rattle.acta_tool.proofs.Lines.{has_word}
+use Rattle.acta_io.specs.Input.{said_by}
+use Rattle.acta_io.proofs.Lines.{has_word}
 use Rattle.acta_machine.specs.Table.{State, after, after_all, answer_to, answers_to}
 use Rattle.acta_machine.proofs.Runs.{model-after}
 use Rattle.acta_compare.specs.declared.seen.Seen.{Seen}

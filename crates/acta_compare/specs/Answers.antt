@@ -2,11 +2,11 @@
 use Rattle.std.specs.Prelude.{◌≡◌, ⊤, ℕ, true, false, List, length, nat_lt, if◌then◌else◌, Option, None, Result, Ok, Err}
 use Rattle.acta_table.specs.declared.model.Parts.{Parts}
 use Rattle.acta_script.specs.Reading.{program_line_of}
-use Rattle.acta_tool.specs.declared.args.Command.TheVariants.{Run}
-use Rattle.acta_tool.specs.declared.input.BadLine.{BadLine}
-use Rattle.acta_tool.specs.declared.models.NoModel.{NoModel}
-use Rattle.acta_tool.specs.Models.{model_by}
-use Rattle.acta_tool.specs.Output.{Output, refused_model, said_in}
+use Rattle.acta_io.specs.declared.input.BadLine.{BadLine}
+use Rattle.acta_io.specs.declared.models.NoModel.{NoModel}
+use Rattle.acta_io.specs.Models.{of_either}
+use Rattle.acta_io.specs.Reports.{Output, refused_model}
+use Rattle.acta_io.specs.Input.{said_in}
 use Rattle.acta_compare.specs.declared.args.Compared.{Compared}
 use Rattle.acta_compare.specs.declared.args.Compared.TheVariants.{Answers, Ends}
 
@@ -38,4 +38,4 @@ IsAnswerBy what (Ok m) other input out = IsAnswerWith what m other input out
 -- the output for the bytes of two models and of an input; A is the allocator's type, which makes no difference
 abbrev pub IsAnswer : (A : Type 0) → Compared → List ℕ → List ℕ → List ℕ → Output → Type 0
 IsAnswer A what model other input out =
-    IsAnswerBy {A = A} what (model_by (Run false) model) (model_by (Run false) other) input out
+    IsAnswerBy {A = A} what (of_either model) (of_either other) input out

@@ -1,7 +1,7 @@
 -- The lines at which two models answer differently.
 use Rattle.std.specs.Prelude.{◌≢◌, ℕ, List, [], ◌∷◌}
 use Rattle.acta_table.specs.declared.model.Parts.{Parts}
-use Rattle.acta_tool.specs.Output.{line_numbers}
+use Rattle.acta_io.specs.Input.{line_numbers}
 use Rattle.acta_compare.specs.declared.differences.Difference.{Difference}
 use Rattle.acta_compare.specs.declared.seen.Seen.{Seen}
 use Rattle.acta_compare.specs.Seen.{seen_in}

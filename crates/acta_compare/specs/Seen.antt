@@ -8,7 +8,7 @@ use Rattle.acta_table.specs.declared.model.Parts.{Parts}
 use Rattle.acta_words.specs.Text.{lines_of}
 use Rattle.acta_script.specs.declared.fault.LineFault.{LineFault}
 use Rattle.acta_script.specs.Reading.{event_of}
-use Rattle.acta_tool.specs.Output.{said_by}
+use Rattle.acta_io.specs.Input.{said_by}
 use Rattle.acta_machine.specs.Table.{run_answers}
 use Rattle.acta_compare.specs.declared.seen.Seen.{Seen}
 use Rattle.acta_compare.specs.declared.seen.Seen.TheVariants.{Unread, Admitted, Refused}

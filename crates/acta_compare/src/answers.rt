@@ -7,8 +7,8 @@ use crate::owed::owed_only;
 use crate::side::Side;
 use crate::told::Told;
 use acta_explain::{Prose, Spoken, first_listed, put, put_more, spoken_in};
+use acta_io::Report;
 use acta_machine::Handle;
-use acta_tool::Report;
 use std::alloc::AllocError;
 
 // Adds that the answers to so many lines are the same.

@@ -2,16 +2,16 @@
 
 ghost use Rattle.std.specs.Prelude.{◌≡◌, length, IfOk, slice_get};
 ghost use Rattle.acta_machine.specs.Table.{run_state};
-ghost use Rattle.acta_tool.specs.Output.{line_numbers};
+ghost use Rattle.acta_io.specs.Input.{line_numbers};
 ghost use Rattle.acta_compare.specs.Differences.{Differs, compared, compared_lines};
 ghost use Rattle.acta_compare.specs.Seen.{events_in};
 ghost use Rattle.acta_compare.specs.Selected.{Selects};
 
 use crate::seen::Seen;
 use crate::trial::Trial;
+use acta_io::numbers_of_lines;
 use acta_machine::Handle;
 use acta_table::Model;
-use acta_tool::numbers_of_lines;
 use std::alloc::{AllocError, Allocator};
 
 /// What two models answer to the line with this number.

@@ -8,10 +8,10 @@ use crate::only::only_in;
 use crate::side::Side;
 use acta_explain::{Prose, Spoken, put, put_model_name, spoken_in};
 use acta_explore::{Explored, Plan};
+use acta_io::{Report, numbers_of_lines};
 use acta_machine::Handle;
 use acta_programs::{Programs, put_count, put_end};
 use acta_script::ProgramLine;
-use acta_tool::{Report, numbers_of_lines};
 use std::alloc::AllocError;
 
 /// The ends of programs on a model.

@@ -17,7 +17,7 @@ mod side;
 mod told;
 mod trial;
 
-pub use args::{Asked, Compared, parse};
+pub use args::{Asked, CompareLine, Compared};
 pub use differences::{Comparison, Difference};
 pub use only::only_in;
 pub use owed::owed_only;

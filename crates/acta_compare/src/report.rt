@@ -1,30 +1,30 @@
 //! What is written for the bytes of two models and of an input.
 
 ghost use Rattle.std.specs.Prelude.{◌≡◌, ◌≤◌, ◌+◌, true, ◌||◌, is_some, IfOk, IfSome, false};
-ghost use Rattle.acta_tool.specs.Outcome.{AnswersBy, FailsBy, IsUnreadTooLong, KeepsUnread, WritesBy, is_undriven, reason_of};
-ghost use Rattle.acta_tool.specs.Output.{said_in};
-ghost use Rattle.acta_tool.specs.inside.Reports.{output_of};
+ghost use Rattle.acta_io.specs.Outcome.{AnswersBy, FailsBy, IsUnreadTooLong, KeepsUnread, WritesBy, reason_of};
+ghost use Rattle.acta_io.specs.Input.{said_in};
+ghost use Rattle.acta_io.specs.inside.Reports.{output_of};
 ghost use Rattle.acta_script.specs.Reading.{program_line_of};
 ghost use Rattle.acta_explore.specs.Ends.{AreAllEnds};
 ghost use Rattle.acta_compare.specs.Answers.{IsAnswer, IsAnswerOn, IsAnswerUnless, IsAnswerWith, longer};
-ghost use Rattle.acta_tool.specs.declared.args.Command.TheVariants.{Run};
-ghost use Rattle.acta_tool.specs.Models.{model_by};
+ghost use Rattle.acta_io.specs.Models.{of_either};
 ghost use Rattle.acta_compare.specs.OnlyIn.{HasOutcomes};
 
 use crate::answers::explain_answers;
 use crate::args::{Asked, Compared};
 use crate::ends::{Ends, explain_only};
 use crate::side::Side;
+use acta_args::ModelName;
 use acta_explain::{Prose, name_text, put, put_model_name};
 use acta_explore::{ExploreError, Explored, Watch, explore};
+use acta_io::{
+    BadLine, ModelError, NoModel, Outcome, ProgramLines, ReadFault, Report, Sink, Source,
+    read_lines, read_model, read_within, refuse_model, write_report,
+};
 use acta_machine::Handle;
 use acta_programs::{MOST_SEATS, explain_incomplete};
 use acta_script::ProgramLine;
 use acta_table::Model;
-use acta_tool::{
-    BadLine, Command, ModelError, ModelName, NoModel, Outcome, ProgramLines, ReadFault, Report,
-    Sink, Source, read_lines, read_model, read_within, refuse_model, write_report,
-};
 use std::alloc::AllocError;
 
 // A report that refuses the input, with the name of a model before it.
@@ -246,9 +246,9 @@ fn compare_with<A: Handle, W: Watch>(
     input: &[u8],
     watch: &mut W,
 ) -> Result<Report<A>, AllocError>
-    ensures { IfOk result (λ report. IsAnswerWith asked.entry.compared model.now (model_by (Run false) other.now) input.now (output_of report)) }
+    ensures { IfOk result (λ report. IsAnswerWith asked.entry.compared model.now (of_either other.now) input.now (output_of report)) }
 {
-    match read_model(alloc, Command::Run { kept: false }, other) {
+    match read_model(alloc, other) {
         Ok(second) => {
             let one = Side {
                 name: asked.model,
@@ -277,7 +277,7 @@ pub fn compared<A: Handle, W: Watch>(
 ) -> Result<Report<A>, AllocError>
     ensures { IfOk result (λ report. IsAnswer A asked.entry.compared model.now other.now input.now (output_of report)) }
 {
-    match read_model(alloc, Command::Run { kept: false }, model) {
+    match read_model(alloc, model) {
         Ok(first) => compare_with(alloc, asked, &first, other, input, watch),
         Err(ModelError::Fault(fault)) => refuse_model(alloc, fault),
         Err(ModelError::Memory) => Err(AllocError),
@@ -312,10 +312,9 @@ pub fn compare_tool<A: Handle, W: Watch, S: Source, K: Sink>(
     ensures reads { S.reads input.new ≤ S.reads input.old + 16777217 }
     ensures failed { FailsBy (reason_of result) (S.has_failed input.old) (S.has_failed input.new) }
     ensures too_long { IsUnreadTooLong (longer model.now other.now) (S.remaining input.old) (reason_of result) }
-    ensures undriven { is_undriven result ≡ false }
 {
     let longest = longer(model, other);
-    let bytes = match read_within(alloc, Command::Run { kept: false }, longest, input) {
+    let bytes = match read_within(alloc, longest, input) {
         Ok(bytes) => bytes,
         Err(reason) => return Outcome::Unread(reason),
     };

@@ -1,8 +1,8 @@
 //! One of the two models that are compared.
 
+use acta_args::ModelName;
 use acta_machine::Handle;
 use acta_table::Model;
-use acta_tool::ModelName;
 
 /// A model, and how the command line names it.
 #[derive(Drop)]

@@ -2,7 +2,7 @@
 
 ghost use Rattle.std.specs.Prelude.{◌≡◌, length, IfOk, OnOk};
 ghost use Rattle.acta_machine.specs.Table.{run_state};
-ghost use Rattle.acta_tool.specs.Output.{line_numbers};
+ghost use Rattle.acta_io.specs.Input.{line_numbers};
 ghost use Rattle.acta_words.specs.Text.{lines_of};
 ghost use Rattle.acta_compare.specs.Seen.{events_in, seen_in};
 ghost use Rattle.acta_compare.specs.inside.Lines.{seen_at, seen_from, state_at, state_from};

@@ -2,9 +2,10 @@
 
 use crate::choice::Choice;
 use crate::layout::{LEAST_WIDTH, MOST_WIDTH};
-use acta_explain::{called, flag, matched, model_arg, option, usage, with_arg};
+use acta_args::{
+    CommandLine, ModelName, UsageFault, flag, model_arg, model_named, option, usage, with_arg,
+};
 use acta_table::{MOST_EVENTS, TxnId};
-use acta_tool::{ModelName, UsageFault, model_named};
 use acta_words::read_u16;
 use clap::builder::ValueParser;
 use clap::error::ErrorKind;
@@ -57,32 +58,6 @@ fn number<'a>(
 ) -> Arg<'a> {
     let numbers = ValueParser::Unsigned(least as u64, most as u64);
     option(alloc, id, value, help).value_parser(numbers)
-}
-
-// The command line that is taken.
-fn surface<'a>(alloc: Global, name: &str) -> Result<Command<'a>, AllocError> {
-    let command = Command::new(alloc, "acta_tool draw")
-        .no_binary_name(true)
-        .about(
-            "Draws the history of the event lines of the standard input on MODEL: a lane for each transaction, a row for each event",
-        )
-        .after_help(LEGEND)
-        .bin_name(name);
-    let command = with_arg(command, model_arg(alloc).required(true));
-    let help = "Draws an SVG, which a browser shows";
-    let command = with_arg(command, flag(alloc, "svg", help));
-    let help = "Draws only these transactions, in this order";
-    let command = with_arg(command, option(alloc, "txns", "T,T..", help));
-    let help = "Draws only from this place on";
-    let command = with_arg(
-        command,
-        number(alloc, "from", "PLACE", 1, MOST_EVENTS, help),
-    );
-    let help = "Draws only up to this place";
-    let command = with_arg(command, number(alloc, "to", "PLACE", 1, MOST_EVENTS, help));
-    let help = "How wide a text may be: else COLUMNS of the environment tells, or it is 100";
-    let width = number(alloc, "width", "COLUMNS", LEAST_WIDTH, MOST_WIDTH, help);
-    with_arg(command, width)
 }
 
 // The transactions that are listed so, with commas between them, each once; nothing where it is no such list.
@@ -168,27 +143,40 @@ fn asked_by<'a>(
     }
 }
 
-// What the words after `draw` ask for.
-fn asked_on<'a>(
-    alloc: Global,
-    mut surface: Command<'a>,
-    words: &'a [String],
-) -> Result<Asked<'a>, UsageFault> {
-    let asked = match matched(&mut surface, words) {
-        Ok(matches) => asked_by(alloc, &mut surface, &matches),
-        Err(fault) => Err(fault),
-    };
-    drop(surface);
-    asked
-}
+/// The command line of `draw`.
+pub struct DrawLine;
 
-/// What the words ask for; the first is the program's name, and the second `draw`. `Usage` where they are no such
-/// command line or ask for help, with the text of `clap`; `UnknownModel` where no standard model has the name after the
-/// `@`; `Memory` where there is none.
-pub fn parse<'a>(alloc: Global, words: &'a [String]) -> Result<Asked<'a>, UsageFault> {
-    let name = called(alloc, words, "draw")?;
-    match surface(alloc, name.as_str()) {
-        Ok(surface) => asked_on(alloc, surface, words.get(2..).unwrap_or(&[])),
-        Err(e) => Err(UsageFault::Memory(e)),
+impl<'a> CommandLine<'a> for DrawLine {
+    type Asked = Asked<'a>;
+
+    fn surface(alloc: Global) -> Result<Command<'a>, AllocError> {
+        let command = Command::new(alloc, "acta draw")
+            .about(
+                "Draws the history of the event lines of the standard input on MODEL: a lane for each transaction, a row for each event",
+            )
+            .after_help(LEGEND);
+        let command = command.arg(model_arg(alloc).required(true));
+        let help = "Draws an SVG, which a browser shows";
+        let command = with_arg(command, flag(alloc, "svg", help));
+        let help = "Draws only these transactions, in this order";
+        let command = with_arg(command, option(alloc, "txns", "T,T..", help));
+        let help = "Draws only from this place on";
+        let command = with_arg(
+            command,
+            number(alloc, "from", "PLACE", 1, MOST_EVENTS, help),
+        );
+        let help = "Draws only up to this place";
+        let command = with_arg(command, number(alloc, "to", "PLACE", 1, MOST_EVENTS, help));
+        let help = "How wide a text may be: else COLUMNS of the environment tells, or it is 100";
+        let width = number(alloc, "width", "COLUMNS", LEAST_WIDTH, MOST_WIDTH, help);
+        with_arg(command, width)
+    }
+
+    fn asked(
+        alloc: Global,
+        surface: &mut Command<'a>,
+        matches: &ArgMatches<'a>,
+    ) -> Result<Asked<'a>, UsageFault> {
+        asked_by(alloc, surface, matches)
     }
 }

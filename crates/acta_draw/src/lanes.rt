@@ -8,9 +8,9 @@ ghost use Rattle.acta_draw.specs.Rows.{place_after, returned};
 use crate::marks::{Deed, Figure, figure_of};
 use acta_explain::{RunTrace, Spoken, spoken_in};
 use acta_hope::heir;
+use acta_io::{BadLine, Input};
 use acta_machine::Handle;
 use acta_table::{Answer, Edge, Event, Model, OpNo, Owed, Ret, TxnId};
-use acta_tool::{BadLine, Input};
 use acta_trace::Step;
 use std::alloc::{AllocError, Allocator};
 

@@ -23,7 +23,7 @@ mod svg;
 mod text;
 mod wrapping;
 
-pub use args::{Asked, Drawing, Form, parse};
+pub use args::{Asked, DrawLine, Drawing, Form};
 pub use choice::{Choice, Picked};
 pub use lanes::{Lanes, Row};
 pub use marks::{Deed, Figure, Mark, Marked, Tie};

@@ -1,11 +1,11 @@
 //! What is written for the bytes of a model and of an input.
 
 ghost use Rattle.std.specs.Prelude.{◌≡◌, ◌≤◌, ◌+◌, true, false, is_some, IfOk, IfSome};
-ghost use Rattle.acta_explain.specs.Statuses.{EndsAs};
 ghost use Rattle.acta_script.specs.Reading.{event_of};
-ghost use Rattle.acta_tool.specs.declared.args.Command.TheVariants.{Run};
-ghost use Rattle.acta_tool.specs.Outcome.{FailsBy, IsUnreadTooLong, KeepsUnread, WritesBy, is_undriven, reason_of};
-ghost use Rattle.acta_tool.specs.Output.{output_on, said_in, tool_output};
+ghost use Rattle.acta_io.specs.Outcome.{FailsBy, IsUnreadTooLong, KeepsUnread, WritesBy, reason_of};
+ghost use Rattle.acta_io.specs.Models.{of_either};
+ghost use Rattle.acta_io.specs.Refusals.{EndsAs, refuses_events};
+ghost use Rattle.acta_io.specs.Input.{said_in};
 
 use crate::args::{Drawing, Form};
 use crate::lanes::Lanes;
@@ -13,12 +13,12 @@ use crate::screen::Screen;
 use crate::sentences::line_text;
 use crate::svg::{draw_svg, draw_words};
 use crate::text::draw_text;
-use acta_machine::Handle;
-use acta_table::Model;
-use acta_tool::{
-    Command, EventLines, ModelError, NoModel, Outcome, ReadFault, Report, Sink, Source, read_lines,
+use acta_io::{
+    EventLines, ModelError, NoModel, Outcome, ReadFault, Report, Sink, Source, read_lines,
     read_model, read_within, refuse_line, refuse_model, write_report,
 };
+use acta_machine::Handle;
+use acta_table::Model;
 use std::alloc::AllocError;
 
 // The picture of the lanes, and behind it the line that is faulty, where one is.
@@ -98,22 +98,8 @@ fn draw_run<A: Handle>(
     })
 }
 
-// The same, which is refused where `run` refuses it.
-#[tactic(auto, unfolding(acta_tool::specs::Output::run_on))]
-fn draw_on<A: Handle>(
-    alloc: A,
-    drawing: &Drawing,
-    screen: Screen,
-    model: Model<A>,
-    input: &[u8],
-) -> Result<Report<A>, AllocError>
-    ensures { IfOk result (λ report. report.is_refused ≡ (output_on (Run false) model input.now).is_refused) }
-{
-    draw_run(alloc, drawing, screen, model, input)
-}
-
-/// What is drawn for the bytes of a model and of an input, which is refused where `run` refuses it. `Err` where there is
-/// no memory.
+/// What is drawn for the bytes of a model and of an input, which is refused if the model or a line is
+/// faulty, as `run` refuses it.
 pub fn draw<A: Handle>(
     alloc: A,
     drawing: &Drawing,
@@ -121,10 +107,10 @@ pub fn draw<A: Handle>(
     model: &[u8],
     input: &[u8],
 ) -> Result<Report<A>, AllocError>
-    ensures { IfOk result (λ report. report.is_refused ≡ (tool_output A (Run false) model.now input.now).is_refused) }
+    ensures { IfOk result (λ report. report.is_refused ≡ refuses_events {A = A} (of_either model.now) input.now) }
 {
-    match read_model(alloc, Command::Run { kept: false }, model) {
-        Ok(model) => draw_on(alloc, drawing, screen, model, input),
+    match read_model(alloc, model) {
+        Ok(model) => draw_run(alloc, drawing, screen, model, input),
         Err(ModelError::Fault(fault)) => no_model(alloc, drawing, fault),
         Err(ModelError::Memory) => Err(AllocError),
     }
@@ -140,15 +126,14 @@ pub fn draw_tool<A: Handle, S: Source, W: Sink>(
     input: &mut S,
     output: &mut W,
 ) -> Outcome
-    ensures status { IfSome (S.remaining input.old) (λ bytes. EndsAs result (tool_output A (Run false) model.now bytes).is_refused) }
+    ensures status { IfSome (S.remaining input.old) (λ bytes. EndsAs result (refuses_events {A = A} (of_either model.now) bytes)) }
     ensures unread { KeepsUnread result (W.contents output.old) (W.contents output.new) }
     ensures written { WritesBy result (W.has_failed output.old) (W.has_failed output.new) }
     ensures reads { S.reads input.new ≤ S.reads input.old + 16777217 }
     ensures failed { FailsBy (reason_of result) (S.has_failed input.old) (S.has_failed input.new) }
     ensures too_long { IsUnreadTooLong model.now (S.remaining input.old) (reason_of result) }
-    ensures undriven { is_undriven result ≡ false }
 {
-    let bytes = match read_within(alloc, Command::Run { kept: false }, model, input) {
+    let bytes = match read_within(alloc, model, input) {
         Ok(bytes) => bytes,
         Err(reason) => return Outcome::Unread(reason),
     };

@@ -9,9 +9,9 @@ use Rattle.acta_axioms.specs.declared.fault.Axiom.TheVariants.{Return, Conflict}
 use Rattle.acta_axioms.specs.declared.fault.Fault.{Fault}
 use Rattle.acta_judge.specs.Verdicts.{verdict}
 use Rattle.acta_script.specs.Reading.{kept_of}
-use Rattle.acta_tool.specs.declared.input.BadLine.{BadLine}
-use Rattle.acta_tool.specs.declared.models.NoModel.{NoModel}
-use Rattle.acta_tool.specs.Output.{said_in}
+use Rattle.acta_io.specs.declared.input.BadLine.{BadLine}
+use Rattle.acta_io.specs.declared.models.NoModel.{NoModel}
+use Rattle.acta_io.specs.Input.{said_in}
 use Rattle.acta_explain.specs.declared.advice.Advice.{Advice}
 use Rattle.acta_explain.specs.declared.advice.Advice.TheVariants.{Serialize, SayReturns}
 

@@ -3,14 +3,13 @@
 ghost use Rattle.std.specs.Prelude.{◌≡◌, IfOk};
 ghost use Rattle.std.specs.List.{list_all, list_any};
 ghost use Rattle.acta_explain.specs.Advice.{advice_by, advice_in, advice_of, has_return, is_mild};
-ghost use Rattle.acta_tool.specs.declared.args.Command.TheVariants.{Judge};
-ghost use Rattle.acta_tool.specs.Models.{model_by};
+ghost use Rattle.acta_io.specs.Models.{of_either};
 
 use acta_axioms::{Axiom, Fault};
+use acta_io::{KeptLines, ModelError, read_lines, read_model};
 use acta_judge::judge;
 use acta_machine::Handle;
 use acta_table::{Kept, MOST_EVENTS, Model};
-use acta_tool::{Command, KeptLines, ModelError, read_lines, read_model};
 use std::alloc::AllocError;
 use std::thread::Threads;
 
@@ -91,9 +90,9 @@ pub fn advice_for<A: Handle + Send + Sync, R: Threads + Sync>(
     model: &[u8],
     input: &[u8],
 ) -> Result<Option<Advice>, AllocError>
-    ensures { IfOk result (λ advice. advice ≡ advice_by {A = A} (model_by Judge model.now) input.now) }
+    ensures { IfOk result (λ advice. advice ≡ advice_by {A = A} (of_either model.now) input.now) }
 {
-    let model = match read_model(alloc, Command::Judge, model) {
+    let model = match read_model(alloc, model) {
         Ok(model) => model,
         Err(ModelError::Fault(_)) => return Ok(None),
         Err(ModelError::Memory) => return Err(AllocError),

@@ -9,10 +9,10 @@ use crate::placed::{Placed, column_behind, placed_words, put_shown};
 use crate::prose::Prose;
 use crate::put;
 use crate::words::KIND_WORDS;
+use acta_io::{BadLine, refuse_line};
 use acta_machine::Handle;
 use acta_script::LineFault;
 use acta_table::Model;
-use acta_tool::{BadLine, refuse_line};
 use acta_words::{Lines, read_i32, read_i64, read_u16, read_u32};
 use std::alloc::AllocError;
 

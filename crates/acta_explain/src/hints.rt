@@ -1,41 +1,9 @@
-//! The word that was perhaps meant: one letter off a known one.
+//! The hint at a word that was perhaps meant.
 
 use crate::prose::Prose;
 use crate::put;
-use std::alloc::{AllocError, Allocator};
-use strsim::osa_distance;
-
-// A longer word is never one letter off a known one.
-const LONGEST: usize = 33;
-
-/// The first of the known words that is one letter off: of which one letter is missing, too many, another, or changed
-/// for its neighbour, or of which only the case differs. None for a word that is known. `Err` where there is no memory.
-pub fn nearest<'a, A: Allocator + Copy>(
-    alloc: A,
-    word: &[u8],
-    known: &[&'a str],
-) -> Result<Option<&'a str>, AllocError> {
-    if word.len() > LONGEST {
-        return Ok(None);
-    }
-    let Ok(word) = std::str::from_utf8(word) else {
-        return Ok(None);
-    };
-    if known.contains(&word) {
-        return Ok(None);
-    }
-    for one in known {
-        if one.eq_ignore_ascii_case(word) {
-            return Ok(Some(*one));
-        }
-    }
-    for one in known {
-        if one.len() > 1 && osa_distance(alloc, word, one)? == 1 {
-            return Ok(Some(*one));
-        }
-    }
-    Ok(None)
-}
+use acta_args::nearest;
+use std::alloc::Allocator;
 
 /// Adds the hint at the word that was perhaps meant, as a line, where there is one.
 pub fn put_hint<A: Allocator + Copy>(

@@ -1,10 +1,11 @@
 //! The verdict on kept lines, told in words: each fault with its axiom, its line and what breaks the axiom there, and
 //! then what is owed.
 
-ghost use Rattle.std.specs.Prelude.{◌≡◌, ◌≤◌, length, true, IfOk, None};
+ghost use Rattle.std.specs.Prelude.{◌≡◌, ◌≤◌, length, nat_lt, true, IfOk};
 ghost use Rattle.acta_script.specs.Reading.{kept_of};
 ghost use Rattle.acta_table.specs.declared.limits.TheConstants.{MOST_EVENTS};
-ghost use Rattle.acta_tool.specs.Output.{judge_on, judged_on, said_in};
+ghost use Rattle.acta_io.specs.Refusals.{refuses_kept_on};
+ghost use Rattle.acta_io.specs.Input.{said_in};
 
 use crate::faults::{Stop, put_lines, put_stop};
 use crate::phrases::{
@@ -17,12 +18,12 @@ use crate::run_trace::MOST_TOLD;
 use crate::spoken::{Spoken, spoken_in};
 use crate::told::{LineIndex, LineText, StepText};
 use acta_axioms::{Axiom, Fault, Walk};
+use acta_io::{KeptLines, Report, read_lines};
 use acta_judge::{Verdict, judge};
 use acta_machine::Handle;
 use acta_objects::form_fault;
 use acta_script::{fault_line, owed_line};
 use acta_table::{Answer, Event, Kept, LAST_TXN, MOST_EVENTS, Model, OpNo, Owed, Ret, TxnId};
-use acta_tool::{KeptLines, Report, read_lines};
 use acta_trace::{Step, Steps};
 use std::alloc::AllocError;
 use std::thread::Threads;
@@ -381,7 +382,7 @@ fn explain_kept<A: Handle + Send + Sync, R: Threads + Sync>(
     kept: &[Kept<A>],
     lines: &[Spoken<'_>],
 ) -> Result<Report<A>, AllocError>
-    ensures { IfOk result (λ report. report.is_refused ≡ (judged_on model.now kept.now None).is_refused) }
+    ensures { IfOk result (λ report. report.is_refused ≡ nat_lt MOST_EVENTS (length kept.now)) }
 {
     if kept.len() > MOST_EVENTS {
         return too_long(alloc);
@@ -406,7 +407,7 @@ pub fn explain_judged<A: Handle + Send + Sync, R: Threads + Sync>(
     model: &Model<A>,
     input: &[u8],
 ) -> Result<Report<A>, AllocError>
-    ensures { IfOk result (λ report. report.is_refused ≡ (judge_on model.now (said_in (kept_of model.now) input.now)).is_refused) }
+    ensures { IfOk result (λ report. report.is_refused ≡ refuses_kept_on (said_in (kept_of model.now) input.now)) }
 {
     let read = read_lines(alloc, &KeptLines { alloc, model }, input)?;
     match read.stop {

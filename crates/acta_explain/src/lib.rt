@@ -32,10 +32,9 @@ mod told;
 mod words;
 
 pub use advice::{Advice, advice_for};
-pub use args::{Asked, called, flag, is_asked, matched, model_arg, option, parse, usage, with_arg};
+pub use args::{Asked, ExplainLine};
 pub use debts::put_prospect;
 pub use faults::{Stop, put_stop};
-pub use hints::nearest;
 pub use images::{Field, field_at};
 pub use layout::{digits, put_barred};
 pub use listing::{first_listed, put_more};

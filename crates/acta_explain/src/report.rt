@@ -1,9 +1,9 @@
 //! What is written for the bytes of a model and of an input.
 
-ghost use Rattle.std.specs.Prelude.{◌≡◌, ◌≤◌, ◌+◌, true, false, IfOk, IfSome};
-ghost use Rattle.acta_explain.specs.Statuses.{EndsAs, command_like};
-ghost use Rattle.acta_tool.specs.Outcome.{FailsBy, IsUnreadTooLong, KeepsUnread, WritesBy, is_undriven, reason_of};
-ghost use Rattle.acta_tool.specs.Output.{output_on, tool_output};
+ghost use Rattle.std.specs.Prelude.{◌≡◌, ◌≤◌, ◌+◌, true, false, Ok, IfOk, IfSome};
+ghost use Rattle.acta_io.specs.Outcome.{FailsBy, IsUnreadTooLong, KeepsUnread, WritesBy, reason_of};
+ghost use Rattle.acta_io.specs.Models.{of_either};
+ghost use Rattle.acta_io.specs.Refusals.{EndsAs, refuses};
 
 use crate::faults::put_lines;
 use crate::images::put_image_fault;
@@ -13,12 +13,13 @@ use crate::prose::Prose;
 use crate::put;
 use crate::run::explain_run;
 use crate::texts::put_text_fault;
+use acta_args::ModelName;
+use acta_io::{
+    ModelError, NoModel, Outcome, ReadFault, Report, Sink, Source, read_model, read_within,
+    refuse_model, write_report,
+};
 use acta_machine::Handle;
 use acta_table::Model;
-use acta_tool::{
-    Command, ModelError, ModelName, NoModel, Outcome, ReadFault, Report, Sink, Source, read_model,
-    read_within, refuse_model, write_report,
-};
 use std::alloc::{AllocError, Global};
 use std::thread::Threads;
 
@@ -70,19 +71,7 @@ fn explain_no_model<A: Handle>(
     })
 }
 
-// The command that takes the lines in the same way.
-fn command_like(is_judged: bool) -> Command
-    ensures { result ≡ command_like is_judged }
-{
-    if is_judged {
-        Command::Judge
-    } else {
-        Command::Run { kept: false }
-    }
-}
-
 // What is told on a model.
-#[tactic(auto, unfolding(acta_tool::specs::Output::run_on))]
 fn explain_on<A: Handle + Send + Sync, R: Threads + Sync>(
     rt: &R,
     alloc: A,
@@ -90,7 +79,7 @@ fn explain_on<A: Handle + Send + Sync, R: Threads + Sync>(
     model: Model<A>,
     input: &[u8],
 ) -> Result<Report<A>, AllocError>
-    ensures { IfOk result (λ report. report.is_refused ≡ (output_on (command_like is_judged) model input.now).is_refused) }
+    ensures { IfOk result (λ report. report.is_refused ≡ refuses is_judged (Ok model) input.now) }
 {
     if is_judged {
         explain_judged(rt, alloc, &model, input)
@@ -109,9 +98,9 @@ pub fn explain<A: Handle + Send + Sync, R: Threads + Sync>(
     model: &[u8],
     input: &[u8],
 ) -> Result<Report<A>, AllocError>
-    ensures { IfOk result (λ report. report.is_refused ≡ (tool_output A (command_like is_judged) model.now input.now).is_refused) }
+    ensures { IfOk result (λ report. report.is_refused ≡ refuses {A = A} is_judged (of_either model.now) input.now) }
 {
-    match read_model(alloc, command_like(is_judged), model) {
+    match read_model(alloc, model) {
         Ok(model) => explain_on(rt, alloc, is_judged, model, input),
         Err(ModelError::Fault(fault)) => explain_no_model(alloc, name, model, fault),
         Err(ModelError::Memory) => Err(AllocError),
@@ -129,15 +118,14 @@ pub fn explain_tool<A: Handle + Send + Sync, R: Threads + Sync, S: Source, W: Si
     input: &mut S,
     output: &mut W,
 ) -> Outcome
-    ensures status { IfSome (S.remaining input.old) (λ bytes. EndsAs result (tool_output A (command_like is_judged) model.now bytes).is_refused) }
+    ensures status { IfSome (S.remaining input.old) (λ bytes. EndsAs result (refuses {A = A} is_judged (of_either model.now) bytes)) }
     ensures unread { KeepsUnread result (W.contents output.old) (W.contents output.new) }
     ensures written { WritesBy result (W.has_failed output.old) (W.has_failed output.new) }
     ensures reads { S.reads input.new ≤ S.reads input.old + 16777217 }
     ensures failed { FailsBy (reason_of result) (S.has_failed input.old) (S.has_failed input.new) }
     ensures too_long { IsUnreadTooLong model.now (S.remaining input.old) (reason_of result) }
-    ensures undriven { is_undriven result ≡ false }
 {
-    let bytes = match read_within(alloc, command_like(is_judged), model, input) {
+    let bytes = match read_within(alloc, model, input) {
         Ok(bytes) => bytes,
         Err(reason) => return Outcome::Unread(reason),
     };

@@ -4,7 +4,7 @@
 ghost use Rattle.std.specs.Prelude.{◌≡◌, IfOk, is_some};
 ghost use Rattle.acta_script.specs.Answers.{answer_line};
 ghost use Rattle.acta_script.specs.Reading.{event_of};
-ghost use Rattle.acta_tool.specs.Output.{said_in};
+ghost use Rattle.acta_io.specs.Input.{said_in};
 
 use crate::deadlocks::put_deadlocks;
 use crate::debts::put_prospect;
@@ -17,10 +17,10 @@ use crate::run_trace::{MOST_TOLD, RunTrace};
 use crate::spoken::{Spoken, spoken_in};
 use crate::told::StepText;
 use acta_hope::never_begin;
+use acta_io::{BadLine, EventLines, Input, Report, read_lines};
 use acta_machine::Handle;
 use acta_script::{answer_line, owed_line};
 use acta_table::{Event, Model, Owed};
-use acta_tool::{BadLine, EventLines, Input, Report, read_lines};
 use acta_trace::Step;
 use std::alloc::AllocError;
 

@@ -7,11 +7,11 @@ use Rattle.acta_words.specs.Text.{line_of, text_of}
 use Rattle.acta_script.specs.declared.programs.ProgramLine.{ProgramLine}
 use Rattle.acta_script.specs.Reading.{program_line_of}
 use Rattle.acta_script.specs.Writing.{event_line}
-use Rattle.acta_tool.specs.declared.args.Command.TheVariants.{Run}
-use Rattle.acta_tool.specs.declared.input.BadLine.{BadLine}
-use Rattle.acta_tool.specs.declared.models.NoModel.{NoModel}
-use Rattle.acta_tool.specs.Models.{model_by}
-use Rattle.acta_tool.specs.Output.{Output, Said, line_numbers, refused_by, refused_model, said_in, stop_line}
+use Rattle.acta_io.specs.declared.input.BadLine.{BadLine}
+use Rattle.acta_io.specs.declared.models.NoModel.{NoModel}
+use Rattle.acta_io.specs.Models.{of_either}
+use Rattle.acta_io.specs.Reports.{Output, refused_by, refused_model, stop_line}
+use Rattle.acta_io.specs.Input.{Said, line_numbers, said_in}
 use Rattle.acta_explore.specs.Ends.{AreAllEnds}
 use Rattle.acta_explore.specs.Points.{Point}
 use Rattle.acta_explore.specs.Programs.{Programs}
@@ -107,4 +107,4 @@ IsAnswerBy form given most (Ok m) input out = IsAnswerOn form given most m input
 
 -- the output for the bytes of a model and of an input; A is the allocator's type, which makes no difference
 abbrev pub IsAnswer : (A : Type 0) → Form → Bool → ℕ → List ℕ → List ℕ → Output → Type 0
-IsAnswer A form given most model input out = IsAnswerBy {A = A} form given most (model_by (Run false) model) input out
+IsAnswer A form given most model input out = IsAnswerBy {A = A} form given most (of_either model) input out

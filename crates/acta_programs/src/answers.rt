@@ -6,16 +6,16 @@ ghost use Rattle.acta_words.specs.Text.{text_of};
 ghost use Rattle.acta_script.specs.Laws.{IsInModel};
 ghost use Rattle.acta_script.specs.Writing.{event_line};
 ghost use Rattle.acta_explore.specs.Outcomes.{outcome};
-ghost use Rattle.acta_tool.specs.inside.Reports.{output_of};
+ghost use Rattle.acta_io.specs.inside.Reports.{output_of};
 ghost use Rattle.acta_programs.specs.Answers.{HasIncompleteLine, IsOfEnds, end_events, incomplete_line, kept_event_line, no_end_line, order_events};
 ghost use Rattle.acta_programs.specs.declared.args.Form.TheVariants.{Lines as lines_form};
 
 use acta_ends::{Condition, ends_lines};
 use acta_explore::{Explored, Point};
+use acta_io::{Report, refuse_by};
 use acta_machine::{Handle, Machine};
 use acta_script::{ProgramLine, write_event};
 use acta_table::{Event, Model};
-use acta_tool::{Report, refuse_by};
 use acta_words::{push_line, push_natural, push_word};
 use std::alloc::{AllocError, Allocator};
 

@@ -1,7 +1,8 @@
 //! What the words of a command line of `explore` ask for.
 
-use acta_explain::{called, flag, matched, model_arg, option, with_arg};
-use acta_tool::{ModelName, UsageFault, model_named};
+use acta_args::{
+    CommandLine, ModelName, UsageFault, flag, model_arg, model_named, option, with_arg,
+};
 use clap::builder::ValueParser;
 use clap::{Arg, ArgMatches, Command};
 use std::alloc::{AllocError, Global};
@@ -50,28 +51,6 @@ pub fn most_option<'a>(alloc: Global) -> Arg<'a> {
     number(alloc, "most", "N", help).default_value("1000000")
 }
 
-// The command line that is taken.
-fn surface<'a>(alloc: Global, name: &str) -> Result<Command<'a>, AllocError> {
-    let help = "Writes only the events of the first order that leads to end K";
-    let end = number(alloc, "end", "K", help)
-        .conflicts_with("lines")?
-        .conflicts_with("where")?;
-    let command = Command::new(alloc, "acta_tool explore")
-        .no_binary_name(true)
-        .about(
-            "Finds every way in which the programs of the standard input can end on MODEL, whatever the order of their steps. Each line is SEAT EVENT [| EVENT]..: a seat does its lines in order, and of each line one of the alternatives",
-        )
-        .after_help(CONDITIONS)
-        .bin_name(name);
-    let command = with_arg(command, model_arg(alloc).required(true));
-    let help = "Writes the ends as lines, for another program";
-    let command = with_arg(command, flag(alloc, "lines", help));
-    let command = with_arg(command, end);
-    let help = "Keeps only the ends for which the condition holds";
-    let command = with_arg(command, option(alloc, "where", "CONDITION", help));
-    with_arg(command, most_option(alloc))
-}
-
 // The form that the matches ask for.
 fn form_asked(matches: &ArgMatches<'_>) -> Form {
     match matches.get_one::<u32>("end") {
@@ -94,23 +73,36 @@ fn asked_by<'a>(matches: &ArgMatches<'a>) -> Result<Asked<'a>, UsageFault> {
     }
 }
 
-// What the words after `explore` ask for.
-fn asked_on<'a>(mut surface: Command<'a>, words: &'a [String]) -> Result<Asked<'a>, UsageFault> {
-    let asked = match matched(&mut surface, words) {
-        Ok(matches) => asked_by(&matches),
-        Err(fault) => Err(fault),
-    };
-    drop(surface);
-    asked
-}
+/// The command line of `explore`.
+pub struct ExploreLine;
 
-/// What the words ask for; the first is the program's name, and the second `explore`. `Usage` if they are no such command
-/// line or ask for help, with the text of `clap`; `UnknownModel` if no standard model has the name after the `@`; `Memory`
-/// if memory runs out.
-pub fn parse<'a>(alloc: Global, words: &'a [String]) -> Result<Asked<'a>, UsageFault> {
-    let name = called(alloc, words, "explore")?;
-    match surface(alloc, name.as_str()) {
-        Ok(surface) => asked_on(surface, words.get(2..).unwrap_or(&[])),
-        Err(e) => Err(UsageFault::Memory(e)),
+impl<'a> CommandLine<'a> for ExploreLine {
+    type Asked = Asked<'a>;
+
+    fn surface(alloc: Global) -> Result<Command<'a>, AllocError> {
+        let help = "Writes only the events of the first order that leads to end K";
+        let end = number(alloc, "end", "K", help)
+            .conflicts_with("lines")?
+            .conflicts_with("where")?;
+        let command = Command::new(alloc, "acta explore")
+            .about(
+                "Finds every way in which the programs of the standard input can end on MODEL, whatever the order of their steps. Each line is SEAT EVENT [| EVENT]..: a seat does its lines in order, and of each line one of the alternatives",
+            )
+            .after_help(CONDITIONS);
+        let command = command.arg(model_arg(alloc).required(true));
+        let help = "Writes the ends as lines, for another program";
+        let command = with_arg(command, flag(alloc, "lines", help));
+        let command = with_arg(command, end);
+        let help = "Keeps only the ends for which the condition holds";
+        let command = with_arg(command, option(alloc, "where", "CONDITION", help));
+        with_arg(command, most_option(alloc))
+    }
+
+    fn asked(
+        _alloc: Global,
+        _surface: &mut Command<'a>,
+        matches: &ArgMatches<'a>,
+    ) -> Result<Asked<'a>, UsageFault> {
+        asked_by(matches)
     }
 }

@@ -4,9 +4,9 @@ ghost use Rattle.std.specs.Prelude.{◌≡◌, true, IfOk};
 
 use acta_ends::{ConditionFault, Expected};
 use acta_explain::{Prose, name_text, put};
+use acta_io::Report;
 use acta_machine::Handle;
 use acta_table::{Kind, Model, ObjId};
-use acta_tool::Report;
 use acta_words::words_of;
 use std::alloc::AllocError;
 

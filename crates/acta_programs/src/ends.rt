@@ -8,9 +8,9 @@ use crate::waiting::{put_deadlocks, put_debts, put_waits};
 use acta_ends::{Condition, kept_ends};
 use acta_explain::{Prose, RunTrace, Spoken, name_text, put};
 use acta_explore::{Done, Explored, Outcome, Point, TxnStatus, Value};
+use acta_io::Report;
 use acta_machine::Handle;
 use acta_table::{Ret, Status};
-use acta_tool::Report;
 use std::alloc::AllocError;
 
 // How a transaction ended, in words.

@@ -14,7 +14,7 @@ mod report;
 mod totals;
 mod waiting;
 
-pub use args::{Asked, Form, MOST_POINTS, most_option, parse};
+pub use args::{Asked, ExploreLine, Form, MOST_POINTS, most_option};
 pub use ends::{explain_incomplete, put_count, put_end};
 pub use programs::Programs;
 pub use report::{MOST_SEATS, explore_tool, explored};

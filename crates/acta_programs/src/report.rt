@@ -2,9 +2,9 @@
 
 ghost use Rattle.std.specs.Prelude.{◌≡◌, ◌≤◌, ◌<◌, ◌+◌, false, true, map, is_some, IfErr, IfOk, IfSome};
 ghost use Rattle.acta_explore.specs.Outcomes.{outcome};
-ghost use Rattle.acta_tool.specs.Outcome.{AnswersBy, FailsBy, IsUnreadTooLong, KeepsUnread, WritesBy, is_undriven, reason_of};
-ghost use Rattle.acta_tool.specs.Output.{line_numbers};
-ghost use Rattle.acta_tool.specs.inside.Reports.{output_of};
+ghost use Rattle.acta_io.specs.Outcome.{AnswersBy, FailsBy, IsUnreadTooLong, KeepsUnread, WritesBy, reason_of};
+ghost use Rattle.acta_io.specs.Input.{line_numbers};
+ghost use Rattle.acta_io.specs.inside.Reports.{output_of};
 ghost use Rattle.acta_programs.specs.Answers.{IsAnswer, IsAnswerOn, IsIncomplete, IsOfEnds, IsOfPrograms, IsSearched, MayMean};
 ghost use Rattle.acta_programs.specs.inside.Conditions.{MayFail};
 
@@ -16,13 +16,13 @@ use crate::programs::Programs;
 use acta_ends::{Condition, ConditionError, read_condition};
 use acta_explain::spoken_in;
 use acta_explore::{ExploreError, Explored, Plan, Watch, explore};
+use acta_io::{
+    ModelError, Outcome, ProgramLines, ReadFault, Report, Sink, Source, numbers_of_lines,
+    read_lines, read_model, read_within, refuse_line, refuse_model, write_report,
+};
 use acta_machine::Handle;
 use acta_script::ProgramLine;
 use acta_table::Model;
-use acta_tool::{
-    Command, ModelError, Outcome, ProgramLines, ReadFault, Report, Sink, Source, numbers_of_lines,
-    read_lines, read_model, read_within, refuse_line, refuse_model, write_report,
-};
 use std::alloc::AllocError;
 
 /// The seats of programs are numbered from 1 to this.
@@ -208,7 +208,7 @@ pub fn explored<A: Handle, W: Watch>(
 ) -> Result<Report<A>, AllocError>
     ensures { IfOk result (λ report. IsAnswer A asked.entry.form (is_some asked.entry.condition) asked.entry.most model.now input.now (output_of report)) }
 {
-    match read_model(alloc, Command::Run { kept: false }, model) {
+    match read_model(alloc, model) {
         Ok(model) => explore_on(alloc, asked, &model, input, watch),
         Err(ModelError::Fault(fault)) => refuse_model(alloc, fault),
         Err(ModelError::Memory) => Err(AllocError),
@@ -231,9 +231,8 @@ pub fn explore_tool<A: Handle, W: Watch, S: Source, K: Sink>(
     ensures reads { S.reads input.new ≤ S.reads input.old + 16777217 }
     ensures failed { FailsBy (reason_of result) (S.has_failed input.old) (S.has_failed input.new) }
     ensures too_long { IsUnreadTooLong model.now (S.remaining input.old) (reason_of result) }
-    ensures undriven { is_undriven result ≡ false }
 {
-    let bytes = match read_within(alloc, Command::Run { kept: false }, model, input) {
+    let bytes = match read_within(alloc, model, input) {
         Ok(bytes) => bytes,
         Err(reason) => return Outcome::Unread(reason),
     };

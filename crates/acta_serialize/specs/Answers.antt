@@ -5,11 +5,11 @@ use Rattle.acta_table.specs.declared.limits.TheConstants.{MOST_EVENTS}
 use Rattle.acta_table.specs.declared.model.Parts.{Parts}
 use Rattle.acta_words.specs.Text.{line_of, text_of}
 use Rattle.acta_script.specs.Reading.{kept_of}
-use Rattle.acta_tool.specs.declared.args.Command.TheVariants.{Judge}
-use Rattle.acta_tool.specs.declared.input.BadLine.{BadLine}
-use Rattle.acta_tool.specs.declared.models.NoModel.{NoModel}
-use Rattle.acta_tool.specs.Models.{model_by}
-use Rattle.acta_tool.specs.Output.{Output, Said, refused_by, refused_model, said_in, stop_line}
+use Rattle.acta_io.specs.declared.input.BadLine.{BadLine}
+use Rattle.acta_io.specs.declared.models.NoModel.{NoModel}
+use Rattle.acta_io.specs.Models.{of_either}
+use Rattle.acta_io.specs.Reports.{Output, refused_by, refused_model, stop_line}
+use Rattle.acta_io.specs.Input.{Said, said_in}
 use Rattle.acta_order.specs.declared.orders.Orders.{Orders}
 use Rattle.acta_order.specs.Answers.{IsImpossible}
 use Rattle.acta_order.specs.Orders.{HasMoreStates, IsSerial}
@@ -73,4 +73,4 @@ IsAnswerBy orders most (Ok m) input out = IsAnswerOn orders most m input out
 
 -- the output for the bytes of a model and of an input; A is the allocator's type, which makes no difference
 abbrev pub IsAnswer : (A : Type 0) → Orders → ℕ → List ℕ → List ℕ → Output → Type 0
-IsAnswer A orders most model input out = IsAnswerBy {A = A} orders most (model_by Judge model) input out
+IsAnswer A orders most model input out = IsAnswerBy {A = A} orders most (of_either model) input out

@@ -3,15 +3,15 @@
 ghost use Rattle.std.specs.Prelude.{◌≡◌, ◌∷◌, [], codes, false, IfOk};
 ghost use Rattle.acta_words.specs.Text.{text_of};
 ghost use Rattle.acta_order.specs.Orders.{numbers_of};
-ghost use Rattle.acta_tool.specs.Output.{refused_by};
-ghost use Rattle.acta_tool.specs.inside.Reports.{output_of};
+ghost use Rattle.acta_io.specs.Reports.{refused_by};
+ghost use Rattle.acta_io.specs.inside.Reports.{output_of};
 ghost use Rattle.acta_serialize.specs.Answers.{SaysNone, order_line, undecided_line};
 
 use crate::reasons::{History, explain_cause};
+use acta_io::{Report, refuse_by};
 use acta_machine::Handle;
 use acta_order::Cause;
 use acta_table::TxnId;
-use acta_tool::{Report, refuse_by};
 use acta_words::{push_line, push_natural, push_word};
 use std::alloc::{AllocError, Allocator};
 

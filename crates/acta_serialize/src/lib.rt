@@ -8,5 +8,5 @@ mod args;
 mod reasons;
 mod report;
 
-pub use args::{Asked, parse};
+pub use args::{Asked, SerializeLine};
 pub use report::{serialize_tool, serialized};

@@ -1,21 +1,21 @@
 //! What is written for the bytes of a model and of a history.
 
 ghost use Rattle.std.specs.Prelude.{◌≡◌, ◌≤◌, ◌+◌, false, IfOk, IfSome};
-ghost use Rattle.acta_tool.specs.Outcome.{AnswersBy, FailsBy, IsUnreadTooLong, KeepsUnread, WritesBy, is_undriven, reason_of};
-ghost use Rattle.acta_tool.specs.inside.Reports.{output_of};
+ghost use Rattle.acta_io.specs.Outcome.{AnswersBy, FailsBy, IsUnreadTooLong, KeepsUnread, WritesBy, reason_of};
+ghost use Rattle.acta_io.specs.inside.Reports.{output_of};
 ghost use Rattle.acta_serialize.specs.Answers.{IsAnswer, IsAnswerOn, IsOfHistory, SaysNone};
 
 use crate::answers::{write_none, write_order, write_undecided};
 use crate::args::Asked;
 use crate::reasons::History;
 use acta_explain::spoken_in;
+use acta_io::{
+    KeptLines, ModelError, Outcome, ReadFault, Report, Sink, Source, read_lines, read_model,
+    read_within, refuse_by, refuse_line, refuse_model, write_report,
+};
 use acta_machine::Handle;
 use acta_order::{Cause, Order, OrderFault, serial_order_of};
 use acta_table::{Kept, Model};
-use acta_tool::{
-    Command, KeptLines, ModelError, Outcome, ReadFault, Report, Sink, Source, read_lines,
-    read_model, read_within, refuse_by, refuse_line, refuse_model, write_report,
-};
 use std::alloc::AllocError;
 
 // What is written where no order is serial.
@@ -82,7 +82,7 @@ pub fn serialized<A: Handle>(
 ) -> Result<Report<A>, AllocError>
     ensures { IfOk result (λ report. IsAnswer A asked.entry.orders asked.entry.most model.now input.now (output_of report)) }
 {
-    match read_model(alloc, Command::Judge, model) {
+    match read_model(alloc, model) {
         Ok(model) => serialize_on(alloc, asked, &model, input),
         Err(ModelError::Fault(fault)) => refuse_model(alloc, fault),
         Err(ModelError::Memory) => Err(AllocError),
@@ -104,9 +104,8 @@ pub fn serialize_tool<A: Handle, S: Source, K: Sink>(
     ensures reads { S.reads input.new ≤ S.reads input.old + 16777217 }
     ensures failed { FailsBy (reason_of result) (S.has_failed input.old) (S.has_failed input.new) }
     ensures too_long { IsUnreadTooLong model.now (S.remaining input.old) (reason_of result) }
-    ensures undriven { is_undriven result ≡ false }
 {
-    let bytes = match read_within(alloc, Command::Judge, model, input) {
+    let bytes = match read_within(alloc, model, input) {
         Ok(bytes) => bytes,
         Err(reason) => return Outcome::Unread(reason),
     };

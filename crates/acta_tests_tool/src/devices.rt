@@ -2,8 +2,10 @@
 //! once for each read of its own and passes each error on, nor that `Watched` does so with writes.
 
 use crate::expecting::{counts, holds, made, tells};
+use acta_args::ModelName;
+use acta_io::{Metered, Outcome, ReadFault, Watched};
 use acta_models::Standard;
-use acta_tool::{Args, Command, Metered, ModelName, Outcome, ReadFault, Watched, run_tool};
+use acta_tool::{Args, Command, run_tool};
 use std::alloc::Global;
 use std::io;
 use std::io::{ErrorKind, Read, Write};

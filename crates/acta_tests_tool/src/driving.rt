@@ -2,8 +2,10 @@
 
 use crate::expecting::{counts, holds, made};
 use crate::runs::serve;
+use acta_args::ModelName;
+use acta_io::Outcome;
 use acta_models::Standard;
-use acta_tool::{Args, Command, ModelName, Outcome};
+use acta_tool::{Args, Command};
 use refusing::Refusing;
 use std::alloc::Global;
 use std::process::Abort;

@@ -3,16 +3,17 @@
 
 use crate::expecting::{MOST, at_least, holds, made, tells};
 use crate::runs::ends;
+use acta_args::ModelName;
 use acta_compare::{Asked as AskedModels, Compared, compare_tool};
 use acta_draw::{Choice, Drawing, Form, Screen, draw_tool};
 use acta_explain::{RunTrace, Spoken, explain_tool};
+use acta_io::{Metered, Outcome, ReadFault, Watched};
 use acta_lang::assemble;
 use acta_models::Standard;
 use acta_order::Orders;
 use acta_programs::{Asked, Form as Ends, explore_tool};
 use acta_serialize::{Asked as AskedOrder, serialize_tool};
 use acta_table::{ClassId, Event, ObjId, Op, TxnId};
-use acta_tool::{Metered, ModelName, Outcome, ReadFault, Watched};
 use refusing::Refusing;
 use std::alloc::{Allocator, Global};
 use std::process::Abort;

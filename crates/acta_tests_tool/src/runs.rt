@@ -4,11 +4,10 @@
 mod table;
 
 use crate::expecting::{MOST, at_least, holds, made, tells};
+use acta_args::ModelName;
+use acta_io::{Metered, Outcome, ReadFault, Watched};
 use acta_locked::DriveError;
-use acta_tool::{
-    Args, Command, Metered, ModelName, Outcome, ReadFault, Watched, drive_tool, exit_status, parse,
-    run_tool,
-};
+use acta_tool::{Args, Command, drive_tool, exit_status, parse, run_tool};
 use refusing::Refusing;
 use std::alloc::{Allocator, Global};
 use std::process::Abort;

@@ -13,11 +13,13 @@ use Rattle.acta_script.specs.Commands.{command_of}
 use Rattle.acta_script.specs.Reading.{event_of, event_said}
 use Rattle.acta_script.specs.declared.commands.DebugCommand.{DebugCommand}
 use Rattle.acta_script.specs.declared.fault.LineFault.TheVariants.{Word}
-use Rattle.acta_tool.specs.declared.input.BadLine.{BadLine}
+use Rattle.acta_io.specs.declared.input.BadLine.{BadLine}
 use Rattle.acta_machine.specs.Table.{run_state}
 use Rattle.acta_debug.specs.Sessions.{Session, opened}
 use Rattle.acta_tool.specs.Debugging.{ends_events, is_sign, texts_of}
-use Rattle.acta_tool.specs.Output.{Output, Said, debug_on, debugged_on, debugged_unless, said_by, said_from, said_in, stop_line}
+use Rattle.acta_io.specs.Reports.{Output, stop_line}
+use Rattle.acta_io.specs.Input.{Said, said_by, said_from, said_in}
+use Rattle.acta_tool.specs.Output.{debug_on, debugged_on, debugged_unless}
 use Rattle.acta_tool.specs.inside.Sections.{commands_from}
 use Rattle.acta_tool.proofs.Sections.{begins_with, ends_here, goes_past, none_ends, numbered}
 

@@ -1,9 +1,6 @@
 pub mod BookLines
 pub mod DebugOutputs
 pub mod EntryLines
-pub mod ImageLines
-pub mod KeptInModel
-pub mod Lines
 pub mod Named
 pub mod Outputs
 pub mod Seats
@@ -12,5 +9,4 @@ pub mod Sections
 pub mod Serials
 pub mod Tasks
 mod TraceLines
-pub mod Turns
 pub mod TextsAndImages

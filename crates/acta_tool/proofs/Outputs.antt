@@ -6,8 +6,9 @@ use Rattle.acta_table.specs.declared.event.Event.{Event}
 use Rattle.acta_table.specs.declared.model.Parts.{Parts}
 use Rattle.acta_machine.specs.Table.{State, run_answers, run_state}
 use Rattle.acta_words.specs.Text.{text_of}
-use Rattle.acta_tool.specs.declared.input.BadLine.{BadLine}
-use Rattle.acta_tool.specs.Output.{Said, told, told_last, run_on}
+use Rattle.acta_io.specs.declared.input.BadLine.{BadLine}
+use Rattle.acta_io.specs.Input.{Said}
+use Rattle.acta_tool.specs.Output.{told, told_last, run_on}
 
 -- the events' answers, and what is told last
 pub whole : {A : Type 0} (is_kept : Bool) (m : Parts A) (s : Said (Event A)) (events : List (Event A)) (stop : Option BadLine) (answers : List Answer) (state : State A) (all : List ℕ)

@@ -5,8 +5,8 @@ use Rattle.std.specs.List.{position_or_len}
 use Rattle.std.specs.Option.{option_map_or}
 use Rattle.acta_script.specs.declared.fault.LineFault.{LineFault}
 use Rattle.acta_script.specs.declared.fault.LineFault.TheVariants.{Word}
-use Rattle.acta_tool.specs.declared.input.BadLine.{BadLine}
-use Rattle.acta_tool.specs.Output.{Said, said_by, said_from, with_line}
+use Rattle.acta_io.specs.declared.input.BadLine.{BadLine}
+use Rattle.acta_io.specs.Input.{Said, said_by, said_from, with_line}
 
 -- the number of a line, if one stopped
 abbrev number_or : ℕ → Option BadLine → ℕ

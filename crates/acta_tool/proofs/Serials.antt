@@ -6,10 +6,12 @@ use Rattle.acta_table.specs.declared.model.Parts.{Parts}
 use Rattle.acta_machine.specs.Table.{State, run_state}
 use Rattle.acta_machine.proofs.Runs.{model-run}
 use Rattle.acta_words.specs.Text.{text_of}
-use Rattle.acta_tool.specs.declared.input.BadLine.{BadLine}
-use Rattle.acta_tool.specs.declared.reports.Report.{Report}
-use Rattle.acta_tool.specs.Output.{Said, serial_on, serialized_on, stop_line}
-use Rattle.acta_tool.specs.inside.Reports.{output_of}
+use Rattle.acta_io.specs.declared.input.BadLine.{BadLine}
+use Rattle.acta_io.specs.declared.reports.Report.{Report}
+use Rattle.acta_io.specs.Input.{Said}
+use Rattle.acta_tool.specs.Output.{serial_on, serialized_on}
+use Rattle.acta_io.specs.Reports.{stop_line}
+use Rattle.acta_io.specs.inside.Reports.{output_of}
 
 -- where a line stopped the reading
 pub stopped : {A E : Type 0} (m : Parts A) (s : Said (Event A)) (events : List (Event A)) (stop : Option BadLine) (line : BadLine) (report : Result (Report A) E) → s ≡ record { said = events; stop = stop } → stop ≡ Some line

@@ -10,13 +10,14 @@ use Rattle.acta_locked.specs.declared.watch.Front.{Front}
 use Rattle.acta_locked.specs.declared.watch.Watched.{Watched}
 use Rattle.acta_locked.specs.Drives.{IsDriven, MayFail, is_of_scripts, scripts_fault}
 use Rattle.acta_tool.specs.declared.args.Command.{Command}
-use Rattle.acta_tool.specs.declared.outcome.Outcome.{Outcome}
-use Rattle.acta_tool.specs.declared.outcome.Outcome.TheVariants.{Done, Refused, Unread, Undriven, Unwritten}
-use Rattle.acta_tool.specs.Outcome.{Answers, is_undriven}
-use Rattle.acta_tool.specs.Output.{Output}
+use Rattle.acta_io.specs.declared.outcome.Outcome.{Outcome}
+use Rattle.acta_io.specs.declared.outcome.Outcome.TheVariants.{Done, Refused, Unread, Unwritten}
+use Rattle.acta_io.specs.Outcome.{Answers}
+use Rattle.acta_io.specs.Reports.{Output}
 use Rattle.acta_tool.specs.Driving.{AnswersOne, AreAsked, MayCome, MayWrite, Task, book_lines, is_stop, is_too_long, unless_too_long}
-use Rattle.acta_tool.specs.declared.reports.Report.{Report}
-use Rattle.acta_tool.specs.inside.Reports.{MayComeOf, output_of}
+use Rattle.acta_io.specs.declared.reports.Report.{Report}
+use Rattle.acta_tool.specs.inside.Reports.{MayComeOf}
+use Rattle.acta_io.specs.inside.Reports.{output_of}
 
 -- the task, by its fault
 abbrev by_fault : {A : Type 0} → Task A → Option DriveError → Result (Task A) (List ℕ)
@@ -78,15 +79,14 @@ pub undriven : {A : Type 0} (task : Task A) (e : DriveError) → (is_of_scripts 
 undriven task e only passed barred kept = undriven_by task e (scripts_fault task.scripts) refl only passed barred kept
 
 -- a report that was written answers, for the bytes that were read
-answered : (result : Outcome) (May : Result Output DriveError → Type 0) (out : Output) (old new : Option (List ℕ)) → May (Ok out) → is_undriven result ≡ false → Answers result out old new → AnswersOne result May old new
-answered Done May out old new may is h = (out, may, h)
-answered Refused May out old new may is h = (out, may, h)
-answered (Undriven e) May out old new may is h = absurd (true≢false is)
-answered (Unread reason) May out old new may is h = tt
-answered Unwritten May out old new may is h = tt
+answered : (outcome : Outcome) (May : Result Output DriveError → Type 0) (out : Output) (old new : Option (List ℕ)) → May (Ok out) → Answers outcome out old new → AnswersOne (Ok outcome) May old new
+answered Done May out old new may h = (out, may, h)
+answered Refused May out old new may h = (out, may, h)
+answered (Unread reason) May out old new may h = tt
+answered Unwritten May out old new may h = tt
 
-pub written : (A : Type 0) (command : Command) (model bytes : List ℕ) (left : Option (List ℕ)) (result : Outcome) (out : Output) (old new : Option (List ℕ)) → IfSome left (λ xs. bytes ≡ xs)
-    → MayWrite A command model bytes (Ok out) → is_undriven result ≡ false → Answers result out old new → IfSome left (λ xs. AnswersOne result (MayWrite A command model xs) old new)
-written A command model bytes None result out old new read may is h = tt
-written A command model bytes (Some xs) result out old new read may is h =
-    answered result (MayWrite A command model xs) out old new (subst (λ input. MayWrite A command model input (Ok out)) read may) is h
+pub written : (A : Type 0) (command : Command) (model bytes : List ℕ) (left : Option (List ℕ)) (outcome : Outcome) (out : Output) (old new : Option (List ℕ)) → IfSome left (λ xs. bytes ≡ xs)
+    → MayWrite A command model bytes (Ok out) → Answers outcome out old new → IfSome left (λ xs. AnswersOne (Ok outcome) (MayWrite A command model xs) old new)
+written A command model bytes None outcome out old new read may h = tt
+written A command model bytes (Some xs) outcome out old new read may h =
+    answered outcome (MayWrite A command model xs) out old new (subst (λ input. MayWrite A command model input (Ok out)) read may) h

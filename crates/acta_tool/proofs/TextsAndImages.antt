@@ -15,7 +15,8 @@ use Rattle.acta_lang.specs.Meaning.{meaning}
 use Rattle.acta_lang.proofs.OtherWords.{no_meaning}
 use Rattle.acta_tool.specs.declared.args.Command.{Command}
 use Rattle.acta_tool.specs.declared.args.Command.TheVariants.{Assemble, CheckImage, Upgrade, Run, Trace, Judge, Debug, Serial, Drive}
-use Rattle.acta_tool.specs.Models.{is_image, of_either, of_image, takes_either}
+use Rattle.acta_io.specs.Models.{is_image, of_either, of_image}
+use Rattle.acta_tool.specs.Models.{takes_either}
 use Rattle.acta_tool.specs.Output.{output_by, tool_output}
 
 same-true : (xs ys : List ℕ) → bytes_eq xs ys ≡ true → xs ≡ ys

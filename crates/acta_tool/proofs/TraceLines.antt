@@ -6,10 +6,11 @@ use Rattle.acta_table.specs.declared.event.Event.{Event}
 use Rattle.acta_table.specs.declared.model.Parts.{Parts}
 use Rattle.acta_machine.specs.Table.{State, fresh, after, run_state}
 use Rattle.acta_words.specs.Text.{line_of, text_of}
-use Rattle.acta_tool.specs.declared.input.BadLine.{BadLine}
-use Rattle.acta_tool.specs.Output.{Said, told_last, trace_line, trace_lines, trace_on}
+use Rattle.acta_io.specs.declared.input.BadLine.{BadLine}
+use Rattle.acta_io.specs.Input.{Said}
+use Rattle.acta_tool.specs.Output.{told_last, trace_line, trace_lines, trace_on}
 use Rattle.acta_tool.proofs.EntryLines.{next}
-use Rattle.acta_tool.proofs.ImageLines.{behind}
+use Rattle.acta_io.proofs.ImageLines.{behind}
 
 -- words, each behind a space
 abbrev pub spaced : List (List ℕ) → List ℕ

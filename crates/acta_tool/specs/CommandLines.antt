@@ -6,17 +6,14 @@ use Rattle.clap.specs.Words.{App, Row, Rule, Text, IsAmong, Kinds, fault_of, fir
 use Rattle.clap.specs.declared.builder.ArgAction.TheVariants.{Set, SetTrue}
 use Rattle.clap.specs.declared.builder.value_parser.ValueParser.TheVariants.{Signed}
 use Rattle.clap.specs.declared.error.ErrorKind.TheVariants.{MissingSubcommand}
-use Rattle.acta_models.specs.declared.texts.Standard.{Standard as StandardModel}
-use Rattle.acta_models.specs.Standards.{name_of_standard}
 use Rattle.acta_words.specs.Numerals.{read_natural}
 use Rattle.acta_locked.specs.declared.limits.TheConstants.{MOST_WORKERS}
 use Rattle.acta_tool.specs.declared.args.Args.{Args}
 use Rattle.acta_tool.specs.declared.args.Command.{Command}
 use Rattle.acta_tool.specs.declared.args.Command.TheVariants.{Assemble, CheckImage, Upgrade, Run, Trace, Judge, Debug, Serial, Drive}
-use Rattle.acta_tool.specs.declared.args.ModelName.{ModelName}
-use Rattle.acta_tool.specs.declared.args.ModelName.TheVariants.{Standard, Path}
-use Rattle.acta_tool.specs.declared.fault.UsageFault.{UsageFault}
-use Rattle.acta_tool.specs.declared.fault.UsageFault.TheVariants.{Usage, UnknownModel, NotText, Memory}
+use Rattle.acta_args.specs.Models.{IsModel, IsUnknown}
+use Rattle.acta_args.specs.declared.fault.UsageFault.{UsageFault}
+use Rattle.acta_args.specs.declared.fault.UsageFault.TheVariants.{Usage, UnknownModel, NotText, Memory}
 
 -- the one argument of a command, MODEL, which has to be there
 abbrev pub model_rule : Rule
@@ -119,14 +116,6 @@ named_by words = named_in (subcommand_of tool_app words)
 unfoldable pub faults_of : List Text → Kinds
 faults_of words = fault_of tool_app words
 
--- the model is named after an `@`
-abbrev pub begins_at : Text → Bool
-begins_at model = slice_index model 0 == 64
-
--- the name of a standard model, after its `@`
-abbrev pub standard_text : StandardModel → Text
-standard_text name = 64 ∷ name_of_standard name
-
 -- the number of workers, if digits stand there
 abbrev pub workers_in : Named → Option ℕ
 workers_in line = option_and_then (read_natural 0xffff) line.workers
@@ -173,15 +162,6 @@ IsKnown line =
     ⊎ ((line.command ≡ codes "debug")
     ⊎ ((line.command ≡ codes "serial")
     ⊎ ((line.command ≡ codes "drive") × IsSomeAnd (workers_in line) AreSeated × IsSomeAnd (turns_in line) AreTurns))))))))
-
--- the model is this one: a standard one, or a file
-abbrev pub IsModel : Text → ModelName → Type 0
-IsModel text (Standard name) = text ≡ standard_text name
-IsModel text (Path path) = (begins_at text ≡ false) × (path.now ≡ text)
-
--- the model has an `@` first and is none of the standard ones
-abbrev pub IsUnknown : Text → Type 0
-IsUnknown text = (begins_at text ≡ true) × ((name : StandardModel) → text ≢ standard_text name)
 
 -- the words are written as they should be, and name this command and this model
 abbrev pub AsksFor : List Text → Args → Type 0

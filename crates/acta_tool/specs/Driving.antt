@@ -19,13 +19,14 @@ use Rattle.acta_locked.specs.Drives.{IsDriven, is_of_scripts, scripts_fault}
 use Rattle.acta_locked.specs.Fronts.{AreFronts}
 use Rattle.acta_tool.specs.declared.args.Command.{Command}
 use Rattle.acta_tool.specs.declared.args.Command.TheVariants.{Drive}
-use Rattle.acta_tool.specs.declared.models.NoModel.{NoModel}
-use Rattle.acta_tool.specs.declared.outcome.Outcome.{Outcome}
-use Rattle.acta_tool.specs.declared.outcome.Outcome.TheVariants.{Done, Refused, Unread, Undriven, Unwritten}
-use Rattle.acta_tool.specs.declared.input.BadLine.{BadLine}
-use Rattle.acta_tool.specs.Models.{of_either}
-use Rattle.acta_tool.specs.Outcome.{Answers}
-use Rattle.acta_tool.specs.Output.{Output, Said, no_model_line, said_in, stop_line}
+use Rattle.acta_io.specs.declared.models.NoModel.{NoModel}
+use Rattle.acta_io.specs.declared.outcome.Outcome.{Outcome}
+use Rattle.acta_io.specs.declared.outcome.Outcome.TheVariants.{Done, Refused, Unread, Unwritten}
+use Rattle.acta_io.specs.declared.input.BadLine.{BadLine}
+use Rattle.acta_io.specs.Models.{of_either}
+use Rattle.acta_io.specs.Outcome.{Answers}
+use Rattle.acta_io.specs.Reports.{Output, no_model_line, stop_line}
+use Rattle.acta_io.specs.Input.{Said, said_in}
 
 -- the script of a seat: the events of its lines, in order
 abbrev pub script_of : {A : Type 0} → List (Seated A) → ℕ → List (Event A)
@@ -106,9 +107,9 @@ MayWrite A _ model input left = ⊥
 
 -- where the input was answered, the writer got an output that may be written, and nothing else; and where no run was
 -- driven, it is for a reason that may come
-abbrev pub AnswersOne : Outcome → (Result Output DriveError → Type 0) → Option (List ℕ) → Option (List ℕ) → Type 0
-AnswersOne Done May old new = (out : Output) × May (Ok out) × Answers Done out old new
-AnswersOne Refused May old new = (out : Output) × May (Ok out) × Answers Refused out old new
-AnswersOne (Undriven e) May old new = May (Err e)
-AnswersOne (Unread reason) May old new = ⊤
-AnswersOne Unwritten May old new = ⊤
+abbrev pub AnswersOne : Result Outcome DriveError → (Result Output DriveError → Type 0) → Option (List ℕ) → Option (List ℕ) → Type 0
+AnswersOne (Ok Done) May old new = (out : Output) × May (Ok out) × Answers Done out old new
+AnswersOne (Ok Refused) May old new = (out : Output) × May (Ok out) × Answers Refused out old new
+AnswersOne (Ok (Unread reason)) May old new = ⊤
+AnswersOne (Ok Unwritten) May old new = ⊤
+AnswersOne (Err e) May old new = May (Err e)

@@ -1,32 +1,12 @@
 -- The model that bytes mean, by the command that asks.
-use Rattle.std.specs.Prelude.{ℕ, Bool, true, false, List, take, Result, Ok, Err, if◌then◌else◌}
-use Rattle.std.specs.Str.{bytes_eq}
+use Rattle.std.specs.Prelude.{ℕ, Bool, true, false, List, Result}
 use Rattle.acta_table.specs.declared.model.Parts.{Parts}
-use Rattle.acta_image.specs.declared.fault.ImageFault.{ImageFault}
-use Rattle.acta_image.specs.Codes.{magic}
 use Rattle.acta_image.specs.Reading.{loaded}
-use Rattle.acta_lang.specs.declared.fault.AsmFault.{AsmFault}
 use Rattle.acta_lang.specs.Meaning.{meaning}
+use Rattle.acta_io.specs.declared.models.NoModel.{NoModel}
+use Rattle.acta_io.specs.Models.{of_either, of_image, of_text}
 use Rattle.acta_tool.specs.declared.args.Command.{Command}
 use Rattle.acta_tool.specs.declared.args.Command.TheVariants.{Assemble, CheckImage, Upgrade, Run, Trace, Judge, Debug, Serial, Drive}
-use Rattle.acta_tool.specs.declared.models.NoModel.{NoModel}
-use Rattle.acta_tool.specs.declared.models.NoModel.TheVariants.{Text, Image}
-
--- what a text means, and what an image does
-abbrev pub of_text : {A : Type 0} → Result (Parts A) AsmFault → Result (Parts A) NoModel
-of_text (Ok m) = Ok m
-of_text (Err fault) = Err (Text fault)
-
-abbrev pub of_image : {A : Type 0} → Result (Parts A) ImageFault → Result (Parts A) NoModel
-of_image (Ok m) = Ok m
-of_image (Err fault) = Err (Image fault)
-
--- bytes that begin with `ACTA` are taken as an image, and others as a text
-abbrev pub is_image : List ℕ → Bool
-is_image bytes = bytes_eq (take 4 bytes) magic
-
-abbrev pub of_either : {A : Type 0} → List ℕ → Result (Parts A) NoModel
-of_either bytes = if is_image bytes then of_image (loaded bytes) else of_text (meaning bytes)
 
 -- the model that the command finds in the bytes
 abbrev pub model_by : {A : Type 0} → Command → List ℕ → Result (Parts A) NoModel

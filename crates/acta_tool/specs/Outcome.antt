@@ -1,31 +1,22 @@
--- What a run leaves.
-use Rattle.std.specs.Prelude.{◌≡◌, ◌<◌, ◌⊎◌, ℕ, List, [], Bool, true, false, if◌then◌else◌, Option, Some, None, Result, Ok, Err, IfSome, IsSome, length, ⊤}
-use Rattle.std.specs.Io.KnownBytes.{Appends, Keeps}
+-- What a command reads, and how the program ends.
+use Rattle.std.specs.Prelude.{ℕ, List, [], Bool, true, false, if◌then◌else◌, Option, Some, Result, Ok, Err}
+use Rattle.acta_args.specs.declared.fault.UsageFault.{UsageFault}
+use Rattle.acta_args.specs.declared.fault.UsageFault.TheVariants.{Usage, UnknownModel, NotText, Memory as no_memory}
+use Rattle.acta_io.specs.declared.outcome.Outcome.{Outcome}
+use Rattle.acta_io.specs.Outcome.{code_of}
 use Rattle.acta_tool.specs.declared.args.Command.{Command}
 use Rattle.acta_tool.specs.declared.args.Command.TheVariants.{Assemble, CheckImage, Upgrade, Run, Trace, Judge, Debug, Serial, Drive}
-use Rattle.acta_tool.specs.declared.fault.UsageFault.{UsageFault}
-use Rattle.acta_tool.specs.declared.fault.UsageFault.TheVariants.{Usage, UnknownModel, NotText, Memory as no_memory}
-use Rattle.acta_tool.specs.declared.outcome.Outcome.{Outcome}
-use Rattle.acta_tool.specs.declared.outcome.Outcome.TheVariants.{Done, Refused, Unread, Undriven, Unwritten}
-use Rattle.acta_tool.specs.declared.source.ReadFault.{ReadFault}
-use Rattle.acta_tool.specs.declared.source.ReadFault.TheVariants.{Device, TooMuch, Memory}
-use Rattle.acta_tool.specs.Output.{Output}
-
--- the number of a run's end
-abbrev pub code_of : Outcome → ℕ
-code_of Done = 0
-code_of Refused = 1
-code_of (Unread reason) = 3
-code_of (Undriven e) = 3
-code_of Unwritten = 3
+use Rattle.acta_tool.specs.declared.status.Failure.{Failure}
+use Rattle.acta_tool.specs.declared.status.Failure.TheVariants.{Words, Undriven}
 
 -- the exit status of the program, by what came of its words and of its run
-abbrev pub exit_status_of : Result Outcome UsageFault → ℕ
-exit_status_of (Ok status) = code_of status
-exit_status_of (Err (Usage e)) = 2
-exit_status_of (Err UnknownModel) = 2
-exit_status_of (Err NotText) = 2
-exit_status_of (Err (no_memory e)) = 3
+abbrev pub exit_status_of : Result Outcome Failure → ℕ
+exit_status_of (Ok outcome) = code_of outcome
+exit_status_of (Err (Words (Usage e))) = 2
+exit_status_of (Err (Words UnknownModel)) = 2
+exit_status_of (Err (Words NotText)) = 2
+exit_status_of (Err (Words (no_memory e))) = 3
+exit_status_of (Err (Undriven e)) = 3
 
 -- whether the command is for threads
 abbrev pub is_drive : Command → Bool
@@ -47,64 +38,3 @@ reads_input (Drive workers turns) = true
 -- the input of a command, where this is left to be read: none, where it reads none
 abbrev pub input_of : Command → Option (List ℕ) → Option (List ℕ)
 input_of command left = if reads_input command then left else Some []
-
--- why the input was not answered, where it was not
-abbrev pub reason_of : Outcome → Option ReadFault
-reason_of (Unread reason) = Some reason
-reason_of Done = None
-reason_of Refused = None
-reason_of (Undriven e) = None
-reason_of Unwritten = None
-
--- whether a read has failed, before and after: after, one has where the reason is the device, and else it is as before
-abbrev pub FailsBy : Option ReadFault → Bool → Bool → Type 0
-FailsBy None old new = new ≡ old
-FailsBy (Some Device) old new = new ≡ true
-FailsBy (Some TooMuch) old new = new ≡ old
-FailsBy (Some Memory) old new = new ≡ old
-
--- whether a write has failed, before and after: after, one has where the run is unwritten, and else it is as before
-abbrev pub WritesBy : Outcome → Bool → Bool → Type 0
-WritesBy Unwritten old new = new ≡ true
-WritesBy Done old new = new ≡ old
-WritesBy Refused old new = new ≡ old
-WritesBy (Unread reason) old new = new ≡ old
-WritesBy (Undriven e) old new = new ≡ old
-
--- where nothing was to be written, the writer holds what it held
-abbrev pub KeepsUnread : Outcome → Option (List ℕ) → Option (List ℕ) → Type 0
-KeepsUnread (Unread reason) old new = Keeps old new
-KeepsUnread (Undriven e) old new = Keeps old new
-KeepsUnread Done old new = ⊤
-KeepsUnread Refused old new = ⊤
-KeepsUnread Unwritten old new = ⊤
-
--- whether a driven run had no result
-abbrev pub is_undriven : Outcome → Bool
-is_undriven (Undriven e) = true
-is_undriven _ = false
-
--- where the input was answered, the writer got the output and nothing else, and the status says whether it was refused
-abbrev pub Answers : Outcome → Output → Option (List ℕ) → Option (List ℕ) → Type 0
-Answers Done out old new = (out.is_refused ≡ false) × Appends old new out.text
-Answers Refused out old new = (out.is_refused ≡ true) × Appends old new out.text
-Answers (Unread reason) out old new = ⊤
-Answers (Undriven e) out old new = ⊤
-Answers Unwritten out old new = ⊤
-
--- a model, or an input that is read, of more than 16,777,216 bytes is not answered, and where that is the reason one of
--- them is so long
-abbrev pub IsUnreadTooLong : List ℕ → Option (List ℕ) → Option ReadFault → Type 0
-IsUnreadTooLong model input reason =
-    (16777216 < length model → IsSome reason)
-    × IfSome input (λ bytes.
-    (16777216 < length bytes → IsSome reason)
-    × (reason ≡ Some TooMuch → (16777216 < length model) ⊎ (16777216 < length bytes)))
-
--- where the input was answered, the writer got an answer and nothing else, and the status says whether it was refused
-abbrev pub AnswersBy : Outcome → (Output → Type 0) → Option (List ℕ) → Option (List ℕ) → Type 0
-AnswersBy Done answer old new = (out : Output) × answer out × Answers Done out old new
-AnswersBy Refused answer old new = (out : Output) × answer out × Answers Refused out old new
-AnswersBy (Unread reason) answer old new = ⊤
-AnswersBy (Undriven e) answer old new = ⊤
-AnswersBy Unwritten answer old new = ⊤

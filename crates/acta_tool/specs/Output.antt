@@ -35,75 +35,13 @@ use Rattle.acta_script.specs.Reading.{fault_number, event_of, kept_of}
 use Rattle.acta_script.specs.Writing.{event_line, kept_line}
 use Rattle.acta_tool.specs.declared.args.Command.{Command}
 use Rattle.acta_tool.specs.declared.args.Command.TheVariants.{Assemble, CheckImage, Upgrade, Run, Trace, Judge, Debug, Serial, Drive}
-use Rattle.acta_tool.specs.declared.models.NoModel.{NoModel}
-use Rattle.acta_tool.specs.declared.models.NoModel.TheVariants.{Text, Image}
-use Rattle.acta_tool.specs.declared.input.BadLine.{BadLine}
+use Rattle.acta_io.specs.declared.models.NoModel.{NoModel}
+use Rattle.acta_io.specs.declared.models.NoModel.TheVariants.{Text, Image}
+use Rattle.acta_io.specs.declared.input.BadLine.{BadLine}
 use Rattle.acta_tool.specs.Debugging.{ends_events, texts_of}
 use Rattle.acta_tool.specs.Models.{model_by}
 use Rattle.acta_debug.specs.Sessions.{opened}
 use Rattle.acta_machine.specs.Table.{State, fresh, answer_to, after, op_added, edges_in, run_answers, run_state, debts_in}
-
--- what the lines say, up to the first that is faulty, and that one
-pub record Said (X : Type 0) : Type 0 where
-  pub said : List X
-  pub stop : Option BadLine
-
--- what a line says, or its fault; nothing, where it has no word
-abbrev pub said_by : {X : Type 0} → (List ℕ → Result X LineFault) → List ℕ → Option (Result X LineFault)
-said_by read line = if length (words_of line) == 0 then None else Some (read line)
-
--- what the line of this number says, before what the lines behind it say; behind a faulty one no line counts
-abbrev pub with_line : {X : Type 0} → ℕ → Option (Result X LineFault) → Said X → Said X
-with_line n None rest = rest
-with_line n (Some (Ok x)) rest = record rest { said = x ∷ rest.said }
-with_line n (Some (Err fault)) rest = record { said = []; stop = Some (record { line = n; fault = fault }) }
-
--- what the lines say, numbered from n on
-abbrev pub said_from : {X : Type 0} → (List ℕ → Result X LineFault) → ℕ → List (List ℕ) → Said X
-said_from read n [] = record { said = []; stop = None }
-said_from read n (line ∷ lines) = with_line n (said_by read line) (said_from read (n + 1) lines)
-
--- what the lines of an input say
-unfoldable pub said_in : {X : Type 0} → (List ℕ → Result X LineFault) → List ℕ → Said X
-said_in read input = said_from read 1 (lines_of input)
-
--- line L fault C
-abbrev pub stop_line : BadLine → List ℕ
-stop_line b = line_of (codes "line" ∷ decimal b.line ∷ codes "fault" ∷ decimal (fault_number b.fault) ∷ [])
-
--- model line L fault C
-abbrev pub model_line : AsmFault → List ℕ
-model_line f =
-    line_of (codes "model" ∷ codes "line" ∷ decimal f.line ∷ codes "fault" ∷ decimal (code_number f.code) ∷ [])
-
--- image fault C, with the offset of a field, or the fault of a model
-abbrev pub fault_number_words : ℕ → List (List ℕ)
-fault_number_words number = codes "image" ∷ codes "fault" ∷ decimal number ∷ []
-
-abbrev pub fault_words : ImageFault → List (List ℕ)
-fault_words Magic = []
-fault_words Version = []
-fault_words Truncated = []
-fault_words (BadField offset) = codes "at" ∷ decimal offset ∷ []
-fault_words (Trailing offset) = codes "at" ∷ decimal offset ∷ []
-fault_words (Model fault) = codes "model" ∷ decimal (model_fault_number fault) ∷ []
-
-abbrev pub image_line : ImageFault → List ℕ
-image_line f = line_of (fault_number_words (image_fault_number f) ++ fault_words f)
-
--- the line for bytes that mean no model
-abbrev pub no_model_line : NoModel → List ℕ
-no_model_line (Text fault) = model_line fault
-no_model_line (Image fault) = image_line fault
-
--- what is written, and whether the input was refused
-pub record Output : Type 0 where
-  pub is_refused : Bool
-  pub text : List ℕ
-
--- refused, with this line alone
-abbrev pub refused_by : List ℕ → Output
-refused_by line = record { is_refused = true; text = text_of (line ∷ []) }
 
 -- what a run tells of its events: the answers, or with `--kept` the kept items alone
 abbrev pub told : {A : Type 0} → Bool → List Answer → State A → List (List ℕ)
@@ -124,10 +62,6 @@ run_on is_kept m s =
       is_refused = is_some s.stop;
       text = text_of (told is_kept (run_answers m s.said) state ++ told_last is_kept state s.stop);
     }
-
--- the numbers, from 1, of the lines that have a word
-unfoldable pub line_numbers : List ℕ → List ℕ
-line_numbers input = numbers_where (λ line. not (length (words_of line) == 0)) (lines_of input)
 
 -- : op N
 abbrev pub op_words : Option OpNo → List (List ℕ)
@@ -238,10 +172,6 @@ output_on Judge m input = judge_on m (said_in (kept_of m) input)
 output_on Debug m input = debug_on m input
 output_on Serial m input = serial_on m (said_in (event_of m) input)
 output_on (Drive workers turns) m input = record { is_refused = false; text = [] }
-
--- the output for bytes that mean no model
-abbrev pub refused_model : NoModel → Output
-refused_model fault = record { is_refused = true; text = text_of (no_model_line fault ∷ []) }
 
 -- the output of a command, where this is what it finds in the model's bytes
 abbrev pub output_by : {A : Type 0} → Command → Result (Parts A) NoModel → List ℕ → Output

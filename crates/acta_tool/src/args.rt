@@ -4,13 +4,11 @@ ghost use Rattle.std.specs.Prelude.{◌≡◌, ◌≢◌, Some, IsSomeAnd, [], m
 ghost use Rattle.std.specs.Option.{option_map_or};
 ghost use Rattle.std.specs.Str.{bytes_eq};
 ghost use Rattle.clap.specs.Words.{app_of, first_value, found_of, new_app, rule_of, subcommand_rows_of, with_rule, with_subcommand};
-ghost use Rattle.acta_models.specs.declared.texts.Standard.{Standard as StandardModel};
-ghost use Rattle.acta_tool.specs.CommandLines.{AreSeated, AreTurns, AsksFor, IsCommand, IsFaultOf, IsKnown, IsModel, IsUnknown, bare_app, begins_at, drive_app, faults_of, kept_rule, model_rule, named_by, named_in, plain_app, standard_text, tool_app, turns_in, watch_rule, workers_in, workers_rule};
+ghost use Rattle.acta_tool.specs.CommandLines.{AreSeated, AreTurns, AsksFor, IsCommand, IsFaultOf, IsKnown, bare_app, drive_app, faults_of, kept_rule, model_rule, named_by, named_in, plain_app, tool_app, turns_in, watch_rule, workers_in, workers_rule};
 ghost use Rattle.acta_tool.specs.inside.Spelling.{IsMissing, named_of};
 
-use crate::fault::UsageFault;
+use acta_args::{ModelName, UsageFault, model_named};
 use acta_locked::MOST_WORKERS;
-use acta_models::Standard;
 use acta_words::read_u16;
 use clap::builder::ValueParser;
 use clap::error::ErrorKind;
@@ -44,15 +42,6 @@ pub enum Command {
     /// Hands the event lines of the standard input in by this many threads, and tells the entries of the book; the kept
     /// history is judged so many times meanwhile, and each front is told behind the entries.
     Drive { workers: u8, turns: u8 },
-}
-
-/// Where the model is.
-#[derive(Clone, Copy, Debug, PartialEq, Eq)]
-pub enum ModelName<'a> {
-    /// The program holds it: it was named after an `@`.
-    Standard(Standard),
-    /// In the file at this path.
-    Path(&'a str),
 }
 
 /// A command line that was taken.
@@ -119,41 +108,6 @@ fn command_named(spelled: &Spelled<'_>) -> Option<Command>
             Some(Command::Drive { workers, turns })
         }
         _ => None,
-    }
-}
-
-// The standard model that is named so, after an `@`.
-fn standard_named(model: &str) -> Option<Standard>
-    ensures some { IfSome result (λ standard. model.now ≡ standard_text standard) }
-    ensures none { IfNone result ((standard : StandardModel) → model.now ≢ standard_text standard) }
-{
-    match model {
-        "@atomic" => Some(Standard::Atomic),
-        "@nested" => Some(Standard::Nested),
-        "@split_join" => Some(Standard::SplitJoin),
-        "@recoverable" => Some(Standard::Recoverable),
-        "@contingent" => Some(Standard::Contingent),
-        _ => None,
-    }
-}
-
-// Whether the model is named after an `@`.
-fn begins_with_at(model: &str) -> bool
-    ensures { result ≡ begins_at model.now }
-{
-    model.starts_with('@')
-}
-
-/// The model that is named so, if it is a file or a standard one.
-pub fn model_named(model: &str) -> Option<ModelName<'_>>
-    ensures some { IfSome result (IsModel model.now) }
-    ensures none { IfNone result (IsUnknown model.now) }
-{
-    if begins_with_at(model) {
-        let standard = standard_named(model)?;
-        Some(ModelName::Standard(standard))
-    } else {
-        Some(ModelName::Path(model))
     }
 }
 

@@ -7,15 +7,17 @@ ghost use Rattle.acta_script.specs.Reading.{event_of};
 ghost use Rattle.acta_words.specs.Text.{lines_of, text_of};
 ghost use Rattle.acta_words.specs.inside.LinesToCome.{lines_to_come};
 ghost use Rattle.acta_tool.specs.Debugging.{ends_events};
-ghost use Rattle.acta_tool.specs.Output.{debug_on, debugged_on, said_in, stop_line};
-ghost use Rattle.acta_tool.specs.inside.Reports.{output_of};
+ghost use Rattle.acta_tool.specs.Output.{debug_on, debugged_on};
+ghost use Rattle.acta_io.specs.Input.{said_in};
+ghost use Rattle.acta_io.specs.Reports.{stop_line};
+ghost use Rattle.acta_io.specs.inside.Reports.{output_of};
 ghost use Rattle.acta_tool.specs.inside.Sections.{commands_from, said_of};
 
-use crate::input::{BadLine, CommandLines, EventLines, Input, read_left, read_lines};
-use crate::reports::{Report, refuse_line};
 use crate::session::tell_commands;
-use crate::telling::tell_stop;
 use acta_debug::Debugger;
+use acta_io::{
+    BadLine, CommandLines, EventLines, Input, Report, push_stop, read_left, read_lines, refuse_line,
+};
 use acta_machine::Handle;
 use acta_script::DebugCommand;
 use acta_table::{Event, Model};
@@ -27,7 +29,7 @@ fn tell_last<A: Allocator>(text: &mut Vec<u8, A>, stop: Option<BadLine>) -> Resu
     ensures { OnOk result (text.new.items ≡ text.old.items ++ text_of (option_map_or (λ b. stop_line b ∷ []) stop [])) }
 {
     match stop {
-        Some(stop) => tell_stop(text, stop),
+        Some(stop) => push_stop(text, stop),
         None => Ok(()),
     }
 }

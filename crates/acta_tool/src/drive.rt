@@ -1,6 +1,7 @@
 //! The driven run of the tool: the lines of each seat in a thread of its own.
 
-ghost use Rattle.std.specs.Prelude.{◌≡◌, ◌≤◌, ◌+◌, ◌∷◌, [], All, codes, false, true, length, Err, Some, IfErr, IfOk, IfSome};
+ghost use Rattle.std.specs.Prelude.{◌≡◌, ◌≤◌, ◌+◌, ◌∷◌, [], All, codes, false, true, length, Err, None, Some, IfErr, IfOk, IfSome, MatchResult};
+ghost use Rattle.std.specs.Io.KnownBytes.{Keeps};
 ghost use Rattle.acta_script.specs.Laws.{IsInModel};
 ghost use Rattle.acta_script.specs.Reading.{seated_of};
 ghost use Rattle.acta_words.specs.Text.{text_of};
@@ -10,20 +11,20 @@ ghost use Rattle.acta_locked.specs.Fronts.{AreFronts};
 ghost use Rattle.acta_locked.specs.declared.run.DriveError.{DriveError as RunError};
 ghost use Rattle.acta_locked.specs.declared.run.DriveError.TheVariants.{Memory};
 ghost use Rattle.acta_tool.specs.Driving.{AnswersOne, MayWrite, book_lines, is_stop, script_of, scripts_of, task_of, task_on, unless_too_long};
-ghost use Rattle.acta_tool.specs.Models.{of_either};
-ghost use Rattle.acta_tool.specs.Outcome.{FailsBy, IsUnreadTooLong, KeepsUnread, WritesBy, is_drive, reason_of};
-ghost use Rattle.acta_tool.specs.Output.{said_in, stop_line};
-ghost use Rattle.acta_tool.specs.inside.Reports.{MayComeOf, output_of};
+ghost use Rattle.acta_io.specs.Models.{of_either};
+ghost use Rattle.acta_io.specs.Outcome.{FailsBy, IsUnreadTooLong, KeepsUnread, WritesBy, reason_of};
+ghost use Rattle.acta_tool.specs.Outcome.{is_drive};
+ghost use Rattle.acta_io.specs.Input.{said_in};
+ghost use Rattle.acta_io.specs.Reports.{stop_line};
+ghost use Rattle.acta_tool.specs.inside.Reports.{MayComeOf};
+ghost use Rattle.acta_io.specs.inside.Reports.{output_of};
 
 use crate::args::{Args, Command};
-use crate::input::{SeatedLines, read_lines};
-use crate::models::{ModelError, read_model};
-use crate::outcome::Outcome;
-use crate::reports::{Report, refuse_by, refuse_line, refuse_model, write_report};
-use crate::run::read_within;
-use crate::sink::Sink;
-use crate::source::Source;
 use crate::telling::tell_book;
+use acta_io::{
+    ModelError, Outcome, Report, SeatedLines, Sink, Source, read_lines, read_model, read_within,
+    refuse_by, refuse_line, refuse_model, write_report,
+};
 use acta_locked::{
     Book, DriveError, Driven, Front, OpenGate, Script, Watched, drive, drive_watched,
 };
@@ -192,18 +193,18 @@ fn answer<A: Handle + Send + Sync, R: Threads + Wait + Sync>(
 ) -> Result<Report<A>, DriveError>
     ensures { MayComeOf (task_of {A = A} workers turns (of_either model.now) input.now) result }
 {
-    match read_model(alloc, Command::Drive { workers, turns }, model) {
+    match read_model(alloc, model) {
         Ok(model) => drive_lines(rt, alloc, workers, turns, model, input),
         Err(ModelError::Fault(fault)) => Ok(refuse_model(alloc, fault)?),
         Err(ModelError::Memory) => Err(DriveError::Memory),
     }
 }
 
-/// Reads the whole input as lines `SEAT EVENT`, hands each seat's events in, in order, by a thread of its own, and
+/// Reads the whole input as lines `SEAT EVENT`, hands in each seat's events, in order, by a thread of its own, and
 /// writes in one go the entries of the book, a line for each front that a judging thread made meanwhile, and then what
-/// is owed. Where the model or a line is faulty, or there are more than 65,536 lines, that alone is written. `Unread` and
-/// `Unwritten` come as of `run_tool`, and `Undriven` where the threads have no result; then nothing is written. Not
-/// promised: which order of the threads' events the book has, and that the call returns.
+/// is owed. If the model or a line is faulty, or there are more than 65,536 lines, that alone is written. `Unread` and
+/// `Unwritten` come as from `run_tool`. `Err` if the threads have no result, and then nothing is written. Not promised:
+/// which order of the threads' events the book has, and that the call returns.
 pub fn drive_tool<A: Handle + Send + Sync, R: Threads + Wait + Sync, S: Source, W: Sink>(
     rt: &R,
     alloc: A,
@@ -211,24 +212,24 @@ pub fn drive_tool<A: Handle + Send + Sync, R: Threads + Wait + Sync, S: Source, 
     model: &[u8],
     input: &mut S,
     output: &mut W,
-) -> Outcome
+) -> Result<Outcome, DriveError>
     requires { is_drive args.now.command ≡ true }
     ensures answers { IfSome (S.remaining input.old) (λ bytes. AnswersOne result (MayWrite A args.now.command model.now bytes) (W.contents output.old) (W.contents output.new)) }
-    ensures unread { KeepsUnread result (W.contents output.old) (W.contents output.new) }
-    ensures written { WritesBy result (W.has_failed output.old) (W.has_failed output.new) }
+    ensures unread { MatchResult result (λ outcome. KeepsUnread outcome (W.contents output.old) (W.contents output.new)) (λ _. Keeps (W.contents output.old) (W.contents output.new)) }
+    ensures written { MatchResult result (λ outcome. WritesBy outcome (W.has_failed output.old) (W.has_failed output.new)) (λ _. W.has_failed output.new ≡ W.has_failed output.old) }
     ensures reads { S.reads input.new ≤ S.reads input.old + 16777217 }
-    ensures failed { FailsBy (reason_of result) (S.has_failed input.old) (S.has_failed input.new) }
-    ensures too_long { IsUnreadTooLong model.now (S.remaining input.old) (reason_of result) }
+    ensures failed { MatchResult result (λ outcome. FailsBy (reason_of outcome) (S.has_failed input.old) (S.has_failed input.new)) (λ _. S.has_failed input.new ≡ S.has_failed input.old) }
+    ensures too_long { MatchResult result (λ outcome. IsUnreadTooLong model.now (S.remaining input.old) (reason_of outcome)) (λ _. IsUnreadTooLong model.now (S.remaining input.old) None) }
 {
     let Command::Drive { workers, turns } = args.command else {
         unreachable!()
     };
-    let bytes = match read_within(alloc, args.command, model, input) {
+    let bytes = match read_within(alloc, model, input) {
         Ok(bytes) => bytes,
-        Err(reason) => return Outcome::Unread(reason),
+        Err(reason) => return Ok(Outcome::Unread(reason)),
     };
     match answer(rt, alloc, workers, turns, model, bytes.as_slice()) {
-        Ok(report) => write_report(&report, output),
-        Err(e) => Outcome::Undriven(e),
+        Ok(report) => Ok(write_report(&report, output)),
+        Err(e) => Err(e),
     }
 }

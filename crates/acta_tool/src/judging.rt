@@ -3,12 +3,12 @@
 ghost use Rattle.std.specs.Prelude.{◌≡◌, ◌∷◌, [], false, None, IfOk};
 ghost use Rattle.acta_script.specs.Reading.{kept_of};
 ghost use Rattle.acta_words.specs.Text.{text_of};
-ghost use Rattle.acta_tool.specs.Output.{judge_on, judged_on, said_in, verdict_lines};
-ghost use Rattle.acta_tool.specs.inside.Reports.{output_of};
+ghost use Rattle.acta_tool.specs.Output.{judge_on, judged_on, verdict_lines};
+ghost use Rattle.acta_io.specs.Input.{said_in};
+ghost use Rattle.acta_io.specs.inside.Reports.{output_of};
 
-use crate::input::{KeptLines, read_lines};
-use crate::reports::{Report, refuse_by, refuse_line};
 use crate::telling::tell_verdict;
+use acta_io::{KeptLines, Report, read_lines, refuse_by, refuse_line};
 use acta_judge::{JudgeError, Verdict, judge};
 use acta_machine::Handle;
 use acta_table::{Kept, Model};

@@ -11,7 +11,8 @@ ghost use Rattle.acta_machine.specs.Table.{run_answers, run_state};
 ghost use Rattle.acta_tool.specs.declared.args.Command.{Command};
 ghost use Rattle.acta_tool.specs.declared.args.Command.TheVariants.{Upgrade};
 ghost use Rattle.acta_tool.specs.Driving.{task_of};
-ghost use Rattle.acta_tool.specs.Models.{of_either, takes_either};
+ghost use Rattle.acta_io.specs.Models.{of_either};
+ghost use Rattle.acta_tool.specs.Models.{takes_either};
 ghost use Rattle.acta_tool.specs.Output.{tool_output};
 
 use acta_table::Model;

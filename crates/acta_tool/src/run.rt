@@ -2,25 +2,26 @@
 
 ghost use Rattle.std.specs.Prelude.{◌≡◌, ◌≤◌, ◌<◌, ◌+◌, ◌++◌, ◌⊎◌, false, length, vec_len, IfOk, IfErr, IfSome, MatchResult, None, Some};
 ghost use Rattle.acta_script.specs.Reading.{event_of};
-ghost use Rattle.acta_tool.specs.Outcome.{Answers, FailsBy, IsUnreadTooLong, KeepsUnread, WritesBy, input_of, is_drive, is_undriven, reads_input, reason_of};
-ghost use Rattle.acta_tool.specs.Output.{output_on, run_on, said_in, told, told_last, tool_output};
+ghost use Rattle.acta_io.specs.Outcome.{Answers, FailsBy, IsUnreadTooLong, KeepsUnread, WritesBy, reason_of};
+ghost use Rattle.acta_tool.specs.Outcome.{input_of, is_drive, reads_input};
+ghost use Rattle.acta_tool.specs.Output.{output_on, run_on, told, told_last, tool_output};
+ghost use Rattle.acta_io.specs.Input.{said_in};
 ghost use Rattle.acta_words.specs.Text.{text_of};
-ghost use Rattle.acta_tool.specs.declared.source.ReadFault.TheVariants.{TooMuch as too_much};
-ghost use Rattle.acta_tool.specs.inside.Reports.{output_of};
+ghost use Rattle.acta_io.specs.declared.source.ReadFault.TheVariants.{TooMuch as too_much};
+ghost use Rattle.acta_io.specs.inside.Reports.{output_of};
 
 use crate::args::{Args, Command};
 use crate::debugging::debug_model;
-use crate::input::{BadLine, EventLines, read_lines};
 use crate::judging::judge_model;
-use crate::models::{ModelError, read_model};
-use crate::outcome::Outcome;
-use crate::reports::{Report, refuse_model, write_report};
+use crate::models::read_model_for;
 use crate::serializing::serial_model;
-use crate::sink::Sink;
-use crate::source::{MOST_BYTES, ReadFault, Source, read_all};
 use crate::telling::{tell_end, tell_events};
 use crate::tracing::trace_model;
 use acta_image::write_image;
+use acta_io::{
+    BadLine, EventLines, MOST_BYTES, ModelError, Outcome, ReadFault, Report, Sink, Source,
+    read_lines, read_within, refuse_model, write_report,
+};
 use acta_lang::print_model;
 use acta_machine::{Handle, Machine, Run};
 use acta_table::Model;
@@ -105,39 +106,15 @@ fn answer<A: Handle + Send + Sync, R: Threads + Sync>(
     requires { is_drive command ≡ false }
     ensures { IfOk result (λ report. output_of report ≡ tool_output A command model.now input.now) }
 {
-    match read_model(alloc, command, model) {
+    match read_model_for(alloc, command, model) {
         Ok(model) => tell_model(rt, alloc, command, model, input),
         Err(ModelError::Fault(fault)) => refuse_model(alloc, fault),
         Err(ModelError::Memory) => Err(AllocError),
     }
 }
 
-// The whole input, where the command reads it.
+// The input that the command reads, where neither it nor the model is too long.
 fn read_input<A: Allocator, S: Source>(
-    alloc: A,
-    command: Command,
-    input: &mut S,
-) -> Result<Vec<u8, A>, ReadFault>
-    ensures bytes { IfOk result (λ v. IfSome (input_of command (S.remaining input.old)) (λ xs. v.items ≡ xs)) }
-    ensures size { IfOk result (λ v. vec_len v ≤ 16777216) }
-    ensures too_much { IfErr result (λ e. e ≡ too_much → IfSome (input_of command (S.remaining input.old)) (λ xs. 16777216 < length xs)) }
-    ensures reads { S.reads input.new ≤ S.reads input.old + 16777217 }
-    ensures failed { MatchResult result (λ _. FailsBy None (S.has_failed input.old) (S.has_failed input.new)) (λ e. FailsBy (Some e) (S.has_failed input.old) (S.has_failed input.new)) }
-    ensures untouched { reads_input command ≡ false → input.new ≡ input.old }
-{
-    match command {
-        Command::Assemble | Command::CheckImage | Command::Upgrade => Ok(Vec::new(alloc)),
-        Command::Run { .. }
-        | Command::Trace
-        | Command::Judge
-        | Command::Debug
-        | Command::Serial
-        | Command::Drive { .. } => read_all(alloc, input),
-    }
-}
-
-/// The whole input, where the command reads it, and where neither it nor the model is too long.
-pub fn read_within<A: Allocator, S: Source>(
     alloc: A,
     command: Command,
     model: &[u8],
@@ -149,11 +126,21 @@ pub fn read_within<A: Allocator, S: Source>(
     ensures failed { MatchResult result (λ _. FailsBy None (S.has_failed input.old) (S.has_failed input.new)) (λ e. FailsBy (Some e) (S.has_failed input.old) (S.has_failed input.new)) }
     ensures untouched { reads_input command ≡ false → input.new ≡ input.old }
 {
-    let bytes = read_input(alloc, command, input)?;
-    if model.len() > MOST_BYTES {
-        return Err(ReadFault::TooMuch);
+    match command {
+        Command::Assemble | Command::CheckImage | Command::Upgrade => {
+            if model.len() > MOST_BYTES {
+                Err(ReadFault::TooMuch)
+            } else {
+                Ok(Vec::new(alloc))
+            }
+        }
+        Command::Run { .. }
+        | Command::Trace
+        | Command::Judge
+        | Command::Debug
+        | Command::Serial
+        | Command::Drive { .. } => read_within(alloc, model, input),
     }
-    Ok(bytes)
 }
 
 /// Reads the whole input, where the command reads it, does what the words asked for on the model that the bytes mean,
@@ -176,9 +163,8 @@ pub fn run_tool<A: Handle + Send + Sync, R: Threads + Sync, S: Source, W: Sink>(
     ensures failed { FailsBy (reason_of result) (S.has_failed input.old) (S.has_failed input.new) }
     ensures too_long { IsUnreadTooLong model.now (input_of args.now.command (S.remaining input.old)) (reason_of result) }
     ensures untouched { reads_input args.now.command ≡ false → input.new ≡ input.old }
-    ensures undriven { is_undriven result ≡ false }
 {
-    let bytes = match read_within(alloc, args.command, model, input) {
+    let bytes = match read_input(alloc, args.command, model, input) {
         Ok(bytes) => bytes,
         Err(reason) => return Outcome::Unread(reason),
     };

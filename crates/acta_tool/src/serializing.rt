@@ -3,12 +3,12 @@
 ghost use Rattle.std.specs.Prelude.{◌≡◌, ◌<◌, ◌++◌, All, length, false, None, IfOk, OnOk};
 ghost use Rattle.acta_script.specs.Reading.{event_of};
 ghost use Rattle.acta_words.specs.Text.{text_of};
-ghost use Rattle.acta_tool.specs.Output.{said_in, serial_lines, serial_on, serialized_on};
-ghost use Rattle.acta_tool.specs.inside.Reports.{output_of};
+ghost use Rattle.acta_io.specs.Input.{said_in};
+ghost use Rattle.acta_tool.specs.Output.{serial_lines, serial_on, serialized_on};
+ghost use Rattle.acta_io.specs.inside.Reports.{output_of};
 
-use crate::input::{EventLines, read_lines};
-use crate::reports::{Report, refuse_by, refuse_line};
 use acta_axioms::SerialItem;
+use acta_io::{EventLines, Report, read_lines, refuse_by, refuse_line};
 use acta_machine::{Handle, Machine, SerialError};
 use acta_script::write_kept;
 use acta_table::{Event, Kept, Model};

@@ -1,8 +1,6 @@
 //! What a run tells, line by line.
 
 ghost use Rattle.std.specs.Prelude.{◌≡◌, ◌++◌, ◌∷◌, [], All, decimal, flat_map, map, OnOk};
-ghost use Rattle.acta_image.specs.Claims.{image_fault_number};
-ghost use Rattle.acta_lang.specs.declared.fault.AsmFault.{AsmFault};
 ghost use Rattle.acta_machine.specs.Table.{debts_in};
 ghost use Rattle.acta_axioms.specs.Axioms.{axiom_number};
 ghost use Rattle.acta_script.specs.Answers.{answer_line, fault_line, owed_line};
@@ -10,14 +8,12 @@ ghost use Rattle.acta_script.specs.Laws.{IsInModel};
 ghost use Rattle.acta_script.specs.Writing.{kept_line};
 ghost use Rattle.acta_words.specs.Text.{line_of, text_of};
 ghost use Rattle.acta_tool.specs.Driving.{book_lines, entry_line, front_line};
-ghost use Rattle.acta_tool.specs.Output.{fault_number_words, fault_words, image_line, model_line, no_model_line, stop_line, told, told_last, verdict_lines};
+ghost use Rattle.acta_io.specs.Reports.{fault_number_words, fault_words, image_line, model_line, no_model_line, stop_line};
+ghost use Rattle.acta_tool.specs.Output.{told, told_last, verdict_lines};
 
-use crate::input::BadLine;
-use crate::models::NoModel;
 use acta_axioms::Fault;
-use acta_image::ImageFault;
+use acta_io::{BadLine, push_stop};
 use acta_judge::Verdict;
-use acta_lang::AsmFault;
 use acta_locked::{Book, Entry, Front};
 use acta_machine::{Handle, Machine, Run};
 use acta_script::{answer_line, fault_line, owed_line, write_event, write_kept};
@@ -109,74 +105,6 @@ pub fn tell_verdict<A: Allocator + Copy>(
     Ok(())
 }
 
-/// Tells the line that says nothing.
-pub fn tell_stop<A: Allocator>(text: &mut Vec<u8, A>, stop: BadLine) -> Result<(), AllocError>
-    ensures { OnOk result (text.new.items ≡ text.old.items ++ text_of (stop_line stop ∷ [])) }
-{
-    text.extend_from_slice(b"line")?;
-    push_natural(text, stop.line as u64)?;
-    push_word(text, b"fault")?;
-    push_natural(text, u64::from(stop.fault.number()))?;
-    push_line(text, b"")
-}
-
-// Tells the line of a model's text at which something is wrong.
-fn tell_text_fault<A: Allocator>(text: &mut Vec<u8, A>, fault: AsmFault) -> Result<(), AllocError>
-    ensures { OnOk result (text.new.items ≡ text.old.items ++ text_of (model_line fault ∷ [])) }
-{
-    text.extend_from_slice(b"model line")?;
-    push_natural(text, fault.line as u64)?;
-    push_word(text, b"fault")?;
-    push_natural(text, u64::from(fault.code.number()))?;
-    push_line(text, b"")
-}
-
-// Tells the number of an image's fault.
-fn tell_number<A: Allocator>(text: &mut Vec<u8, A>, fault: ImageFault) -> Result<(), AllocError>
-    ensures { OnOk result (text.new.items ≡ text.old.items ++ line_of (fault_number_words (image_fault_number fault))) }
-{
-    text.extend_from_slice(b"image fault")?;
-    push_natural(text, u64::from(fault.number()))
-}
-
-// Tells a word and a number, and ends the line.
-fn tell_last<A: Allocator>(
-    text: &mut Vec<u8, A>,
-    word: &[u8],
-    number: u64,
-) -> Result<(), AllocError>
-    ensures { OnOk result (text.new.items ≡ text.old.items ++ 32 ∷ (word.now ++ 32 ∷ (decimal number ++ 10 ∷ []))) }
-{
-    push_word(text, word)?;
-    push_natural(text, number)?;
-    push_line(text, b"")
-}
-
-// Tells the rest of the line, behind the number of an image's fault.
-fn tell_rest<A: Allocator>(text: &mut Vec<u8, A>, fault: ImageFault) -> Result<(), AllocError>
-    ensures { OnOk result (text.new.items ≡ text.old.items ++ (flat_map (λ word. 32 ∷ word) (fault_words fault) ++ 10 ∷ [])) }
-{
-    match fault {
-        ImageFault::Magic | ImageFault::Version | ImageFault::Truncated => push_line(text, b""),
-        ImageFault::BadField(offset) | ImageFault::Trailing(offset) => {
-            tell_last(text, b"at", offset as u64)
-        }
-        ImageFault::Model(fault) => tell_last(text, b"model", u64::from(fault.number())),
-    }
-}
-
-// Tells what is wrong with an image, with the offset of a field or the fault of a model.
-fn tell_image_fault<A: Allocator>(
-    text: &mut Vec<u8, A>,
-    fault: ImageFault,
-) -> Result<(), AllocError>
-    ensures { OnOk result (text.new.items ≡ text.old.items ++ text_of (image_line fault ∷ [])) }
-{
-    tell_number(text, fault)?;
-    tell_rest(text, fault)?;
-    Ok(())
-}
-
 // Tells an entry: its number, its seat, its event and the answer.
 fn tell_entry<A: Allocator + Copy>(
     alloc: A,
@@ -251,16 +179,6 @@ pub fn tell_book<A: Handle>(
     Ok(())
 }
 
-/// Tells why bytes mean no model.
-pub fn tell_no_model<A: Allocator>(text: &mut Vec<u8, A>, fault: NoModel) -> Result<(), AllocError>
-    ensures { OnOk result (text.new.items ≡ text.old.items ++ text_of (no_model_line fault ∷ [])) }
-{
-    match fault {
-        NoModel::Text(fault) => tell_text_fault(text, fault),
-        NoModel::Image(fault) => tell_image_fault(text, fault),
-    }
-}
-
 /// Tells the answers to the events of a run; or, where `is_kept`, the events that were kept, with what they returned.
 pub fn tell_events<A: Handle>(
     alloc: A,
@@ -288,7 +206,7 @@ pub fn tell_end<A: Handle>(
     ensures { OnOk result (text.new.items ≡ text.old.items ++ text_of (told_last is_kept machine.now stop)) }
 {
     match stop {
-        Some(stop) => tell_stop(text, stop),
+        Some(stop) => push_stop(text, stop),
         None if is_kept => Ok(()),
         None => tell_debts(alloc, machine, text),
     }

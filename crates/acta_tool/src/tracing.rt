@@ -5,12 +5,12 @@ ghost use Rattle.acta_machine.specs.Table.{after_all, edges_in};
 ghost use Rattle.acta_script.specs.Laws.{IsInModel};
 ghost use Rattle.acta_script.specs.Reading.{event_of};
 ghost use Rattle.acta_words.specs.Text.{text_of};
-ghost use Rattle.acta_tool.specs.Output.{edge_words, formed_line, line_numbers, op_words, said_in, trace_lines, trace_on};
-ghost use Rattle.acta_tool.specs.inside.Reports.{output_of};
+ghost use Rattle.acta_tool.specs.Output.{edge_words, formed_line, op_words, trace_lines, trace_on};
+ghost use Rattle.acta_io.specs.Input.{line_numbers, said_in};
+ghost use Rattle.acta_io.specs.inside.Reports.{output_of};
 
-use crate::input::{EventLines, numbers_of_lines, read_lines};
-use crate::reports::Report;
 use crate::telling::tell_end;
+use acta_io::{EventLines, Report, numbers_of_lines, read_lines};
 use acta_machine::{Formed, Handle, Machine};
 use acta_script::{answer_line, write_event};
 use acta_table::{Edge, Event, MOST_EDGES, Model, OpNo};

@@ -1,3 +1,4 @@
+pub mod KeptInModel
 mod Counting
 mod Noting
 mod Taking

@@ -3,7 +3,7 @@ use Rattle.std.specs.Prelude.{ℕ, List, Option, Some, None, option_map, Result,
 use Rattle.acta_table.specs.declared.event.Event.{Event}
 use Rattle.acta_script.specs.declared.fault.LineFault.{LineFault}
 use Rattle.acta_script.specs.Reading.{event_of}
-use Rattle.acta_tool.specs.Output.{said_by}
+use Rattle.acta_io.specs.Input.{said_by}
 use Rattle.acta_machine.specs.Table.{State, after, after_all, answer_to, answers_to}
 use Rattle.acta_compare.specs.declared.seen.Seen.{Seen}
 use Rattle.acta_compare.specs.declared.seen.Seen.TheVariants.{Unread}

@@ -3,9 +3,9 @@ use Rattle.std.specs.Prelude.{ℕ, ◌+◌, List, [], ◌∷◌, if◌then◌els
 use Rattle.acta_table.specs.declared.model.Parts.{Parts}
 use Rattle.acta_script.specs.Commands.{command_of}
 use Rattle.acta_script.specs.declared.commands.DebugCommand.{DebugCommand}
-use Rattle.acta_tool.specs.declared.input.Input.{Input}
+use Rattle.acta_io.specs.declared.input.Input.{Input}
 use Rattle.acta_tool.specs.Debugging.{ends_events}
-use Rattle.acta_tool.specs.Output.{Said, said_from}
+use Rattle.acta_io.specs.Input.{Said, said_from}
 
 -- what was read, as the definitions see it
 abbrev pub said_of : {X A : Type 0} → Input X A → Said X

@@ -3,8 +3,8 @@ use Rattle.std.specs.Prelude.{◌≡◌, ⊤, option_map}
 use Rattle.clap.specs.Words.{kind_of}
 use Rattle.clap.specs.declared.error.ErrorKind.TheVariants.{MissingSubcommand}
 use Rattle.acta_tool.specs.declared.args.Spelled.{Spelled}
-use Rattle.acta_tool.specs.declared.fault.UsageFault.{UsageFault}
-use Rattle.acta_tool.specs.declared.fault.UsageFault.TheVariants.{Usage, UnknownModel, NotText, Memory}
+use Rattle.acta_args.specs.declared.fault.UsageFault.{UsageFault}
+use Rattle.acta_args.specs.declared.fault.UsageFault.TheVariants.{Usage, UnknownModel, NotText, Memory}
 use Rattle.acta_tool.specs.CommandLines.{Named}
 
 -- the texts behind its references

@@ -1,6 +1,6 @@
 use Rattle.std.proofs.Common.{ap, ◌∙◌}
 use Rattle.std.proofs.lemmas.Result.{IfOk-weaker}
-use Rattle.acta_tool.specs.Output.{refused_by}
+use Rattle.acta_io.specs.Reports.{refused_by}
 use Rattle.acta_programs.proofs.answers.write_incomplete.Goals as goal
 
 pub returns : goal.returns

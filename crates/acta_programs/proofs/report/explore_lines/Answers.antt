@@ -3,8 +3,8 @@ use Rattle.std.specs.Prelude.{is_some}
 use Rattle.std.proofs.lemmas.Result.{IfOk-weaker}
 use Rattle.acta_ends.specs.declared.fault.ConditionFault.{ConditionFault}
 use Rattle.acta_ends.specs.declared.fault.ConditionError.TheVariants.{Fault}
-use Rattle.acta_tool.specs.Output.{Output}
-use Rattle.acta_tool.specs.inside.Reports.{output_of}
+use Rattle.acta_io.specs.Reports.{Output}
+use Rattle.acta_io.specs.inside.Reports.{output_of}
 use Rattle.acta_programs.specs.Answers.{IsFaultyCondition, IsSearched}
 use Rattle.acta_programs.specs.inside.Conditions.{MayFail}
 use Rattle.acta_programs.proofs.report.explore_lines.Goals as goal

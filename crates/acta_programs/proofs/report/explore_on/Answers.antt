@@ -2,9 +2,9 @@ use Rattle.std.proofs.Common.{List, Option, None, subst, sym}
 use Rattle.std.specs.Prelude.{is_some}
 use Rattle.std.proofs.lemmas.Result.{IfOk-weaker}
 use Rattle.acta_script.specs.declared.programs.ProgramLine.{ProgramLine}
-use Rattle.acta_tool.specs.Output.{Said, line_numbers}
-use Rattle.acta_tool.specs.declared.input.BadLine.{BadLine}
-use Rattle.acta_tool.specs.inside.Reports.{output_of}
+use Rattle.acta_io.specs.Input.{Said, line_numbers}
+use Rattle.acta_io.specs.declared.input.BadLine.{BadLine}
+use Rattle.acta_io.specs.inside.Reports.{output_of}
 use Rattle.acta_programs.specs.Answers.{IsAnswerTo, IsAnswerUnless}
 use Rattle.acta_programs.proofs.report.explore_on.Goals as goal
 

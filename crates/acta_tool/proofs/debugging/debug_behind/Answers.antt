@@ -1,9 +1,9 @@
 use Rattle.std.proofs.Common.{◌≡◌, ◌-◌, drop, sym, ap, refl, subst, ◌∙◌, arith}
 use Rattle.std.specs.Prelude.{IfOk, option_map}
 use Rattle.acta_words.specs.Text.{lines_of}
-use Rattle.acta_tool.specs.declared.reports.Report.{Report}
-use Rattle.acta_tool.specs.Output.{Output}
-use Rattle.acta_tool.specs.inside.Reports.{output_of}
+use Rattle.acta_io.specs.declared.reports.Report.{Report}
+use Rattle.acta_io.specs.Reports.{Output}
+use Rattle.acta_io.specs.inside.Reports.{output_of}
 use Rattle.acta_tool.specs.inside.Sections.{said_of}
 use Rattle.acta_tool.proofs.DebugOutputs.{by_left, has_number, told_behind}
 use Rattle.acta_tool.proofs.debugging.debug_behind.Goals as goal

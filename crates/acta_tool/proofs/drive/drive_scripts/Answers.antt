@@ -3,7 +3,7 @@ use Rattle.std.specs.Prelude.{◌≡◌, All, IfOk, List, false}
 use Rattle.acta_locked.specs.declared.watch.Front.{Front}
 use Rattle.acta_script.specs.Laws.{IsInModel}
 use Rattle.acta_tool.specs.Driving.{Task, book_lines}
-use Rattle.acta_tool.specs.inside.Reports.{output_of}
+use Rattle.acta_io.specs.inside.Reports.{output_of}
 use Rattle.acta_words.specs.Text.{text_of}
 use Rattle.acta_tool.proofs.Seats.{of_entries}
 use Rattle.acta_tool.proofs.Tasks.{driven, undriven}

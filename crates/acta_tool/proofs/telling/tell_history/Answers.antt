@@ -2,7 +2,7 @@ use Rattle.std.proofs.Common.{◌≡◌, length, refl, subst, sym, ap, ◌∙◌
 use Rattle.std.specs.Prelude.{Some, slice_get}
 use Rattle.std.proofs.lemmas.Option.{slice_get_read}
 use Rattle.acta_script.specs.Laws.{IsInModel}
-use Rattle.acta_tool.proofs.KeptInModel.{in_model}
+use Rattle.acta_trace.proofs.KeptInModel.{in_model}
 use Rattle.acta_tool.proofs.telling.tell_history.Goals as goal
 
 -- what a machine has kept names what is in its model

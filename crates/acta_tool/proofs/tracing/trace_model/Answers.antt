@@ -2,7 +2,8 @@ use Rattle.std.proofs.Common.{◌≡◌, ◌<◌, ◌++◌, ◌∙◌, ℕ, List
 use Rattle.acta_machine.specs.Table.{after_all}
 use Rattle.acta_script.specs.Laws.{IsInModel}
 use Rattle.acta_words.specs.Text.{text_of}
-use Rattle.acta_tool.specs.Output.{line_numbers, trace_lines}
+use Rattle.acta_io.specs.Input.{line_numbers}
+use Rattle.acta_tool.specs.Output.{trace_lines}
 use Rattle.acta_tool.proofs.TraceLines.{traced}
 use Rattle.acta_tool.proofs.tracing.trace_model.Goals as goal
 

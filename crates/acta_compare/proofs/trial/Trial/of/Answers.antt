@@ -1,7 +1,7 @@
 use Rattle.std.proofs.Common.{ap, length, ◌∙◌}
 use Rattle.acta_words.specs.Text.{lines_of}
 use Rattle.acta_machine.specs.Table.{fresh}
-use Rattle.acta_tool.specs.Output.{line_numbers}
+use Rattle.acta_io.specs.Input.{line_numbers}
 use Rattle.acta_compare.specs.inside.Lines.{seen_from, state_from}
 use Rattle.acta_compare.proofs.Trying.{each-seen}
 use Rattle.acta_compare.proofs.trial.Trial.of.Goals as goal

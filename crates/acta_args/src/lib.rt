@@ -1,0 +1,18 @@
+//! The command line: the table of the commands, the parts of which the command line of each is made, how the words of
+//! one are read by `clap`, the model that a word names, and the word that was perhaps meant. Each command says itself
+//! which arguments and options it has.
+//!
+//! A call that allocates returns `Err`, or `Memory`, if memory runs out.
+#![tactic(auto)]
+
+mod commands;
+mod fault;
+mod meant;
+mod models;
+mod surface;
+
+pub use commands::{COMMANDS, Listed, VERSION, is_command, refuse_words, turn_help};
+pub use fault::UsageFault;
+pub use meant::nearest;
+pub use models::{ModelName, model_named};
+pub use surface::{CommandLine, flag, model_arg, option, parse, program_name, usage, with_arg};

@@ -1,0 +1,3 @@
+pub mod ImageLines
+pub mod Lines
+pub mod Turns

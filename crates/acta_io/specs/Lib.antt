@@ -1,0 +1,6 @@
+pub mod Input
+pub mod Models
+pub mod Outcome
+pub mod Refusals
+pub mod Reports
+pub mod inside

@@ -1,0 +1,226 @@
+//! The lines of an input, read one by one, up to the first line that says nothing.
+
+ghost use Rattle.std.specs.Prelude.{◌≡◌, ◌==◌, ◌<◌, ◌+◌, ◌^◌, ℕ, List, Result, Ok, false, length, option_map, All, IfOk, IfErr, IfSome, IfNone};
+ghost use Rattle.acta_script.specs.declared.fault.LineFault.{LineFault};
+ghost use Rattle.acta_script.specs.Reading.{IsWhy};
+ghost use Rattle.acta_words.specs.Text.{words_of};
+ghost use Rattle.acta_words.specs.inside.LinesToCome.{lines_to_come};
+ghost use Rattle.acta_io.specs.Input.{line_numbers, said_by, said_from, said_in};
+
+use acta_script::{
+    DebugCommand, LineError, LineFault, ProgramLine, Seated, read_command, read_event, read_kept,
+    read_program_line, read_seated,
+};
+use acta_table::{Event, Kept, Model};
+use acta_words::{Lines, has_words};
+use std::alloc::{AllocError, Allocator};
+
+/// How a line is read, as an X.
+pub trait LineReader<X> {
+    // What a line says, and what holds of it.
+    ghost said: { Self → List ℕ → Result X LineFault };
+
+    ghost fits: { Self → X → Type 0 };
+
+    /// What the line says, its fault, or want of memory.
+    fn read(&self, line: &[u8]) -> Result<X, LineError>
+        ensures ok { IfOk result (λ x. said self.now line.now ≡ Ok x) }
+        ensures fault { IfErr result (IsWhy (said self.now line.now)) }
+        ensures fits { IfOk result (fits self.now) };
+}
+
+/// Reads lines as events.
+#[derive(Clone, Copy)]
+pub struct EventLines<'a, A: Allocator + Copy> {
+    pub alloc: A,
+    pub model: &'a Model<A>,
+}
+
+impl<'a, A: Allocator + Copy> LineReader<Event<A>> for EventLines<'a, A> {
+    ghost use Rattle.acta_script.specs.Laws.{IsInModel};
+    ghost use Rattle.acta_script.specs.Reading.{event_of};
+
+    ghost said = { λ r. event_of r.model.now };
+
+    ghost fits = { λ r event. IsInModel r.model.now event };
+
+    fn read(&self, line: &[u8]) -> Result<Event<A>, LineError> {
+        read_event(self.alloc, self.model, line)
+    }
+}
+
+/// Reads lines as kept items.
+#[derive(Clone, Copy)]
+pub struct KeptLines<'a, A: Allocator + Copy> {
+    pub alloc: A,
+    pub model: &'a Model<A>,
+}
+
+impl<'a, A: Allocator + Copy> LineReader<Kept<A>> for KeptLines<'a, A> {
+    ghost use Rattle.acta_script.specs.Laws.{IsInModel};
+    ghost use Rattle.acta_script.specs.Reading.{kept_of};
+
+    ghost said = { λ r. kept_of r.model.now };
+
+    ghost fits = { λ r kept. IsInModel r.model.now kept.event };
+
+    fn read(&self, line: &[u8]) -> Result<Kept<A>, LineError> {
+        read_kept(self.alloc, self.model, line)
+    }
+}
+
+/// Reads lines as commands to a debugger.
+#[derive(Clone, Copy)]
+pub struct CommandLines<'a, A: Allocator + Copy> {
+    pub alloc: A,
+    pub model: &'a Model<A>,
+}
+
+impl<'a, A: Allocator + Copy> LineReader<DebugCommand> for CommandLines<'a, A> {
+    ghost use Rattle.std.specs.Prelude.{⊤};
+    ghost use Rattle.acta_script.specs.Commands.{command_of};
+
+    ghost said = { λ r. command_of r.model.now };
+
+    ghost fits = { λ r command. ⊤ };
+
+    fn read(&self, line: &[u8]) -> Result<DebugCommand, LineError> {
+        read_command(self.alloc, self.model, line)
+    }
+}
+
+/// Reads lines as a seat, of so many, and an event.
+#[derive(Clone, Copy)]
+pub struct SeatedLines<'a, A: Allocator + Copy> {
+    pub alloc: A,
+    pub model: &'a Model<A>,
+    pub seats: u8,
+}
+
+impl<'a, A: Allocator + Copy> LineReader<Seated<A>> for SeatedLines<'a, A> {
+    ghost use Rattle.acta_script.specs.Laws.{IsInModel};
+    ghost use Rattle.acta_script.specs.Reading.{seated_of};
+
+    ghost said = { λ r. seated_of r.model.now r.seats };
+
+    ghost fits = { λ r seated. IsInModel r.model.now seated.event };
+
+    fn read(&self, line: &[u8]) -> Result<Seated<A>, LineError> {
+        read_seated(self.alloc, self.model, self.seats, line)
+    }
+}
+
+/// Reads lines as steps of programs: a seat, of so many, and alternatives.
+#[derive(Clone, Copy)]
+pub struct ProgramLines<'a, A: Allocator + Copy> {
+    pub alloc: A,
+    pub model: &'a Model<A>,
+    pub seats: u8,
+}
+
+impl<'a, A: Allocator + Copy> LineReader<ProgramLine<A>> for ProgramLines<'a, A> {
+    ghost use Rattle.acta_script.specs.Laws.{IsInModel};
+    ghost use Rattle.acta_script.specs.Reading.{program_line_of};
+
+    ghost said = { λ r. program_line_of r.model.now r.seats };
+
+    ghost fits = { λ r step. All (IsInModel r.model.now) step.alternatives };
+
+    fn read(&self, line: &[u8]) -> Result<ProgramLine<A>, LineError> {
+        read_program_line(self.alloc, self.model, self.seats, line)
+    }
+}
+
+/// A line that says nothing, by its number from 1.
+#[derive(Clone, Copy)]
+pub struct BadLine {
+    pub line: usize,
+    pub fault: LineFault,
+}
+
+/// What the lines of an input say, up to the first that is faulty, and that one.
+#[derive(Drop)]
+pub struct Input<X: Drop, A: Allocator> {
+    pub said: Vec<X, A>,
+    pub stop: Option<BadLine>,
+}
+
+// What the line says; nothing where it has no word.
+fn said_by<X, L: LineReader<X>>(reader: &L, line: &[u8]) -> Result<Option<X>, LineError>
+    ensures ok { IfOk result (λ x. said_by (L.said reader.now) line.now ≡ option_map Ok x) }
+    ensures words { IfErr result (λ _. (length (words_of line.now) == 0) ≡ false) }
+    ensures fault { IfErr result (IsWhy (L.said reader.now line.now)) }
+    ensures fits { IfOk result (λ x. IfSome x (L.fits reader.now)) }
+{
+    if has_words(line) {
+        Ok(Some(reader.read(line)?))
+    } else {
+        Ok(None)
+    }
+}
+
+/// What the lines that are left say, of which so many were taken before, up to the first that is faulty; lines without
+/// a word are counted and passed over. `Err` where there is no memory.
+pub fn read_left<X: Drop, A: Allocator, L: LineReader<X>>(
+    alloc: A,
+    reader: &L,
+    left: Lines<'_>,
+    taken: usize,
+) -> Result<Input<X, A>, AllocError>
+    requires { taken + length (lines_to_come left) < 2 ^ 64 }
+    ensures said { IfOk result (λ read. said_from (L.said reader.now) (taken + 1) (lines_to_come left.entry) ≡ record { said = read.said.items; stop = read.stop }) }
+    ensures fits { IfOk result (λ read. All (L.fits reader.now) read.said.items) }
+{
+    let mut said = Vec::new(alloc);
+    let mut lines = left;
+    let mut number = taken;
+    while let Some(line) = lines.next() {
+        number += 1;
+        match said_by(reader, line) {
+            Ok(Some(x)) => said.push(x)?,
+            Ok(None) => {}
+            Err(LineError::Fault(fault)) => {
+                let stop = Some(BadLine {
+                    line: number,
+                    fault,
+                });
+                return Ok(Input { said, stop });
+            }
+            Err(LineError::Memory) => return Err(AllocError),
+        }
+    }
+    Ok(Input { said, stop: None })
+}
+
+/// What the lines of the input say, up to the first that is faulty; lines without a word are counted and passed over.
+/// `Err` where there is no memory.
+#[tactic(auto, unfolding(crate::specs::Input::said_in))]
+pub fn read_lines<X: Drop, A: Allocator, L: LineReader<X>>(
+    alloc: A,
+    reader: &L,
+    input: &[u8],
+) -> Result<Input<X, A>, AllocError>
+    ensures said { IfOk result (λ read. said_in (L.said reader.now) input.now ≡ record { said = read.said.items; stop = read.stop }) }
+    ensures fits { IfOk result (λ read. All (L.fits reader.now) read.said.items) }
+    ensures numbered { IfOk result (λ read. IfNone read.stop (length (line_numbers input.now) ≡ length read.said.items)) }
+{
+    let lines = Lines::of(input);
+    read_left(alloc, reader, lines, 0)
+}
+
+/// The numbers of the lines that have a word, from 1. `Err` where there is no memory.
+#[tactic(auto, unfolding(crate::specs::Input::line_numbers))]
+pub fn numbers_of_lines<A: Allocator>(alloc: A, input: &[u8]) -> Result<Vec<usize, A>, AllocError>
+    ensures { IfOk result (λ numbers. numbers.items ≡ line_numbers input.now) }
+{
+    let mut numbers = Vec::new(alloc);
+    let mut lines = Lines::of(input);
+    let mut number = 0;
+    while let Some(line) = lines.next() {
+        number += 1;
+        if has_words(line) {
+            numbers.push(number)?;
+        }
+    }
+    Ok(numbers)
+}
