@@ -263,6 +263,44 @@ fn serve_serialize<R: Files + Input + Print + AllocGlobal>(
     ))
 }
 
+// The models that the words name, which are a command line.
+fn models_named<'a, R: AllocGlobal>(
+    rt: &R,
+    words: &'a [String],
+) -> Result<[Option<ModelName<'a>>; 2], UsageFault> {
+    let command = match words.get(1) {
+        Some(command) => command.as_str(),
+        None => "",
+    };
+    Ok(match command {
+        "draw" => [Some(parse::<DrawLine>(rt.alloc(), words)?.model), None],
+        "explain" => match parse::<ExplainLine>(rt.alloc(), words)? {
+            Asked::Run(name) | Asked::Judged(name) => [Some(name), None],
+            Asked::Words(_) => [None, None],
+        },
+        "explore" => [Some(parse::<ExploreLine>(rt.alloc(), words)?.model), None],
+        "compare" => {
+            let asked = parse::<CompareLine>(rt.alloc(), words)?;
+            [Some(asked.model), Some(asked.other)]
+        }
+        "serialize" => [Some(parse::<SerializeLine>(rt.alloc(), words)?.model), None],
+        _ => [Some(acta_tool::parse(rt.alloc(), words)?.model), None],
+    })
+}
+
+// Tells the paths of the models that the words after `--models` name, a line each. The script `acta` asks for them where
+// the program has ended with status 3.
+fn tell_models<R: Print + AllocGlobal>(rt: &R, words: &[String]) -> Result<Outcome, UsageFault> {
+    for model in models_named(rt, words)? {
+        if let Some(ModelName::Path(path)) = model {
+            if println!(rt; "{path}").is_err() {
+                return Ok(Outcome::Unwritten);
+            }
+        }
+    }
+    Ok(Outcome::Done)
+}
+
 // Tells the version.
 fn tell_version<R: Print>(rt: &R) -> Outcome {
     match println!(rt; "acta {VERSION}") {
@@ -289,6 +327,7 @@ fn serve<R: Clock + Env + Eprint + Files + Input + Print + AllocGlobal + Threads
         "compare" => serve_compare(rt, is_error_terminal, words)?,
         "serialize" => serve_serialize(rt, words)?,
         "--version" | "-V" => tell_version(rt),
+        "--models" => tell_models(rt, words.get(1..).unwrap_or(&[]))?,
         _ if is_command(command) => {
             let args = acta_tool::parse(rt.alloc(), words)?;
             serve_run(rt, is_error_terminal, &args)?

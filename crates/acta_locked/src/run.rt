@@ -1,26 +1,22 @@
-//! A driven run: each script in a thread of its own, and one book.
+//! What a driven run leaves: the book and the reports, or why there is no result.
 
-ghost use Rattle.std.specs.Prelude.{◌≡◌, ◌+◌, ◌<◌, ◌≤◌, Err, None, Some, false, true, length, sum_by, vec_len};
+ghost use Rattle.std.specs.Prelude.{◌≡◌, ◌+◌, ◌<◌, ◌≤◌, None, false, true, length, sum_by, vec_len};
 ghost use Rattle.std.specs.Prelude.{Decides, IfErr, IfOk, IfSome};
 ghost use Rattle.acta_locked.specs.Drives.{AreParts, EachLetOn, IsDriven, MayFail};
 ghost use Rattle.acta_locked.specs.Drives.{fault_by, is_of_scripts, scripts_fault};
-ghost use Rattle.acta_locked.specs.inside.Outcomes.{AreOutcomes, IsOfGate};
+ghost use Rattle.acta_locked.specs.inside.Outcomes.{AreOutcomes};
 ghost use Rattle.acta_locked.specs.declared.run.DriveError.TheVariants.{Memory, Unsettled};
-ghost use Rattle.acta_locked.specs.declared.run.DriveError.{DriveError};
 
-use crate::book::{Book, Entry};
+use crate::book::Book;
 use crate::limits::MOST_WORKERS;
 use crate::settle::are_settled;
-use crate::threads::{Back, Done, in_scope};
+use crate::threads::{Back, Done};
 use crate::vault::{Job, Vault};
-use crate::worker::{Gate, Report, Script, WorkError};
+use crate::worker::{Report, Script, WorkError};
 use acta_machine::Handle;
-use acta_table::{Items, MOST_EVENTS, Model};
+use acta_table::{Items, MOST_EVENTS};
 use std::alloc::{AllocError, Allocator};
-use std::marker::Brand;
-use std::sync::ledger::{Blank, Share};
-use std::sync::{Mutex, Wait};
-use std::thread::Threads;
+use std::sync::ledger::Share;
 
 /// What a driven run leaves: the book, and the reports in order of seats (ours).
 #[derive(Drop)]
@@ -154,63 +150,4 @@ pub(crate) fn settled<A: Handle, J: Job<A>>(
         book,
         reports: Items::of(reports),
     })
-}
-
-// The run of scripts that nothing bars, with a ledger of one part for each worker and one more.
-fn run<
-    A: Handle + Send + Sync,
-    J: Job<A> + Send + Sync,
-    R: Threads + Wait + Sync,
-    G: Gate<Entry<A>> + Sync,
->(
-    rt: &R,
-    alloc: A,
-    blank: Blank,
-    model: Model<A>,
-    scripts: &[Script<A>],
-    gate: &G,
-) -> Result<Driven<A>, DriveError>
-    requires name { blank.name ≡ J.name }
-    requires cut { blank.parts ≡ J.parts }
-    requires one_more { blank.parts ≡ length scripts.now + 1 }
-    requires few { length scripts.now ≤ MOST_WORKERS }
-    requires of_model { model ≡ J.model }
-    requires of_gate { IsOfGate (G.may_stop gate.now) (G.may_pass gate.now) (G.may_go_on gate.now) J.may_stop J.may_pass J.may_go_on }
-    requires of_scripts { scripts.now ≡ J.scripts }
-    ensures let_on { IfOk result (λ d. EachLetOn J.may_pass J.may_go_on d.reports) }
-    ensures why { IfErr result (MayFail J.may_stop scripts.now) }
-    ensures driven { IfOk result (IsDriven model scripts.now) }
-    ensures late { IfErr result (λ e. is_of_scripts e ≡ false) }
-{
-    let (calls, rest) = blank.open::<J>();
-    let vault = Mutex::new(Vault::new(Book::new(alloc, model)?, calls));
-    let back = in_scope(rt, alloc, &vault, rest, scripts, gate)?;
-    let (all, reports) = gathered(back)?;
-    settled(vault.into_inner(), all, reports, scripts)
-}
-
-/// Runs each script in a thread of its own, over one book of the model, with the gate round each call (ours). Where it
-/// answers `Ok`, the book has as many entries as the workers made calls, and each seat's report is its part of the
-/// book, whose events are its script, in order. It answers `NoWorker`, `TooManyWorkers` and `TooManyEvents`, the lowest
-/// first, exactly where they hold, before any thread starts. Later all threads that were started have ended, and the
-/// answer is `NoThread` where one could not be started, else the fault of the lowest seat that failed (`GaveUp` or
-/// `Memory`), else `Unsettled`. Not promised: which order of the threads the book gets, fairness, and that it returns.
-pub fn drive<A: Handle + Send + Sync, R: Threads + Wait + Sync, G: Gate<Entry<A>> + Sync>(
-    rt: &R,
-    alloc: A,
-    model: Model<A>,
-    scripts: &[Script<A>],
-    gate: &G,
-) -> Result<Driven<A>, DriveError>
-    ensures driven { IfOk result (IsDriven model scripts.now) }
-    ensures barred { (e : DriveError) → scripts_fault scripts.now ≡ Some e → result ≡ Err e }
-    ensures only { IfErr result (λ e. is_of_scripts e ≡ true → scripts_fault scripts.now ≡ Some e) }
-    ensures let_on { IfOk result (λ d. EachLetOn (G.may_pass gate.now) (G.may_go_on gate.now) d.reports) }
-    ensures why { IfErr result (MayFail (G.may_stop gate.now) scripts.now) }
-{
-    if let Some(fault) = fault_of(scripts) {
-        return Err(fault);
-    }
-    let blank = Blank::new(scripts.len() as u64 + 1);
-    run::<A, Brand, R, G>(rt, alloc, blank, model, scripts, gate)
 }

@@ -15,7 +15,6 @@ use acta_machine::Handle;
 use std::alloc::Allocator;
 use std::sync::ledger::Share;
 use std::sync::{Mutex, Wait};
-use std::thread;
 use std::thread::{Promise, PromisedHandle, Scope, Threads};
 
 /// What a worker's thread hands back: its share, which has counted the entries of its report, and the report.
@@ -41,7 +40,7 @@ pub struct Back<A: Allocator, J: Job<A>> {
 }
 
 // The work of one thread.
-fn sit<A: Handle, J: Job<A>, R: Wait, G: Gate<Entry<A>>>(
+fn run_worker<A: Handle, J: Job<A>, R: Wait, G: Gate<Entry<A>>>(
     rt: &R,
     alloc: A,
     vault: &Mutex<Vault<A, J>>,
@@ -114,7 +113,7 @@ fn started<
     let job = move || -> Done<A, J>
         requires { (share.parts ≡ 1) × (share.amount ≡ 0) × IsOfGate (G.may_stop gate.now) (G.may_pass gate.now) (G.may_go_on gate.now) J.may_stop J.may_pass J.may_go_on × (script.now ≡ get_or J.scripts (seat - 1) []) }
         ensures { IsOutcome J.may_stop J.may_pass J.may_go_on seat (get_or J.scripts (seat - 1) []) result.outcome }
-    { sit(rt, alloc, vault, seat, share, script, gate) };
+    { run_worker(rt, alloc, vault, seat, share, script, gate) };
     match scope.spawn_with(Seat(seat), job) {
         Ok(handle) => Ok(Running { handle }),
         Err(_) => Err(DriveError::NoThread),
@@ -191,44 +190,4 @@ pub fn run_in<
         done: joined(rt, running, done),
         reports,
     })
-}
-
-/// Runs each script in a thread of its own, and answers once all threads have ended. `NoThread` where one could not be
-/// started.
-// All references are at one lifetime, and the scope stands in a function of its own.
-pub fn in_scope<
-    'x,
-    A: Handle + Send + Sync,
-    J: Job<A> + Send + Sync,
-    R: Threads + Wait + Sync,
-    G: Gate<Entry<A>> + Sync,
->(
-    rt: &'x R,
-    alloc: A,
-    vault: &'x Mutex<Vault<A, J>>,
-    rest: Share<J>,
-    scripts: &'x [Script<A>],
-    gate: &'x G,
-) -> Result<Back<A, J>, DriveError>
-    requires few { length scripts.now ≤ MOST_WORKERS }
-    requires parts { rest.parts ≡ length scripts.now + 1 }
-    requires none { rest.amount ≡ 0 }
-    requires of_gate { IsOfGate (G.may_stop gate.now) (G.may_pass gate.now) (G.may_go_on gate.now) J.may_stop J.may_pass J.may_go_on }
-    requires of_scripts { scripts.now ≡ J.scripts }
-    ensures all { IfOk result (λ back. vec_len back.done ≡ length scripts.now) }
-    ensures each { IfOk result (λ back. AreOutcomes (λ done. done.outcome) J.may_stop J.may_pass J.may_go_on J.scripts back.done.items) }
-    ensures late { IfErr result (λ e. is_of_scripts e ≡ false) }
-    ensures scarce { IfErr result (λ e. is_scarce e ≡ true) }
-{
-    thread::scope(
-        thread::scope_env(),
-        rt,
-        |scope| -> Result<Back<A, J>, DriveError>
-            requires { (length scripts.now ≤ MOST_WORKERS) × (rest.parts ≡ length scripts.now + 1) × (rest.amount ≡ 0) × IsOfGate (G.may_stop gate.now) (G.may_pass gate.now) (G.may_go_on gate.now) J.may_stop J.may_pass J.may_go_on × (scripts.now ≡ J.scripts) }
-            ensures all { IfOk result (λ back. vec_len back.done ≡ length scripts.entry.now) }
-            ensures each { IfOk result (λ back. AreOutcomes (λ done. done.outcome) J.may_stop J.may_pass J.may_go_on J.scripts back.done.items) }
-            ensures late { IfErr result (λ e. is_of_scripts e ≡ false) }
-            ensures scarce { IfErr result (λ e. is_scarce e ≡ true) }
-        { run_in(scope, rt, alloc, vault, rest, scripts, gate) },
-    )
 }

@@ -1,4 +1,5 @@
-//! A thread that judges the history while the workers make it.
+//! Driven runs: each script in a thread of its own, over one book, and beside them, if it has turns, a thread that
+//! judges the history while the workers make it.
 
 ghost use Rattle.std.specs.Prelude.{◌≡◌, ◌+◌, ◌≤◌, ◌++◌, ◌∷◌, [], true, false, drop, length, vec_len, Err, Ok, Some};
 ghost use Rattle.std.specs.Prelude.{IfErr, IfOk, MatchResult};
@@ -176,7 +177,7 @@ impl<A: Allocator, J: Job<A>> Promise<Result<Watch<A, J>, DriveError>> for Turns
     ghost kept_by = { λ p r. MatchResult r (λ w. length w.fronts ≡ p.0) (λ e. is_of_judging e ≡ true) };
 }
 
-// Starts the judging thread and then the workers, and joins all.
+// Starts the judging thread, if there is a turn for it, and then the workers, and joins all.
 fn run_watched<
     's,
     E: 's,
@@ -207,6 +208,10 @@ fn run_watched<
     ensures late { IfErr result (λ e. is_of_scripts e ≡ false) }
     ensures scarce { IfErr result (λ e. is_scarce e ≡ true) }
 {
+    if turns == 0 {
+        let back = run_in(scope, rt, alloc, vault, rest, scripts, gate)?;
+        return Ok((back, Ok(Watch::new(alloc))));
+    }
     let job = move || -> Result<Watch<A, J>, DriveError>
         requires { model.now ≡ J.model }
         ensures { MatchResult result (λ w. length w.fronts ≡ turns) (λ e. is_of_judging e ≡ true) }
@@ -270,6 +275,17 @@ pub struct Watched<A: Handle> {
     pub fronts: Items<Front<A>, A>,
 }
 
+impl<A: Handle> Watched<A> {
+    // The run without the fronts.
+    fn driven(self) -> Driven<A>
+        ensures { result ≡ self.driven }
+    {
+        let Watched { driven, fronts } = self;
+        drop(fronts);
+        driven
+    }
+}
+
 // The run and the fronts, where these are of the book's history.
 fn matched<A: Handle, J: Job<A>>(
     driven: Driven<A>,
@@ -330,7 +346,7 @@ fn watch_run<
 }
 
 /// As `drive`, and beside the workers a thread copies the kept history so many times, under the lock, judges each copy
-/// outside it, and shows each front to the gate (ours). Where it answers `Ok`, each front is of the first items of the
+/// outside it, and shows each front to the gate (ours). Without a turn there is no such thread. Where it answers `Ok`, each front is of the first items of the
 /// book's history, and their lengths never fall. A judging thread that could not be started is `NoThread`; where it
 /// finds no memory, the answer is `Memory`, behind the faults of the seats; and `Unsettled` where a copy is not how the
 /// history of the book begins. Not promised: when a copy is made.
@@ -355,4 +371,29 @@ pub fn drive_watched<A: Handle + Send + Sync, R: Threads + Wait + Sync, G: Gate<
     }
     let blank = Blank::new(scripts.len() as u64 + 1);
     watch_run::<A, Brand, R, G>(rt, alloc, blank, model, scripts, gate, turns)
+}
+
+/// Runs each script in a thread of its own, over one book of the model, with the gate round each call (ours). Where it
+/// answers `Ok`, the book has as many entries as the workers made calls, and each seat's report is its part of the
+/// book, whose events are its script, in order. It answers `NoWorker`, `TooManyWorkers` and `TooManyEvents`, the lowest
+/// first, exactly where they hold, before any thread starts. Later all threads that were started have ended, and the
+/// answer is `NoThread` where one could not be started, else the fault of the lowest seat that failed (`GaveUp` or
+/// `Memory`), else `Unsettled`. Not promised: which order of the threads the book gets, fairness, and that it returns.
+pub fn drive<A: Handle + Send + Sync, R: Threads + Wait + Sync, G: Gate<Entry<A>> + Sync>(
+    rt: &R,
+    alloc: A,
+    model: Model<A>,
+    scripts: &[Script<A>],
+    gate: &G,
+) -> Result<Driven<A>, DriveError>
+    ensures driven { IfOk result (IsDriven model scripts.now) }
+    ensures barred { (e : DriveError) → scripts_fault scripts.now ≡ Some e → result ≡ Err e }
+    ensures only { IfErr result (λ e. is_of_scripts e ≡ true → scripts_fault scripts.now ≡ Some e) }
+    ensures let_on { IfOk result (λ d. EachLetOn (G.may_pass gate.now) (G.may_go_on gate.now) d.reports) }
+    ensures why { IfErr result (MayFail (G.may_stop gate.now) scripts.now) }
+{
+    match drive_watched(rt, alloc, model, scripts, gate, 0) {
+        Ok(watched) => Ok(watched.driven()),
+        Err(error) => Err(error),
+    }
 }

@@ -5,12 +5,8 @@ ghost use Rattle.std.specs.Io.KnownBytes.{Keeps};
 ghost use Rattle.acta_script.specs.Laws.{IsInModel};
 ghost use Rattle.acta_script.specs.Reading.{seated_of};
 ghost use Rattle.acta_words.specs.Text.{text_of};
-ghost use Rattle.acta_locked.specs.Books.{state_of};
-ghost use Rattle.acta_locked.specs.Drives.{IsDriven, is_of_scripts, scripts_fault};
-ghost use Rattle.acta_locked.specs.Fronts.{AreFronts};
-ghost use Rattle.acta_locked.specs.declared.run.DriveError.{DriveError as RunError};
 ghost use Rattle.acta_locked.specs.declared.run.DriveError.TheVariants.{Memory};
-ghost use Rattle.acta_tool.specs.Driving.{AnswersOne, MayWrite, book_lines, is_stop, script_of, scripts_of, task_of, task_on, unless_too_long};
+ghost use Rattle.acta_tool.specs.Driving.{AnswersOne, MayWrite, book_lines, script_of, scripts_of, task_of, task_on, unless_too_long};
 ghost use Rattle.acta_io.specs.Models.{of_either};
 ghost use Rattle.acta_io.specs.Outcome.{FailsBy, IsUnreadTooLong, KeepsUnread, WritesBy, reason_of};
 ghost use Rattle.acta_tool.specs.Outcome.{is_drive};
@@ -25,12 +21,10 @@ use acta_io::{
     ModelError, Outcome, Report, SeatedLines, Sink, Source, read_lines, read_model, read_within,
     refuse_by, refuse_line, refuse_model, write_report,
 };
-use acta_locked::{
-    Book, DriveError, Driven, Front, OpenGate, Script, Watched, drive, drive_watched,
-};
+use acta_locked::{Book, DriveError, Driven, Front, OpenGate, Script, Watched, drive_watched};
 use acta_machine::Handle;
 use acta_script::Seated;
-use acta_table::{Items, Model};
+use acta_table::Model;
 use std::alloc::{AllocError, Allocator};
 use std::sync::Wait;
 use std::thread::Threads;
@@ -86,33 +80,6 @@ fn report_book<A: Handle>(
     })
 }
 
-// The driven run of the scripts, and a front for each turn; without a turn there is no judging thread.
-fn driven<A: Handle + Send + Sync, R: Threads + Wait + Sync>(
-    rt: &R,
-    alloc: A,
-    model: Model<A>,
-    scripts: &[Script<A>],
-    turns: u8,
-) -> Result<Watched<A>, DriveError>
-    ensures driven { IfOk result (λ w. IsDriven model scripts.now w.driven) }
-    ensures turns { IfOk result (λ w. length w.fronts ≡ turns) }
-    ensures fronts { IfOk result (λ w. AreFronts model (state_of w.driven.book).kept w.fronts) }
-    ensures barred { (e : RunError) → scripts_fault scripts.now ≡ Some e → result ≡ Err e }
-    ensures only { IfErr result (λ e. is_of_scripts e ≡ true → scripts_fault scripts.now ≡ Some e) }
-    ensures unstopped { IfErr result (λ e. is_stop e ≡ false) }
-{
-    if turns > 0 {
-        return drive_watched(rt, alloc, model, scripts, &OpenGate, turns);
-    }
-    match drive(rt, alloc, model, scripts, &OpenGate) {
-        Ok(driven) => Ok(Watched {
-            driven,
-            fronts: Items::of(Vec::new(alloc)),
-        }),
-        Err(error) => Err(error),
-    }
-}
-
 // What is told of a driven run of the scripts.
 fn drive_scripts<A: Handle + Send + Sync, R: Threads + Wait + Sync>(
     rt: &R,
@@ -124,7 +91,7 @@ fn drive_scripts<A: Handle + Send + Sync, R: Threads + Wait + Sync>(
     requires { All (All (IsInModel model)) scripts.now }
     ensures { MayComeOf (unless_too_long (record { model = model; scripts = scripts.now; turns = turns })) result }
 {
-    match driven(rt, alloc, model, scripts, turns) {
+    match drive_watched(rt, alloc, model, scripts, &OpenGate, turns) {
         Ok(watched) => {
             let Watched { driven, fronts } = watched;
             let Driven { book, reports } = driven;

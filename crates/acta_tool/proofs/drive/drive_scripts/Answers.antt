@@ -6,7 +6,7 @@ use Rattle.acta_tool.specs.Driving.{Task, book_lines}
 use Rattle.acta_io.specs.inside.Reports.{output_of}
 use Rattle.acta_words.specs.Text.{text_of}
 use Rattle.acta_tool.proofs.Seats.{of_entries}
-use Rattle.acta_tool.proofs.Tasks.{driven, undriven}
+use Rattle.acta_tool.proofs.Tasks.{driven, undriven, unstopped}
 use Rattle.acta_tool.proofs.drive.drive_scripts.Goals as goal
 
 pub report_book-told-requires : goal.report_book-told-requires
@@ -25,4 +25,4 @@ returns-in-Ok g c =
 pub returns-in_default : goal.returns-in_default
 returns-in_default g c =
     let task : Task g.row.A.Denot = record { model = c.args.model; scripts = c.args.scripts.now; turns = c.args.turns } in
-    undriven task c.in-Err.e c.in-Err.ensures.only c.in-Err.ensures.unstopped c.in-Err.ensures.barred c.in_default.not-TooManyEvents
+    undriven task c.in-Err.e c.in-Err.ensures.only (unstopped c.args.scripts.now c.in-Err.e c.in-Err.ensures.why) c.in-Err.ensures.barred c.in_default.not-TooManyEvents

@@ -1,5 +1,5 @@
 use Rattle.acta_locked.proofs.Handing.{outcome-of}
-use Rattle.acta_locked.proofs.threads.sit.Goals as goal
+use Rattle.acta_locked.proofs.threads.run_worker.Goals as goal
 
 pub returns : goal.returns
 returns g c =

@@ -1,7 +1,0 @@
-use Rattle.std.proofs.Common.{sym, ◌∙◌}
-use Rattle.std.proofs.lemmas.Bool.{true≢false}
-use Rattle.std.proofs.lemmas.Result.{IfErr-weaker}
-use Rattle.acta_locked.proofs.run.drive.Goals as goal
-
-pub returns-clause-only : goal.returns-clause-only
-returns-clause-only g c = IfErr-weaker c.run.result _ _ (λ e late yes. absurd (true≢false (sym yes ∙ late))) c.run.ensures.late
