@@ -3,3 +3,4 @@ pub mod Fronts
 pub mod Replaying
 pub mod Standing
 pub mod Stopping
+pub mod Taking

@@ -3,7 +3,8 @@
 use Rattle.std.proofs.Common.{◌≡◌, ℕ, suc, ◌+◌, ◌-◌, subst, ◌<◌, ◌≤◌, List, [], ◌∷◌, ◌++◌, length, take, drop, get_or, Option, Some, None, refl, sym, ap, ◌∙◌, append_assoc, append-nil, arith, length-append}
 use Rattle.std.proofs.lemmas.List.{append_cancel_left, map-append, take-append-drop, take_more, length-take-le}
 use Rattle.acta_table.specs.declared.answer.Answer.{Answer}
-use Rattle.acta_table.specs.declared.answer.Answer.TheVariants.{Admitted}
+use Rattle.acta_table.specs.declared.answer.Answer.TheVariants.{Admitted, Refused}
+use Rattle.acta_table.specs.declared.answer.Rule.{Rule}
 use Rattle.acta_table.specs.declared.answer.Refusal.{Refusal}
 use Rattle.acta_table.specs.declared.event.Event.{Event}
 use Rattle.acta_table.specs.declared.event.Kept.{Kept}
@@ -124,9 +125,18 @@ moved-on {A} s k n None e =
     λ i. with_kept s.model (s.kept ++ record { event = k.event; ret = same i } ∷ [])
 moved-on s k n (Some r) e = absurd cc
 
-after-on : {A : Type 0} (s : State A) (k : Kept A) (n : ℕ) → answer_to s k.event ≡ Admitted n k.ret → after s k.event ≡ with_kept s.model (s.kept ++ k ∷ [])
+pub after-on : {A : Type 0} (s : State A) (k : Kept A) (n : ℕ) → answer_to s k.event ≡ Admitted n k.ret → after s k.event ≡ with_kept s.model (s.kept ++ k ∷ [])
 unfolding after answer_to
 after-on s k n e = moved-on s k n (lowest_broken s.model (summary_of s.model s.kept) k.event) e
+
+moved-nowhere : {A : Type 0} (s : State A) (e : Event A) (rule : Rule) (by : Option ℕ) (r : Option Refusal) → answered s e r ≡ Refused rule by → moved_on s e r ≡ s
+moved-nowhere s e rule by None h = absurd cc
+moved-nowhere s e rule by (Some r) h = refl
+
+-- a refused event changes nothing
+pub after-refused : {A : Type 0} (s : State A) (e : Event A) (rule : Rule) (by : Option ℕ) → answer_to s e ≡ Refused rule by → after s e ≡ s
+unfolding after answer_to
+after-refused s e rule by h = moved-nowhere s e rule by (lowest_broken s.model (summary_of s.model s.kept) e) h
 
 -- an item that is admitted as it is written makes a longer history
 pub history-on : {A : Type 0} (m : Parts A) (front : List (Kept A)) (k : Kept A) (n : ℕ) → IsHistory m front → answer_to (with_kept m front) k.event ≡ Admitted n k.ret

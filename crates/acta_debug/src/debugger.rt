@@ -1,15 +1,15 @@
 //! The debugger.
 
-ghost use Rattle.std.specs.Prelude.{◌≡◌, ◌⊎◌, ◌<◌, ◌≤◌, ℕ, Ok, Err, take, length, slice_index_or};
+ghost use Rattle.std.specs.Prelude.{◌≡◌, ◌⊎◌, ◌<◌, ◌≤◌, ℕ, Ok, Err, filter, take, length, slice_index_or};
 ghost use Rattle.std.specs.Prelude.{IfErr, IfOk, IfSome, IsOkUnless, OnErr, OnOk};
 ghost use Rattle.acta_table.specs.declared.limits.TheConstants.{MOST_EVENTS};
 ghost use Rattle.acta_machine.specs.Places.{FollowsPlaces};
-ghost use Rattle.acta_machine.specs.Table.{State, run_state};
+ghost use Rattle.acta_machine.specs.Table.{State, answer_to, run_state};
 ghost use Rattle.acta_debug.specs.Histories.{IsFirstOther, IsHistory, state_at};
-ghost use Rattle.acta_debug.specs.Moves.{gone_to, stepped, stepped_back, with_break, without_breaks};
+ghost use Rattle.acta_debug.specs.Moves.{gone_to, stepped, stepped_back, taken, with_break, without_breaks};
 ghost use Rattle.acta_debug.specs.Sessions.{moved_to, opened};
 ghost use Rattle.acta_debug.specs.Stops.{IsStop, run_to_stop, stop_of};
-ghost use Rattle.acta_debug.specs.inside.Shown.{AreFronts, IsFront};
+ghost use Rattle.acta_debug.specs.inside.Shown.{AreFronts, IsFront, has_kept_within};
 ghost use Rattle.acta_debug.specs.declared.errors.MoveError.{MoveError as Fault};
 ghost use Rattle.acta_debug.specs.declared.errors.NewError.TheVariants as new;
 
@@ -19,7 +19,7 @@ use crate::recording::{LEAST_DISTANCE, Recording};
 use crate::replay::{accepted, take_events};
 use crate::running::{place_of, run_on};
 use acta_machine::{Handle, Machine};
-use acta_table::{Event, Kept, MOST_EVENTS, Model};
+use acta_table::{Answer, Event, Kept, MOST_EVENTS, Model};
 use std::alloc::AllocError;
 use std::mem::replace;
 
@@ -83,6 +83,20 @@ fn has_between<A: Handle>(machines: &[Machine<A>], least: usize, most: usize) ->
         }
     }
     false
+}
+
+// Whether the machine has kept at most so many events.
+fn has_kept_within<A: Handle>(machine: &Machine<A>, events: usize) -> bool
+    ensures { result ≡ has_kept_within events machine.now }
+{
+    machine.history().len() <= events
+}
+
+// Keeps those of the machines that have kept at most so many events.
+fn keep_within<A: Handle>(machines: &mut Vec<Machine<A>, A>, events: usize)
+    ensures { machines.new.items ≡ filter (has_kept_within events) machines.old.items }
+{
+    machines.retain(|machine| has_kept_within(machine, events));
 }
 
 impl<A: Handle> Debugger<A> {
@@ -198,6 +212,33 @@ impl<A: Handle> Debugger<A> {
         }
         self.stand_behind(n as usize)?;
         Ok(())
+    }
+
+    /// Has the machine take an event where the debugger stands, and answers as the machine does. An event that is admitted
+    /// becomes the last of the history: the events after the place are forgotten. A refusal changes nothing, and neither
+    /// does `Err`, which comes if memory runs out.
+    pub fn take(&mut self, event: &Event<A>) -> Result<Answer, AllocError>
+        ensures answer { IfOk result (λ answer. answer ≡ answer_to (state_at self.old.model self.old.history self.old.at) event.now) }
+        ensures ok { OnOk result (self.new ≡ taken self.old event.now) }
+        ensures err { OnErr result (self.new ≡ self.old) }
+    {
+        let at = self.at;
+        let event_copy = event.copy()?;
+        self.history.reserve(1)?;
+        let answer = self.machine.take(event)?;
+        match answer {
+            Answer::Admitted { ret, .. } => {
+                self.history.truncate(at);
+                self.history.push_reserved(Kept {
+                    event: event_copy,
+                    ret,
+                });
+                keep_within(&mut self.checkpoints, at);
+                self.at = self.machine.history().len();
+            }
+            Answer::Refused { .. } => drop(event_copy),
+        }
+        Ok(answer)
     }
 
     // A copy of the last of the checkpoints that stand behind no more than n events, or a new machine.

@@ -1,5 +1,5 @@
 -- What stands behind a debugger.
-use Rattle.std.specs.Prelude.{◌≡◌, ◌≤◌, ℕ, All, List, length, take}
+use Rattle.std.specs.Prelude.{◌≡◌, ◌≤◌, ℕ, All, Bool, List, length, nat_le, take}
 use Rattle.acta_table.specs.declared.event.Kept.{Kept}
 use Rattle.acta_table.specs.declared.model.Parts.{Parts}
 use Rattle.acta_table.specs.declared.limits.TheConstants.{MOST_EVENTS}
@@ -25,6 +25,10 @@ pub record IsInside {A : Type 0} (machine : State A) (history : List (Kept A)) (
 pub record IsFront {A : Type 0} (m : Parts A) (history : List (Kept A)) (machine : State A) : Type 0 where
   pub model : machine.model ≡ m
   pub kept : machine.kept ≡ take (length machine.kept) history
+
+-- whether the machine has kept at most so many events
+abbrev pub has_kept_within : {A : Type 0} → ℕ → State A → Bool
+has_kept_within n machine = nat_le (length machine.kept) n
 
 -- each of the machines has
 pub record AreFronts {A : Type 0} (m : Parts A) (history : List (Kept A)) (machines : List (State A)) : Type 0 where
