@@ -21,11 +21,14 @@
 
 mod answers;
 mod commands;
+mod diagnosis;
+mod event_words;
 mod fault;
 mod kept;
 mod laws;
 mod names;
 mod numbers;
+mod op_kind;
 mod op_sets;
 mod operations;
 mod programs;
@@ -38,12 +41,15 @@ mod writing;
 
 pub use answers::{answer_line, fault_line, missing_word, owed_line};
 pub use commands::{BreakOn, DebugCommand, read_command};
+pub use diagnosis::{Diagnostic, Expected, LinePart, WordPlace, diagnose_event, diagnose_kept};
+pub use event_words::{EVENT_KINDS, event_form, event_word};
 pub use fault::{LineError, LineFault};
 pub use kept::{read_kept, write_kept};
 pub use names::object_name;
+pub use op_kind::OpKind;
 pub use programs::{ProgramLine, read_program_line};
 pub use reading::read_event;
-pub use returns::{push_return, return_said};
+pub use returns::{RETURN_WORDS, push_return, return_said};
 pub use seated::{Seated, read_seated};
 pub use states::{push_elements, status_word};
 pub use writing::write_event;
