@@ -1,14 +1,14 @@
 -- The fault of a diagnosis is the one that reading finds.
-use Rattle.std.proofs.Common.{◌≡◌, ◌≤◌, ◌<◌, ℕ, zero, suc, ◌+◌, ◌==◌, nat_lt, nat_le, Bool, true, false, ◌||◌, ◌&&◌, cond, not, List, [], ◌∷◌, map, length, get_or, Option, Some, None, option_map, ok_or, Result, Ok, Err, IfOk, ℤ, refl, sym, ap, ◌∙◌, arith}
+use Rattle.std.proofs.Common.{◌≡◌, ◌<◌, ℕ, suc, ◌+◌, ◌==◌, nat_lt, nat_le, Bool, true, false, ◌||◌, cond, List, [], ◌∷◌, length, Option, Some, None, option_map, ok_or, Result, Ok, Err, IfOk, ℤ, refl, sym, ap, ◌∙◌, arith}
 use Rattle.std.specs.Prelude.{⊤}
 use Rattle.std.specs.List.{list_any, list_all, before_first, after_first, position_or_len}
-use Rattle.std.specs.Option.{option_or, option_map_or}
+use Rattle.std.specs.Option.{option_or}
 use Rattle.std.specs.Result.{result_ok, result_err}
 use Rattle.std.specs.Str.{bytes_eq}
 use Rattle.std.proofs.lemmas.Bool.{and_parts}
 use Rattle.std.proofs.lemmas.Bool.Decides.{nat_tests}
 use Rattle.acta_table.specs.declared.event.Event.{Event}
-use Rattle.acta_table.specs.declared.event.Event.TheVariants.{Begin, Spawn, Split, Join, Delegate, Form, Operate, Commit, Abort, Permit}
+use Rattle.acta_table.specs.declared.event.Event.TheVariants.{Operate}
 use Rattle.acta_table.specs.declared.event.EventKind.{EventKind}
 use Rattle.acta_table.specs.declared.event.EventKind.TheVariants as event_kind
 use Rattle.acta_table.specs.declared.event.Op.{Op}
@@ -24,16 +24,16 @@ use Rattle.acta_script.specs.declared.diagnosis.LinePart.{LinePart}
 use Rattle.acta_script.specs.declared.diagnosis.LinePart.TheVariants as part
 use Rattle.acta_script.specs.declared.diagnosis.WordPlace.TheVariants.{Wrong, Missing}
 use Rattle.acta_script.specs.declared.fault.LineFault.{LineFault}
-use Rattle.acta_script.specs.declared.fault.LineFault.TheVariants.{Empty, Word, Arity, Number, Name}
+use Rattle.acta_script.specs.declared.fault.LineFault.TheVariants.{Word, Arity, Number, Name}
 use Rattle.acta_script.specs.declared.op_kind.OpKind.{OpKind}
 use Rattle.acta_script.specs.declared.op_kind.OpKind.TheVariants as op_kind
-use Rattle.acta_script.specs.Diagnosis.{fault_of_word, is_fault, wrong_word, wrong_count, wrong_in, op_kind_in, operation_parts, parts_of, form_of, wrong_behind, wrong_event, wrong_return, lower_of, wrong_kept}
-use Rattle.acta_script.specs.Reading.{◌>>=◌, fault_number, txn_said, integer_said, class_said, object_said, kind_said, numbers_said, operations_said, op_kind_said, alone, integer_alone, with_integer, operation_of_kind, begin_said, spawn_said, split_said, join_said, delegate_said, form_of_kind, form_said, do_said, commit_said, abort_said, permit_said, event_kind_said, event_of_kind, event_said, lower, both, return_named, return_said, is_equals, with_return, plain, kept_said}
+use Rattle.acta_script.specs.Diagnosis.{fault_of_word, is_fault, wrong_word, wrong_count, wrong_in, op_kind_in, operation_parts, wrong_behind, wrong_event, wrong_return, lower_of, wrong_kept}
+use Rattle.acta_script.specs.Reading.{◌>>=◌, fault_number, txn_said, integer_said, class_said, object_said, kind_said, numbers_said, operations_said, op_kind_said, alone, with_integer, operation_of_kind, begin_said, spawn_said, split_said, join_said, delegate_said, form_of_kind, form_said, do_said, commit_said, abort_said, permit_said, event_kind_said, event_of_kind, event_said, both, return_named, return_said, is_equals, with_return, plain, kept_said}
 use Rattle.acta_script.specs.Words.{op_word}
 
 -- the fault of a diagnosis
-abbrev pub fault_told : Option Diagnostic → Option LineFault
-fault_told found = option_map (λ d. d.fault) found
+abbrev pub diagnosed_fault : Option Diagnostic → Option LineFault
+diagnosed_fault found = option_map (λ d. d.fault) found
 
 abbrev when : Bool → LineFault → Option LineFault
 when b f = cond b (Some f) None
@@ -59,14 +59,14 @@ number_or_name os = option_or (when (has Number os) Number) (when (has Name os) 
 abbrev lowest_of : List (Option LineFault) → ℕ → ℕ → Option LineFault
 lowest_of os a b = option_or (when (has Word os) Word) (option_or (when (differ a b) Arity) (number_or_name os))
 
-told_step : (b : Bool) (d : Diagnostic) (rest : Option Diagnostic) (more : Bool) → fault_told rest ≡ when more d.fault → fault_told (cond b (Some d) rest) ≡ when (b || more) d.fault
-told_step true d rest more h = refl
-told_step false d rest more h = h
+diagnosed_step : (b : Bool) (d : Diagnostic) (rest : Option Diagnostic) (more : Bool) → diagnosed_fault rest ≡ when more d.fault → diagnosed_fault (cond b (Some d) rest) ≡ when (b || more) d.fault
+diagnosed_step true d rest more h = refl
+diagnosed_step false d rest more h = h
 
-told_count : (s t : Bool) (d e : Diagnostic) → d.fault ≡ Arity → e.fault ≡ Arity → fault_told (cond s (Some d) (cond t (Some e) None)) ≡ when (s || t) Arity
-told_count true t d e first second = ap Some first
-told_count false true d e first second = ap Some second
-told_count false false d e first second = refl
+diagnosed_count : (s t : Bool) (d e : Diagnostic) → d.fault ≡ Arity → e.fault ≡ Arity → diagnosed_fault (cond s (Some d) (cond t (Some e) None)) ≡ when (s || t) Arity
+diagnosed_count true t d e first second = ap Some first
+diagnosed_count false true d e first second = ap Some second
+diagnosed_count false false d e first second = refl
 
 abbrev few : Expected → ℕ → ℕ → Diagnostic
 few e n count = record { fault = Arity; place = Missing (n + count); expected = e }
@@ -74,26 +74,26 @@ few e n count = record { fault = Arity; place = Missing (n + count); expected = 
 abbrev more : Expected → ℕ → ℕ → Diagnostic
 more e n wanted = record { fault = Arity; place = Wrong (n + wanted); expected = e }
 
-told_or : (p q : Option Diagnostic) → fault_told (option_or p q) ≡ option_or (fault_told p) (fault_told q)
-told_or None q = refl
-told_or (Some d) q = refl
+diagnosed_or : (p q : Option Diagnostic) → diagnosed_fault (option_or p q) ≡ option_or (diagnosed_fault p) (diagnosed_fault q)
+diagnosed_or None q = refl
+diagnosed_or (Some d) q = refl
 
 module _ {A : Type 0} (m : Parts A) where
-  told_word : (f : LineFault) (n : ℕ) (parts : List LinePart) (words : List (List ℕ)) → fault_told (wrong_word m f n parts words) ≡ when (has f (faults m parts words)) f
-  told_word f n [] words = refl
-  told_word f n (part ∷ parts) [] = refl
-  told_word f n (part ∷ parts) (word ∷ words) =
-      told_step (is_fault f (fault_of_word m part word)) _ (wrong_word m f (n + 1) parts words) (has f (faults m parts words)) (told_word f (n + 1) parts words)
+  diagnosed_word : (f : LineFault) (n : ℕ) (parts : List LinePart) (words : List (List ℕ)) → diagnosed_fault (wrong_word m f n parts words) ≡ when (has f (faults m parts words)) f
+  diagnosed_word f n [] words = refl
+  diagnosed_word f n (part ∷ parts) [] = refl
+  diagnosed_word f n (part ∷ parts) (word ∷ words) =
+      diagnosed_step (is_fault f (fault_of_word m part word)) _ (wrong_word m f (n + 1) parts words) (has f (faults m parts words)) (diagnosed_word f (n + 1) parts words)
 
-  told_in : (parts : List LinePart) (e : Expected) (n : ℕ) (words : List (List ℕ)) → fault_told (wrong_in m parts e n words) ≡ lowest_of (faults m parts words) (length parts) (length words)
+  diagnosed_in : (parts : List LinePart) (e : Expected) (n : ℕ) (words : List (List ℕ)) → diagnosed_fault (wrong_in m parts e n words) ≡ lowest_of (faults m parts words) (length parts) (length words)
   unfolding number_or_name
-  told_in parts e n words =
-      told_or (wrong_word m Word n parts words) (option_or (wrong_count e n (length parts) (length words)) (option_or (wrong_word m Number n parts words) (wrong_word m Name n parts words)))
-      ∙ (λ i. option_or (told_word Word n parts words i)
-      ((told_or (wrong_count e n (length parts) (length words)) (option_or (wrong_word m Number n parts words) (wrong_word m Name n parts words))
-      ∙ (λ j. option_or (told_count (nat_lt (length words) (length parts)) (nat_lt (length parts) (length words)) (few e n (length words)) (more e n (length parts)) refl refl j)
-      ((told_or (wrong_word m Number n parts words) (wrong_word m Name n parts words)
-      ∙ (λ k. option_or (told_word Number n parts words k) (told_word Name n parts words k))) j))) i))
+  diagnosed_in parts e n words =
+      diagnosed_or (wrong_word m Word n parts words) (option_or (wrong_count e n (length parts) (length words)) (option_or (wrong_word m Number n parts words) (wrong_word m Name n parts words)))
+      ∙ (λ i. option_or (diagnosed_word Word n parts words i)
+      ((diagnosed_or (wrong_count e n (length parts) (length words)) (option_or (wrong_word m Number n parts words) (wrong_word m Name n parts words))
+      ∙ (λ j. option_or (diagnosed_count (nat_lt (length words) (length parts)) (nat_lt (length parts) (length words)) (few e n (length words)) (more e n (length parts)) refl refl j)
+      ((diagnosed_or (wrong_word m Number n parts words) (wrong_word m Name n parts words)
+      ∙ (λ k. option_or (diagnosed_word Number n parts words k) (diagnosed_word Name n parts words k))) j))) i))
 
 -- the fault of a reading can only be this
 abbrev Only : {X : Type 0} → LineFault → Result X LineFault → Type 0
@@ -180,22 +180,22 @@ module _ {A : Type 0} (m : Parts A) where
       (λ i. no_unknown part word both.0 i || has Word (faults m parts words)) ∙ all_known parts words both.1
 
   -- a wrong number of known words
-  short : (parts : List LinePart) (e : Expected) (n : ℕ) (words : List (List ℕ)) → has Word (faults m parts words) ≡ false → differ (length parts) (length words) ≡ true → fault_told (wrong_in m parts e n words) ≡ Some Arity
+  short : (parts : List LinePart) (e : Expected) (n : ℕ) (words : List (List ℕ)) → has Word (faults m parts words) ≡ false → differ (length parts) (length words) ≡ true → diagnosed_fault (wrong_in m parts e n words) ≡ Some Arity
   short parts e n words known differs =
-      told_in m parts e n words
+      diagnosed_in m parts e n words
       ∙ (λ i. option_or (when (known i) Word) (option_or (when (differs i) Arity) (number_or_name (faults m parts words))))
 
   -- the right number of known words
-  exact : (parts : List LinePart) (e : Expected) (n : ℕ) (words : List (List ℕ)) → has Word (faults m parts words) ≡ false → differ (length parts) (length words) ≡ false → fault_told (wrong_in m parts e n words) ≡ number_or_name (faults m parts words)
+  exact : (parts : List LinePart) (e : Expected) (n : ℕ) (words : List (List ℕ)) → has Word (faults m parts words) ≡ false → differ (length parts) (length words) ≡ false → diagnosed_fault (wrong_in m parts e n words) ≡ number_or_name (faults m parts words)
   exact parts e n words known same =
-      told_in m parts e n words
+      diagnosed_in m parts e n words
       ∙ (λ i. option_or (when (known i) Word) (option_or (when (same i) Arity) (number_or_name (faults m parts words))))
 
 module _ {A : Type 0} (m : Parts A) where
-  short_plain : (parts : List LinePart) (e : Expected) (n : ℕ) (words : List (List ℕ)) → list_all is_plain parts ≡ true → differ (length parts) (length words) ≡ true → fault_told (wrong_in m parts e n words) ≡ Some Arity
+  short_plain : (parts : List LinePart) (e : Expected) (n : ℕ) (words : List (List ℕ)) → list_all is_plain parts ≡ true → differ (length parts) (length words) ≡ true → diagnosed_fault (wrong_in m parts e n words) ≡ Some Arity
   short_plain parts e n words all differs = short m parts e n words (all_known m parts words all) differs
 
-  exact_plain : (parts : List LinePart) (e : Expected) (n : ℕ) (words : List (List ℕ)) → list_all is_plain parts ≡ true → differ (length parts) (length words) ≡ false → fault_told (wrong_in m parts e n words) ≡ number_or_name (faults m parts words)
+  exact_plain : (parts : List LinePart) (e : Expected) (n : ℕ) (words : List (List ℕ)) → list_all is_plain parts ≡ true → differ (length parts) (length words) ≡ false → diagnosed_fault (wrong_in m parts e n words) ≡ number_or_name (faults m parts words)
   exact_plain parts e n words all same = exact m parts e n words (all_known m parts words all) same
 
 many : (a k : ℕ) → a < k → differ a k ≡ true
@@ -223,26 +223,26 @@ number_alone (Ok x) only = refl
 number_alone (Err f) only = ap (λ g. number_or_name (Some g ∷ [])) only ∙ ap (λ g. Some g) (sym only)
 
 -- of two diagnoses, the one with the lower fault
-chosen : (b : Bool) (d e : Diagnostic) (f g : LineFault) → d.fault ≡ f → e.fault ≡ g → fault_told (cond b (Some d) (Some e)) ≡ Some (cond b f g)
+chosen : (b : Bool) (d e : Diagnostic) (f g : LineFault) → d.fault ≡ f → e.fault ≡ g → diagnosed_fault (cond b (Some d) (Some e)) ≡ Some (cond b f g)
 chosen true d e f g first second = ap Some first
 chosen false d e f g first second = ap Some second
 
-told_lower : {X Y Z : Type 0} (make : X → Y → Z) (p q : Option Diagnostic) (r : Result X LineFault) (s : Result Y LineFault) → fault_told p ≡ result_err r → fault_told q ≡ result_err s → fault_told (lower_of p q) ≡ result_err (both make r s)
-told_lower make None None (Ok x) (Ok y) first second = refl
-told_lower make None (Some e) (Ok x) (Err g) first second = second
-told_lower make (Some d) None (Err f) (Ok y) first second = first
-told_lower make (Some d) (Some e) (Err f) (Err g) first second =
+diagnosed_lower : {X Y Z : Type 0} (make : X → Y → Z) (p q : Option Diagnostic) (r : Result X LineFault) (s : Result Y LineFault) → diagnosed_fault p ≡ result_err r → diagnosed_fault q ≡ result_err s → diagnosed_fault (lower_of p q) ≡ result_err (both make r s)
+diagnosed_lower make None None (Ok x) (Ok y) first second = refl
+diagnosed_lower make None (Some e) (Ok x) (Err g) first second = second
+diagnosed_lower make (Some d) None (Err f) (Ok y) first second = first
+diagnosed_lower make (Some d) (Some e) (Err f) (Err g) first second =
     let one : d.fault ≡ f = cc in
     let two : e.fault ≡ g = cc in
     chosen (nat_le (fault_number d.fault) (fault_number e.fault)) d e f g one two
     ∙ (λ i. Some (cond (nat_le (fault_number (one i)) (fault_number (two i))) f g))
-told_lower make None q (Err f) s first second = absurd (cc)
-told_lower make (Some d) q (Ok x) s first second = absurd (cc)
-told_lower make p None r (Err g) first second = absurd (cc)
-told_lower make p (Some e) r (Ok y) first second = absurd (cc)
+diagnosed_lower make None q (Err f) s first second = absurd (cc)
+diagnosed_lower make (Some d) q (Ok x) s first second = absurd (cc)
+diagnosed_lower make p None r (Err g) first second = absurd (cc)
+diagnosed_lower make p (Some e) r (Ok y) first second = absurd (cc)
 
-kept_or_plain : {A : Type 0} (b : Bool) (p q whole : Option Diagnostic) (r : Result (Event A) LineFault) (s : Result Ret LineFault) (all : Result (Event A) LineFault) → fault_told p ≡ result_err r → fault_told q ≡ result_err s → fault_told whole ≡ result_err all → fault_told (cond b (lower_of p q) whole) ≡ result_err (cond b (both with_return r s) (all >>= plain))
-kept_or_plain true p q whole r s all first second third = told_lower with_return p q r s first second
+kept_or_plain : {A : Type 0} (b : Bool) (p q whole : Option Diagnostic) (r : Result (Event A) LineFault) (s : Result Ret LineFault) (all : Result (Event A) LineFault) → diagnosed_fault p ≡ result_err r → diagnosed_fault q ≡ result_err s → diagnosed_fault whole ≡ result_err all → diagnosed_fault (cond b (lower_of p q) whole) ≡ result_err (cond b (both with_return r s) (all >>= plain))
+kept_or_plain true p q whole r s all first second third = diagnosed_lower with_return p q r s first second
 kept_or_plain false p q whole r s (Ok event) first second third = third
 kept_or_plain false p q whole r s (Err f) first second third = third
 
@@ -285,78 +285,78 @@ joined (Ok x) k h = refl
 joined (Err f) k h = refl
 
 module _ {A : Type 0} (m : Parts A) (e : Expected) where
-  told_begin : (words : List (List ℕ)) → fault_told (wrong_in m (part.Transaction ∷ part.Class ∷ []) e 1 words) ≡ result_err (begin_said m words)
+  diagnosed_begin : (words : List (List ℕ)) → diagnosed_fault (wrong_in m (part.Transaction ∷ part.Class ∷ []) e 1 words) ≡ result_err (begin_said m words)
   unfolding begin_said
-  told_begin [] = short m (part.Transaction ∷ part.Class ∷ []) e 1 [] refl refl
-  told_begin (t ∷ []) = short_plain m (part.Transaction ∷ part.Class ∷ []) e 1 (t ∷ []) refl refl
-  told_begin (t ∷ class ∷ []) =
+  diagnosed_begin [] = short m (part.Transaction ∷ part.Class ∷ []) e 1 [] refl refl
+  diagnosed_begin (t ∷ []) = short_plain m (part.Transaction ∷ part.Class ∷ []) e 1 (t ∷ []) refl refl
+  diagnosed_begin (t ∷ class ∷ []) =
       exact_plain m (part.Transaction ∷ part.Class ∷ []) e 1 (t ∷ class ∷ []) refl refl
       ∙ number_first (txn_said t) _ _ (only_txn t) (λ t. name_last (class_said m class) _ (only_class m class))
-  told_begin (t ∷ class ∷ x ∷ ws) = short_plain m (part.Transaction ∷ part.Class ∷ []) e 1 (t ∷ class ∷ x ∷ ws) refl (many 2 (suc (suc (suc (length ws)))) (omega arith))
+  diagnosed_begin (t ∷ class ∷ x ∷ ws) = short_plain m (part.Transaction ∷ part.Class ∷ []) e 1 (t ∷ class ∷ x ∷ ws) refl (many 2 (suc (suc (suc (length ws)))) (omega arith))
 
-  told_spawn : (words : List (List ℕ)) → fault_told (wrong_in m (part.Transaction ∷ part.Transaction ∷ part.Class ∷ []) e 1 words) ≡ result_err (spawn_said m words)
+  diagnosed_spawn : (words : List (List ℕ)) → diagnosed_fault (wrong_in m (part.Transaction ∷ part.Transaction ∷ part.Class ∷ []) e 1 words) ≡ result_err (spawn_said m words)
   unfolding spawn_said
-  told_spawn [] = short m (part.Transaction ∷ part.Transaction ∷ part.Class ∷ []) e 1 [] refl refl
-  told_spawn (t ∷ []) = short_plain m (part.Transaction ∷ part.Transaction ∷ part.Class ∷ []) e 1 (t ∷ []) refl refl
-  told_spawn (t ∷ c ∷ []) = short_plain m (part.Transaction ∷ part.Transaction ∷ part.Class ∷ []) e 1 (t ∷ c ∷ []) refl refl
-  told_spawn (t ∷ c ∷ class ∷ []) =
+  diagnosed_spawn [] = short m (part.Transaction ∷ part.Transaction ∷ part.Class ∷ []) e 1 [] refl refl
+  diagnosed_spawn (t ∷ []) = short_plain m (part.Transaction ∷ part.Transaction ∷ part.Class ∷ []) e 1 (t ∷ []) refl refl
+  diagnosed_spawn (t ∷ c ∷ []) = short_plain m (part.Transaction ∷ part.Transaction ∷ part.Class ∷ []) e 1 (t ∷ c ∷ []) refl refl
+  diagnosed_spawn (t ∷ c ∷ class ∷ []) =
       exact_plain m (part.Transaction ∷ part.Transaction ∷ part.Class ∷ []) e 1 (t ∷ c ∷ class ∷ []) refl refl
       ∙ number_first (txn_said t) _ _ (only_txn t) (λ t. number_first (txn_said c) _ _ (only_txn c) (λ c. name_last (class_said m class) _ (only_class m class)))
-  told_spawn (t ∷ c ∷ class ∷ x ∷ ws) = short_plain m (part.Transaction ∷ part.Transaction ∷ part.Class ∷ []) e 1 (t ∷ c ∷ class ∷ x ∷ ws) refl (many 3 (suc (suc (suc (suc (length ws))))) (omega arith))
+  diagnosed_spawn (t ∷ c ∷ class ∷ x ∷ ws) = short_plain m (part.Transaction ∷ part.Transaction ∷ part.Class ∷ []) e 1 (t ∷ c ∷ class ∷ x ∷ ws) refl (many 3 (suc (suc (suc (suc (length ws))))) (omega arith))
 
-  told_split : (words : List (List ℕ)) → fault_told (wrong_in m (part.Transaction ∷ part.Transaction ∷ part.Class ∷ part.Operations ∷ []) e 1 words) ≡ result_err (split_said m words)
+  diagnosed_split : (words : List (List ℕ)) → diagnosed_fault (wrong_in m (part.Transaction ∷ part.Transaction ∷ part.Class ∷ part.Operations ∷ []) e 1 words) ≡ result_err (split_said m words)
   unfolding split_said
-  told_split [] = short m (part.Transaction ∷ part.Transaction ∷ part.Class ∷ part.Operations ∷ []) e 1 [] refl refl
-  told_split (t ∷ []) = short_plain m (part.Transaction ∷ part.Transaction ∷ part.Class ∷ part.Operations ∷ []) e 1 (t ∷ []) refl refl
-  told_split (t ∷ u ∷ []) = short_plain m (part.Transaction ∷ part.Transaction ∷ part.Class ∷ part.Operations ∷ []) e 1 (t ∷ u ∷ []) refl refl
-  told_split (t ∷ u ∷ class ∷ []) = short_plain m (part.Transaction ∷ part.Transaction ∷ part.Class ∷ part.Operations ∷ []) e 1 (t ∷ u ∷ class ∷ []) refl refl
-  told_split (t ∷ u ∷ class ∷ ops ∷ []) =
+  diagnosed_split [] = short m (part.Transaction ∷ part.Transaction ∷ part.Class ∷ part.Operations ∷ []) e 1 [] refl refl
+  diagnosed_split (t ∷ []) = short_plain m (part.Transaction ∷ part.Transaction ∷ part.Class ∷ part.Operations ∷ []) e 1 (t ∷ []) refl refl
+  diagnosed_split (t ∷ u ∷ []) = short_plain m (part.Transaction ∷ part.Transaction ∷ part.Class ∷ part.Operations ∷ []) e 1 (t ∷ u ∷ []) refl refl
+  diagnosed_split (t ∷ u ∷ class ∷ []) = short_plain m (part.Transaction ∷ part.Transaction ∷ part.Class ∷ part.Operations ∷ []) e 1 (t ∷ u ∷ class ∷ []) refl refl
+  diagnosed_split (t ∷ u ∷ class ∷ ops ∷ []) =
       exact_plain m (part.Transaction ∷ part.Transaction ∷ part.Class ∷ part.Operations ∷ []) e 1 (t ∷ u ∷ class ∷ ops ∷ []) refl refl
       ∙ number_first (txn_said t) _ _ (only_txn t) (λ t. number_first (txn_said u) _ _ (only_txn u) (λ u. exchanged (result_err (class_said m class)) (result_err (operations_said ops)) ∙ number_first (operations_said ops) _ _ (only_operations ops) (λ ops. name_last (class_said m class) _ (only_class m class))))
-  told_split (t ∷ u ∷ class ∷ ops ∷ x ∷ ws) = short_plain m (part.Transaction ∷ part.Transaction ∷ part.Class ∷ part.Operations ∷ []) e 1 (t ∷ u ∷ class ∷ ops ∷ x ∷ ws) refl (many 4 (suc (suc (suc (suc (suc (length ws)))))) (omega arith))
+  diagnosed_split (t ∷ u ∷ class ∷ ops ∷ x ∷ ws) = short_plain m (part.Transaction ∷ part.Transaction ∷ part.Class ∷ part.Operations ∷ []) e 1 (t ∷ u ∷ class ∷ ops ∷ x ∷ ws) refl (many 4 (suc (suc (suc (suc (suc (length ws)))))) (omega arith))
 
-  told_join : (words : List (List ℕ)) → fault_told (wrong_in m (part.Transaction ∷ part.Transaction ∷ []) e 1 words) ≡ result_err (join_said {A = A} words)
+  diagnosed_join : (words : List (List ℕ)) → diagnosed_fault (wrong_in m (part.Transaction ∷ part.Transaction ∷ []) e 1 words) ≡ result_err (join_said {A = A} words)
   unfolding join_said
-  told_join [] = short m (part.Transaction ∷ part.Transaction ∷ []) e 1 [] refl refl
-  told_join (t ∷ []) = short_plain m (part.Transaction ∷ part.Transaction ∷ []) e 1 (t ∷ []) refl refl
-  told_join (t ∷ u ∷ []) =
+  diagnosed_join [] = short m (part.Transaction ∷ part.Transaction ∷ []) e 1 [] refl refl
+  diagnosed_join (t ∷ []) = short_plain m (part.Transaction ∷ part.Transaction ∷ []) e 1 (t ∷ []) refl refl
+  diagnosed_join (t ∷ u ∷ []) =
       exact_plain m (part.Transaction ∷ part.Transaction ∷ []) e 1 (t ∷ u ∷ []) refl refl
       ∙ number_first (txn_said t) _ _ (only_txn t) (λ t. number_last (txn_said u) _ (only_txn u))
-  told_join (t ∷ u ∷ x ∷ ws) = short_plain m (part.Transaction ∷ part.Transaction ∷ []) e 1 (t ∷ u ∷ x ∷ ws) refl (many 2 (suc (suc (suc (length ws)))) (omega arith))
+  diagnosed_join (t ∷ u ∷ x ∷ ws) = short_plain m (part.Transaction ∷ part.Transaction ∷ []) e 1 (t ∷ u ∷ x ∷ ws) refl (many 2 (suc (suc (suc (length ws)))) (omega arith))
 
-  told_delegate : (words : List (List ℕ)) → fault_told (wrong_in m (part.Transaction ∷ part.Transaction ∷ part.Operations ∷ []) e 1 words) ≡ result_err (delegate_said {A = A} words)
+  diagnosed_delegate : (words : List (List ℕ)) → diagnosed_fault (wrong_in m (part.Transaction ∷ part.Transaction ∷ part.Operations ∷ []) e 1 words) ≡ result_err (delegate_said {A = A} words)
   unfolding delegate_said
-  told_delegate [] = short m (part.Transaction ∷ part.Transaction ∷ part.Operations ∷ []) e 1 [] refl refl
-  told_delegate (t ∷ []) = short_plain m (part.Transaction ∷ part.Transaction ∷ part.Operations ∷ []) e 1 (t ∷ []) refl refl
-  told_delegate (t ∷ u ∷ []) = short_plain m (part.Transaction ∷ part.Transaction ∷ part.Operations ∷ []) e 1 (t ∷ u ∷ []) refl refl
-  told_delegate (t ∷ u ∷ ops ∷ []) =
+  diagnosed_delegate [] = short m (part.Transaction ∷ part.Transaction ∷ part.Operations ∷ []) e 1 [] refl refl
+  diagnosed_delegate (t ∷ []) = short_plain m (part.Transaction ∷ part.Transaction ∷ part.Operations ∷ []) e 1 (t ∷ []) refl refl
+  diagnosed_delegate (t ∷ u ∷ []) = short_plain m (part.Transaction ∷ part.Transaction ∷ part.Operations ∷ []) e 1 (t ∷ u ∷ []) refl refl
+  diagnosed_delegate (t ∷ u ∷ ops ∷ []) =
       exact_plain m (part.Transaction ∷ part.Transaction ∷ part.Operations ∷ []) e 1 (t ∷ u ∷ ops ∷ []) refl refl
       ∙ number_first (txn_said t) _ _ (only_txn t) (λ t. number_first (txn_said u) _ _ (only_txn u) (λ u. number_last (operations_said ops) _ (only_operations ops)))
-  told_delegate (t ∷ u ∷ ops ∷ x ∷ ws) = short_plain m (part.Transaction ∷ part.Transaction ∷ part.Operations ∷ []) e 1 (t ∷ u ∷ ops ∷ x ∷ ws) refl (many 3 (suc (suc (suc (suc (length ws))))) (omega arith))
+  diagnosed_delegate (t ∷ u ∷ ops ∷ x ∷ ws) = short_plain m (part.Transaction ∷ part.Transaction ∷ part.Operations ∷ []) e 1 (t ∷ u ∷ ops ∷ x ∷ ws) refl (many 3 (suc (suc (suc (suc (length ws))))) (omega arith))
 
-  told_commit : (words : List (List ℕ)) → fault_told (wrong_in m (part.Transaction ∷ []) e 1 words) ≡ result_err (commit_said {A = A} words)
+  diagnosed_commit : (words : List (List ℕ)) → diagnosed_fault (wrong_in m (part.Transaction ∷ []) e 1 words) ≡ result_err (commit_said {A = A} words)
   unfolding commit_said
-  told_commit [] = short m (part.Transaction ∷ []) e 1 [] refl refl
-  told_commit (t ∷ []) =
+  diagnosed_commit [] = short m (part.Transaction ∷ []) e 1 [] refl refl
+  diagnosed_commit (t ∷ []) =
       exact_plain m (part.Transaction ∷ []) e 1 (t ∷ []) refl refl ∙ number_last (txn_said t) _ (only_txn t)
-  told_commit (t ∷ x ∷ ws) = short_plain m (part.Transaction ∷ []) e 1 (t ∷ x ∷ ws) refl (many 1 (suc (suc (length ws))) (omega arith))
+  diagnosed_commit (t ∷ x ∷ ws) = short_plain m (part.Transaction ∷ []) e 1 (t ∷ x ∷ ws) refl (many 1 (suc (suc (length ws))) (omega arith))
 
-  told_abort : (words : List (List ℕ)) → fault_told (wrong_in m (part.Transaction ∷ []) e 1 words) ≡ result_err (abort_said {A = A} words)
+  diagnosed_abort : (words : List (List ℕ)) → diagnosed_fault (wrong_in m (part.Transaction ∷ []) e 1 words) ≡ result_err (abort_said {A = A} words)
   unfolding abort_said
-  told_abort [] = short m (part.Transaction ∷ []) e 1 [] refl refl
-  told_abort (t ∷ []) =
+  diagnosed_abort [] = short m (part.Transaction ∷ []) e 1 [] refl refl
+  diagnosed_abort (t ∷ []) =
       exact_plain m (part.Transaction ∷ []) e 1 (t ∷ []) refl refl ∙ number_last (txn_said t) _ (only_txn t)
-  told_abort (t ∷ x ∷ ws) = short_plain m (part.Transaction ∷ []) e 1 (t ∷ x ∷ ws) refl (many 1 (suc (suc (length ws))) (omega arith))
+  diagnosed_abort (t ∷ x ∷ ws) = short_plain m (part.Transaction ∷ []) e 1 (t ∷ x ∷ ws) refl (many 1 (suc (suc (length ws))) (omega arith))
 
-  told_permit : (words : List (List ℕ)) → fault_told (wrong_in m (part.Transaction ∷ part.Transaction ∷ part.Object ∷ []) e 1 words) ≡ result_err (permit_said m words)
+  diagnosed_permit : (words : List (List ℕ)) → diagnosed_fault (wrong_in m (part.Transaction ∷ part.Transaction ∷ part.Object ∷ []) e 1 words) ≡ result_err (permit_said m words)
   unfolding permit_said
-  told_permit [] = short m (part.Transaction ∷ part.Transaction ∷ part.Object ∷ []) e 1 [] refl refl
-  told_permit (t ∷ []) = short_plain m (part.Transaction ∷ part.Transaction ∷ part.Object ∷ []) e 1 (t ∷ []) refl refl
-  told_permit (t ∷ u ∷ []) = short_plain m (part.Transaction ∷ part.Transaction ∷ part.Object ∷ []) e 1 (t ∷ u ∷ []) refl refl
-  told_permit (t ∷ u ∷ object ∷ []) =
+  diagnosed_permit [] = short m (part.Transaction ∷ part.Transaction ∷ part.Object ∷ []) e 1 [] refl refl
+  diagnosed_permit (t ∷ []) = short_plain m (part.Transaction ∷ part.Transaction ∷ part.Object ∷ []) e 1 (t ∷ []) refl refl
+  diagnosed_permit (t ∷ u ∷ []) = short_plain m (part.Transaction ∷ part.Transaction ∷ part.Object ∷ []) e 1 (t ∷ u ∷ []) refl refl
+  diagnosed_permit (t ∷ u ∷ object ∷ []) =
       exact_plain m (part.Transaction ∷ part.Transaction ∷ part.Object ∷ []) e 1 (t ∷ u ∷ object ∷ []) refl refl
       ∙ number_first (txn_said t) _ _ (only_txn t) (λ t. number_first (txn_said u) _ _ (only_txn u) (λ u. name_last (object_said m object) _ (only_object m object)))
-  told_permit (t ∷ u ∷ object ∷ x ∷ ws) = short_plain m (part.Transaction ∷ part.Transaction ∷ part.Object ∷ []) e 1 (t ∷ u ∷ object ∷ x ∷ ws) refl (many 3 (suc (suc (suc (suc (length ws))))) (omega arith))
+  diagnosed_permit (t ∷ u ∷ object ∷ x ∷ ws) = short_plain m (part.Transaction ∷ part.Transaction ∷ part.Object ∷ []) e 1 (t ∷ u ∷ object ∷ x ∷ ws) refl (many 3 (suc (suc (suc (suc (length ws))))) (omega arith))
 
 -- an unknown word
 unknown : (os : List (Option LineFault)) (a b : ℕ) → has Word os ≡ true → lowest_of os a b ≡ Some Word
@@ -364,28 +364,28 @@ unknown os a b is = ap (λ t. option_or (when t Word) (option_or (when (differ a
 
 module _ {A : Type 0} (m : Parts A) (e : Expected) where
   -- a kind of dependency at the front, known or not
-  told_kind : (word : List ℕ) (words : List (List ℕ)) (r : Result Dep LineFault) → Only Word r → kind_said word ≡ r → fault_told (wrong_in m (part.Kind ∷ part.Transaction ∷ part.Transaction ∷ []) e 1 (word ∷ words)) ≡ result_err (r >>= (λ kind. form_of_kind {A = A} kind words))
-  told_kind word words (Err f) only is =
-      told_in m (part.Kind ∷ part.Transaction ∷ part.Transaction ∷ []) e 1 (word ∷ words)
+  diagnosed_kind : (word : List ℕ) (words : List (List ℕ)) (r : Result Dep LineFault) → Only Word r → kind_said word ≡ r → diagnosed_fault (wrong_in m (part.Kind ∷ part.Transaction ∷ part.Transaction ∷ []) e 1 (word ∷ words)) ≡ result_err (r >>= (λ kind. form_of_kind {A = A} kind words))
+  diagnosed_kind word words (Err f) only is =
+      diagnosed_in m (part.Kind ∷ part.Transaction ∷ part.Transaction ∷ []) e 1 (word ∷ words)
       ∙ unknown (faults m (part.Kind ∷ part.Transaction ∷ part.Transaction ∷ []) (word ∷ words)) 3 (length (word ∷ words)) (ap (λ r. is_fault Word (result_err r) || has Word (faults m (part.Transaction ∷ part.Transaction ∷ []) words)) (is ∙ ap Err only))
       ∙ ap Some (sym only)
-  told_kind word [] (Ok kind) only is =
+  diagnosed_kind word [] (Ok kind) only is =
       short m (part.Kind ∷ part.Transaction ∷ part.Transaction ∷ []) e 1 (word ∷ []) (ap (λ r. is_fault Word (result_err r) || false) is) refl
-  told_kind word (j ∷ []) (Ok kind) only is =
+  diagnosed_kind word (j ∷ []) (Ok kind) only is =
       short m (part.Kind ∷ part.Transaction ∷ part.Transaction ∷ []) e 1 (word ∷ j ∷ []) (ap (λ r. is_fault Word (result_err r) || has Word (faults m (part.Transaction ∷ part.Transaction ∷ []) (j ∷ []))) is ∙ all_known m (part.Transaction ∷ part.Transaction ∷ []) (j ∷ []) refl) refl
-  told_kind word (j ∷ i ∷ []) (Ok kind) only is =
+  diagnosed_kind word (j ∷ i ∷ []) (Ok kind) only is =
       exact m (part.Kind ∷ part.Transaction ∷ part.Transaction ∷ []) e 1 (word ∷ j ∷ i ∷ []) (ap (λ r. is_fault Word (result_err r) || has Word (faults m (part.Transaction ∷ part.Transaction ∷ []) (j ∷ i ∷ []))) is ∙ all_known m (part.Transaction ∷ part.Transaction ∷ []) (j ∷ i ∷ []) refl) refl
       ∙ ap (λ r. number_or_name (result_err r ∷ result_err (txn_said j) ∷ result_err (txn_said i) ∷ [])) is
       ∙ known_first (result_err (txn_said j) ∷ result_err (txn_said i) ∷ [])
       ∙ number_first (txn_said j) _ _ (only_txn j) (λ j. number_last (txn_said i) _ (only_txn i))
-  told_kind word (j ∷ i ∷ x ∷ ws) (Ok kind) only is =
+  diagnosed_kind word (j ∷ i ∷ x ∷ ws) (Ok kind) only is =
       short m (part.Kind ∷ part.Transaction ∷ part.Transaction ∷ []) e 1 (word ∷ j ∷ i ∷ x ∷ ws) (ap (λ r. is_fault Word (result_err r) || has Word (faults m (part.Transaction ∷ part.Transaction ∷ []) (j ∷ i ∷ x ∷ ws))) is ∙ all_known m (part.Transaction ∷ part.Transaction ∷ []) (j ∷ i ∷ x ∷ ws) refl)
       (many 3 (suc (suc (suc (suc (length ws))))) (omega arith))
 
-  told_form : (words : List (List ℕ)) → fault_told (wrong_in m (part.Kind ∷ part.Transaction ∷ part.Transaction ∷ []) e 1 words) ≡ result_err (form_said {A = A} words)
+  diagnosed_form : (words : List (List ℕ)) → diagnosed_fault (wrong_in m (part.Kind ∷ part.Transaction ∷ part.Transaction ∷ []) e 1 words) ≡ result_err (form_said {A = A} words)
   unfolding form_said
-  told_form [] = short m (part.Kind ∷ part.Transaction ∷ part.Transaction ∷ []) e 1 [] refl refl
-  told_form (word ∷ words) = told_kind word words (kind_said word) (only_kind word) refl
+  diagnosed_form [] = short m (part.Kind ∷ part.Transaction ∷ part.Transaction ∷ []) e 1 [] refl refl
+  diagnosed_form (word ∷ words) = diagnosed_kind word words (kind_said word) (only_kind word) refl
 
   -- the first three words behind a `do`
   abbrev asked : List LinePart → List LinePart
@@ -400,86 +400,86 @@ module _ {A : Type 0} (m : Parts A) (e : Expected) where
       λ i. no_unknown m part.Transaction t refl i || (no_unknown m part.Object ob refl i || (ap (λ r. is_fault Word (result_err r)) is i || all_known m parts ws plain i))
 
   -- an operation with no number
-  told_alone : (t ob op : List ℕ) (x : Op) (kind : OpKind) → op_kind_said op ≡ Ok kind → (ws : List (List ℕ)) → fault_told (wrong_in m (asked []) e 1 (t ∷ ob ∷ op ∷ ws)) ≡ result_err (doing t ob (alone x ws))
-  told_alone t ob op x kind is [] =
+  diagnosed_alone : (t ob op : List ℕ) (x : Op) (kind : OpKind) → op_kind_said op ≡ Ok kind → (ws : List (List ℕ)) → diagnosed_fault (wrong_in m (asked []) e 1 (t ∷ ob ∷ op ∷ ws)) ≡ result_err (doing t ob (alone x ws))
+  diagnosed_alone t ob op x kind is [] =
       exact m (asked []) e 1 (t ∷ ob ∷ op ∷ []) (known t ob op [] [] kind is refl) refl
       ∙ ap (λ r. number_or_name (result_err (txn_said t) ∷ result_err (object_said m ob) ∷ result_err r ∷ [])) is
       ∙ number_first (txn_said t) _ _ (only_txn t) (λ t. name_before (object_said m ob) _ (only_object m ob))
-  told_alone t ob op x kind is (w ∷ ws) =
+  diagnosed_alone t ob op x kind is (w ∷ ws) =
       short m (asked []) e 1 (t ∷ ob ∷ op ∷ w ∷ ws) (known t ob op [] (w ∷ ws) kind is refl) (many 3 (suc (suc (suc (suc (length ws))))) (omega arith))
 
   -- an operation with a number
-  told_number : (t ob op : List ℕ) (x : ℤ → Op) (kind : OpKind) → op_kind_said op ≡ Ok kind → (ws : List (List ℕ)) → fault_told (wrong_in m (asked (part.Integer ∷ [])) e 1 (t ∷ ob ∷ op ∷ ws)) ≡ result_err (doing t ob (with_integer x ws))
-  told_number t ob op x kind is [] =
+  diagnosed_number : (t ob op : List ℕ) (x : ℤ → Op) (kind : OpKind) → op_kind_said op ≡ Ok kind → (ws : List (List ℕ)) → diagnosed_fault (wrong_in m (asked (part.Integer ∷ [])) e 1 (t ∷ ob ∷ op ∷ ws)) ≡ result_err (doing t ob (with_integer x ws))
+  diagnosed_number t ob op x kind is [] =
       short m (asked (part.Integer ∷ [])) e 1 (t ∷ ob ∷ op ∷ []) (known t ob op (part.Integer ∷ []) [] kind is refl) refl
-  told_number t ob op x kind is (w ∷ []) =
+  diagnosed_number t ob op x kind is (w ∷ []) =
       exact m (asked (part.Integer ∷ [])) e 1 (t ∷ ob ∷ op ∷ w ∷ []) (known t ob op (part.Integer ∷ []) (w ∷ []) kind is refl) refl
       ∙ ap (λ r. number_or_name (result_err (txn_said t) ∷ result_err (object_said m ob) ∷ result_err r ∷ result_err (integer_said w) ∷ [])) is
       ∙ moved (result_err (txn_said t)) (result_err (object_said m ob)) (result_err (integer_said w))
       ∙ number_first (integer_said w) (λ v. doing t ob (Ok (x v))) _ (only_integer w) (λ v. number_first (txn_said t) _ _ (only_txn t) (λ t. name_last (object_said m ob) _ (only_object m ob)))
       ∙ ap result_err (sym (joined (integer_said w) (λ v. Ok (x v)) _))
-  told_number t ob op x kind is (w ∷ y ∷ ws) =
+  diagnosed_number t ob op x kind is (w ∷ y ∷ ws) =
       short m (asked (part.Integer ∷ [])) e 1 (t ∷ ob ∷ op ∷ w ∷ y ∷ ws) (known t ob op (part.Integer ∷ []) (w ∷ y ∷ ws) kind is refl) (many 4 (suc (suc (suc (suc (suc (length ws)))))) (omega arith))
 
-  told_operation : (t ob op : List ℕ) (r : Result OpKind LineFault) → Only Word r → op_kind_said op ≡ r → (ws : List (List ℕ)) → fault_told (wrong_in m (operation_parts (result_ok r)) e 1 (t ∷ ob ∷ op ∷ ws)) ≡ result_err (doing t ob (r >>= (λ kind. operation_of_kind kind ws)))
-  told_operation t ob op (Err f) only is ws =
-      told_in m (asked []) e 1 (t ∷ ob ∷ op ∷ ws)
+  diagnosed_operation : (t ob op : List ℕ) (r : Result OpKind LineFault) → Only Word r → op_kind_said op ≡ r → (ws : List (List ℕ)) → diagnosed_fault (wrong_in m (operation_parts (result_ok r)) e 1 (t ∷ ob ∷ op ∷ ws)) ≡ result_err (doing t ob (r >>= (λ kind. operation_of_kind kind ws)))
+  diagnosed_operation t ob op (Err f) only is ws =
+      diagnosed_in m (asked []) e 1 (t ∷ ob ∷ op ∷ ws)
       ∙ unknown (faults m (asked []) (t ∷ ob ∷ op ∷ ws)) 3 (length (t ∷ ob ∷ op ∷ ws)) (λ i. no_unknown m part.Transaction t refl i || (no_unknown m part.Object ob refl i || (ap (λ r. is_fault Word (result_err r)) (is ∙ ap Err only) i || has Word (faults m [] ws))))
       ∙ ap Some (sym only)
-  told_operation t ob op (Ok op_kind.Read) only is ws = told_alone t ob op Read op_kind.Read is ws
-  told_operation t ob op (Ok op_kind.Write) only is ws = told_number t ob op (λ v. Write v) op_kind.Write is ws
-  told_operation t ob op (Ok op_kind.Get) only is ws = told_alone t ob op Get op_kind.Get is ws
-  told_operation t ob op (Ok op_kind.Add) only is ws = told_number t ob op (λ v. Add v) op_kind.Add is ws
-  told_operation t ob op (Ok op_kind.Insert) only is ws = told_number t ob op (λ v. Insert v) op_kind.Insert is ws
-  told_operation t ob op (Ok op_kind.Remove) only is ws = told_number t ob op (λ v. Remove v) op_kind.Remove is ws
-  told_operation t ob op (Ok op_kind.Has) only is ws = told_number t ob op (λ v. Has v) op_kind.Has is ws
-  told_operation t ob op (Ok op_kind.Size) only is ws = told_alone t ob op Size op_kind.Size is ws
+  diagnosed_operation t ob op (Ok op_kind.Read) only is ws = diagnosed_alone t ob op Read op_kind.Read is ws
+  diagnosed_operation t ob op (Ok op_kind.Write) only is ws = diagnosed_number t ob op (λ v. Write v) op_kind.Write is ws
+  diagnosed_operation t ob op (Ok op_kind.Get) only is ws = diagnosed_alone t ob op Get op_kind.Get is ws
+  diagnosed_operation t ob op (Ok op_kind.Add) only is ws = diagnosed_number t ob op (λ v. Add v) op_kind.Add is ws
+  diagnosed_operation t ob op (Ok op_kind.Insert) only is ws = diagnosed_number t ob op (λ v. Insert v) op_kind.Insert is ws
+  diagnosed_operation t ob op (Ok op_kind.Remove) only is ws = diagnosed_number t ob op (λ v. Remove v) op_kind.Remove is ws
+  diagnosed_operation t ob op (Ok op_kind.Has) only is ws = diagnosed_number t ob op (λ v. Has v) op_kind.Has is ws
+  diagnosed_operation t ob op (Ok op_kind.Size) only is ws = diagnosed_alone t ob op Size op_kind.Size is ws
 
 module _ {A : Type 0} (m : Parts A) where
-  told_do : (e : Expected) (words : List (List ℕ)) → fault_told (wrong_in m (operation_parts (op_kind_in words)) e 1 words) ≡ result_err (do_said m words)
+  diagnosed_do : (e : Expected) (words : List (List ℕ)) → diagnosed_fault (wrong_in m (operation_parts (op_kind_in words)) e 1 words) ≡ result_err (do_said m words)
   unfolding do_said
-  told_do e [] = short m (operation_parts None) e 1 [] refl refl
-  told_do e (t ∷ []) = short m (operation_parts None) e 1 (t ∷ []) (all_known m (part.Transaction ∷ []) (t ∷ []) refl) refl
-  told_do e (t ∷ ob ∷ []) = short m (operation_parts None) e 1 (t ∷ ob ∷ []) (all_known m (part.Transaction ∷ part.Object ∷ []) (t ∷ ob ∷ []) refl) refl
-  told_do e (t ∷ ob ∷ op ∷ ws) = told_operation m e t ob op (op_kind_said op) (only_op_kind op) refl ws
+  diagnosed_do e [] = short m (operation_parts None) e 1 [] refl refl
+  diagnosed_do e (t ∷ []) = short m (operation_parts None) e 1 (t ∷ []) (all_known m (part.Transaction ∷ []) (t ∷ []) refl) refl
+  diagnosed_do e (t ∷ ob ∷ []) = short m (operation_parts None) e 1 (t ∷ ob ∷ []) (all_known m (part.Transaction ∷ part.Object ∷ []) (t ∷ ob ∷ []) refl) refl
+  diagnosed_do e (t ∷ ob ∷ op ∷ ws) = diagnosed_operation m e t ob op (op_kind_said op) (only_op_kind op) refl ws
 
-  told_behind : (r : Result EventKind LineFault) (words : List (List ℕ)) → fault_told (wrong_behind m r words) ≡ result_err (r >>= (λ kind. event_of_kind m kind words))
-  told_behind (Err f) words = refl
-  told_behind (Ok event_kind.Begin) words = told_begin m _ words
-  told_behind (Ok event_kind.Spawn) words = told_spawn m _ words
-  told_behind (Ok event_kind.Split) words = told_split m _ words
-  told_behind (Ok event_kind.Join) words = told_join m _ words
-  told_behind (Ok event_kind.Delegate) words = told_delegate m _ words
-  told_behind (Ok event_kind.Form) words = told_form m _ words
-  told_behind (Ok event_kind.Operate) words = told_do _ words
-  told_behind (Ok event_kind.Commit) words = told_commit m _ words
-  told_behind (Ok event_kind.Abort) words = told_abort m _ words
-  told_behind (Ok event_kind.Permit) words = told_permit m _ words
+  diagnosed_behind : (r : Result EventKind LineFault) (words : List (List ℕ)) → diagnosed_fault (wrong_behind m r words) ≡ result_err (r >>= (λ kind. event_of_kind m kind words))
+  diagnosed_behind (Err f) words = refl
+  diagnosed_behind (Ok event_kind.Begin) words = diagnosed_begin m _ words
+  diagnosed_behind (Ok event_kind.Spawn) words = diagnosed_spawn m _ words
+  diagnosed_behind (Ok event_kind.Split) words = diagnosed_split m _ words
+  diagnosed_behind (Ok event_kind.Join) words = diagnosed_join m _ words
+  diagnosed_behind (Ok event_kind.Delegate) words = diagnosed_delegate m _ words
+  diagnosed_behind (Ok event_kind.Form) words = diagnosed_form m _ words
+  diagnosed_behind (Ok event_kind.Operate) words = diagnosed_do _ words
+  diagnosed_behind (Ok event_kind.Commit) words = diagnosed_commit m _ words
+  diagnosed_behind (Ok event_kind.Abort) words = diagnosed_abort m _ words
+  diagnosed_behind (Ok event_kind.Permit) words = diagnosed_permit m _ words
 
   -- the fault of a diagnosis of words of an event
-  pub told_event : (words : List (List ℕ)) → fault_told (wrong_event m words) ≡ result_err (event_said m words)
+  pub diagnosed_event : (words : List (List ℕ)) → diagnosed_fault (wrong_event m words) ≡ result_err (event_said m words)
   unfolding event_said
-  told_event [] = refl
-  told_event (word ∷ words) = told_behind (event_kind_said word) words
+  diagnosed_event [] = refl
+  diagnosed_event (word ∷ words) = diagnosed_behind (event_kind_said word) words
 
-  told_return : (n : ℕ) (words : List (List ℕ)) → fault_told (wrong_return m n words) ≡ result_err (return_said words)
+  diagnosed_return : (n : ℕ) (words : List (List ℕ)) → diagnosed_fault (wrong_return m n words) ≡ result_err (return_said words)
   unfolding return_said
-  told_return n [] = short m (part.Return ∷ []) (Part part.Return) n [] refl refl
-  told_return n (word ∷ []) =
+  diagnosed_return n [] = short m (part.Return ∷ []) (Part part.Return) n [] refl refl
+  diagnosed_return n (word ∷ []) =
       exact m (part.Return ∷ []) (Part part.Return) n (word ∷ []) (all_known m (part.Return ∷ []) (word ∷ []) refl) refl
       ∙ number_alone (ok_or (return_named word) Number) (only_or _ Number)
-  told_return n (word ∷ x ∷ ws) = short m (part.Return ∷ []) (Part part.Return) n (word ∷ x ∷ ws) (all_known m (part.Return ∷ []) (word ∷ x ∷ ws) refl) (many 1 (suc (suc (length ws))) (omega arith))
+  diagnosed_return n (word ∷ x ∷ ws) = short m (part.Return ∷ []) (Part part.Return) n (word ∷ x ∷ ws) (all_known m (part.Return ∷ []) (word ∷ x ∷ ws) refl) (many 1 (suc (suc (length ws))) (omega arith))
 
   -- the fault of a diagnosis of words of a kept item
-  pub told_kept : (words : List (List ℕ)) → fault_told (wrong_kept m words) ≡ result_err (kept_said m words)
+  pub diagnosed_kept : (words : List (List ℕ)) → diagnosed_fault (wrong_kept m words) ≡ result_err (kept_said m words)
   unfolding kept_said
-  told_kept words =
+  diagnosed_kept words =
       kept_or_plain (list_any is_equals words) _ _ _ _ _ _
-      (told_event (before_first is_equals words))
-      (told_return (position_or_len is_equals words + 1) (after_first is_equals words))
-      (told_event words)
+      (diagnosed_event (before_first is_equals words))
+      (diagnosed_return (position_or_len is_equals words + 1) (after_first is_equals words))
+      (diagnosed_event words)
 
--- the fault that is told, where it is told at all
-pub told_if : {E : Type 0} (r : Result (Option Diagnostic) E) (d : Option Diagnostic) (fault : Option LineFault) → IfOk r (λ found. found ≡ d) → fault_told d ≡ fault → IfOk r (λ found. fault_told found ≡ fault)
-told_if (Ok found) d fault same told = ap fault_told same ∙ told
-told_if (Err e) d fault same told = tt
+-- the fault of a diagnosis, where memory suffices for it
+pub diagnosed_if : {E : Type 0} (r : Result (Option Diagnostic) E) (d : Option Diagnostic) (fault : Option LineFault) → IfOk r (λ found. found ≡ d) → diagnosed_fault d ≡ fault → IfOk r (λ found. diagnosed_fault found ≡ fault)
+diagnosed_if (Ok found) d fault same told = ap diagnosed_fault same ∙ told
+diagnosed_if (Err e) d fault same told = tt

@@ -1,13 +1,13 @@
--- Where a line of an event or of a kept item is wrong: its lowest fault, the first word that has the fault, and what is
--- expected there. Each word of a line stands for something, and its fault is the one that reading it so finds.
-use Rattle.std.specs.Prelude.{ℕ, ◌+◌, Bool, true, false, ◌==◌, nat_lt, nat_le, List, [], ◌∷◌, ◌++◌, drop, length, if◌then◌else◌, Option, Some, None, Result, Ok, Err, ok_or}
+-- Where a line of an event or of a kept item is wrong: its lowest fault, the first word that has this fault, and what is
+-- expected there. By its place each word stands for something, as a transaction or a class. The word has a fault where
+-- it cannot be read so.
+use Rattle.std.specs.Prelude.{ℕ, ◌+◌, Bool, false, ◌==◌, nat_lt, nat_le, List, [], ◌∷◌, length, if◌then◌else◌, Option, Some, None, Result, Ok, Err, ok_or}
 use Rattle.std.specs.List.{list_any, before_first, after_first, position_or_len}
 use Rattle.std.specs.Option.{option_map_or, option_or}
 use Rattle.std.specs.Result.{result_ok, result_err}
 use Rattle.acta_table.specs.declared.event.EventKind.{EventKind}
 use Rattle.acta_table.specs.declared.event.EventKind.TheVariants as event_kind
 use Rattle.acta_table.specs.declared.model.Parts.{Parts}
-use Rattle.acta_words.specs.Text.{words_of}
 use Rattle.acta_script.specs.declared.diagnosis.Diagnostic.{Diagnostic}
 use Rattle.acta_script.specs.declared.diagnosis.Expected.{Expected}
 use Rattle.acta_script.specs.declared.diagnosis.Expected.TheVariants.{Part, EventForm, OperationForm}
@@ -36,7 +36,7 @@ fault_of_word m Return word = result_err (ok_or (return_named word) Number)
 abbrev pub is_fault : LineFault → Option LineFault → Bool
 is_fault fault found = option_map_or (λ f. fault_number f == fault_number fault) found false
 
--- the first of the words that has the fault, by what each stands for; the first of the words has number n in its line
+-- the first word that has this fault, by what each word stands for; in its line the first of the words has number n
 abbrev pub wrong_word : {A : Type 0} → Parts A → LineFault → ℕ → List LinePart → List (List ℕ) → Option Diagnostic
 wrong_word m fault n (part ∷ parts) (word ∷ words) =
     if is_fault fault (fault_of_word m part word)
@@ -44,33 +44,33 @@ wrong_word m fault n (part ∷ parts) (word ∷ words) =
     else wrong_word m fault (n + 1) parts words
 wrong_word m fault n _ _ = None
 
--- the first word too many, or the place behind the last word where there are too few
+-- the first word too many, or the place after the last word where there are too few
 abbrev pub wrong_count : Expected → ℕ → ℕ → ℕ → Option Diagnostic
 wrong_count expected n wanted count =
     if nat_lt count wanted then Some (record { fault = Arity; place = Missing (n + count); expected = expected })
     else if nat_lt wanted count then Some (record { fault = Arity; place = Wrong (n + wanted); expected = expected })
     else None
 
--- the first word with the lowest fault, where the words stand for these; expected is told of a wrong number of words
+-- the lowest fault and its first word, where the words stand for these parts; expected is for a wrong number of words
 abbrev pub wrong_in : {A : Type 0} → Parts A → List LinePart → Expected → ℕ → List (List ℕ) → Option Diagnostic
 wrong_in m parts expected n words =
     option_or (wrong_word m Word n parts words)
     (option_or (wrong_count expected n (length parts) (length words))
     (option_or (wrong_word m Number n parts words) (wrong_word m Name n parts words)))
 
--- the operation that the words behind a `do` name, as far as they do
+-- the operation that the words after a `do` name, if they get that far and name one
 abbrev pub op_kind_in : List (List ℕ) → Option OpKind
 op_kind_in (t ∷ object ∷ op ∷ words) = result_ok (op_kind_said op)
 op_kind_in _ = None
 
--- what the words behind a `do` stand for
+-- what the words after a `do` stand for
 abbrev pub operation_parts : Option OpKind → List LinePart
 operation_parts (Some op) =
     if takes_integer op then Transaction ∷ Object ∷ Operation ∷ Integer ∷ []
     else Transaction ∷ Object ∷ Operation ∷ []
 operation_parts None = Transaction ∷ Object ∷ Operation ∷ []
 
--- what the words behind the first stand for in an event of this kind, and of this operation
+-- what the words after the first stand for in an event of this kind and operation
 abbrev pub parts_of : EventKind → Option OpKind → List LinePart
 parts_of event_kind.Begin op = Transaction ∷ Class ∷ []
 parts_of event_kind.Spawn op = Transaction ∷ Transaction ∷ Class ∷ []
@@ -88,7 +88,7 @@ abbrev pub form_of : EventKind → Option OpKind → Expected
 form_of event_kind.Operate op = option_map_or (λ op. OperationForm op) op (EventForm event_kind.Operate)
 form_of kind op = EventForm kind
 
--- what is wrong with the words behind the first, which says the kind of the event or has a fault
+-- what is wrong with the words of an event whose first word was read as its kind, or has a fault; words are the others
 abbrev pub wrong_behind : {A : Type 0} → Parts A → Result EventKind LineFault → List (List ℕ) → Option Diagnostic
 wrong_behind m (Ok kind) words =
     wrong_in m (parts_of kind (op_kind_in words)) (form_of kind (op_kind_in words)) 1 words
@@ -99,7 +99,7 @@ abbrev pub wrong_event : {A : Type 0} → Parts A → List (List ℕ) → Option
 wrong_event m [] = Some (record { fault = Empty; place = Missing 0; expected = Part Event })
 wrong_event m (word ∷ words) = wrong_behind m (event_kind_said word) words
 
--- what is wrong with the words behind a `=`, of which the first has number n
+-- what is wrong with the words after a `=`, of which the first has number n in its line
 abbrev pub wrong_return : {A : Type 0} → Parts A → ℕ → List (List ℕ) → Option Diagnostic
 wrong_return m n words = wrong_in m (Return ∷ []) (Part Return) n words
 

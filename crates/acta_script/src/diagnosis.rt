@@ -46,16 +46,16 @@ pub enum LinePart {
 pub enum Expected {
     /// A word that stands for this.
     Part(LinePart),
-    /// As many words as the form of this kind of event has.
+    /// As many words as the form of this kind of event has (`event_form`).
     EventForm(EventKind),
-    /// As many words as the form of this operation has.
+    /// As many words as the form of this operation has (`OpKind::form`).
     OperationForm(OpKind),
 }
 
-/// Where a line is wrong. Its words have numbers from 0 on.
+/// Where a line is wrong. Its words are numbered from 0.
 #[derive(Clone, Copy, PartialEq, Eq, Debug)]
 pub enum WordPlace {
-    /// The word of this number is wrong, or one too many.
+    /// The word of this number is wrong, or is one too many.
     Wrong(usize),
     /// The line lacks a word, which would have this number.
     Missing(usize),
@@ -72,7 +72,7 @@ pub struct Diagnostic {
     pub expected: Expected,
 }
 
-// Whether reading has found this fault.
+// Whether the fault that reading a word found is this one.
 fn is_fault(fault: LineFault, found: Option<LineFault>) -> bool
     ensures { result ≡ is_fault fault found }
 {
@@ -118,7 +118,7 @@ fn fault_of_word<A: Allocator + Copy>(
     })
 }
 
-// The first of the words that has the fault, by what each stands for. The first of the words has number n in its line.
+// The first word that has this fault, by what each word stands for. In its line the first of the words has number n.
 fn wrong_word<A: Allocator + Copy>(
     alloc: A,
     model: &Model<A>,
@@ -144,7 +144,7 @@ fn wrong_word<A: Allocator + Copy>(
     Ok(None)
 }
 
-// The first word too many, or the place behind the last word where there are too few, of this many and not that many.
+// The first word too many, or the place after the last word where there are too few.
 fn wrong_count(expected: Expected, n: usize, wanted: usize, count: usize) -> Option<Diagnostic>
     requires { n + count < 2 ^ 64 }
     ensures { result ≡ wrong_count expected n wanted count }
@@ -163,7 +163,7 @@ fn wrong_count(expected: Expected, n: usize, wanted: usize, count: usize) -> Opt
     })
 }
 
-// The first word with the lowest fault, where the words stand for these.
+// The lowest fault and its first word, where the words stand for these parts.
 fn wrong_in<A: Allocator + Copy>(
     alloc: A,
     model: &Model<A>,
@@ -187,7 +187,7 @@ fn wrong_in<A: Allocator + Copy>(
     wrong_word(alloc, model, LineFault::Name, n, parts, words)
 }
 
-// The operation that the words behind a `do` name, as far as they do.
+// The operation that the words after a `do` name, if they get that far and name one.
 fn op_kind_in(words: &[&[u8]]) -> Option<OpKind>
     ensures { result ≡ op_kind_in (map (λ word. word.now) words.now) }
 {
@@ -197,7 +197,7 @@ fn op_kind_in(words: &[&[u8]]) -> Option<OpKind>
     }
 }
 
-// What the words behind a `do` stand for.
+// What the words after a `do` stand for.
 fn operation_parts(op: Option<OpKind>) -> &'static [LinePart]
     ensures { result.now ≡ operation_parts op }
 {
@@ -212,7 +212,7 @@ fn operation_parts(op: Option<OpKind>) -> &'static [LinePart]
     }
 }
 
-// What the words behind the first stand for in an event of this kind, and of this operation.
+// What the words after the first stand for in an event of this kind and operation.
 fn parts_of(kind: EventKind, op: Option<OpKind>) -> &'static [LinePart]
     ensures { result.now ≡ parts_of kind op }
 {
@@ -292,7 +292,7 @@ fn wrong_event<A: Allocator + Copy>(
     }
 }
 
-// What is wrong with the words behind a `=`, of which the first has number n.
+// What is wrong with the words after a `=`, of which the first has number n in its line.
 fn wrong_return<A: Allocator + Copy>(
     alloc: A,
     model: &Model<A>,
@@ -339,10 +339,10 @@ fn wrong_kept<A: Allocator + Copy>(
     Ok(lower_of(event, ret))
 }
 
-/// What is wrong with a line of an event, or `None` where `read_event` reads it. The fault is the one that `read_event`
-/// answers, the lowest; the place is the first word that has it. A word has the fault that reading it as what it
-/// stands for finds; a wrong number of words is told of the first word too many, or of the place behind the last.
-/// `Err` where there is no memory.
+/// What is wrong with a line of an event. `None` where `read_event` can read the line. The fault is the one that
+/// `read_event` answers, the lowest of the line. The place is the first word that has this fault: for `Word`, `Number`
+/// and `Name` a word that cannot be read as what is expected there, for `Arity` the first word too many, or the place
+/// after the last word where there are too few. `Err` where there is no memory.
 pub fn diagnose_event<A: Allocator + Copy>(
     alloc: A,
     model: &Model<A>,
@@ -355,8 +355,9 @@ pub fn diagnose_event<A: Allocator + Copy>(
     wrong_event(alloc, model, &words)
 }
 
-/// What is wrong with a kept line, or `None` where `read_kept` reads it: with its event, or with its return where that
-/// has the lower fault. The fault is the one that `read_kept` answers. `Err` where there is no memory.
+/// What is wrong with a kept line. `None` where `read_kept` can read the line. The fault is the one that `read_kept`
+/// answers, the lower of the event's and the return's. Where both have the same, the place is in the event. `Err` where
+/// there is no memory.
 pub fn diagnose_kept<A: Allocator + Copy>(
     alloc: A,
     model: &Model<A>,

@@ -15,8 +15,9 @@
 //! more, with the word `|` between two of them. An answer is `ok PLACE [RETURN]` or `no RULE [by N]`, a debt is
 //! `owed EDGE TXN commit` or `.. abort`, and a fault in a history is `fault AXIOM PLACE BY`. No line that is written
 //! ends in a line feed. What is written of an event or a kept item is read again as this event or item: it is a clause
-//! of `write_event` and `write_kept`. Other crates write lines of their own with the words of statuses, sets, returns and
-//! events that are owed.
+//! of `write_event` and `write_kept`. Where a line cannot be read, `diagnose_event` and `diagnose_kept` say which word is
+//! wrong, and what is expected in its place. Other crates write lines of their own with the words of statuses, sets,
+//! returns and events that are owed.
 #![tactic(auto)]
 
 mod answers;

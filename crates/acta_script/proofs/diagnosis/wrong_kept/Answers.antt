@@ -1,4 +1,4 @@
-use Rattle.std.proofs.Common.{◌≡◌, sym, subst, ap, ◌∙◌, IfOk, Option, Result}
+use Rattle.std.proofs.Common.{◌≡◌, sym, subst, ◌∙◌, IfOk, Option}
 use Rattle.acta_script.specs.declared.diagnosis.Diagnostic.{Diagnostic}
 use Rattle.acta_script.specs.Diagnosis.{lower_of}
 use Rattle.acta_script.proofs.Signs.{wrong-with_sign, wrong-without_sign}

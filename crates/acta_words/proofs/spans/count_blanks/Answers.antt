@@ -1,4 +1,4 @@
-use Rattle.std.proofs.Common.{not, length, sym, ap, ◌∙◌, arith, rules}
+use Rattle.std.proofs.Common.{not, length, sym, ap, arith, rules}
 use Rattle.std.proofs.lemmas.List.Sums.{position_or_len_is}
 use Rattle.acta_words.specs.Text.{is_blank}
 use Rattle.acta_words.proofs.spans.count_blanks.Goals as goal

@@ -1,4 +1,4 @@
-use Rattle.std.proofs.Common.{◌≡◌, ℕ, ◌<◌, get_or, false, true}
+use Rattle.std.proofs.Common.{◌≡◌, ℕ, ◌<◌, get_or, true}
 use Rattle.acta_words.specs.Text.{is_blank}
 use Rattle.acta_words.proofs.spans.count_blanks.Given as goal
 

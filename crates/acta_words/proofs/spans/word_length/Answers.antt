@@ -1,4 +1,4 @@
-use Rattle.std.proofs.Common.{length, sym, arith, rules, ◌∙◌}
+use Rattle.std.proofs.Common.{length, sym, arith, rules}
 use Rattle.std.proofs.lemmas.List.Sums.{position_or_len_is}
 use Rattle.acta_words.specs.Text.{is_blank}
 use Rattle.acta_words.proofs.spans.word_length.Goals as goal

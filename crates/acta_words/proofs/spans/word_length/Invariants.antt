@@ -1,4 +1,4 @@
-use Rattle.std.proofs.Common.{◌≡◌, ℕ, ◌<◌, get_or, false, true}
+use Rattle.std.proofs.Common.{◌≡◌, ℕ, ◌<◌, get_or, false}
 use Rattle.acta_words.specs.Text.{is_blank}
 use Rattle.acta_words.proofs.spans.word_length.Given as goal
 
