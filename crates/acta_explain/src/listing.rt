@@ -23,6 +23,25 @@ pub fn put_quoted<A: Allocator>(mut prose: Prose<A>, words: &[&str]) -> Prose<A>
     prose
 }
 
+/// Adds the words with `, ` between them.
+pub fn put_listed<A: Allocator>(mut prose: Prose<A>, words: &[&str]) -> Prose<A> {
+    let mut gap = "";
+    for word in words {
+        prose = put!(prose; gap, *word);
+        gap = ", ";
+    }
+    prose
+}
+
+/// Adds the words as alternatives, with ` or ` before the last.
+pub fn put_either<A: Allocator>(prose: Prose<A>, words: &[&str]) -> Prose<A> {
+    match words {
+        [] => prose,
+        [one] => prose.put(*one),
+        [others @ .., last] => put!(put_listed(prose, others); " or ", *last),
+    }
+}
+
 /// Adds the first numbers of operations, and how many more there are.
 pub fn put_operations<A: Allocator>(mut prose: Prose<A>, ops: &[OpNo]) -> Prose<A> {
     let mut gap = "";

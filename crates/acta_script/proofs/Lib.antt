@@ -1,8 +1,11 @@
 mod Examples
+mod WrongLines
 pub mod Again
 pub mod Alternatives
 pub mod Ascending
 pub mod Checked
+pub mod Diagnoses
+pub mod DoSaid
 pub mod Elements
 pub mod Joined
 pub mod Lines
@@ -12,3 +15,4 @@ pub mod Signs
 pub mod Spelled
 pub mod SplitSaid
 pub mod Told
+pub mod WordsLeft

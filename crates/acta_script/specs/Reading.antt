@@ -26,8 +26,11 @@ use Rattle.acta_script.specs.declared.fault.LineError.{LineError}
 use Rattle.acta_script.specs.declared.fault.LineError.TheVariants as error
 use Rattle.acta_script.specs.declared.fault.LineFault.{LineFault}
 use Rattle.acta_script.specs.declared.fault.LineFault.TheVariants.{Empty, Word, Arity, Number, Name}
+use Rattle.acta_script.specs.declared.op_kind.OpKind.{OpKind}
+use Rattle.acta_script.specs.declared.op_kind.OpKind.TheVariants as op_kind
 use Rattle.acta_script.specs.declared.programs.ProgramLine.{ProgramLine}
 use Rattle.acta_script.specs.declared.seated.Seated.{Seated}
+use Rattle.acta_script.specs.Words.{event_word, op_word, done_word, flag_word}
 
 abbrev pub fault_number : LineFault → ℕ
 fault_number Empty = 1
@@ -90,18 +93,35 @@ with_integer op words = do
   v ← integer_alone words
   Ok (op v)
 
+-- OP, the kind of an operation
+abbrev pub op_kind_said : List ℕ → Result OpKind LineFault
+op_kind_said word =
+    if bytes_eq word (op_word op_kind.Read) then Ok op_kind.Read
+    else if bytes_eq word (op_word op_kind.Get) then Ok op_kind.Get
+    else if bytes_eq word (op_word op_kind.Size) then Ok op_kind.Size
+    else if bytes_eq word (op_word op_kind.Write) then Ok op_kind.Write
+    else if bytes_eq word (op_word op_kind.Add) then Ok op_kind.Add
+    else if bytes_eq word (op_word op_kind.Insert) then Ok op_kind.Insert
+    else if bytes_eq word (op_word op_kind.Remove) then Ok op_kind.Remove
+    else if bytes_eq word (op_word op_kind.Has) then Ok op_kind.Has
+    else Err Word
+
+-- the operation of this kind that the words behind it say
+abbrev pub operation_of_kind : OpKind → List (List ℕ) → Result Op LineFault
+operation_of_kind op_kind.Read words = alone Read words
+operation_of_kind op_kind.Write words = with_integer (λ v. Write v) words
+operation_of_kind op_kind.Get words = alone Get words
+operation_of_kind op_kind.Add words = with_integer (λ v. Add v) words
+operation_of_kind op_kind.Insert words = with_integer (λ v. Insert v) words
+operation_of_kind op_kind.Remove words = with_integer (λ v. Remove v) words
+operation_of_kind op_kind.Has words = with_integer (λ v. Has v) words
+operation_of_kind op_kind.Size words = alone Size words
+
 -- OP [INT], an operation
 abbrev pub operation_said : List ℕ → List (List ℕ) → Result Op LineFault
-operation_said word words =
-    if bytes_eq word (codes "read") then alone Read words
-    else if bytes_eq word (codes "get") then alone Get words
-    else if bytes_eq word (codes "size") then alone Size words
-    else if bytes_eq word (codes "write") then with_integer (λ v. Write v) words
-    else if bytes_eq word (codes "add") then with_integer (λ v. Add v) words
-    else if bytes_eq word (codes "insert") then with_integer (λ v. Insert v) words
-    else if bytes_eq word (codes "remove") then with_integer (λ v. Remove v) words
-    else if bytes_eq word (codes "has") then with_integer (λ v. Has v) words
-    else Err Word
+operation_said word words = do
+  kind ← op_kind_said word
+  operation_of_kind kind words
 
 -- begin T CLASS
 unfoldable pub begin_said : {A : Type 0} → Parts A → List (List ℕ) → Result (Event A) LineFault
@@ -197,16 +217,16 @@ permit_said m _ = Err Arity
 -- the kind of event that a line with this first word says
 abbrev pub event_kind_said : List ℕ → Result EventKind LineFault
 event_kind_said word =
-    if bytes_eq word (codes "begin") then Ok begin_kind
-    else if bytes_eq word (codes "spawn") then Ok spawn_kind
-    else if bytes_eq word (codes "split") then Ok split_kind
-    else if bytes_eq word (codes "join") then Ok join_kind
-    else if bytes_eq word (codes "delegate") then Ok delegate_kind
-    else if bytes_eq word (codes "form") then Ok form_kind
-    else if bytes_eq word (codes "do") then Ok operate_kind
-    else if bytes_eq word (codes "commit") then Ok commit_kind
-    else if bytes_eq word (codes "abort") then Ok abort_kind
-    else if bytes_eq word (codes "permit") then Ok permit_kind
+    if bytes_eq word (event_word begin_kind) then Ok begin_kind
+    else if bytes_eq word (event_word spawn_kind) then Ok spawn_kind
+    else if bytes_eq word (event_word split_kind) then Ok split_kind
+    else if bytes_eq word (event_word join_kind) then Ok join_kind
+    else if bytes_eq word (event_word delegate_kind) then Ok delegate_kind
+    else if bytes_eq word (event_word form_kind) then Ok form_kind
+    else if bytes_eq word (event_word operate_kind) then Ok operate_kind
+    else if bytes_eq word (event_word commit_kind) then Ok commit_kind
+    else if bytes_eq word (event_word abort_kind) then Ok abort_kind
+    else if bytes_eq word (event_word permit_kind) then Ok permit_kind
     else Err Word
 
 -- the event of this kind that the words behind the first say
@@ -247,9 +267,9 @@ both make (Err f) (Err g) = Err (lower f g)
 -- the return that a word says: a number has 64 bits
 abbrev pub return_named : List ℕ → Option Ret
 return_named word =
-    if bytes_eq word (codes "done") then Some Done
-    else if bytes_eq word (codes "yes") then Some (Flag true)
-    else if bytes_eq word (codes "no") then Some (Flag false)
+    if bytes_eq word done_word then Some Done
+    else if bytes_eq word (flag_word true) then Some (Flag true)
+    else if bytes_eq word (flag_word false) then Some (Flag false)
     else option_map (λ v. Value v) (read_integer 0x8000_0000_0000_0000 word)
 
 -- the return that the words behind a `=` say

@@ -1,5 +1,5 @@
 -- The lines of events and of kept items, as they are written.
-use Rattle.std.specs.Prelude.{ℕ, true, false, List, [], ◌∷◌, ◌++◌, map, codes, decimal, slice_get, ℤ}
+use Rattle.std.specs.Prelude.{ℕ, List, [], ◌∷◌, ◌++◌, map, codes, decimal, slice_get, ℤ}
 use Rattle.std.specs.Fmt.{signed_decimal}
 use Rattle.std.specs.List.{join_with_byte}
 use Rattle.std.specs.Option.{option_map_or}
@@ -8,6 +8,7 @@ use Rattle.acta_table.specs.declared.answer.Status.TheVariants.{NotBegun, InProg
 use Rattle.acta_table.specs.declared.event.ClassId.{ClassId}
 use Rattle.acta_table.specs.declared.event.Event.{Event}
 use Rattle.acta_table.specs.declared.event.Event.TheVariants.{Begin, Spawn, Split, Join, Delegate, Form, Operate, Commit, Abort, Permit}
+use Rattle.acta_table.specs.declared.event.EventKind.TheVariants as event_kind
 use Rattle.acta_table.specs.declared.event.Kept.{Kept}
 use Rattle.acta_table.specs.declared.event.ObjId.{ObjId}
 use Rattle.acta_table.specs.declared.event.Op.{Op}
@@ -21,6 +22,8 @@ use Rattle.acta_table.specs.Classes.{class_at}
 use Rattle.acta_table.specs.Dependencies.{word_of}
 use Rattle.acta_table.specs.Sets.{numbers_of}
 use Rattle.acta_words.specs.Text.{line_of}
+use Rattle.acta_script.specs.declared.op_kind.OpKind.TheVariants as op_kind
+use Rattle.acta_script.specs.Words.{event_word, op_word, done_word, flag_word}
 
 -- the word of a transaction
 abbrev pub txn_word : TxnId → List ℕ
@@ -40,35 +43,34 @@ operations_word (o ∷ os) = join_with_byte 44 (map decimal (numbers_of (o ∷ o
 
 -- the words of an operation
 abbrev pub operation_words : Op → List (List ℕ)
-operation_words Read = codes "read" ∷ []
-operation_words (Write v) = codes "write" ∷ signed_decimal v ∷ []
-operation_words Get = codes "get" ∷ []
-operation_words (Add n) = codes "add" ∷ signed_decimal n ∷ []
-operation_words (Insert x) = codes "insert" ∷ signed_decimal x ∷ []
-operation_words (Remove x) = codes "remove" ∷ signed_decimal x ∷ []
-operation_words (Has x) = codes "has" ∷ signed_decimal x ∷ []
-operation_words Size = codes "size" ∷ []
+operation_words Read = op_word op_kind.Read ∷ []
+operation_words (Write v) = op_word op_kind.Write ∷ signed_decimal v ∷ []
+operation_words Get = op_word op_kind.Get ∷ []
+operation_words (Add n) = op_word op_kind.Add ∷ signed_decimal n ∷ []
+operation_words (Insert x) = op_word op_kind.Insert ∷ signed_decimal x ∷ []
+operation_words (Remove x) = op_word op_kind.Remove ∷ signed_decimal x ∷ []
+operation_words (Has x) = op_word op_kind.Has ∷ signed_decimal x ∷ []
+operation_words Size = op_word op_kind.Size ∷ []
 
 -- the words of an event
 abbrev pub event_words : {A : Type 0} → Parts A → Event A → List (List ℕ)
-event_words m (Begin t class) = codes "begin" ∷ txn_word t ∷ class_word m class ∷ []
-event_words m (Spawn t c class) = codes "spawn" ∷ txn_word t ∷ txn_word c ∷ class_word m class ∷ []
+event_words m (Begin t class) = event_word event_kind.Begin ∷ txn_word t ∷ class_word m class ∷ []
+event_words m (Spawn t c class) = event_word event_kind.Spawn ∷ txn_word t ∷ txn_word c ∷ class_word m class ∷ []
 event_words m (Split t u class ops) =
-    codes "split" ∷ txn_word t ∷ txn_word u ∷ class_word m class ∷ operations_word ops ∷ []
-event_words m (Join t u) = codes "join" ∷ txn_word t ∷ txn_word u ∷ []
-event_words m (Delegate t u ops) = codes "delegate" ∷ txn_word t ∷ txn_word u ∷ operations_word ops ∷ []
-event_words m (Form kind j i) = codes "form" ∷ word_of kind ∷ txn_word j ∷ txn_word i ∷ []
-event_words m (Operate t ob op) = codes "do" ∷ txn_word t ∷ object_word m ob ∷ operation_words op
-event_words m (Commit t) = codes "commit" ∷ txn_word t ∷ []
-event_words m (Abort t) = codes "abort" ∷ txn_word t ∷ []
-event_words m (Permit t u ob) = codes "permit" ∷ txn_word t ∷ txn_word u ∷ object_word m ob ∷ []
+    event_word event_kind.Split ∷ txn_word t ∷ txn_word u ∷ class_word m class ∷ operations_word ops ∷ []
+event_words m (Join t u) = event_word event_kind.Join ∷ txn_word t ∷ txn_word u ∷ []
+event_words m (Delegate t u ops) = event_word event_kind.Delegate ∷ txn_word t ∷ txn_word u ∷ operations_word ops ∷ []
+event_words m (Form kind j i) = event_word event_kind.Form ∷ word_of kind ∷ txn_word j ∷ txn_word i ∷ []
+event_words m (Operate t ob op) = event_word event_kind.Operate ∷ txn_word t ∷ object_word m ob ∷ operation_words op
+event_words m (Commit t) = event_word event_kind.Commit ∷ txn_word t ∷ []
+event_words m (Abort t) = event_word event_kind.Abort ∷ txn_word t ∷ []
+event_words m (Permit t u ob) = event_word event_kind.Permit ∷ txn_word t ∷ txn_word u ∷ object_word m ob ∷ []
 
 -- the word of a return
 abbrev pub return_word : Ret → List ℕ
-return_word Done = codes "done"
+return_word Done = done_word
 return_word (Value v) = signed_decimal v
-return_word (Flag true) = codes "yes"
-return_word (Flag false) = codes "no"
+return_word (Flag b) = flag_word b
 
 -- the elements of a set, ascending, between braces
 abbrev pub elements_word : List ℤ → List ℕ

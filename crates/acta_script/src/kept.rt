@@ -14,8 +14,8 @@ use acta_table::{Kept, Model};
 use acta_words::{push_word, words_of};
 use std::alloc::{AllocError, Allocator};
 
-// The position of the first `=`.
-fn sign_place(words: &[&[u8]]) -> Option<usize>
+/// The position of the first `=`.
+pub(crate) fn sign_place(words: &[&[u8]]) -> Option<usize>
     ensures { result ≡ position (λ word. is_equals word.now) words.now }
 {
     words.iter().position(|word| *word == b"=".as_slice())

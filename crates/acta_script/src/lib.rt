@@ -15,17 +15,21 @@
 //! more, with the word `|` between two of them. An answer is `ok PLACE [RETURN]` or `no RULE [by N]`, a debt is
 //! `owed EDGE TXN commit` or `.. abort`, and a fault in a history is `fault AXIOM PLACE BY`. No line that is written
 //! ends in a line feed. What is written of an event or a kept item is read again as this event or item: it is a clause
-//! of `write_event` and `write_kept`. Other crates write lines of their own with the words of statuses, sets, returns and
-//! events that are owed.
+//! of `write_event` and `write_kept`. Where a line cannot be read, `diagnose_event` and `diagnose_kept` say which word is
+//! wrong, and what is expected in its place. Other crates write lines of their own with the words of statuses, sets,
+//! returns and events that are owed.
 #![tactic(auto)]
 
 mod answers;
 mod commands;
+mod diagnosis;
+mod event_words;
 mod fault;
 mod kept;
 mod laws;
 mod names;
 mod numbers;
+mod op_kind;
 mod op_sets;
 mod operations;
 mod programs;
@@ -38,12 +42,15 @@ mod writing;
 
 pub use answers::{answer_line, fault_line, missing_word, owed_line};
 pub use commands::{BreakOn, DebugCommand, read_command};
+pub use diagnosis::{Diagnostic, Expected, LinePart, WordPlace, diagnose_event, diagnose_kept};
+pub use event_words::{EVENT_KINDS, event_form, event_word};
 pub use fault::{LineError, LineFault};
 pub use kept::{read_kept, write_kept};
 pub use names::object_name;
+pub use op_kind::OpKind;
 pub use programs::{ProgramLine, read_program_line};
 pub use reading::read_event;
-pub use returns::{push_return, return_said};
+pub use returns::{RETURN_WORDS, push_return, return_said};
 pub use seated::{Seated, read_seated};
 pub use states::{push_elements, status_word};
 pub use writing::write_event;

@@ -3,11 +3,13 @@
 ghost use Rattle.std.specs.Prelude.{◌≡◌, ◌++◌, ◌∷◌, map, OnOk};
 ghost use Rattle.std.specs.Fmt.{signed_decimal};
 ghost use Rattle.acta_words.specs.Text.{line_of};
-ghost use Rattle.acta_script.specs.Reading.{alone, integer_alone, operation_said};
+ghost use Rattle.acta_script.specs.Reading.{alone, integer_alone, operation_of_kind, operation_said};
+ghost use Rattle.acta_script.specs.Words.{op_word};
 ghost use Rattle.acta_script.specs.Writing.{operation_words};
 
 use crate::fault::LineFault;
 use crate::numbers::integer_said;
+use crate::op_kind::{OpKind, op_kind_said};
 use acta_table::Op;
 use acta_words::{push_integer, push_word};
 use std::alloc::{AllocError, Allocator};
@@ -33,40 +35,38 @@ fn integer_alone(words: &[&[u8]]) -> Result<i32, LineFault>
     }
 }
 
+// The operation of this kind that the words behind it say.
+fn operation_of_kind(kind: OpKind, words: &[&[u8]]) -> Result<Op, LineFault>
+    ensures { result ≡ operation_of_kind kind (map (λ word. word.now) words.now) }
+{
+    match kind {
+        OpKind::Read => alone(Op::Read, words),
+        OpKind::Write => Ok(Op::Write(integer_alone(words)?)),
+        OpKind::Get => alone(Op::Get, words),
+        OpKind::Add => Ok(Op::Add(integer_alone(words)?)),
+        OpKind::Insert => Ok(Op::Insert(integer_alone(words)?)),
+        OpKind::Remove => Ok(Op::Remove(integer_alone(words)?)),
+        OpKind::Has => Ok(Op::Has(integer_alone(words)?)),
+        OpKind::Size => alone(Op::Size, words),
+    }
+}
+
 /// The operation that has this word, and behind it these words.
 pub(crate) fn operation_said(word: &[u8], words: &[&[u8]]) -> Result<Op, LineFault>
     ensures { result ≡ operation_said word.now (map (λ word. word.now) words.now) }
 {
-    if word == b"read".as_slice() {
-        alone(Op::Read, words)
-    } else if word == b"get".as_slice() {
-        alone(Op::Get, words)
-    } else if word == b"size".as_slice() {
-        alone(Op::Size, words)
-    } else if word == b"write".as_slice() {
-        Ok(Op::Write(integer_alone(words)?))
-    } else if word == b"add".as_slice() {
-        Ok(Op::Add(integer_alone(words)?))
-    } else if word == b"insert".as_slice() {
-        Ok(Op::Insert(integer_alone(words)?))
-    } else if word == b"remove".as_slice() {
-        Ok(Op::Remove(integer_alone(words)?))
-    } else if word == b"has".as_slice() {
-        Ok(Op::Has(integer_alone(words)?))
-    } else {
-        Err(LineFault::Word)
-    }
+    operation_of_kind(op_kind_said(word)?, words)
 }
 
-// Writes the word and the number, a space before each.
+// Writes the word of the operation and its number, a space before each.
 fn push_with<A: Allocator>(
     line: &mut Vec<u8, A>,
-    word: &[u8],
+    kind: OpKind,
     number: i32,
 ) -> Result<(), AllocError>
-    ensures { OnOk result (line.new.items ≡ line.old.items ++ 32 ∷ word.now ++ 32 ∷ signed_decimal number) }
+    ensures { OnOk result (line.new.items ≡ line.old.items ++ 32 ∷ op_word kind ++ 32 ∷ signed_decimal number) }
 {
-    push_word(line, word)?;
+    push_word(line, kind.word().as_bytes())?;
     push_integer(line, i64::from(number))
 }
 
@@ -75,13 +75,13 @@ pub(crate) fn push_operation<A: Allocator>(line: &mut Vec<u8, A>, op: Op) -> Res
     ensures { OnOk result (line.new.items ≡ line.old.items ++ 32 ∷ line_of (operation_words op)) }
 {
     match op {
-        Op::Read => push_word(line, b"read"),
-        Op::Write(value) => push_with(line, b"write", value),
-        Op::Get => push_word(line, b"get"),
-        Op::Add(number) => push_with(line, b"add", number),
-        Op::Insert(element) => push_with(line, b"insert", element),
-        Op::Remove(element) => push_with(line, b"remove", element),
-        Op::Has(element) => push_with(line, b"has", element),
-        Op::Size => push_word(line, b"size"),
+        Op::Read => push_word(line, OpKind::Read.word().as_bytes()),
+        Op::Write(value) => push_with(line, OpKind::Write, value),
+        Op::Get => push_word(line, OpKind::Get.word().as_bytes()),
+        Op::Add(number) => push_with(line, OpKind::Add, number),
+        Op::Insert(element) => push_with(line, OpKind::Insert, element),
+        Op::Remove(element) => push_with(line, OpKind::Remove, element),
+        Op::Has(element) => push_with(line, OpKind::Has, element),
+        Op::Size => push_word(line, OpKind::Size.word().as_bytes()),
     }
 }

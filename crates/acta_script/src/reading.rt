@@ -6,6 +6,7 @@ ghost use Rattle.acta_script.specs.Laws.{IsInModel};
 ghost use Rattle.acta_script.specs.inside.Again.{NamesNothing};
 ghost use Rattle.acta_script.specs.Reading.{IsWhy, begin_said, spawn_said, split_said, join_said, delegate_said, form_said, form_of_kind, do_said, commit_said, abort_said, permit_said, event_kind_said, event_of_kind, event_said, event_of};
 
+use crate::event_words::event_word;
 use crate::fault::{LineError, LineFault};
 use crate::names::{class_said, kind_said, object_said};
 use crate::numbers::txn_said;
@@ -178,25 +179,25 @@ fn permit_said<A: Allocator>(model: &Model<A>, words: &[&[u8]]) -> Result<Event<
 pub(crate) fn event_kind_said(word: &[u8]) -> Result<EventKind, LineFault>
     ensures { result ≡ event_kind_said word.now }
 {
-    if word == b"begin".as_slice() {
+    if word == event_word(EventKind::Begin).as_bytes() {
         Ok(EventKind::Begin)
-    } else if word == b"spawn".as_slice() {
+    } else if word == event_word(EventKind::Spawn).as_bytes() {
         Ok(EventKind::Spawn)
-    } else if word == b"split".as_slice() {
+    } else if word == event_word(EventKind::Split).as_bytes() {
         Ok(EventKind::Split)
-    } else if word == b"join".as_slice() {
+    } else if word == event_word(EventKind::Join).as_bytes() {
         Ok(EventKind::Join)
-    } else if word == b"delegate".as_slice() {
+    } else if word == event_word(EventKind::Delegate).as_bytes() {
         Ok(EventKind::Delegate)
-    } else if word == b"form".as_slice() {
+    } else if word == event_word(EventKind::Form).as_bytes() {
         Ok(EventKind::Form)
-    } else if word == b"do".as_slice() {
+    } else if word == event_word(EventKind::Operate).as_bytes() {
         Ok(EventKind::Operate)
-    } else if word == b"commit".as_slice() {
+    } else if word == event_word(EventKind::Commit).as_bytes() {
         Ok(EventKind::Commit)
-    } else if word == b"abort".as_slice() {
+    } else if word == event_word(EventKind::Abort).as_bytes() {
         Ok(EventKind::Abort)
-    } else if word == b"permit".as_slice() {
+    } else if word == event_word(EventKind::Permit).as_bytes() {
         Ok(EventKind::Permit)
     } else {
         Err(LineFault::Word)

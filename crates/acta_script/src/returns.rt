@@ -1,6 +1,7 @@
 //! The words of returns.
 
-ghost use Rattle.std.specs.Prelude.{◌≡◌, ◌++◌, ◌∷◌, map, OnOk};
+ghost use Rattle.std.specs.Prelude.{◌≡◌, ◌++◌, ◌∷◌, map, ok_or, OnOk};
+ghost use Rattle.acta_script.specs.declared.fault.LineFault.TheVariants.{Number};
 ghost use Rattle.acta_script.specs.Reading.{return_named, return_said};
 ghost use Rattle.acta_script.specs.Writing.{return_word};
 
@@ -9,19 +10,35 @@ use acta_table::Ret;
 use acta_words::{push_integer, push_word, read_i64};
 use std::alloc::{AllocError, Allocator};
 
+/// The words of returns that are no numbers: done, yes and no.
+pub const RETURN_WORDS: [&str; 3] = [DONE, YES, NO];
+
+const DONE: &str = "done";
+
+const YES: &str = "yes";
+
+const NO: &str = "no";
+
 // The return that the word says.
 fn return_named(word: &[u8]) -> Option<Ret>
     ensures { result ≡ return_named word.now }
 {
-    if word == b"done".as_slice() {
+    if word == DONE.as_bytes() {
         Some(Ret::Done)
-    } else if word == b"yes".as_slice() {
+    } else if word == YES.as_bytes() {
         Some(Ret::Flag(true))
-    } else if word == b"no".as_slice() {
+    } else if word == NO.as_bytes() {
         Some(Ret::Flag(false))
     } else {
         read_i64(word).map(Ret::Value)
     }
+}
+
+/// The return that the word says.
+pub(crate) fn return_word_said(word: &[u8]) -> Result<Ret, LineFault>
+    ensures { result ≡ ok_or (return_named word.now) Number }
+{
+    return_named(word).ok_or(LineFault::Number)
 }
 
 /// The return that the words behind a `=` say.
@@ -30,7 +47,7 @@ pub fn return_said(words: &[&[u8]]) -> Result<Ret, LineFault>
     ensures { result ≡ return_said (map (λ word. word.now) words.now) }
 {
     match words {
-        [word] => return_named(word).ok_or(LineFault::Number),
+        [word] => return_word_said(word),
         _ => Err(LineFault::Arity),
     }
 }
@@ -40,9 +57,9 @@ pub fn push_return<A: Allocator>(line: &mut Vec<u8, A>, ret: Ret) -> Result<(), 
     ensures { OnOk result (line.new.items ≡ line.old.items ++ 32 ∷ return_word ret) }
 {
     match ret {
-        Ret::Done => push_word(line, b"done"),
+        Ret::Done => push_word(line, DONE.as_bytes()),
         Ret::Value(value) => push_integer(line, value),
-        Ret::Flag(true) => push_word(line, b"yes"),
-        Ret::Flag(false) => push_word(line, b"no"),
+        Ret::Flag(true) => push_word(line, YES.as_bytes()),
+        Ret::Flag(false) => push_word(line, NO.as_bytes()),
     }
 }

@@ -1,43 +1,46 @@
 //! The line of an event.
 
-ghost use Rattle.std.specs.Prelude.{◌≡◌, ◌<◌, ◌++◌, ◌∷◌, Ok, IfOk, OnOk, codes, length};
+ghost use Rattle.std.specs.Prelude.{◌≡◌, ◌<◌, ◌++◌, ◌∷◌, Ok, IfOk, OnOk, length};
 ghost use Rattle.acta_table.specs.Dependencies.{word_of};
 ghost use Rattle.acta_words.specs.Text.{line_of};
+ghost use Rattle.acta_table.specs.declared.event.EventKind.{EventKind};
 ghost use Rattle.acta_script.specs.Laws.{IsInModel};
 ghost use Rattle.acta_script.specs.Reading.{event_of};
+ghost use Rattle.acta_script.specs.Words.{event_word};
 ghost use Rattle.acta_script.specs.Writing.{txn_word, class_word, object_word, operation_words, event_line};
 
+use crate::event_words::event_word;
 use crate::laws::event_again;
 use crate::names::{class_name, object_name};
 use crate::numbers::push_txn;
 use crate::op_sets::push_operations;
 use crate::operations::push_operation;
-use acta_table::{ClassId, Dep, Event, Model, ObjId, Op, TxnId};
+use acta_table::{ClassId, Dep, Event, EventKind, Model, ObjId, Op, TxnId};
 use acta_words::push_word;
 use std::alloc::{AllocError, Allocator};
 
-// Writes the first word of a line, and the transaction behind it.
+// Writes the first word of the line of an event of this kind, and the transaction behind it.
 fn push_start<A: Allocator>(
     line: &mut Vec<u8, A>,
-    word: &[u8],
+    kind: EventKind,
     txn: TxnId,
 ) -> Result<(), AllocError>
-    ensures { OnOk result (line.new.items ≡ line.old.items ++ word.now ++ 32 ∷ txn_word txn) }
+    ensures { OnOk result (line.new.items ≡ line.old.items ++ event_word kind ++ 32 ∷ txn_word txn) }
 {
-    line.extend_from_slice(word)?;
+    line.extend_from_slice(event_word(kind).as_bytes())?;
     push_txn(line, txn)
 }
 
 // The same, and a second transaction.
 fn push_two<A: Allocator>(
     line: &mut Vec<u8, A>,
-    word: &[u8],
+    kind: EventKind,
     t: TxnId,
     u: TxnId,
 ) -> Result<(), AllocError>
-    ensures { OnOk result (line.new.items ≡ line.old.items ++ word.now ++ 32 ∷ txn_word t ++ 32 ∷ txn_word u) }
+    ensures { OnOk result (line.new.items ≡ line.old.items ++ event_word kind ++ 32 ∷ txn_word t ++ 32 ∷ txn_word u) }
 {
-    push_start(line, word, t)?;
+    push_start(line, kind, t)?;
     push_txn(line, u)
 }
 
@@ -45,16 +48,16 @@ fn push_two<A: Allocator>(
 fn push_started<A: Allocator>(
     line: &mut Vec<u8, A>,
     model: &Model<A>,
-    word: &[u8],
+    kind: EventKind,
     t: TxnId,
     u: TxnId,
     class: ClassId,
 ) -> Result<(), AllocError>
     requires { class.0 < length model.now.classes }
     ensures { OnOk result (line.new.items ≡
-        line.old.items ++ word.now ++ 32 ∷ txn_word t ++ 32 ∷ txn_word u ++ 32 ∷ class_word model.now class) }
+        line.old.items ++ event_word kind ++ 32 ∷ txn_word t ++ 32 ∷ txn_word u ++ 32 ∷ class_word model.now class) }
 {
-    push_two(line, word, t, u)?;
+    push_two(line, kind, t, u)?;
     push_word(line, class_name(model, class))
 }
 
@@ -67,9 +70,9 @@ fn push_begin<A: Allocator>(
 ) -> Result<(), AllocError>
     requires { class.0 < length model.now.classes }
     ensures { OnOk result (line.new.items ≡
-        line.old.items ++ codes "begin" ++ 32 ∷ txn_word t ++ 32 ∷ class_word model.now class) }
+        line.old.items ++ event_word EventKind.Begin ++ 32 ∷ txn_word t ++ 32 ∷ class_word model.now class) }
 {
-    push_start(line, b"begin", t)?;
+    push_start(line, EventKind::Begin, t)?;
     push_word(line, class_name(model, class))
 }
 
@@ -81,9 +84,9 @@ fn push_form<A: Allocator>(
     i: TxnId,
 ) -> Result<(), AllocError>
     ensures { OnOk result (line.new.items ≡
-        line.old.items ++ codes "form" ++ 32 ∷ word_of kind ++ 32 ∷ txn_word j ++ 32 ∷ txn_word i) }
+        line.old.items ++ event_word EventKind.Form ++ 32 ∷ word_of kind ++ 32 ∷ txn_word j ++ 32 ∷ txn_word i) }
 {
-    line.extend_from_slice(b"form")?;
+    line.extend_from_slice(event_word(EventKind::Form).as_bytes())?;
     push_word(line, kind.word().as_bytes())?;
     push_txn(line, j)?;
     push_txn(line, i)
@@ -99,9 +102,9 @@ fn push_do<A: Allocator>(
 ) -> Result<(), AllocError>
     requires { object.0 < length model.now.objects }
     ensures { OnOk result (line.new.items ≡ line.old.items
-        ++ codes "do" ++ 32 ∷ txn_word t ++ 32 ∷ object_word model.now object ++ 32 ∷ line_of (operation_words op)) }
+        ++ event_word EventKind.Operate ++ 32 ∷ txn_word t ++ 32 ∷ object_word model.now object ++ 32 ∷ line_of (operation_words op)) }
 {
-    push_start(line, b"do", t)?;
+    push_start(line, EventKind::Operate, t)?;
     push_word(line, object_name(model, object))?;
     push_operation(line, op)
 }
@@ -116,9 +119,9 @@ fn push_permit<A: Allocator>(
 ) -> Result<(), AllocError>
     requires { object.0 < length model.now.objects }
     ensures { OnOk result (line.new.items ≡ line.old.items
-        ++ codes "permit" ++ 32 ∷ txn_word t ++ 32 ∷ txn_word u ++ 32 ∷ object_word model.now object) }
+        ++ event_word EventKind.Permit ++ 32 ∷ txn_word t ++ 32 ∷ txn_word u ++ 32 ∷ object_word model.now object) }
 {
-    push_two(line, b"permit", t, u)?;
+    push_two(line, EventKind::Permit, t, u)?;
     push_word(line, object_name(model, object))
 }
 
@@ -134,20 +137,20 @@ pub(crate) fn push_event<A: Allocator>(
 {
     match event {
         Event::Begin(t, class) => push_begin(line, model, *t, *class),
-        Event::Spawn(t, c, class) => push_started(line, model, b"spawn", *t, *c, *class),
+        Event::Spawn(t, c, class) => push_started(line, model, EventKind::Spawn, *t, *c, *class),
         Event::Split(t, u, class, ops) => {
-            push_started(line, model, b"split", *t, *u, *class)?;
+            push_started(line, model, EventKind::Split, *t, *u, *class)?;
             push_operations(line, ops)
         }
-        Event::Join(t, u) => push_two(line, b"join", *t, *u),
+        Event::Join(t, u) => push_two(line, EventKind::Join, *t, *u),
         Event::Delegate(t, u, ops) => {
-            push_two(line, b"delegate", *t, *u)?;
+            push_two(line, EventKind::Delegate, *t, *u)?;
             push_operations(line, ops)
         }
         Event::Form(kind, j, i) => push_form(line, *kind, *j, *i),
         Event::Operate(t, object, op) => push_do(line, model, *t, *object, *op),
-        Event::Commit(t) => push_start(line, b"commit", *t),
-        Event::Abort(t) => push_start(line, b"abort", *t),
+        Event::Commit(t) => push_start(line, EventKind::Commit, *t),
+        Event::Abort(t) => push_start(line, EventKind::Abort, *t),
         Event::Permit(t, u, object) => push_permit(line, model, *t, *u, *object),
     }
 }

@@ -2,4 +2,5 @@ pub mod Blanks
 pub mod Digits
 pub mod FirstLines
 pub mod NumeralsAgain
+pub mod SpansOfWords
 pub mod TextAgain

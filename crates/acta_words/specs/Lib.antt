@@ -1,3 +1,4 @@
 pub mod Numerals
+pub mod Spans
 pub mod Text
 pub mod inside

@@ -1,2 +1,3 @@
 -- Words of the code's own contracts, and what is proved of words: nothing here is needed to read a promise.
 pub mod LinesToCome
+pub mod NextSpans

@@ -4,10 +4,12 @@
 
 mod lines;
 mod numerals;
+mod spans;
 mod words;
 mod writing;
 
 pub use lines::Lines;
 pub use numerals::{read_i32, read_i64, read_u16, read_u32};
+pub use spans::{Span, word_span};
 pub use words::{has_words, words_of};
 pub use writing::{push_integer, push_line, push_natural, push_word};

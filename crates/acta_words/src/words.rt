@@ -19,7 +19,8 @@ fn comment_at(line: &[u8]) -> usize
     line.len()
 }
 
-fn without_comment(line: &[u8]) -> &[u8]
+/// The line up to its comment.
+pub(crate) fn without_comment(line: &[u8]) -> &[u8]
     ensures { result.now ≡ before_first is_mark line.now }
 {
     let at = comment_at(line);

@@ -1,0 +1,116 @@
+-- Where a line of an event or of a kept item is wrong: its lowest fault, the first word that has this fault, and what is
+-- expected there. By its place each word stands for something, as a transaction or a class. The word has a fault where
+-- it cannot be read so.
+use Rattle.std.specs.Prelude.{ℕ, ◌+◌, Bool, false, ◌==◌, nat_lt, nat_le, List, [], ◌∷◌, length, if◌then◌else◌, Option, Some, None, Result, Ok, Err, ok_or}
+use Rattle.std.specs.List.{list_any, before_first, after_first, position_or_len}
+use Rattle.std.specs.Option.{option_map_or, option_or}
+use Rattle.std.specs.Result.{result_ok, result_err}
+use Rattle.acta_table.specs.declared.event.EventKind.{EventKind}
+use Rattle.acta_table.specs.declared.event.EventKind.TheVariants as event_kind
+use Rattle.acta_table.specs.declared.model.Parts.{Parts}
+use Rattle.acta_script.specs.declared.diagnosis.Diagnostic.{Diagnostic}
+use Rattle.acta_script.specs.declared.diagnosis.Expected.{Expected}
+use Rattle.acta_script.specs.declared.diagnosis.Expected.TheVariants.{Part, EventForm, OperationForm}
+use Rattle.acta_script.specs.declared.diagnosis.LinePart.{LinePart}
+use Rattle.acta_script.specs.declared.diagnosis.LinePart.TheVariants.{Event, Kind, Operation, Transaction, Integer, Operations, Class, Object, Return}
+use Rattle.acta_script.specs.declared.diagnosis.WordPlace.TheVariants.{Wrong, Missing}
+use Rattle.acta_script.specs.declared.fault.LineFault.{LineFault}
+use Rattle.acta_script.specs.declared.fault.LineFault.TheVariants.{Empty, Word, Arity, Number, Name}
+use Rattle.acta_script.specs.declared.op_kind.OpKind.{OpKind}
+use Rattle.acta_script.specs.Reading.{fault_number, txn_said, integer_said, class_said, object_said, kind_said, operations_said, op_kind_said, event_kind_said, return_named, is_equals}
+use Rattle.acta_script.specs.Words.{takes_integer}
+
+-- the fault of a word that stands for this, if it has one
+abbrev pub fault_of_word : {A : Type 0} → Parts A → LinePart → List ℕ → Option LineFault
+fault_of_word m Event word = result_err (event_kind_said word)
+fault_of_word m Kind word = result_err (kind_said word)
+fault_of_word m Operation word = result_err (op_kind_said word)
+fault_of_word m Transaction word = result_err (txn_said word)
+fault_of_word m Integer word = result_err (integer_said word)
+fault_of_word m Operations word = result_err (operations_said word)
+fault_of_word m Class word = result_err (class_said m word)
+fault_of_word m Object word = result_err (object_said m word)
+fault_of_word m Return word = result_err (ok_or (return_named word) Number)
+
+-- whether it is this fault
+abbrev pub is_fault : LineFault → Option LineFault → Bool
+is_fault fault found = option_map_or (λ f. fault_number f == fault_number fault) found false
+
+-- the first word that has this fault, by what each word stands for; in its line the first of the words has number n
+abbrev pub wrong_word : {A : Type 0} → Parts A → LineFault → ℕ → List LinePart → List (List ℕ) → Option Diagnostic
+wrong_word m fault n (part ∷ parts) (word ∷ words) =
+    if is_fault fault (fault_of_word m part word)
+    then Some (record { fault = fault; place = Wrong n; expected = Part part })
+    else wrong_word m fault (n + 1) parts words
+wrong_word m fault n _ _ = None
+
+-- the first word too many, or the place after the last word where there are too few
+abbrev pub wrong_count : Expected → ℕ → ℕ → ℕ → Option Diagnostic
+wrong_count expected n wanted count =
+    if nat_lt count wanted then Some (record { fault = Arity; place = Missing (n + count); expected = expected })
+    else if nat_lt wanted count then Some (record { fault = Arity; place = Wrong (n + wanted); expected = expected })
+    else None
+
+-- the lowest fault and its first word, where the words stand for these parts; expected is for a wrong number of words
+abbrev pub wrong_in : {A : Type 0} → Parts A → List LinePart → Expected → ℕ → List (List ℕ) → Option Diagnostic
+wrong_in m parts expected n words =
+    option_or (wrong_word m Word n parts words)
+    (option_or (wrong_count expected n (length parts) (length words))
+    (option_or (wrong_word m Number n parts words) (wrong_word m Name n parts words)))
+
+-- the operation that the words after a `do` name, if they get that far and name one
+abbrev pub op_kind_in : List (List ℕ) → Option OpKind
+op_kind_in (t ∷ object ∷ op ∷ words) = result_ok (op_kind_said op)
+op_kind_in _ = None
+
+-- what the words after a `do` stand for
+abbrev pub operation_parts : Option OpKind → List LinePart
+operation_parts (Some op) =
+    if takes_integer op then Transaction ∷ Object ∷ Operation ∷ Integer ∷ []
+    else Transaction ∷ Object ∷ Operation ∷ []
+operation_parts None = Transaction ∷ Object ∷ Operation ∷ []
+
+-- what the words after the first stand for in an event of this kind and operation
+abbrev pub parts_of : EventKind → Option OpKind → List LinePart
+parts_of event_kind.Begin op = Transaction ∷ Class ∷ []
+parts_of event_kind.Spawn op = Transaction ∷ Transaction ∷ Class ∷ []
+parts_of event_kind.Split op = Transaction ∷ Transaction ∷ Class ∷ Operations ∷ []
+parts_of event_kind.Join op = Transaction ∷ Transaction ∷ []
+parts_of event_kind.Delegate op = Transaction ∷ Transaction ∷ Operations ∷ []
+parts_of event_kind.Form op = Kind ∷ Transaction ∷ Transaction ∷ []
+parts_of event_kind.Operate op = operation_parts op
+parts_of event_kind.Commit op = Transaction ∷ []
+parts_of event_kind.Abort op = Transaction ∷ []
+parts_of event_kind.Permit op = Transaction ∷ Transaction ∷ Object ∷ []
+
+-- the form that the line should have
+abbrev pub form_of : EventKind → Option OpKind → Expected
+form_of event_kind.Operate op = option_map_or (λ op. OperationForm op) op (EventForm event_kind.Operate)
+form_of kind op = EventForm kind
+
+-- what is wrong with the words of an event whose first word was read as its kind, or has a fault; words are the others
+abbrev pub wrong_behind : {A : Type 0} → Parts A → Result EventKind LineFault → List (List ℕ) → Option Diagnostic
+wrong_behind m (Ok kind) words =
+    wrong_in m (parts_of kind (op_kind_in words)) (form_of kind (op_kind_in words)) 1 words
+wrong_behind m (Err fault) words = Some (record { fault = fault; place = Wrong 0; expected = Part Event })
+
+-- what is wrong with the words of an event
+abbrev pub wrong_event : {A : Type 0} → Parts A → List (List ℕ) → Option Diagnostic
+wrong_event m [] = Some (record { fault = Empty; place = Missing 0; expected = Part Event })
+wrong_event m (word ∷ words) = wrong_behind m (event_kind_said word) words
+
+-- what is wrong with the words after a `=`, of which the first has number n in its line
+abbrev pub wrong_return : {A : Type 0} → Parts A → ℕ → List (List ℕ) → Option Diagnostic
+wrong_return m n words = wrong_in m (Return ∷ []) (Part Return) n words
+
+-- the one with the lower fault; of equal faults the first
+abbrev pub lower_of : Option Diagnostic → Option Diagnostic → Option Diagnostic
+lower_of (Some d) (Some e) = if nat_le (fault_number d.fault) (fault_number e.fault) then Some d else Some e
+lower_of d e = option_or d e
+
+-- what is wrong with the words of a kept item: with its event, or with its return
+abbrev pub wrong_kept : {A : Type 0} → Parts A → List (List ℕ) → Option Diagnostic
+wrong_kept m words =
+    if list_any is_equals words
+    then lower_of (wrong_event m (before_first is_equals words)) (wrong_return m (position_or_len is_equals words + 1) (after_first is_equals words))
+    else wrong_event m words

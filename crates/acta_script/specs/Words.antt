@@ -1,0 +1,73 @@
+-- The words of events, operations and returns, and the forms of their lines.
+use Rattle.std.specs.Prelude.{ℕ, Bool, true, false, List, codes}
+use Rattle.acta_table.specs.declared.event.EventKind.{EventKind}
+use Rattle.acta_table.specs.declared.event.EventKind.TheVariants.{Begin, Spawn, Split, Join, Delegate, Form, Operate, Commit, Abort, Permit}
+use Rattle.acta_script.specs.declared.op_kind.OpKind.{OpKind}
+use Rattle.acta_script.specs.declared.op_kind.OpKind.TheVariants as op_kind
+
+-- the first word of an event's line
+abbrev pub event_word : EventKind → List ℕ
+event_word Begin = codes "begin"
+event_word Spawn = codes "spawn"
+event_word Split = codes "split"
+event_word Join = codes "join"
+event_word Delegate = codes "delegate"
+event_word Form = codes "form"
+event_word Operate = codes "do"
+event_word Commit = codes "commit"
+event_word Abort = codes "abort"
+event_word Permit = codes "permit"
+
+-- the form of an event's line, with a word in capitals for each that varies
+abbrev pub event_form : EventKind → List ℕ
+event_form Begin = codes "begin T CLASS"
+event_form Spawn = codes "spawn T C CLASS"
+event_form Split = codes "split T U CLASS OPS"
+event_form Join = codes "join T U"
+event_form Delegate = codes "delegate T U OPS"
+event_form Form = codes "form KIND J I"
+event_form Operate = codes "do T OBJECT OP"
+event_form Commit = codes "commit T"
+event_form Abort = codes "abort T"
+event_form Permit = codes "permit T U OBJECT"
+
+-- the word of an operation
+abbrev pub op_word : OpKind → List ℕ
+op_word op_kind.Read = codes "read"
+op_word op_kind.Write = codes "write"
+op_word op_kind.Get = codes "get"
+op_word op_kind.Add = codes "add"
+op_word op_kind.Insert = codes "insert"
+op_word op_kind.Remove = codes "remove"
+op_word op_kind.Has = codes "has"
+op_word op_kind.Size = codes "size"
+
+-- whether an INT follows the word of the operation
+abbrev pub takes_integer : OpKind → Bool
+takes_integer op_kind.Read = false
+takes_integer op_kind.Write = true
+takes_integer op_kind.Get = false
+takes_integer op_kind.Add = true
+takes_integer op_kind.Insert = true
+takes_integer op_kind.Remove = true
+takes_integer op_kind.Has = true
+takes_integer op_kind.Size = false
+
+-- the form of the line of an event that does the operation
+abbrev pub op_form : OpKind → List ℕ
+op_form op_kind.Read = codes "do T OBJECT read"
+op_form op_kind.Write = codes "do T OBJECT write INT"
+op_form op_kind.Get = codes "do T OBJECT get"
+op_form op_kind.Add = codes "do T OBJECT add INT"
+op_form op_kind.Insert = codes "do T OBJECT insert INT"
+op_form op_kind.Remove = codes "do T OBJECT remove INT"
+op_form op_kind.Has = codes "do T OBJECT has INT"
+op_form op_kind.Size = codes "do T OBJECT size"
+
+-- the words of returns that are no numbers
+abbrev pub done_word : List ℕ
+done_word = codes "done"
+
+abbrev pub flag_word : Bool → List ℕ
+flag_word true = codes "yes"
+flag_word false = codes "no"

@@ -1,0 +1,371 @@
+//! Where a line of an event or of a kept item is wrong, and what is expected there.
+
+ghost use Rattle.std.specs.Prelude.{◌≡◌, ◌<◌, ◌≤◌, ◌+◌, ◌^◌, length, map, option_map, IfOk};
+ghost use Rattle.std.specs.Result.{result_err};
+ghost use Rattle.acta_words.specs.Text.{words_of};
+ghost use Rattle.acta_script.specs.Diagnosis.{fault_of_word, is_fault, wrong_word, wrong_count, wrong_in, op_kind_in, operation_parts, parts_of, form_of, wrong_behind, wrong_event, wrong_return, lower_of, wrong_kept};
+ghost use Rattle.acta_script.specs.Reading.{operations_said, event_said, return_said, kept_said, event_of, kept_of};
+
+use crate::fault::{LineError, LineFault};
+use crate::kept::sign_place;
+use crate::names::{class_said, kind_said, object_said};
+use crate::numbers::{integer_said, txn_said};
+use crate::op_kind::{OpKind, op_kind_said};
+use crate::op_sets::operations_said;
+use crate::reading::event_kind_said;
+use crate::returns::return_word_said;
+use acta_table::{EventKind, Model};
+use acta_words::words_of;
+use std::alloc::{AllocError, Allocator};
+
+/// What a word of a line stands for.
+#[derive(Clone, Copy, PartialEq, Eq, Debug)]
+pub enum LinePart {
+    /// The kind of event, as `begin`: the first word of an event.
+    Event,
+    /// A kind of dependency, as `CD`.
+    Kind,
+    /// An operation, as `read`.
+    Operation,
+    /// The number of a transaction, of 16 bits.
+    Transaction,
+    /// A signed number of 32 bits.
+    Integer,
+    /// A list of operations: `-`, or numbers of 32 bits joined by commas.
+    Operations,
+    /// The name of a class of the model.
+    Class,
+    /// The name of an object of the model.
+    Object,
+    /// A return, as `done` or a number.
+    Return,
+}
+
+/// What is expected where a line is wrong.
+#[derive(Clone, Copy, PartialEq, Eq, Debug)]
+pub enum Expected {
+    /// A word that stands for this.
+    Part(LinePart),
+    /// As many words as the form of this kind of event has (`event_form`).
+    EventForm(EventKind),
+    /// As many words as the form of this operation has (`OpKind::form`).
+    OperationForm(OpKind),
+}
+
+/// Where a line is wrong. Its words are numbered from 0.
+#[derive(Clone, Copy, PartialEq, Eq, Debug)]
+pub enum WordPlace {
+    /// The word of this number is wrong, or is one too many.
+    Wrong(usize),
+    /// The line lacks a word, which would have this number.
+    Missing(usize),
+}
+
+/// What is wrong with a line.
+#[derive(Clone, Copy, PartialEq, Eq, Debug)]
+pub struct Diagnostic {
+    /// The lowest of the line's faults.
+    pub fault: LineFault,
+    /// The first word that has the fault, or where the line lacks one.
+    pub place: WordPlace,
+    /// What is expected there.
+    pub expected: Expected,
+}
+
+// Whether the fault that reading a word found is this one.
+fn is_fault(fault: LineFault, found: Option<LineFault>) -> bool
+    ensures { result ≡ is_fault fault found }
+{
+    match found {
+        Some(found) => found.number() == fault.number(),
+        None => false,
+    }
+}
+
+// The fault of a word that stands for a list of operations.
+fn fault_of_operations<A: Allocator + Copy>(
+    alloc: A,
+    word: &[u8],
+) -> Result<Option<LineFault>, AllocError>
+    ensures { IfOk result (λ fault. fault ≡ result_err (operations_said word.now)) }
+{
+    match operations_said(alloc, word) {
+        Ok(_) => Ok(None),
+        Err(LineError::Fault(fault)) => Ok(Some(fault)),
+        Err(LineError::Memory) => Err(AllocError),
+    }
+}
+
+// The fault of a word that stands for this, if it has one.
+fn fault_of_word<A: Allocator + Copy>(
+    alloc: A,
+    model: &Model<A>,
+    part: LinePart,
+    word: &[u8],
+) -> Result<Option<LineFault>, AllocError>
+    ensures { IfOk result (λ fault. fault ≡ fault_of_word model.now part word.now) }
+{
+    Ok(match part {
+        LinePart::Event => event_kind_said(word).err(),
+        LinePart::Kind => kind_said(word).err(),
+        LinePart::Operation => op_kind_said(word).err(),
+        LinePart::Transaction => txn_said(word).err(),
+        LinePart::Integer => integer_said(word).err(),
+        LinePart::Operations => return fault_of_operations(alloc, word),
+        LinePart::Class => class_said(model, word).err(),
+        LinePart::Object => object_said(model, word).err(),
+        LinePart::Return => return_word_said(word).err(),
+    })
+}
+
+// The first word that has this fault, by what each word stands for. In its line the first of the words has number n.
+fn wrong_word<A: Allocator + Copy>(
+    alloc: A,
+    model: &Model<A>,
+    fault: LineFault,
+    n: usize,
+    parts: &[LinePart],
+    words: &[&[u8]],
+) -> Result<Option<Diagnostic>, AllocError>
+    requires { n + length words.now < 2 ^ 64 }
+    ensures { IfOk result (λ found. found ≡ wrong_word model.now fault n parts.now (map (λ word. word.now) words.now)) }
+{
+    let count = parts.len().min(words.len());
+    for i in 0..count {
+        let part = parts[i];
+        if is_fault(fault, fault_of_word(alloc, model, part, words[i])?) {
+            return Ok(Some(Diagnostic {
+                fault,
+                place: WordPlace::Wrong(n + i),
+                expected: Expected::Part(part),
+            }));
+        }
+    }
+    Ok(None)
+}
+
+// The first word too many, or the place after the last word where there are too few.
+fn wrong_count(expected: Expected, n: usize, wanted: usize, count: usize) -> Option<Diagnostic>
+    requires { n + count < 2 ^ 64 }
+    ensures { result ≡ wrong_count expected n wanted count }
+{
+    let place = if count < wanted {
+        WordPlace::Missing(n + count)
+    } else if wanted < count {
+        WordPlace::Wrong(n + wanted)
+    } else {
+        return None;
+    };
+    Some(Diagnostic {
+        fault: LineFault::Arity,
+        place,
+        expected,
+    })
+}
+
+// The lowest fault and its first word, where the words stand for these parts.
+fn wrong_in<A: Allocator + Copy>(
+    alloc: A,
+    model: &Model<A>,
+    parts: &[LinePart],
+    expected: Expected,
+    n: usize,
+    words: &[&[u8]],
+) -> Result<Option<Diagnostic>, AllocError>
+    requires { n + length words.now < 2 ^ 64 }
+    ensures { IfOk result (λ found. found ≡ wrong_in model.now parts.now expected n (map (λ word. word.now) words.now)) }
+{
+    if let Some(found) = wrong_word(alloc, model, LineFault::Word, n, parts, words)? {
+        return Ok(Some(found));
+    }
+    if let Some(found) = wrong_count(expected, n, parts.len(), words.len()) {
+        return Ok(Some(found));
+    }
+    if let Some(found) = wrong_word(alloc, model, LineFault::Number, n, parts, words)? {
+        return Ok(Some(found));
+    }
+    wrong_word(alloc, model, LineFault::Name, n, parts, words)
+}
+
+// The operation that the words after a `do` name, if they get that far and name one.
+fn op_kind_in(words: &[&[u8]]) -> Option<OpKind>
+    ensures { result ≡ op_kind_in (map (λ word. word.now) words.now) }
+{
+    match words {
+        [_, _, op, ..] => OpKind::of_word(op),
+        _ => None,
+    }
+}
+
+// What the words after a `do` stand for.
+fn operation_parts(op: Option<OpKind>) -> &'static [LinePart]
+    ensures { result.now ≡ operation_parts op }
+{
+    match op {
+        Some(op) if op.takes_integer() => &[
+            LinePart::Transaction,
+            LinePart::Object,
+            LinePart::Operation,
+            LinePart::Integer,
+        ],
+        _ => &[LinePart::Transaction, LinePart::Object, LinePart::Operation],
+    }
+}
+
+// What the words after the first stand for in an event of this kind and operation.
+fn parts_of(kind: EventKind, op: Option<OpKind>) -> &'static [LinePart]
+    ensures { result.now ≡ parts_of kind op }
+{
+    match kind {
+        EventKind::Begin => &[LinePart::Transaction, LinePart::Class],
+        EventKind::Spawn => &[
+            LinePart::Transaction,
+            LinePart::Transaction,
+            LinePart::Class,
+        ],
+        EventKind::Split => &[
+            LinePart::Transaction,
+            LinePart::Transaction,
+            LinePart::Class,
+            LinePart::Operations,
+        ],
+        EventKind::Join => &[LinePart::Transaction, LinePart::Transaction],
+        EventKind::Delegate => &[
+            LinePart::Transaction,
+            LinePart::Transaction,
+            LinePart::Operations,
+        ],
+        EventKind::Form => &[LinePart::Kind, LinePart::Transaction, LinePart::Transaction],
+        EventKind::Operate => operation_parts(op),
+        EventKind::Commit => &[LinePart::Transaction],
+        EventKind::Abort => &[LinePart::Transaction],
+        EventKind::Permit => &[
+            LinePart::Transaction,
+            LinePart::Transaction,
+            LinePart::Object,
+        ],
+    }
+}
+
+// The form that the line should have.
+fn form_of(kind: EventKind, op: Option<OpKind>) -> Expected
+    ensures { result ≡ form_of kind op }
+{
+    match (kind, op) {
+        (EventKind::Operate, Some(op)) => Expected::OperationForm(op),
+        _ => Expected::EventForm(kind),
+    }
+}
+
+// What is wrong with the words of an event.
+fn wrong_event<A: Allocator + Copy>(
+    alloc: A,
+    model: &Model<A>,
+    words: &[&[u8]],
+) -> Result<Option<Diagnostic>, AllocError>
+    ensures { IfOk result (λ found. found ≡ wrong_event model.now (map (λ word. word.now) words.now)) }
+{
+    let [word, words @ ..] = words else {
+        return Ok(Some(Diagnostic {
+            fault: LineFault::Empty,
+            place: WordPlace::Missing(0),
+            expected: Expected::Part(LinePart::Event),
+        }));
+    };
+    match event_kind_said(word) {
+        Ok(kind) => {
+            let op = op_kind_in(words);
+            wrong_in(
+                alloc,
+                model,
+                parts_of(kind, op),
+                form_of(kind, op),
+                1,
+                words,
+            )
+        }
+        Err(fault) => Ok(Some(Diagnostic {
+            fault,
+            place: WordPlace::Wrong(0),
+            expected: Expected::Part(LinePart::Event),
+        })),
+    }
+}
+
+// What is wrong with the words after a `=`, of which the first has number n in its line.
+fn wrong_return<A: Allocator + Copy>(
+    alloc: A,
+    model: &Model<A>,
+    n: usize,
+    words: &[&[u8]],
+) -> Result<Option<Diagnostic>, AllocError>
+    requires { n + length words.now < 2 ^ 64 }
+    ensures { IfOk result (λ found. found ≡ wrong_return model.now n (map (λ word. word.now) words.now)) }
+{
+    wrong_in(
+        alloc,
+        model,
+        &[LinePart::Return],
+        Expected::Part(LinePart::Return),
+        n,
+        words,
+    )
+}
+
+// The one with the lower fault; of equal faults the first.
+fn lower_of(first: Option<Diagnostic>, second: Option<Diagnostic>) -> Option<Diagnostic>
+    ensures { result ≡ lower_of first second }
+{
+    match (first, second) {
+        (Some(first), Some(second)) if second.fault.number() < first.fault.number() => Some(second),
+        (Some(first), _) => Some(first),
+        (None, second) => second,
+    }
+}
+
+// What is wrong with the words of a kept item.
+fn wrong_kept<A: Allocator + Copy>(
+    alloc: A,
+    model: &Model<A>,
+    words: &[&[u8]],
+) -> Result<Option<Diagnostic>, AllocError>
+    ensures { IfOk result (λ found. found ≡ wrong_kept model.now (map (λ word. word.now) words.now)) }
+{
+    let Some(at) = sign_place(words) else {
+        return wrong_event(alloc, model, words);
+    };
+    let event = wrong_event(alloc, model, &words[..at])?;
+    let ret = wrong_return(alloc, model, at + 1, &words[at + 1..])?;
+    Ok(lower_of(event, ret))
+}
+
+/// What is wrong with a line of an event. `None` where `read_event` can read the line. The fault is the one that
+/// `read_event` answers, the lowest of the line. The place is the first word that has this fault: for `Word`, `Number`
+/// and `Name` a word that cannot be read as what is expected there, for `Arity` the first word too many, or the place
+/// after the last word where there are too few. `Err` where there is no memory.
+pub fn diagnose_event<A: Allocator + Copy>(
+    alloc: A,
+    model: &Model<A>,
+    line: &[u8],
+) -> Result<Option<Diagnostic>, AllocError>
+    ensures found { IfOk result (λ found. found ≡ wrong_event model.now (words_of line.now)) }
+    ensures fault { IfOk result (λ found. option_map (λ d. d.fault) found ≡ result_err (event_of model.now line.now)) }
+{
+    let words = words_of(alloc, line)?;
+    wrong_event(alloc, model, &words)
+}
+
+/// What is wrong with a kept line. `None` where `read_kept` can read the line. The fault is the one that `read_kept`
+/// answers, the lower of the event's and the return's. Where both have the same, the place is in the event. `Err` where
+/// there is no memory.
+pub fn diagnose_kept<A: Allocator + Copy>(
+    alloc: A,
+    model: &Model<A>,
+    line: &[u8],
+) -> Result<Option<Diagnostic>, AllocError>
+    ensures found { IfOk result (λ found. found ≡ wrong_kept model.now (words_of line.now)) }
+    ensures fault { IfOk result (λ found. option_map (λ d. d.fault) found ≡ result_err (kept_of model.now line.now)) }
+{
+    let words = words_of(alloc, line)?;
+    wrong_kept(alloc, model, &words)
+}
