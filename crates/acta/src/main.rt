@@ -70,6 +70,21 @@ fn model_bytes<R: Files + AllocGlobal>(rt: &R, name: ModelName<'_>) -> Result<Ve
     }
 }
 
+// Names the command that shows the fault for which an input was refused, if there is one.
+fn hint_at_explain<R: Eprint>(rt: &R, command: Command) {
+    let _ = match command {
+        Command::Run { .. } | Command::Trace => {
+            eprintln!(rt; "hint: `acta explain` with the same model and input shows the fault")
+        }
+        Command::Judge => {
+            eprintln!(rt;
+                "hint: `acta explain --judge` with the same model and input shows the fault"
+            )
+        }
+        _ => Ok(()),
+    };
+}
+
 // Says what a verdict suggests.
 fn suggest<R: Eprint>(rt: &R, advice: Advice) {
     let _ = match advice {
@@ -107,10 +122,14 @@ fn judge_told<R: Eprint + Input + Print + AllocGlobal + Threads + Sync>(
         &mut Metered::new(input),
         &mut Watched::new(io::writer(rt)),
     );
-    if matches!(outcome, Outcome::Done) {
-        if let Ok(Some(advice)) = advice_for(rt, rt.alloc(), model, input) {
-            suggest(rt, advice);
+    match outcome {
+        Outcome::Done => {
+            if let Ok(Some(advice)) = advice_for(rt, rt.alloc(), model, input) {
+                suggest(rt, advice);
+            }
         }
+        Outcome::Refused => hint_at_explain(rt, args.command),
+        _ => {}
     }
     outcome
 }
@@ -138,7 +157,13 @@ fn serve_run<R: Eprint + Files + Input + Print + AllocGlobal + Threads + Wait + 
                 Err(e) => Err(Failure::Undriven(e)),
             }
         }
-        _ => Ok(run_tool(rt, rt.alloc(), args, model, &mut input, &mut output)),
+        _ => {
+            let outcome = run_tool(rt, rt.alloc(), args, model, &mut input, &mut output);
+            if is_terminal && outcome == Outcome::Refused {
+                hint_at_explain(rt, args.command);
+            }
+            Ok(outcome)
+        }
     }
 }
 
