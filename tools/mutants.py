@@ -24,7 +24,7 @@ from functions import functions_in, homes_of, modules_of, read, without_bodies
 ROOT = os.path.dirname(os.path.dirname(os.path.abspath(__file__)))
 BODIES = "must-fail/bodies.md"
 # What is to be free, in kibibytes, before one more check begins beside rt ci.
-ROOM = 8_000_000
+ROOM = 11_000_000
 # How the last line of a check of some functions begins.
 VERDICT = r"(?m)^only=\d+ holes=\d+"
 # The proof of a function that is left open, so that its callers take it by its contract.
