@@ -1,3 +1,4 @@
+pub mod Diagnosing
 pub mod EdgesAgain
 mod Examples
 pub mod FormsAgain

@@ -1,7 +1,9 @@
 pub mod Canonical
+pub mod Diagnostics
 pub mod Drafts
 pub mod Faults
 pub mod Forms
 pub mod Meaning
+pub mod Places
 pub mod Words
 pub mod inside

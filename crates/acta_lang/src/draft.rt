@@ -8,8 +8,10 @@ ghost use Rattle.acta_words.specs.Text.{is_word_among};
 ghost use Rattle.acta_lang.specs.Drafts.{extended, nothing_yet, parts_of, first_value, with_object, with_closed, with_said};
 ghost use Rattle.acta_lang.specs.Faults.{class_names, duplicate_name, heir_without_spawn, missing_end, missing_part, object_names, too_many, wrong_place};
 ghost use Rattle.acta_lang.specs.Forms.{name_in, value_in};
+ghost use Rattle.acta_lang.specs.Places.{lacking, wrongly_placed};
 ghost use Rattle.acta_lang.specs.inside.Shown.{is_current_taken, shown};
 
+use crate::diagnostic::Expected;
 use crate::form::Form;
 use crate::names::{Named, add_name, is_declared};
 use crate::said::Said;
@@ -117,6 +119,32 @@ impl<'a, A: Allocator + Copy> Draft<'a, A> {
         match &self.current {
             Some(class) => said.is_object() || said.is_class() || class.said.has(said),
             None => !(said.is_object() || said.is_class()),
+        }
+    }
+
+    /// What is expected of a line in the wrong place.
+    pub(crate) fn wrongly_placed(&self, said: &Form) -> Expected
+        ensures { result ≡ wrongly_placed (shown self.now).current said.now }
+    {
+        match &self.current {
+            Some(class) => {
+                if class.said.has(said) {
+                    Expected::Once
+                } else {
+                    Expected::Ended
+                }
+            }
+            None => Expected::Outside,
+        }
+    }
+
+    /// What a text lacks whose last line is this: parts of the class that is open, or a class.
+    pub(crate) fn lacking(&self) -> Expected
+        ensures { result ≡ lacking (shown self.now).current }
+    {
+        match &self.current {
+            Some(_) => Expected::AllParts,
+            None => Expected::SomeClass,
         }
     }
 
