@@ -5,6 +5,7 @@ pub mod FormsAgain
 pub mod Held
 pub mod NameLists
 pub mod NoCodes
+pub mod Noting
 pub mod OtherWords
 pub mod ReadAgain
 pub mod Sound

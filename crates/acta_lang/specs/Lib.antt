@@ -3,6 +3,7 @@ pub mod Diagnostics
 pub mod Drafts
 pub mod Faults
 pub mod Forms
+pub mod Lines
 pub mod Meaning
 pub mod Places
 pub mod Words

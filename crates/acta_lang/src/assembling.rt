@@ -2,7 +2,7 @@
 
 ghost use Rattle.std.specs.Prelude.{◌≡◌, Ok, IfOk, IfErr, option_map};
 ghost use Rattle.std.specs.Result.{result_err};
-ghost use Rattle.acta_lang.specs.Diagnostics.{diagnosed, fault_of};
+ghost use Rattle.acta_lang.specs.Diagnostics.{diagnosed, fault_of, told};
 ghost use Rattle.acta_lang.specs.Meaning.{IsWhy, meaning};
 
 use crate::declare::declare_all;
@@ -26,14 +26,14 @@ pub fn assemble<A: Allocator + Copy>(alloc: A, text: &[u8]) -> Result<Model<A>, 
     }
 }
 
-/// What is wrong with the text: the line and the code that `assemble` answers, with the word at fault and what is
-/// expected in its place; `None` where the text means a model, which `assemble` gives. `Err` where there is no memory.
+/// What is wrong with the text: the line and the code that `assemble` answers, with the word at fault, what is expected
+/// in its place, and the earlier lines that the fault has to do with; `None` where the text means a model, which `assemble` gives. `Err` where there is no memory.
 pub fn diagnose<A: Allocator + Copy>(
     alloc: A,
     text: &[u8],
-) -> Result<Option<TextDiagnostic>, AllocError>
-    ensures diagnostic { IfOk result (λ found. found ≡ diagnosed A text.now) }
-    ensures fault { IfOk result (λ found. option_map fault_of found ≡ result_err (meaning {A = A} text.now)) }
+) -> Result<Option<TextDiagnostic<'_>>, AllocError>
+    ensures diagnostic { IfOk result (λ found. option_map told found ≡ diagnosed A text.now) }
+    ensures fault { IfOk result (λ found. option_map (λ d. fault_of (told d)) found ≡ result_err (meaning {A = A} text.now)) }
 {
     match declare_all(alloc, text) {
         Ok(_) => Ok(None),

@@ -1,7 +1,10 @@
 //! From one line to the next: the first line at which something is wrong ends it, with the lowest code there.
 
 ghost use Rattle.std.specs.Prelude.{◌≡◌, false, None, Ok, IfOk, IfErr, option_map};
-ghost use Rattle.acta_lang.specs.Diagnostics.{diagnostic_of};
+ghost use Rattle.acta_lang.specs.Diagnostics.{told};
+ghost use Rattle.acta_lang.specs.Forms.{form_of};
+ghost use Rattle.acta_words.specs.Text.{words_of};
+ghost use Rattle.acta_lang.specs.inside.Noted.{diagnosis, noted, noted_by};
 ghost use Rattle.acta_lang.specs.Drafts.{extended_by, parts_of};
 ghost use Rattle.acta_lang.specs.Faults.{code_at};
 ghost use Rattle.acta_lang.specs.Meaning.{meaning};
@@ -24,10 +27,11 @@ fn read_line<'a, A: Allocator + Copy>(
     number: usize,
     is_last: bool,
     line: &'a [u8],
-) -> Result<Option<TextDiagnostic>, AllocError>
+) -> Result<Option<TextDiagnostic<'a>>, AllocError>
     requires { is_current_taken (shown draft.old) ≡ false }
-    ensures code { IfOk result (λ found. found ≡ option_map (diagnostic_of (shown draft.old) number line.now) (code_at (shown draft.old) is_last line.now)) }
+    ensures code { IfOk result (λ found. option_map told found ≡ option_map (diagnosis (shown draft.old) (noted draft.old) number line.now) (code_at (shown draft.old) is_last line.now)) }
     ensures added { result ≡ Ok None → shown draft.new ≡ extended_by (shown draft.old) line.now }
+    ensures noted { result ≡ Ok None → noted draft.new ≡ noted_by number (words_of line.now) (form_of (words_of line.now)) (noted draft.old) }
 {
     let words = words_of(alloc, line)?;
     let said = form_of(&words);
@@ -39,10 +43,12 @@ fn read_line<'a, A: Allocator + Copy>(
                 code,
                 place,
                 expected,
+                earlier: draft.earlier(&words, &said, code),
+                class: draft.class_at(number, &words, &said, code),
             }))
         }
         None => {
-            draft.extend(alloc, &words, &said)?;
+            draft.extend(alloc, number, &words, &said)?;
             Ok(None)
         }
     }
@@ -52,7 +58,7 @@ fn read_line<'a, A: Allocator + Copy>(
 pub(crate) fn declare_all<'a, A: Allocator + Copy>(
     alloc: A,
     text: &'a [u8],
-) -> Result<Draft<'a, A>, ReadError>
+) -> Result<Draft<'a, A>, ReadError<'a>>
     ensures ok { IfOk result (λ all. meaning text.now ≡ Ok (parts_of (shown all))) }
     ensures fault { IfErr result (IsWhyRead A text.now) }
 {

@@ -1,10 +1,12 @@
-//! Where a text is wrong: the line and its code, the word at fault, and what is expected in its place.
+//! Where a text is wrong: the line and its code, the word at fault, what is expected in its place, and the earlier lines
+//! that the fault has to do with.
 
 ghost use Rattle.std.specs.Prelude.{◌≡◌};
 ghost use Rattle.acta_lang.specs.Diagnostics.{asm_error_of};
 ghost use Rattle.acta_lang.specs.declared.diagnostic.ReadError.TheVariants.{Memory};
 
 use crate::fault::{AsmError, AsmFault, Code};
+use crate::parts::PartLines;
 use std::alloc::{AllocError, AllocFailed};
 
 /// What is expected in the place of the word at fault.
@@ -78,9 +80,21 @@ pub enum Expected {
     PolicyKinds,
 }
 
-/// The first fault of a text that means no model: where it is, and what is expected there.
+/// A class that is open, and its lines so far.
 #[derive(Clone, Copy, PartialEq, Eq, Debug)]
-pub struct TextDiagnostic {
+pub struct ClassLines<'a> {
+    /// The name of the class, as it stands in the text.
+    pub name: &'a [u8],
+    /// The line that begins the class, from 1.
+    pub line: usize,
+    /// The lines that say its parts.
+    pub parts: PartLines,
+}
+
+/// The first fault of a text that means no model: where it is, what is expected there, and the earlier lines that it has
+/// to do with.
+#[derive(Clone, Copy, PartialEq, Eq, Debug)]
+pub struct TextDiagnostic<'a> {
     /// The line, from 1, as `assemble` answers it.
     pub line: usize,
     /// What is wrong with the line, as `assemble` answers it.
@@ -90,37 +104,42 @@ pub struct TextDiagnostic {
     pub place: Option<usize>,
     /// What is expected in the place of that word.
     pub expected: Expected,
+    /// Of `DuplicateName` the earlier line that declares the name, and of `WrongPlace` the line that has said this part
+    /// of the class, if one has; `None` of all others.
+    pub earlier: Option<usize>,
+    /// The class that is open before the line, and of `MissingEnd` the class that is open behind it.
+    pub class: Option<ClassLines<'a>>,
 }
 
 /// Why reading gave no model.
 #[derive(Debug, Drop)]
-pub(crate) enum ReadError {
+pub(crate) enum ReadError<'a> {
     /// There is no memory.
     Memory,
     /// A line of the text is faulty.
-    Fault(TextDiagnostic),
+    Fault(TextDiagnostic<'a>),
 }
 
-impl From<AllocError> for ReadError {
+impl<'a> From<AllocError> for ReadError<'a> {
     ghost from_gives = { λ _ e. e ≡ Memory };
 
-    fn from(_e: AllocError) -> ReadError {
+    fn from(_e: AllocError) -> ReadError<'a> {
         ReadError::Memory
     }
 }
 
-impl<T: Drop> From<AllocFailed<T>> for ReadError {
+impl<'a, T: Drop> From<AllocFailed<T>> for ReadError<'a> {
     ghost from_gives = { λ _ e. e ≡ Memory };
 
-    fn from(_e: AllocFailed<T>) -> ReadError {
+    fn from(_e: AllocFailed<T>) -> ReadError<'a> {
         ReadError::Memory
     }
 }
 
-impl From<ReadError> for AsmError {
+impl<'a> From<ReadError<'a>> for AsmError {
     ghost from_gives = { λ e r. r ≡ asm_error_of e };
 
-    fn from(e: ReadError) -> AsmError {
+    fn from(e: ReadError<'a>) -> AsmError {
         match e {
             ReadError::Memory => AsmError::Memory,
             ReadError::Fault(found) => AsmError::Fault(AsmFault {

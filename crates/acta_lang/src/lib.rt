@@ -15,6 +15,7 @@ mod form;
 mod line_forms;
 mod names;
 mod object_lines;
+mod parts;
 mod places;
 mod policy_forms;
 mod printing;
@@ -23,6 +24,7 @@ mod sentences;
 mod words;
 
 pub use assembling::{assemble, diagnose};
-pub use diagnostic::{Expected, TextDiagnostic};
+pub use diagnostic::{ClassLines, Expected, TextDiagnostic};
 pub use fault::{AsmError, AsmFault, Code};
+pub use parts::PartLines;
 pub use printing::print_model;
