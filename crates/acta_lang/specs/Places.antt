@@ -1,8 +1,12 @@
 -- The place of the word at fault in a faulty line, from 0, and what is expected there.
-use Rattle.std.specs.Prelude.{ℕ, ◌+◌, Bool, true, false, not, ◌||◌, List, [], ◌∷◌, length, nat_lt, if◌then◌else◌, codes, slice_get, Option, Some, None, is_some, is_none, unwrap_or}
+use Rattle.std.specs.Prelude.{ℕ, ◌+◌, Bool, true, false, not, ◌||◌, List, [], ◌∷◌, length, map, nat_lt, if◌then◌else◌, codes, slice_get, Option, Some, None, is_some, is_none, unwrap_or}
 use Rattle.std.specs.List.{position_from}
 use Rattle.std.specs.Option.{option_map_or}
 use Rattle.std.specs.Str.{bytes_eq}
+use Rattle.acta_table.specs.declared.model.AtCommit.TheVariants.{Keeps, ToParent}
+use Rattle.acta_table.specs.declared.model.Extent.TheVariants.{Whole, Any}
+use Rattle.acta_table.specs.declared.model.Scope.TheVariants.{Others, NonAncestors}
+use Rattle.acta_table.specs.Dependencies.{all_kinds, word_of}
 use Rattle.acta_table.specs.Policies.{is_policy_kind}
 use Rattle.acta_words.specs.Text.{is_word_among}
 use Rattle.acta_lang.specs.declared.diagnostic.Expected.{Expected}
@@ -12,7 +16,7 @@ use Rattle.acta_lang.specs.declared.fault.Code.TheVariants.{NotAscii, BadWord, B
 use Rattle.acta_lang.specs.declared.form.Form.{Form}
 use Rattle.acta_lang.specs.Drafts.{Draft, OpenClass, has_said}
 use Rattle.acta_lang.specs.Faults.{is_class, is_printable}
-use Rattle.acta_lang.specs.Words.{start_words, may_named, dep_named, scope_named, commit_named, extent_named}
+use Rattle.acta_lang.specs.Words.{start_words, may_kinds, may_word, may_named, dep_named, scope_word, scope_named, commit_word, commit_named, extent_word, extent_named}
 
 -- the word at a place; none is the empty word
 abbrev pub word_at : List (List ℕ) → ℕ → List ℕ
@@ -110,6 +114,29 @@ wrongly_placed (Some c) said = if has_said said c then want.Once else want.Ended
 abbrev pub lacking : Option OpenClass → Expected
 lacking None = want.SomeClass
 lacking (Some c) = want.AllParts
+
+-- the words with which lines begin
+abbrev pub first_words : List (List ℕ)
+first_words =
+    codes "object" ∷ codes "class" ∷ codes "starts" ∷ codes "may" ∷ codes "scope" ∷ codes "policy" ∷ codes "commit"
+    ∷ codes "delegation" ∷ codes "spawn" ∷ codes "split" ∷ codes "end" ∷ []
+
+-- the words that can stand in the place of a word that is none of them
+abbrev pub meant_words : Expected → List (List ℕ)
+meant_words want.FirstWord = first_words
+meant_words want.ObjectKind = codes "register" ∷ codes "counter" ∷ codes "set" ∷ []
+meant_words want.Starts = start_words
+meant_words want.May = map may_word may_kinds
+meant_words want.Scope = scope_word Others ∷ scope_word NonAncestors ∷ []
+meant_words want.Policy = codes "refuse" ∷ codes "depend" ∷ []
+meant_words want.Commit = commit_word Keeps ∷ commit_word ToParent ∷ []
+meant_words want.Delegation = extent_word Whole ∷ extent_word Any ∷ []
+meant_words want.SpawnEnd = codes "starter" ∷ codes "started" ∷ []
+meant_words want.SplitEnd = codes "starter" ∷ codes "started" ∷ []
+meant_words want.Kinds = map word_of all_kinds
+meant_words want.SpawnKind = map word_of all_kinds
+meant_words want.SplitKind = map word_of all_kinds
+meant_words _ = []
 
 -- the place by the code, before it is known whether the line has a word there
 abbrev pub wanted : {A : Type 0} → Draft A → List (List ℕ) → Form → Code → ℕ × Expected
