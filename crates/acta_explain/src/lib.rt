@@ -17,7 +17,6 @@ mod images;
 mod judged;
 mod layout;
 mod listing;
-mod outline;
 mod phrases;
 mod placed;
 mod prose;
@@ -36,7 +35,6 @@ pub use args::{Asked, called, flag, is_asked, matched, model_arg, option, parse,
 pub use debts::put_prospect;
 pub use faults::{Stop, put_stop};
 pub use hints::nearest;
-pub use images::{Field, field_at};
 pub use layout::{digits, put_barred};
 pub use listing::{first_listed, put_more};
 pub use phrases::{name_text, put_lacking, put_line, put_return, put_standing};
