@@ -45,8 +45,8 @@ fn fault_text<A: Handle>(
     };
     let prose = put_model_name(prose, name);
     let prose = match fault {
-        NoModel::Text(fault) => put_text_fault(prose, alloc, bytes, fault),
-        NoModel::Image(fault) => put_image_fault(prose, bytes, fault),
+        NoModel::Text(_) => put_text_fault(prose, alloc, bytes),
+        NoModel::Image(_) => put_image_fault(prose, alloc, bytes),
     };
     prose.done()
 }

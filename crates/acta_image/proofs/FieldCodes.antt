@@ -21,21 +21,24 @@ use Rattle.acta_table.specs.declared.policy.Policy.{Policy}
 use Rattle.acta_table.specs.declared.policy.Policy.TheVariants.{Refuse, Depend}
 use Rattle.acta_table.specs.Faults.{is_name}
 use Rattle.acta_table.specs.Typed.{HasDeps, HasFirst}
+use Rattle.acta_image.specs.declared.diagnostic.Field.{Field}
+use Rattle.acta_image.specs.declared.diagnostic.Field.TheVariants as at
+use Rattle.acta_image.specs.declared.diagnostic.ImageDiagnostic.{ImageDiagnostic}
 use Rattle.acta_image.specs.declared.fault.ImageFault.{ImageFault}
 use Rattle.acta_image.specs.declared.fault.ImageFault.TheVariants.{BadField, Magic, Truncated}
 use Rattle.acta_image.specs.declared.version.ImageVersion.{ImageVersion}
 use Rattle.acta_image.specs.declared.version.ImageVersion.TheVariants.{One, Two}
 use Rattle.acta_image.specs.Codes.{magic, version_number, object_code, first_bits, starts_bits, scope_code, policy_code, policy_bits, commit_code, extent_code}
 use Rattle.acta_image.specs.Spelling.{byte}
-use Rattle.acta_image.specs.Reading.{found_or, field_or, field, some_if, byte_in, number_to, name_by, kind_in, starts_by, starts_in, choice_in, scope_in, commit_in, extent_in, policy_in, read_magic, version_in}
+use Rattle.acta_image.specs.Reading.{fault_at, found_or, field_or, field, some_if, byte_in, number_to, name_by, kind_in, starts_by, starts_in, choice_in, scope_in, commit_in, extent_in, policy_in, read_magic, version_in}
 use Rattle.acta_image.specs.inside.Gives.{AreBytes}
 use Rattle.acta_image.proofs.Formats.{bytes-drop, bytes-take, done, done-is, Takes, IsFormat}
 
-pub guard-ok : {X : Type 0} (b : Bool) (d : ImageFault) (r : Result X ImageFault) (y : X) → cond b (Err d) r ≡ Ok y → (b ≡ false) × (r ≡ Ok y)
+pub guard-ok : {X : Type 0} (b : Bool) (d : ImageDiagnostic) (r : Result X ImageDiagnostic) (y : X) → cond b (Err d) r ≡ Ok y → (b ≡ false) × (r ≡ Ok y)
 guard-ok true d r y e = absurd cc
 guard-ok false d r y e = (refl, e)
 
-pub guard-met : {X : Type 0} (b : Bool) (d : ImageFault) (r : Result X ImageFault) (y : X) → cond b r (Err d) ≡ Ok y → (b ≡ true) × (r ≡ Ok y)
+pub guard-met : {X : Type 0} (b : Bool) (d : ImageDiagnostic) (r : Result X ImageDiagnostic) (y : X) → cond b r (Err d) ≡ Ok y → (b ≡ true) × (r ≡ Ok y)
 guard-met true d r y e = (refl, e)
 guard-met false d r y e = absurd cc
 
@@ -49,7 +52,7 @@ some x = Some x
 pub some-is : {X : Type 0} (x y : X) → some x ≡ some y → x ≡ y
 some-is x y e = cc
 
-pub found-ok : {X : Type 0} (d : ImageFault) (rest : List ℕ) (o : Option X) (x : X) (r : List ℕ) → found_or d rest o ≡ Ok (x, r) → (o ≡ Some x) × (rest ≡ r)
+pub found-ok : {X : Type 0} (d : ImageDiagnostic) (rest : List ℕ) (o : Option X) (x : X) (r : List ℕ) → found_or d rest o ≡ Ok (x, r) → (o ≡ Some x) × (rest ≡ r)
 found-ok d rest None x r e = absurd cc
 found-ok {X} d rest (Some y) x r e =
     let p : (y, rest) ≡ (x, r) = done-is (y, rest) (x, r) e in
@@ -63,25 +66,25 @@ pub record IsCode {X : Type 0} (n : ℕ) (read : List ℕ → Option X) (spell :
 
 -- a field of such bytes
 module _ {X : Type 0} {n : ℕ} {read : List ℕ → Option X} {spell : X → List ℕ} {Allowed : X → Type 0} (code : IsCode n read spell Allowed) where
-  field-takes : (d : ImageFault) (bytes : List ℕ) (x : X) (rest : List ℕ) → AreBytes bytes → field_or d n read bytes ≡ Ok (x, rest) → Takes bytes (spell x) rest × Allowed x
-  field-takes d bytes x rest fits e =
-      let g = guard-ok (ltb (length bytes) n) Truncated (found_or d (drop n bytes) (read (take n bytes))) (x, rest) e in
-      let f = found-ok d (drop n bytes) (read (take n bytes)) x rest g.1 in
+  field-takes : (d : ImageFault) (which : Field) (size : ℕ) (bytes : List ℕ) (x : X) (rest : List ℕ) → AreBytes bytes → field_or d which size n read bytes ≡ Ok (x, rest) → Takes bytes (spell x) rest × Allowed x
+  field-takes d which size bytes x rest fits e =
+      let g = guard-ok (ltb (length bytes) n) (fault_at Truncated which size bytes) (found_or (fault_at d which size bytes) (drop n bytes) (read (take n bytes))) (x, rest) e in
+      let f = found-ok (fault_at d which size bytes) (drop n bytes) (read (take n bytes)) x rest g.1 in
       let long : n ≤ length bytes = ltb-false _ _ g.0 in
       let b = code.back (take n bytes) (bytes-take n bytes fits) (omega (arith, length-take n bytes)) x f.0 in
       (record { parts = rw (b.0, ← f.1) (sym (take-append-drop n bytes)); fits = rw (← f.1) (bytes-drop n bytes fits) }, b.1)
 
-  field-again : (d : ImageFault) (x : X) (rest : List ℕ) → Allowed x → field_or d n read (spell x ++ rest) ≡ Ok (x, rest)
-  field-again d x rest ok =
+  field-again : (d : ImageFault) (which : Field) (size : ℕ) (x : X) (rest : List ℕ) → Allowed x → field_or d which size n read (spell x ++ rest) ≡ Ok (x, rest)
+  field-again d which size x rest ok =
       let len = code.len x ok in
       let long : ltb (length (spell x ++ rest)) n ≡ false = le-ltb _ _ (omega (arith, length-append (spell x) rest)) in
       rw (long, take_at (spell x) rest n len, drop_at (spell x) rest n len, code.again x ok) refl
 
-  pub fault-format : (d : ImageFault) → IsFormat (field_or d n read) spell Allowed
-  fault-format d = record { takes = field-takes d; again = field-again d }
+  pub fault-format : (d : ImageFault) (which : Field) (size : ℕ) → IsFormat (field_or d which size n read) spell Allowed
+  fault-format d which size = record { takes = field-takes d which size; again = field-again d which size }
 
-  pub field-format : (size : ℕ) → IsFormat (field size n read) spell Allowed
-  field-format size = record { takes = λ bytes. field-takes _ bytes; again = λ x rest. field-again _ x rest }
+  pub field-format : (which : Field) (size : ℕ) → IsFormat (field which size n read) spell Allowed
+  field-format which size = record { takes = λ bytes. field-takes _ which size bytes; again = λ x rest. field-again _ which size x rest }
 
 -- ---- what the bytes of each field stand for
 
@@ -220,11 +223,11 @@ starts-bits (suc (suc (suc (suc (suc (suc (suc zero))))))) le = refl
 starts-bits (suc (suc (suc (suc (suc (suc (suc (suc n)))))))) le = absurd (omega (arith, le))
 
 -- how transactions may start, by a byte of at most three bits
-pub starts-field : (size : ℕ) (bytes : List ℕ) (b : ℕ) (rest : List ℕ) → field size 1 (byte_in 0 7) bytes ≡ Ok (b, rest)
-    → field size 1 starts_in bytes ≡ Ok (record { begin = not (nat_eq (bit_and b 1) 0); spawned = not (nat_eq (bit_and b 2) 0); split = not (nat_eq (bit_and b 4) 0) }, rest)
+pub starts-field : (size : ℕ) (bytes : List ℕ) (b : ℕ) (rest : List ℕ) → field at.Starts size 1 (byte_in 0 7) bytes ≡ Ok (b, rest)
+    → field at.Starts size 1 starts_in bytes ≡ Ok (record { begin = not (nat_eq (bit_and b 1) 0); spawned = not (nat_eq (bit_and b 2) 0); split = not (nat_eq (bit_and b 4) 0) }, rest)
 starts-field size bytes b rest e =
-    let fault = BadField (size - length bytes) in
-    let g = guard-ok (ltb (length bytes) 1) Truncated (found_or fault (drop 1 bytes) (byte_in 0 7 (take 1 bytes))) (b, rest) e in
+    let fault = fault_at (BadField (size - length bytes)) at.Starts size bytes in
+    let g = guard-ok (ltb (length bytes) 1) (fault_at Truncated at.Starts size bytes) (found_or fault (drop 1 bytes) (byte_in 0 7 (take 1 bytes))) (b, rest) e in
     let f = found-ok fault (drop 1 bytes) (byte_in 0 7 (take 1 bytes)) b rest g.1 in
     let first = slice_index (take 1 bytes) 0 in
     let s = some-ok (leb 0 first && leb first 7) first b f.0 in
@@ -321,8 +324,8 @@ same-true xs ys e = grind (arith, bytes_eq-Decides xs ys)
 magic-takes : (bytes : List ℕ) (x rest : List ℕ) → AreBytes bytes → read_magic bytes ≡ Ok (x, rest) → Takes bytes magic rest × (magic ≡ x)
 unfolding read_magic
 magic-takes bytes x rest fits e =
-    let g = guard-met (bytes_eq (take 4 bytes) (take (length bytes) magic)) Magic (cond (ltb (length bytes) 4) (Err Truncated) (Ok (magic, drop 4 bytes))) (x, rest) e in
-    let h = guard-ok (ltb (length bytes) 4) Truncated (Ok (magic, drop 4 bytes)) (x, rest) g.1 in
+    let g = guard-met (bytes_eq (take 4 bytes) (take (length bytes) magic)) (fault_at Magic at.Magic 0 bytes) (cond (ltb (length bytes) 4) (Err (fault_at Truncated at.Magic 0 bytes)) (Ok (magic, drop 4 bytes))) (x, rest) e in
+    let h = guard-ok (ltb (length bytes) 4) (fault_at Truncated at.Magic 0 bytes) (Ok (magic, drop 4 bytes)) (x, rest) g.1 in
     let long : 4 ≤ length bytes = ltb-false _ _ h.0 in
     let whole : take (length bytes) magic ≡ magic = take_all (length bytes) magic long in
     let front : magic ≡ take 4 bytes = sym (same-true _ _ g.0 ∙ whole) in
@@ -335,8 +338,9 @@ unfolding read_magic
 magic-again rest =
     let long : 4 ≤ length (magic ++ rest) = omega (arith, length-append magic rest) in
     let same : bytes_eq magic (take (length (magic ++ rest)) magic) ≡ true = ap (λ (t : List ℕ). bytes_eq magic t) (take_all (length (magic ++ rest)) magic long) in
-    let inner : Result (List ℕ × List ℕ) ImageFault = cond (ltb (length (magic ++ rest)) 4) (Err Truncated) (Ok (magic, rest)) in
-    ap (λ (b : Bool). cond b inner (Err Magic)) same ∙ ap (λ (b : Bool). cond b (Err Truncated) (done (magic, rest))) (le-ltb (length (magic ++ rest)) 4 long)
+    let bytes = magic ++ rest in
+    let inner : Result (List ℕ × List ℕ) ImageDiagnostic = cond (ltb (length bytes) 4) (Err (fault_at Truncated at.Magic 0 bytes)) (Ok (magic, rest)) in
+    ap (λ (b : Bool). cond b inner (Err (fault_at Magic at.Magic 0 bytes))) same ∙ ap (λ (b : Bool). cond b (Err (fault_at Truncated at.Magic 0 bytes)) (done (magic, rest))) (le-ltb (length (magic ++ rest)) 4 long)
 
 pub magic-format : IsFormat read_magic (λ x. magic) (λ x. magic ≡ x)
 magic-format = record {

@@ -4,7 +4,7 @@ use Rattle.std.specs.List.{flat_map, AllByRecursion}
 use Rattle.std.proofs.lemmas.Bool.{cases_lt}
 use Rattle.std.proofs.lemmas.List.{get_or-drop, get_or-take, get_or_past, length-take}
 use Rattle.std.proofs.lemmas.List.Concat.{flat_map-cons}
-use Rattle.acta_image.specs.declared.fault.ImageFault.{ImageFault}
+use Rattle.acta_image.specs.declared.diagnostic.ImageDiagnostic.{ImageDiagnostic}
 use Rattle.acta_image.specs.inside.Gives.{AreBytes}
 use Rattle.acta_image.specs.Reading.{Reader, and_then, ◌>>=◌, give, read_items}
 
@@ -19,14 +19,14 @@ bytes-take n bytes fits i =
     ]
 
 -- the value of a step that had no fault
-pub then-ok : {X Y : Type 0} (r : Result X ImageFault) (next : X → Result Y ImageFault) (y : Y) → and_then r next ≡ Ok y → (x : X) × (r ≡ Ok x) × (next x ≡ Ok y)
+pub then-ok : {X Y : Type 0} (r : Result X ImageDiagnostic) (next : X → Result Y ImageDiagnostic) (y : Y) → and_then r next ≡ Ok y → (x : X) × (r ≡ Ok x) × (next x ≡ Ok y)
 then-ok (Ok x) next y e = (x, refl, e)
 then-ok (Err fault) next y e = absurd cc
 
-pub then-is : {X Y : Type 0} (r : Result X ImageFault) (next : X → Result Y ImageFault) (x : X) (z : Result Y ImageFault) → r ≡ Ok x → next x ≡ z → and_then r next ≡ z
+pub then-is : {X Y : Type 0} (r : Result X ImageDiagnostic) (next : X → Result Y ImageDiagnostic) (x : X) (z : Result Y ImageDiagnostic) → r ≡ Ok x → next x ≡ z → and_then r next ≡ z
 then-is r next x z e f = rw e f
 
-abbrev pub done : {X : Type 0} → X → Result X ImageFault
+abbrev pub done : {X : Type 0} → X → Result X ImageDiagnostic
 done x = Ok x
 
 pub done-is : {X : Type 0} (x y : X) → done x ≡ done y → x ≡ y

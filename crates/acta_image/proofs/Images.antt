@@ -1,5 +1,5 @@
 -- What is loaded is a model with this image, and an image is loaded as its model.
-use Rattle.std.proofs.Common.{◌≡◌, ℕ, zero, suc, ◌-◌, ◌^◌, ◌<◌, ◌≤◌, Bool, true, false, not, ◌&&◌, ◌||◌, ◌==◌, eqb, List, [], ◌∷◌, ◌++◌, length, map, Option, Some, None, Ok, refl, sym, ap, subst, ◌∙◌, append-nil, arith}
+use Rattle.std.proofs.Common.{◌≡◌, ℕ, zero, suc, ◌-◌, ◌^◌, ◌<◌, ◌≤◌, Bool, true, false, not, ◌&&◌, ◌||◌, ◌==◌, eqb, List, [], ◌∷◌, ◌++◌, length, map, Option, Some, None, Ok, Err, Result, refl, sym, ap, subst, ◌∙◌, append-nil, arith}
 use Rattle.std.specs.Prelude.{nat_lt}
 use Rattle.std.specs.List.{All, AllByRecursion, flat_map, list_all, list_any}
 use Rattle.std.specs.Option.{option_or}
@@ -19,13 +19,17 @@ use Rattle.acta_table.specs.declared.limits.TheConstants.{LONGEST_NAME, MOST_CLA
 use Rattle.acta_table.specs.Faults.{is_name, has_twice, object_names, class_names, has_begin_kind, lacks_parents, fault_if, lowest_fault}
 use Rattle.acta_table.specs.Policies.{is_bad_policy}
 use Rattle.acta_table.specs.Typed.{AreOfModel, HasFirst, HasSets}
+use Rattle.acta_image.specs.declared.diagnostic.Field.{Field}
+use Rattle.acta_image.specs.declared.diagnostic.Field.TheVariants as at
+use Rattle.acta_image.specs.declared.diagnostic.ImageDiagnostic.{ImageDiagnostic}
+use Rattle.acta_image.specs.declared.fault.ImageFault.{ImageFault}
 use Rattle.acta_image.specs.declared.fault.ImageFault.TheVariants.{Version, Trailing}
 use Rattle.acta_image.specs.declared.loading.Head.{Head}
 use Rattle.acta_image.specs.declared.version.ImageVersion.{ImageVersion}
 use Rattle.acta_image.specs.declared.version.ImageVersion.TheVariants.{One, Two}
 use Rattle.acta_image.specs.Codes.{magic, most_may, object_code, policy_code}
 use Rattle.acta_image.specs.Spelling.{HasImageIn, class_bytes, head, image, image_in, object_bytes}
-use Rattle.acta_image.specs.Reading.{◌>>=◌, Reader, checked, finished, give, loaded, read_class, read_header, read_items, read_object, read_parts, version_of}
+use Rattle.acta_image.specs.Reading.{◌>>=◌, Reader, checked, diagnosed, fault_at, finished, give, loaded, read_class, read_head, read_items, read_object, read_parts, version_of, without_field}
 use Rattle.acta_image.specs.inside.Gives.{AreBytes}
 use Rattle.acta_image.proofs.Formats.{then-ok, then-is, done-is, IsFormat, then-format, last-format, said-format, items-format}
 use Rattle.acta_image.proofs.FieldCodes.{guard-met, fault-format, field-format, byte-code, number-code, name-code, kind-code, version-code, starts-code, scope-format, commit-format, extent-format, policy-code, magic-format}
@@ -59,10 +63,10 @@ object-format : {A : Type 0} (size : ℕ) → IsFormat (read_object {A = A} size
 unfolding read_object
 object-format {A} size =
     said-format
-    (then-format (field-format (byte-code 1 LONGEST_NAME) size) (λ (o : Object A). length o.name) _ _ _
-    (λ len l. then-format (field-format (name-code len) size) (λ (o : Object A). o.name) _ _ _
-    (λ name n. then-format (field-format (byte-code 0 2) size) (λ (o : Object A). object_code o.kind) _ _ _
-    (λ code c. last-format (field-format (kind-code code c.1) size) (λ (o : Object A). o.kind) (λ kind. record { name = name; kind = kind }) (λ kind. refl))
+    (then-format (field-format (byte-code 1 LONGEST_NAME) at.ObjectNameLength size) (λ (o : Object A). length o.name) _ _ _
+    (λ len l. then-format (field-format (name-code len) at.ObjectName size) (λ (o : Object A). o.name) _ _ _
+    (λ name n. then-format (field-format (byte-code 0 2) at.ObjectKind size) (λ (o : Object A). object_code o.kind) _ _ _
+    (λ code c. last-format (field-format (kind-code code c.1) at.FirstValue size) (λ (o : Object A). o.kind) (λ kind. record { name = name; kind = kind }) (λ kind. refl))
     (λ code c o r. r.0.1))
     (λ name n o r. ap (λ (x : Object A). x.name) (sym r.1.1)))
     (λ len l o r. r.0.1))
@@ -73,17 +77,17 @@ class-format : {A : Type 0} (version : ImageVersion) (size : ℕ) → IsFormat (
 unfolding read_class
 class-format {A} version size =
     said-format
-    (then-format (field-format (byte-code 1 LONGEST_NAME) size) (λ (c : Class A). length c.name) _ _ _
-    (λ len l. then-format (field-format (name-code len) size) (λ (c : Class A). c.name) _ _ _
-    (λ name n. then-format (field-format starts-code size) (λ (c : Class A). c.starts) _ _ _
-    (λ starts s. then-format (field-format (number-code (most_may version) (let small = most-small version in omega (arith, small))) size) (λ (c : Class A). c.may) _ _ _
-    (λ may y. then-format (field-format scope-format size) (λ (c : Class A). c.scope) _ _ _
-    (λ scope o. then-format (field-format (byte-code 0 1) size) (λ (c : Class A). policy_code c.policy) _ _ _
-    (λ code d. then-format (field-format (policy-code code d.1) size) (λ (c : Class A). c.policy) _ _ _
-    (λ policy p. then-format (field-format commit-format size) (λ (c : Class A). c.at_commit) _ _ _
-    (λ at_commit a. then-format (field-format extent-format size) (λ (c : Class A). c.extent) _ _ _
-    (λ extent x. then-format (edges-format size) (λ (c : Class A). c.spawn_edges) _ _ _
-    (λ spawn_edges e. last-format (edges-format size) (λ (c : Class A). c.split_edges) (λ split_edges. record { name = name; starts = starts; may = may; scope = scope; policy = policy; at_commit = at_commit; extent = extent; spawn_edges = spawn_edges; split_edges = split_edges }) (λ split_edges. refl))
+    (then-format (field-format (byte-code 1 LONGEST_NAME) at.ClassNameLength size) (λ (c : Class A). length c.name) _ _ _
+    (λ len l. then-format (field-format (name-code len) at.ClassName size) (λ (c : Class A). c.name) _ _ _
+    (λ name n. then-format (field-format starts-code at.Starts size) (λ (c : Class A). c.starts) _ _ _
+    (λ starts s. then-format (field-format (number-code (most_may version) (let small = most-small version in omega (arith, small))) at.May size) (λ (c : Class A). c.may) _ _ _
+    (λ may y. then-format (field-format scope-format at.Scope size) (λ (c : Class A). c.scope) _ _ _
+    (λ scope o. then-format (field-format (byte-code 0 1) at.Policy size) (λ (c : Class A). policy_code c.policy) _ _ _
+    (λ code d. then-format (field-format (policy-code code d.1) at.PolicyKinds size) (λ (c : Class A). c.policy) _ _ _
+    (λ policy p. then-format (field-format commit-format at.Commit size) (λ (c : Class A). c.at_commit) _ _ _
+    (λ at_commit a. then-format (field-format extent-format at.Delegation size) (λ (c : Class A). c.extent) _ _ _
+    (λ extent x. then-format (edges-format at.SpawnEdges at.SpawnEdge size) (λ (c : Class A). c.spawn_edges) _ _ _
+    (λ spawn_edges e. last-format (edges-format at.SplitEdges at.SplitEdge size) (λ (c : Class A). c.split_edges) (λ split_edges. record { name = name; starts = starts; may = may; scope = scope; policy = policy; at_commit = at_commit; extent = extent; spawn_edges = spawn_edges; split_edges = split_edges }) (λ split_edges. refl))
     (λ spawn_edges e c r. ap (λ (z : Class A). z.spawn_edges) (sym r.1)))
     (λ extent x c r. ap (λ (z : Class A). z.extent) (sym r.1.1)))
     (λ at_commit a c r. ap (λ (z : Class A). z.at_commit) (sym r.1.1.1)))
@@ -102,14 +106,14 @@ class-format {A} version size =
 abbrev HeadSaid : Head → Type 0
 HeadSaid h = ((1 ≤ h.classes) × (h.classes ≤ MOST_CLASSES)) × (h.objects ≤ MOST_OBJECTS)
 
-header-format : (size : ℕ) → IsFormat (read_header size) (λ h. head h.version h.classes h.objects) HeadSaid
-unfolding read_header
+header-format : (size : ℕ) → IsFormat (read_head size) (λ h. head h.version h.classes h.objects) HeadSaid
+unfolding read_head
 header-format size =
     said-format
     (then-format magic-format (λ (h : Head). magic) _ _ _
-    (λ start s. then-format (fault-format version-code Version) (λ (h : Head). h.version) _ _ _
-    (λ version v. then-format (field-format (byte-code 1 MOST_CLASSES) size) (λ (h : Head). h.classes) _ _ _
-    (λ classes n. last-format (field-format (number-code MOST_OBJECTS (omega arith)) size) (λ (h : Head). h.objects) (λ objects. record { version = version; classes = classes; objects = objects }) (λ objects. refl))
+    (λ start s. then-format (fault-format version-code Version at.Version size) (λ (h : Head). h.version) _ _ _
+    (λ version v. then-format (field-format (byte-code 1 MOST_CLASSES) at.Classes size) (λ (h : Head). h.classes) _ _ _
+    (λ classes n. last-format (field-format (number-code MOST_OBJECTS (omega arith)) at.Objects size) (λ (h : Head). h.objects) (λ objects. record { version = version; classes = classes; objects = objects }) (λ objects. refl))
     (λ classes n h r. ap (λ (z : Head). z.classes) (sym r.1)))
     (λ version v h r. ap (λ (z : Head). z.version) (sym r.1.1)))
     (λ start s h r. s))
@@ -238,9 +242,9 @@ few-names m has = let said = said-written m has in (said.classes.1, said.objects
 
 -- ---- the laws
 
-pub image-again : {A : Type 0} (version : ImageVersion) (m : Parts A) → AreOfModel m → HasImageIn version m → loaded (image_in version m) ≡ Ok m
-unfolding loaded read_parts image_in
-image-again {A} version m has in_version =
+diagnosed-again : {A : Type 0} (version : ImageVersion) (m : Parts A) → AreOfModel m → HasImageIn version m → diagnosed (image_in version m) ≡ Ok m
+unfolding diagnosed read_parts image_in
+diagnosed-again {A} version m has in_version =
     let size = length (image_in version m) in
     let said = said-of version m has in_version in
     let h : Head = record { version = version; classes = length m.classes; objects = length m.objects } in
@@ -248,15 +252,28 @@ image-again {A} version m has in_version =
     let first = (header-format size).again h text (said.classes, said.objects) in
     let others = (behind-format {A = A} h size).again m [] (record { classes = refl; objects = refl; of_objects = said.of_objects; of_classes = said.of_classes }) in
     let whole = ap (λ (rest : List ℕ). behind {A = A} h size rest) (sym (append-nil text)) ∙ others in
-    let read = then-is (read_header size (image_in version m)) (λ (x : Head × List ℕ). behind {A = A} x.0 size x.1) (h, text) (Ok (m, [])) first whole in
-    then-is (read_parts {A = A} size (image_in version m)) (finished size) (m, []) (Ok m) read (ap (λ (o : Option ModelFault). checked m o) has.faultless)
+    let read = then-is (read_head size (image_in version m)) (λ (x : Head × List ℕ). behind {A = A} x.0 size x.1) (h, text) (Ok (m, [])) first whole in
+    then-is (read_parts {A = A} size (image_in version m)) (finished size) (m, []) (Ok m) read (ap (λ (o : Option ModelFault). checked size m o) has.faultless)
+
+pub image-again : {A : Type 0} (version : ImageVersion) (m : Parts A) → AreOfModel m → HasImageIn version m → loaded (image_in version m) ≡ Ok m
+unfolding loaded
+image-again {A} version m has in_version = ap without_field (diagnosed-again version m has in_version)
 
 pub written-again : {A : Type 0} (m : Parts A) → AreOfModel m → loaded (image m) ≡ Ok m
 written-again m has = image-again Two m has (written-has m has)
 
-checked-ok : {A : Type 0} (m n : Parts A) (o : Option ModelFault) → checked m o ≡ Ok n → (o ≡ None) × (m ≡ n)
-checked-ok m n None e = (refl, done-is m n e)
-checked-ok m n (Some fault) e = absurd cc
+checked-ok : {A : Type 0} (size : ℕ) (m n : Parts A) (o : Option ModelFault) → checked size m o ≡ Ok n → (o ≡ None) × (m ≡ n)
+checked-ok size m n None e = (refl, done-is m n e)
+checked-ok size m n (Some fault) e = absurd cc
+
+-- what has no fault without the field had none with it, and what has one had it
+without_field-ok : {X : Type 0} (r : Result X ImageDiagnostic) (x : X) → without_field r ≡ Ok x → r ≡ Ok x
+without_field-ok (Ok y) x e = cc
+without_field-ok (Err d) x e = absurd cc
+
+pub without_field-err : {X : Type 0} (r : Result X ImageDiagnostic) (fault : ImageFault) → without_field r ≡ Err fault → (d : ImageDiagnostic) × (r ≡ Err d) × (d.fault ≡ fault)
+without_field-err (Ok y) fault e = absurd cc
+without_field-err (Err d) fault e = (d, refl, cc)
 
 -- an image names its version
 version-named : (version : ImageVersion) (classes objects : ℕ) (rest : List ℕ) → version_of (head version classes objects ++ rest) ≡ version
@@ -264,15 +281,15 @@ version-named One classes objects rest = refl
 version-named Two classes objects rest = refl
 
 pub image-only : {A : Type 0} (m : Parts A) (bytes : List ℕ) → AreBytes bytes → loaded bytes ≡ Ok m → AreOfModel m × (HasImageIn (version_of bytes) m × (image_in (version_of bytes) m ≡ bytes))
-unfolding loaded read_parts image_in
+unfolding loaded diagnosed read_parts image_in
 image-only {A} m bytes fits e =
     let size = length bytes in
-    let a = then-ok (read_parts {A = A} size bytes) (finished size) m e in
+    let a = then-ok (read_parts {A = A} size bytes) (finished size) m (without_field-ok (diagnosed bytes) m e) in
     let n = a.0.0 in
-    let g = guard-met (eqb (length a.0.1) 0) (Trailing (size - length a.0.1)) (checked n (lowest_fault n)) m a.2 in
-    let c = checked-ok n m (lowest_fault n) g.1 in
+    let g = guard-met (eqb (length a.0.1) 0) (fault_at (Trailing (size - length a.0.1)) at.End size a.0.1) (checked size n (lowest_fault n)) m a.2 in
+    let c = checked-ok size n m (lowest_fault n) g.1 in
     let nothing : a.0.1 ≡ [] = nil_from_length a.0.1 (eqb-true _ _ g.0) in
-    let b = then-ok (read_header size bytes) (λ (x : Head × List ℕ). behind {A = A} x.0 size x.1) a.0 a.1 in
+    let b = then-ok (read_head size bytes) (λ (x : Head × List ℕ). behind {A = A} x.0 size x.1) a.0 a.1 in
     let h = b.0.0 in
     let s = (header-format size).takes bytes h b.0.1 fits b.1 in
     let t = (behind-format {A = A} h size).takes b.0.1 n a.0.1 s.0.fits b.2 in

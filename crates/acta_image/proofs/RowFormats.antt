@@ -15,10 +15,11 @@ use Rattle.acta_table.specs.declared.start_edges.Dependent.TheVariants.{Starter,
 use Rattle.acta_table.specs.declared.start_edges.StartEdge.{StartEdge}
 use Rattle.acta_table.specs.Dependencies.{code_of, all_kinds}
 use Rattle.acta_table.specs.Starts.{rank_of, start_edge_cmp}
+use Rattle.acta_image.specs.declared.diagnostic.Field.{Field}
 use Rattle.acta_image.specs.declared.fault.ImageFault.{ImageFault}
 use Rattle.acta_image.specs.declared.fault.ImageFault.TheVariants.{BadField, Truncated}
 use Rattle.acta_image.specs.Spelling.{row_bytes, rows_bytes}
-use Rattle.acta_image.specs.Reading.{and_then, field, field_or, found_or, some_if, dependent_in, rank, edge_in, row_in, read_rows, read_edges}
+use Rattle.acta_image.specs.Reading.{and_then, fault_at, field, field_or, found_or, some_if, dependent_in, rank, edge_in, row_in, read_rows, read_edges}
 use Rattle.acta_image.specs.inside.Gives.{AreBytes}
 use Rattle.acta_image.proofs.Formats.{then-ok, then-is, done, done-is, Takes, takes-then, IsFormat, then-format, said-format}
 use Rattle.acta_image.proofs.FieldCodes.{guard-ok, found-ok, some-ok, some-is, IsCode, field-format, byte-code}
@@ -114,32 +115,32 @@ abbrev pub Ascends : ℕ → List StartEdge → Type 0
 Ascends least [] = Unit {0}
 Ascends least (e ∷ es) = (least ≤ rank e) × Ascends (suc (rank e)) es
 
-rows-take : (size least n : ℕ) (bytes : List ℕ) (es : List StartEdge) (rest : List ℕ) → AreBytes bytes → read_rows size least n bytes ≡ Ok (es, rest) → Takes bytes (flat_map row_bytes es) rest × ((length es ≡ n) × Ascends least es)
-rows-take size least zero bytes es rest fits e =
+rows-take : (row : Field) (size least n : ℕ) (bytes : List ℕ) (es : List StartEdge) (rest : List ℕ) → AreBytes bytes → read_rows row size least n bytes ≡ Ok (es, rest) → Takes bytes (flat_map row_bytes es) rest × ((length es ≡ n) × Ascends least es)
+rows-take row size least zero bytes es rest fits e =
     subst (λ (y : List StartEdge × List ℕ). Takes bytes (flat_map row_bytes y.0) y.1 × ((length y.0 ≡ 0) × Ascends least y.0)) (done-is ([], bytes) (es, rest) e) (record { parts = refl; fits = fits }, (refl, tt))
-rows-take size least (suc n) bytes es rest fits e =
-    let format = field-format (row-code least) size in
-    let a = then-ok (field size 2 (row_in least) bytes) (λ (x : StartEdge × List ℕ). and_then (read_rows size (suc (rank x.0)) n x.1) (λ (others : List StartEdge × List ℕ). done (x.0 ∷ others.0, others.1))) (es, rest) e in
-    let b = then-ok (read_rows size (suc (rank a.0.0)) n a.0.1) (λ (others : List StartEdge × List ℕ). done (a.0.0 ∷ others.0, others.1)) (es, rest) a.2 in
+rows-take row size least (suc n) bytes es rest fits e =
+    let format = field-format (row-code least) row size in
+    let a = then-ok (field row size 2 (row_in least) bytes) (λ (x : StartEdge × List ℕ). and_then (read_rows row size (suc (rank x.0)) n x.1) (λ (others : List StartEdge × List ℕ). done (x.0 ∷ others.0, others.1))) (es, rest) e in
+    let b = then-ok (read_rows row size (suc (rank a.0.0)) n a.0.1) (λ (others : List StartEdge × List ℕ). done (a.0.0 ∷ others.0, others.1)) (es, rest) a.2 in
     let first = format.takes bytes a.0.0 a.0.1 fits a.1 in
-    let second = rows-take size (suc (rank a.0.0)) n a.0.1 b.0.0 b.0.1 first.0.fits b.1 in
+    let second = rows-take row size (suc (rank a.0.0)) n a.0.1 b.0.0 b.0.1 first.0.fits b.1 in
     let both = takes-then bytes (row_bytes a.0.0) a.0.1 (flat_map row_bytes b.0.0) b.0.1 first.0 second.0 in
     subst (λ (y : List StartEdge × List ℕ). Takes bytes (flat_map row_bytes y.0) y.1 × ((length y.0 ≡ suc n) × Ascends least y.0)) (done-is (a.0.0 ∷ b.0.0, b.0.1) (es, rest) b.2)
     (rw flat_map-cons both, (ap suc second.1.0, (first.1, second.1.1)))
 
-rows-again : (size least n : ℕ) (es : List StartEdge) (rest : List ℕ) → length es ≡ n → Ascends least es → read_rows size least n (flat_map row_bytes es ++ rest) ≡ Ok (es, rest)
-rows-again size least zero [] rest len ok = refl
-rows-again size least zero (e ∷ es) rest len ok = absurd (omega (arith, len))
-rows-again size least (suc n) [] rest len ok = absurd (omega (arith, len))
-rows-again size least (suc n) (e ∷ es) rest len ok =
-    let format = field-format (row-code least) size in
-    ap (read_rows size least (suc n)) (ap (λ (t : List ℕ). t ++ rest) (flat_map-cons row_bytes e es) ∙ append_assoc (row_bytes e) (flat_map row_bytes es) rest)
-    ∙ then-is (field size 2 (row_in least) (row_bytes e ++ (flat_map row_bytes es ++ rest))) (λ (y : StartEdge × List ℕ). and_then (read_rows size (suc (rank y.0)) n y.1) (λ (others : List StartEdge × List ℕ). done (y.0 ∷ others.0, others.1))) (e, flat_map row_bytes es ++ rest) (Ok (e ∷ es, rest))
+rows-again : (row : Field) (size least n : ℕ) (es : List StartEdge) (rest : List ℕ) → length es ≡ n → Ascends least es → read_rows row size least n (flat_map row_bytes es ++ rest) ≡ Ok (es, rest)
+rows-again row size least zero [] rest len ok = refl
+rows-again row size least zero (e ∷ es) rest len ok = absurd (omega (arith, len))
+rows-again row size least (suc n) [] rest len ok = absurd (omega (arith, len))
+rows-again row size least (suc n) (e ∷ es) rest len ok =
+    let format = field-format (row-code least) row size in
+    ap (read_rows row size least (suc n)) (ap (λ (t : List ℕ). t ++ rest) (flat_map-cons row_bytes e es) ∙ append_assoc (row_bytes e) (flat_map row_bytes es) rest)
+    ∙ then-is (field row size 2 (row_in least) (row_bytes e ++ (flat_map row_bytes es ++ rest))) (λ (y : StartEdge × List ℕ). and_then (read_rows row size (suc (rank y.0)) n y.1) (λ (others : List StartEdge × List ℕ). done (y.0 ∷ others.0, others.1))) (e, flat_map row_bytes es ++ rest) (Ok (e ∷ es, rest))
     (format.again e (flat_map row_bytes es ++ rest) ok.0)
-    (then-is (read_rows size (suc (rank e)) n (flat_map row_bytes es ++ rest)) (λ (others : List StartEdge × List ℕ). done (e ∷ others.0, others.1)) (es, rest) (Ok (e ∷ es, rest)) (rows-again size (suc (rank e)) n es rest (omega (arith, len)) ok.1) refl)
+    (then-is (read_rows row size (suc (rank e)) n (flat_map row_bytes es ++ rest)) (λ (others : List StartEdge × List ℕ). done (e ∷ others.0, others.1)) (es, rest) (Ok (e ∷ es, rest)) (rows-again row size (suc (rank e)) n es rest (omega (arith, len)) ok.1) refl)
 
-rows-format : (size least n : ℕ) → IsFormat (read_rows size least n) (flat_map row_bytes) (λ es. (length es ≡ n) × Ascends least es)
-rows-format size least n = record { takes = rows-take size least n; again = λ es rest ok. rows-again size least n es rest ok.0 ok.1 }
+rows-format : (row : Field) (size least n : ℕ) → IsFormat (read_rows row size least n) (flat_map row_bytes) (λ es. (length es ≡ n) × Ascends least es)
+rows-format row size least n = record { takes = rows-take row size least n; again = λ es rest ok. rows-again row size least n es rest ok.0 ok.1 }
 
 -- ---- ascending by rank is ascending in their order
 
@@ -199,10 +200,10 @@ ascends-few least (e ∷ es) le ok =
     omega (arith, first, few)
 
 -- how many rows, and the rows
-pub edges-format : (size : ℕ) → IsFormat (read_edges size) rows_bytes Sorted
+pub edges-format : (counted row : Field) (size : ℕ) → IsFormat (read_edges counted row size) rows_bytes Sorted
 unfolding read_edges
-edges-format size =
-    said-format (then-format (field-format (byte-code 0 24) size) (λ es. length es) (read_rows size 0) (flat_map row_bytes) (λ n es. (length es ≡ n) × Ascends 0 es) (λ n ok. rows-format size 0 n) (λ n within es ok. ok.0))
+edges-format counted row size =
+    said-format (then-format (field-format (byte-code 0 24) counted size) (λ es. length es) (read_rows row size 0) (flat_map row_bytes) (λ n es. (length es ≡ n) × Ascends 0 es) (λ n ok. rows-format row size 0 n) (λ n within es ok. ok.0))
     rows_bytes Sorted (λ es. refl) (λ es ok. ascends-sorted 0 es ok.1.1)
     (λ es sorted. let up = ascends-from 0 es sorted (from_zero es) in ((omega arith, let few = ascends-few 0 es (omega arith) up in omega (arith, few)), (refl, up)))
   where
@@ -211,10 +212,10 @@ edges-format size =
     from_zero (e ∷ es) = (omega arith, from_zero es)
 
 -- a row that was read has the rank that it has to have
-row-least : (least : ℕ) (fault : ImageFault) (bytes : List ℕ) (e : StartEdge) (rest : List ℕ) → field_or fault 2 (row_in least) bytes ≡ Ok (e, rest) → least ≤ rank e
-row-least least fault bytes e rest is =
-    let g = guard-ok (ltb (length bytes) 2) Truncated (found_or fault (drop 2 bytes) (row_in least (take 2 bytes))) (e, rest) is in
-    let f = found-ok fault (drop 2 bytes) (row_in least (take 2 bytes)) e rest g.1 in
+row-least : (least : ℕ) (fault : ImageFault) (row : Field) (size : ℕ) (bytes : List ℕ) (e : StartEdge) (rest : List ℕ) → field_or fault row size 2 (row_in least) bytes ≡ Ok (e, rest) → least ≤ rank e
+row-least least fault row size bytes e rest is =
+    let g = guard-ok (ltb (length bytes) 2) (fault_at Truncated row size bytes) (found_or (fault_at fault row size bytes) (drop 2 bytes) (row_in least (take 2 bytes))) (e, rest) is in
+    let f = found-ok (fault_at fault row size bytes) (drop 2 bytes) (row_in least (take 2 bytes)) e rest g.1 in
     of_edge (edge_in (slice_index (take 2 bytes) 0) (slice_index (take 2 bytes) 1)) f.0
   where
     of_edge : (o : Option StartEdge) → option_and_then (λ x. some_if (nat_le least (rank x)) x) o ≡ Some e → least ≤ rank e
@@ -222,17 +223,17 @@ row-least least fault bytes e rest is =
     of_edge (Some x) f = let s = some-ok (leb least (rank x)) x e f in subst (λ (y : StartEdge). least ≤ rank y) s.1 (leb-true _ _ s.0)
 
 -- rows that were read ascend
-rows-ascend : (size least n : ℕ) (bytes : List ℕ) (es : List StartEdge) (rest : List ℕ) → read_rows size least n bytes ≡ Ok (es, rest) → Ascends least es
-rows-ascend size least zero bytes es rest e = subst (λ (y : List StartEdge × List ℕ). Ascends least y.0) (done-is ([], bytes) (es, rest) e) tt
-rows-ascend size least (suc n) bytes es rest e =
-    let a = then-ok (field size 2 (row_in least) bytes) (λ (x : StartEdge × List ℕ). and_then (read_rows size (suc (rank x.0)) n x.1) (λ (others : List StartEdge × List ℕ). done (x.0 ∷ others.0, others.1))) (es, rest) e in
-    let b = then-ok (read_rows size (suc (rank a.0.0)) n a.0.1) (λ (others : List StartEdge × List ℕ). done (a.0.0 ∷ others.0, others.1)) (es, rest) a.2 in
+rows-ascend : (row : Field) (size least n : ℕ) (bytes : List ℕ) (es : List StartEdge) (rest : List ℕ) → read_rows row size least n bytes ≡ Ok (es, rest) → Ascends least es
+rows-ascend row size least zero bytes es rest e = subst (λ (y : List StartEdge × List ℕ). Ascends least y.0) (done-is ([], bytes) (es, rest) e) tt
+rows-ascend row size least (suc n) bytes es rest e =
+    let a = then-ok (field row size 2 (row_in least) bytes) (λ (x : StartEdge × List ℕ). and_then (read_rows row size (suc (rank x.0)) n x.1) (λ (others : List StartEdge × List ℕ). done (x.0 ∷ others.0, others.1))) (es, rest) e in
+    let b = then-ok (read_rows row size (suc (rank a.0.0)) n a.0.1) (λ (others : List StartEdge × List ℕ). done (a.0.0 ∷ others.0, others.1)) (es, rest) a.2 in
     subst (λ (y : List StartEdge × List ℕ). Ascends least y.0) (done-is (a.0.0 ∷ b.0.0, b.0.1) (es, rest) b.2)
-    (row-least least (BadField (size - length bytes)) bytes a.0.0 a.0.1 a.1, rows-ascend size (suc (rank a.0.0)) n a.0.1 b.0.0 b.0.1 b.1)
+    (row-least least (BadField (size - length bytes)) row size bytes a.0.0 a.0.1 a.1, rows-ascend row size (suc (rank a.0.0)) n a.0.1 b.0.0 b.0.1 b.1)
 
 -- so that they are a set
-pub rows-sorted : (size n : ℕ) (bytes : List ℕ) (es : List StartEdge) (rest : List ℕ) → read_rows size 0 n bytes ≡ Ok (es, rest) → IsStrictlySortedBy start_edge_cmp es
-rows-sorted size n bytes es rest e = ascends-sorted 0 es (rows-ascend size 0 n bytes es rest e)
+pub rows-sorted : (row : Field) (size n : ℕ) (bytes : List ℕ) (es : List StartEdge) (rest : List ℕ) → read_rows row size 0 n bytes ≡ Ok (es, rest) → IsStrictlySortedBy start_edge_cmp es
+rows-sorted row size n bytes es rest e = ascends-sorted 0 es (rows-ascend row size 0 n bytes es rest e)
 
 -- a set has at most two start edges of each kind
 pub sorted-few : (es : List StartEdge) → IsStrictlySortedBy start_edge_cmp es → length es ≤ 24

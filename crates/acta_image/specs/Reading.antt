@@ -1,4 +1,5 @@
--- Reading an image from left to right, field by field: a value and the bytes behind it, or the first fault.
+-- Reading an image from left to right, field by field: a value and the bytes behind it, or the first fault, with the
+-- field that has it.
 use Rattle.std.specs.Prelude.{ℕ, zero, suc, ◌+◌, ◌-◌, ◌*◌, Bool, ◌&&◌, ◌==◌, nat_lt, nat_le, List, [], ◌∷◌, length, take, drop, slice_get, slice_index, Option, Some, None, option_map, option_and_then, Result, Ok, Err, if◌then◌else◌}
 use Rattle.std.specs.Int.{w16, w32, from_be_bytes, cast_signed}
 use Rattle.std.specs.Str.{bytes_eq}
@@ -27,18 +28,21 @@ use Rattle.acta_table.specs.Kinds.{has_bit}
 use Rattle.acta_table.specs.Starts.{rank_of}
 use Rattle.acta_image.specs.declared.fault.ImageFault.{ImageFault}
 use Rattle.acta_image.specs.declared.fault.ImageFault.TheVariants.{Magic, Version, Truncated, BadField, Trailing, Model}
+use Rattle.acta_image.specs.declared.diagnostic.Field.{Field}
+use Rattle.acta_image.specs.declared.diagnostic.Field.TheVariants as at
+use Rattle.acta_image.specs.declared.diagnostic.ImageDiagnostic.{ImageDiagnostic}
 use Rattle.acta_image.specs.declared.loading.Head.{Head}
 use Rattle.acta_image.specs.declared.version.ImageVersion.{ImageVersion}
 use Rattle.acta_image.specs.declared.version.ImageVersion.TheVariants.{One, Two}
 use Rattle.acta_image.specs.Codes.{magic, most_may}
 use Rattle.acta_image.specs.Spelling.{image}
 
--- a reader: what the first bytes give, and the bytes behind them, or the first fault
+-- a reader: what the first bytes give, and the bytes behind them, or the first fault with its field
 abbrev pub Reader : Type 0 → Type 0
-Reader X = List ℕ → Result (X × List ℕ) ImageFault
+Reader X = List ℕ → Result (X × List ℕ) ImageDiagnostic
 
 -- what comes of what was read, where there was no fault
-abbrev pub and_then : {X Y : Type 0} → Result X ImageFault → (X → Result Y ImageFault) → Result Y ImageFault
+abbrev pub and_then : {X Y E : Type 0} → Result X E → (X → Result Y E) → Result Y E
 and_then (Ok x) next = next x
 and_then (Err fault) next = Err fault
 
@@ -52,19 +56,28 @@ abbrev pub give : {X : Type 0} → X → Reader X
 give x = λ bytes. Ok (x, bytes)
 
 -- what was found in a field, and the bytes behind it; the fault, where nothing is allowed
-abbrev pub found_or : {X : Type 0} → ImageFault → List ℕ → Option X → Result (X × List ℕ) ImageFault
+abbrev pub found_or : {X : Type 0} → ImageDiagnostic → List ℕ → Option X → Result (X × List ℕ) ImageDiagnostic
 found_or fault rest None = Err fault
 found_or fault rest (Some x) = Ok (x, rest)
 
+-- the offset at which these bytes begin, which are left of an image of this size
+abbrev pub offset_of : ℕ → List ℕ → ℕ
+offset_of size bytes = size - length bytes
+
+-- this fault, at this field, which begins where these bytes do
+abbrev pub fault_at : ImageFault → Field → ℕ → List ℕ → ImageDiagnostic
+fault_at fault which size bytes = record { fault = fault; field = which; offset = offset_of size bytes }
+
 -- a field of n bytes, and the bytes behind it: truncated where fewer are left, and the fault where they
 -- stand for nothing that is allowed
-abbrev pub field_or : {X : Type 0} → ImageFault → ℕ → (List ℕ → Option X) → Reader X
-field_or fault n read bytes =
-    if nat_lt (length bytes) n then Err Truncated else found_or fault (drop n bytes) (read (take n bytes))
+abbrev pub field_or : {X : Type 0} → ImageFault → Field → ℕ → ℕ → (List ℕ → Option X) → Reader X
+field_or fault which size n read bytes =
+    if nat_lt (length bytes) n then Err (fault_at Truncated which size bytes)
+    else found_or (fault_at fault which size bytes) (drop n bytes) (read (take n bytes))
 
--- a field whose fault is its offset, in an image of this size: as many bytes as are not left
-abbrev pub field : {X : Type 0} → ℕ → ℕ → (List ℕ → Option X) → Reader X
-field size n read bytes = field_or (BadField (size - length bytes)) n read bytes
+-- a field whose fault is its offset
+abbrev pub field : {X : Type 0} → Field → ℕ → ℕ → (List ℕ → Option X) → Reader X
+field which size n read bytes = field_or (BadField (offset_of size bytes)) which size n read bytes
 
 -- the value, where the test is true
 abbrev pub some_if : {X : Type 0} → Bool → X → Option X
@@ -137,42 +150,42 @@ row_in least bytes =
     option_and_then (λ e. some_if (nat_le least (rank e)) e) (edge_in (slice_index bytes 0) (slice_index bytes 1))
 
 -- n rows, each of higher rank than the one before it, the first of this rank at least
-abbrev pub read_rows : ℕ → ℕ → ℕ → Reader (List StartEdge)
-read_rows size least zero = give []
-read_rows size least (suc n) = do
-  first ← field size 2 (row_in least)
-  others ← read_rows size (suc (rank first)) n
+abbrev pub read_rows : Field → ℕ → ℕ → ℕ → Reader (List StartEdge)
+read_rows row size least zero = give []
+read_rows row size least (suc n) = do
+  first ← field row size 2 (row_in least)
+  others ← read_rows row size (suc (rank first)) n
   give (first ∷ others)
 
 -- how many rows, and the rows
-unfoldable pub read_edges : ℕ → Reader (List StartEdge)
-read_edges size = do
-  count ← field size 1 (byte_in 0 24)
-  read_rows size 0 count
+unfoldable pub read_edges : Field → Field → ℕ → Reader (List StartEdge)
+read_edges counted row size = do
+  count ← field counted size 1 (byte_in 0 24)
+  read_rows row size 0 count
 
 -- an object
 unfoldable pub read_object : {A : Type 0} → ℕ → Reader (Object A)
 read_object size = do
-  len ← field size 1 (byte_in 1 LONGEST_NAME)
-  name ← field size len name_by
-  code ← field size 1 (byte_in 0 2)
-  kind ← field size 4 (kind_in code)
+  len ← field at.ObjectNameLength size 1 (byte_in 1 LONGEST_NAME)
+  name ← field at.ObjectName size len name_by
+  code ← field at.ObjectKind size 1 (byte_in 0 2)
+  kind ← field at.FirstValue size 4 (kind_in code)
   give (record { name = name; kind = kind })
 
 -- a class, in a version
 unfoldable pub read_class : {A : Type 0} → ImageVersion → ℕ → Reader (Class A)
 read_class version size = do
-  len ← field size 1 (byte_in 1 LONGEST_NAME)
-  name ← field size len name_by
-  starts ← field size 1 starts_in
-  may ← field size 2 (number_to (most_may version))
-  scope ← field size 1 scope_in
-  code ← field size 1 (byte_in 0 1)
-  policy ← field size 2 (policy_in code)
-  at_commit ← field size 1 commit_in
-  extent ← field size 1 extent_in
-  spawn_edges ← read_edges size
-  split_edges ← read_edges size
+  len ← field at.ClassNameLength size 1 (byte_in 1 LONGEST_NAME)
+  name ← field at.ClassName size len name_by
+  starts ← field at.Starts size 1 starts_in
+  may ← field at.May size 2 (number_to (most_may version))
+  scope ← field at.Scope size 1 scope_in
+  code ← field at.Policy size 1 (byte_in 0 1)
+  policy ← field at.PolicyKinds size 2 (policy_in code)
+  at_commit ← field at.Commit size 1 commit_in
+  extent ← field at.Delegation size 1 extent_in
+  spawn_edges ← read_edges at.SpawnEdges at.SpawnEdge size
+  split_edges ← read_edges at.SplitEdges at.SplitEdge size
   give (record {
     name = name;
     starts = starts;
@@ -193,12 +206,12 @@ read_items read (suc n) = do
   others ← read_items read n
   give (first ∷ others)
 
--- the magic; a byte that is there and differs comes before one that is not there
+-- the magic, at the beginning of an image; a byte that is there and differs comes before one that is not there
 unfoldable pub read_magic : Reader (List ℕ)
 read_magic bytes =
     if bytes_eq (take 4 bytes) (take (length bytes) magic)
-    then (if nat_lt (length bytes) 4 then Err Truncated else Ok (magic, drop 4 bytes))
-    else Err Magic
+    then (if nat_lt (length bytes) 4 then Err (fault_at Truncated at.Magic 0 bytes) else Ok (magic, drop 4 bytes))
+    else Err (fault_at Magic at.Magic 0 bytes)
 
 -- the version, by its number
 abbrev pub version_in : List ℕ → Option ImageVersion
@@ -211,35 +224,49 @@ abbrev pub version_of : List ℕ → ImageVersion
 version_of bytes = if slice_index bytes 4 == 1 then One else Two
 
 -- the version, how many classes and how many objects, behind the magic
-unfoldable pub read_header : ℕ → Reader Head
-read_header size = do
+unfoldable pub read_head : ℕ → Reader Head
+read_head size = do
   start ← read_magic
-  version ← field_or Version 1 version_in
-  classes ← field size 1 (byte_in 1 MOST_CLASSES)
-  objects ← field size 2 (number_to MOST_OBJECTS)
+  version ← field_or Version at.Version size 1 version_in
+  classes ← field at.Classes size 1 (byte_in 1 MOST_CLASSES)
+  objects ← field at.Objects size 2 (number_to MOST_OBJECTS)
   give (record { version = version; classes = classes; objects = objects })
+
+-- what was read, or its fault without the field
+abbrev pub without_field : {X : Type 0} → Result X ImageDiagnostic → Result X ImageFault
+without_field (Ok x) = Ok x
+without_field (Err d) = Err d.fault
+
+-- the same without the field of a fault
+abbrev pub read_header : ℕ → List ℕ → Result (Head × List ℕ) ImageFault
+read_header size bytes = without_field (read_head size bytes)
 
 -- the objects and the classes
 unfoldable pub read_parts : {A : Type 0} → ℕ → Reader (Parts A)
 read_parts size = do
-  head ← read_header size
+  head ← read_head size
   objects ← read_items (read_object size) head.objects
   classes ← read_items (read_class head.version size) head.classes
   give (record { objects = objects; classes = classes })
 
--- the parts, where they have no fault
-abbrev pub checked : {A : Type 0} → Parts A → Option ModelFault → Result (Parts A) ImageFault
-checked m None = Ok m
-checked m (Some fault) = Err (Model fault)
+-- the parts, where they have no fault, of an image of this size
+abbrev pub checked : {A : Type 0} → ℕ → Parts A → Option ModelFault → Result (Parts A) ImageDiagnostic
+checked size m None = Ok m
+checked size m (Some fault) = Err (fault_at (Model fault) at.End size [])
 
 -- the parts that were read, where no byte is left and they have no fault
-abbrev pub finished : {A : Type 0} → ℕ → Parts A × List ℕ → Result (Parts A) ImageFault
+abbrev pub finished : {A : Type 0} → ℕ → Parts A × List ℕ → Result (Parts A) ImageDiagnostic
 finished size x =
-    if length x.1 == 0 then checked x.0 (lowest_fault x.0) else Err (Trailing (size - length x.1))
+    if length x.1 == 0 then checked size x.0 (lowest_fault x.0)
+    else Err (fault_at (Trailing (offset_of size x.1)) at.End size x.1)
+
+-- what the bytes give: a model, or their first fault, with the field that has it
+unfoldable pub diagnosed : {A : Type 0} → List ℕ → Result (Parts A) ImageDiagnostic
+diagnosed bytes = and_then (read_parts (length bytes) bytes) (finished (length bytes))
 
 -- what the bytes give: a model, or their first fault
 unfoldable pub loaded : {A : Type 0} → List ℕ → Result (Parts A) ImageFault
-loaded bytes = and_then (read_parts (length bytes) bytes) (finished (length bytes))
+loaded bytes = without_field (diagnosed bytes)
 
 -- the image that is written of the model that the bytes give, or their first fault
 abbrev pub upgraded : (A : Type 0) → List ℕ → Result (List ℕ) ImageFault

@@ -1,6 +1,7 @@
 //! From an image to its model.
 
-ghost use Rattle.std.specs.Prelude.{◌≡◌, Err, Ok, List, IfOk, IfErr, ℕ, length, true};
+ghost use Rattle.std.specs.Prelude.{◌≡◌, Err, Ok, List, IfOk, IfErr, Some, ℕ, length, option_map, true};
+ghost use Rattle.std.specs.Result.{result_err};
 ghost use Rattle.acta_table.specs.declared.model.Parts.{Parts};
 ghost use Rattle.acta_table.specs.Typed.{AreOfModel};
 ghost use Rattle.acta_image.specs.Claims.{IsWhy};
@@ -8,19 +9,23 @@ ghost use Rattle.acta_image.specs.declared.fault.ImageFault.{ImageFault};
 ghost use Rattle.acta_image.specs.declared.fault.ImageFault.TheVariants.{Version};
 ghost use Rattle.acta_image.specs.declared.fault.LoadError.TheVariants as error;
 ghost use Rattle.acta_image.specs.declared.version.ImageVersion.{ImageVersion};
-ghost use Rattle.acta_image.specs.Reading.{field_or, finished, loaded, read_class, read_header, read_items, read_magic, read_object, read_parts, version_in, version_of};
+ghost use Rattle.acta_image.specs.declared.diagnostic.Field.TheVariants as at;
+ghost use Rattle.acta_image.specs.declared.diagnostic.ImageDiagnostic.{ImageDiagnostic};
+ghost use Rattle.acta_image.specs.declared.diagnostic.ReadError.TheVariants as read_error;
+ghost use Rattle.acta_image.specs.Reading.{diagnosed, field_or, finished, loaded, read_class, read_head, read_header, read_items, read_magic, read_object, read_parts, version_in, version_of};
 ghost use Rattle.acta_image.specs.Spelling.{HasImageIn, image_in};
 ghost use Rattle.acta_image.specs.inside.Gives.{Gives, is_fault};
 
+use crate::diagnostic::{Field, ImageDiagnostic, ReadError};
 use crate::fault::{ImageFault, LoadError};
 use crate::fields::{
-    at_commit, byte, extent, kind, kinds_of, name, number, part, policy_bits, policy_of, scope,
-    starts,
+    at_commit, byte, extent, fault_at, kind, kinds_of, name, number, part, policy_bits, policy_of,
+    scope, starts,
 };
 use crate::rows::edges;
 use crate::version::ImageVersion;
 use acta_table::{Class, Items, LONGEST_NAME, MOST_CLASSES, MOST_OBJECTS, Model, Object, Parts};
-use std::alloc::Allocator;
+use std::alloc::{AllocError, Allocator};
 
 // An object.
 #[tactic(auto, unfolding(crate::specs::Reading::read_object))]
@@ -28,12 +33,12 @@ fn object<A: Allocator>(
     alloc: A,
     size: usize,
     bytes: &[u8],
-) -> Result<(Object<A>, &[u8]), LoadError>
+) -> Result<(Object<A>, &[u8]), ReadError>
     ensures { Gives (λ x. (x.0, x.1.now)) result (read_object size bytes.now) }
 {
-    let (len, rest) = byte(size, 1, LONGEST_NAME as u8, bytes)?;
-    let (name, rest) = name(size, len, rest)?;
-    let (code, rest) = byte(size, 0, 2, rest)?;
+    let (len, rest) = byte(Field::ObjectNameLength, size, 1, LONGEST_NAME as u8, bytes)?;
+    let (name, rest) = name(Field::ObjectName, size, len, rest)?;
+    let (code, rest) = byte(Field::ObjectKind, size, 0, 2, rest)?;
     let (kind, rest) = kind(size, code, rest)?;
     let name = Items::of(Vec::from_slice(alloc, name)?);
     Ok((Object { name, kind }, rest))
@@ -54,20 +59,20 @@ fn class<A: Allocator + Copy>(
     version: ImageVersion,
     size: usize,
     bytes: &[u8],
-) -> Result<(Class<A>, &[u8]), LoadError>
+) -> Result<(Class<A>, &[u8]), ReadError>
     ensures { Gives (λ x. (x.0, x.1.now)) result (read_class version size bytes.now) }
 {
-    let (len, rest) = byte(size, 1, LONGEST_NAME as u8, bytes)?;
-    let (name, rest) = name(size, len, rest)?;
+    let (len, rest) = byte(Field::ClassNameLength, size, 1, LONGEST_NAME as u8, bytes)?;
+    let (name, rest) = name(Field::ClassName, size, len, rest)?;
     let (starts, rest) = starts(size, rest)?;
-    let (may, rest) = number(size, version.most_may(), rest)?;
+    let (may, rest) = number(Field::May, size, version.most_may(), rest)?;
     let (scope, rest) = scope(size, rest)?;
-    let (code, rest) = byte(size, 0, 1, rest)?;
+    let (code, rest) = byte(Field::Policy, size, 0, 1, rest)?;
     let (kinds, rest) = policy_bits(size, code, rest)?;
     let (at_commit, rest) = at_commit(size, rest)?;
     let (extent, rest) = extent(size, rest)?;
-    let (spawn_edges, rest) = edges(alloc, size, rest)?;
-    let (split_edges, rest) = edges(alloc, size, rest)?;
+    let (spawn_edges, rest) = edges(alloc, Field::SpawnEdges, Field::SpawnEdge, size, rest)?;
+    let (split_edges, rest) = edges(alloc, Field::SplitEdges, Field::SplitEdge, size, rest)?;
     let name = Items::of(Vec::from_slice(alloc, name)?);
     let class = Class {
         name,
@@ -89,7 +94,7 @@ fn objects<A: Allocator + Copy>(
     size: usize,
     count: u16,
     bytes: &[u8],
-) -> Result<(Items<Object<A>, A>, &[u8]), LoadError>
+) -> Result<(Items<Object<A>, A>, &[u8]), ReadError>
     ensures { Gives (λ x. (x.0, x.1.now)) result (read_items (read_object size) count bytes.now) }
 {
     let mut objects = Vec::new(alloc);
@@ -109,7 +114,7 @@ fn classes<A: Allocator + Copy>(
     size: usize,
     count: u8,
     bytes: &[u8],
-) -> Result<(Items<Class<A>, A>, &[u8]), LoadError>
+) -> Result<(Items<Class<A>, A>, &[u8]), ReadError>
     ensures { Gives (λ x. (x.0, x.1.now)) result (read_items (read_class version size) count bytes.now) }
 {
     let mut classes = Vec::new(alloc);
@@ -124,43 +129,43 @@ fn classes<A: Allocator + Copy>(
 
 // The magic: a byte that is there and differs comes before one that is not there.
 #[tactic(auto, unfolding(crate::specs::Reading::read_magic))]
-fn magic(bytes: &[u8]) -> Result<(&[u8], &[u8]), LoadError>
+fn magic(bytes: &[u8]) -> Result<(&[u8], &[u8]), ReadError>
     ensures field { Gives (λ x. (x.0.now, x.1.now)) result (read_magic bytes.now) }
     ensures sure { IfErr result (λ e. is_fault e ≡ true) }
 {
     let begun = &bytes[..bytes.len().min(4)];
     if !b"ACTA".starts_with(begun) {
-        return Err(LoadError::Fault(ImageFault::Magic));
+        return Err(fault_at(ImageFault::Magic, Field::Magic, 0, bytes));
     }
     if begun.len() < 4 {
-        return Err(LoadError::Fault(ImageFault::Truncated));
+        return Err(fault_at(ImageFault::Truncated, Field::Magic, 0, bytes));
     }
     Ok((begun, &bytes[4..]))
 }
 
 // The version.
-fn version(bytes: &[u8]) -> Result<(ImageVersion, &[u8]), LoadError>
-    ensures field { Gives (λ x. (x.0, x.1.now)) result (field_or Version 1 version_in bytes.now) }
+fn version(size: usize, bytes: &[u8]) -> Result<(ImageVersion, &[u8]), ReadError>
+    ensures field { Gives (λ x. (x.0, x.1.now)) result (field_or Version at.Version size 1 version_in bytes.now) }
     ensures sure { IfErr result (λ e. is_fault e ≡ true) }
 {
-    let (found, rest) = part(bytes, 1)?;
+    let (found, rest) = part(Field::Version, size, bytes, 1)?;
     match found[0] {
         1 => Ok((ImageVersion::One, rest)),
         2 => Ok((ImageVersion::Two, rest)),
-        _ => Err(LoadError::Fault(ImageFault::Version)),
+        _ => Err(fault_at(ImageFault::Version, Field::Version, size, bytes)),
     }
 }
 
 // The magic, and what stands behind it.
-#[tactic(auto, unfolding(crate::specs::Reading::read_header))]
-fn header(size: usize, bytes: &[u8]) -> Result<(Head, &[u8]), LoadError>
-    ensures field { Gives (λ x. (x.0, x.1.now)) result (read_header size bytes.now) }
+#[tactic(auto, unfolding(crate::specs::Reading::read_head))]
+fn header(size: usize, bytes: &[u8]) -> Result<(Head, &[u8]), ReadError>
+    ensures field { Gives (λ x. (x.0, x.1.now)) result (read_head size bytes.now) }
     ensures sure { IfErr result (λ e. is_fault e ≡ true) }
 {
     let (_, rest) = magic(bytes)?;
-    let (version, rest) = version(rest)?;
-    let (classes, rest) = byte(size, 1, MOST_CLASSES as u8, rest)?;
-    let (objects, rest) = number(size, MOST_OBJECTS as u16, rest)?;
+    let (version, rest) = version(size, rest)?;
+    let (classes, rest) = byte(Field::Classes, size, 1, MOST_CLASSES as u8, rest)?;
+    let (objects, rest) = number(Field::Objects, size, MOST_OBJECTS as u16, rest)?;
     let head = Head {
         version,
         classes,
@@ -171,9 +176,9 @@ fn header(size: usize, bytes: &[u8]) -> Result<(Head, &[u8]), LoadError>
 
 // The objects and the classes.
 #[tactic(auto, unfolding(crate::specs::Reading::read_parts))]
-fn parts<A: Allocator + Copy>(alloc: A, bytes: &[u8]) -> Result<(Parts<A>, &[u8]), LoadError>
+fn parts<A: Allocator + Copy>(alloc: A, bytes: &[u8]) -> Result<(Parts<A>, &[u8]), ReadError>
     ensures parts { Gives (λ x. (x.0, x.1.now)) result (read_parts (length bytes.now) bytes.now) }
-    ensures early { (e : ImageFault) → read_header (length bytes.now) bytes.now ≡ Err e → result ≡ Err (error.Fault e) }
+    ensures early { (d : ImageDiagnostic) → read_head (length bytes.now) bytes.now ≡ Err d → result ≡ Err (read_error.Fault d) }
 {
     let size = bytes.len();
     let (head, rest) = header(size, bytes)?;
@@ -183,24 +188,24 @@ fn parts<A: Allocator + Copy>(alloc: A, bytes: &[u8]) -> Result<(Parts<A>, &[u8]
 }
 
 // The model of the parts that were read from an image of this size, behind which these bytes are left.
-fn finish<A: Allocator>(size: usize, parts: Parts<A>, rest: &[u8]) -> Result<Model<A>, LoadError>
+fn finish<A: Allocator>(size: usize, parts: Parts<A>, rest: &[u8]) -> Result<Model<A>, ReadError>
     ensures { Gives (λ m. m) result (finished size (parts, rest.now)) }
 {
     if !rest.is_empty() {
         let offset = size.saturating_sub(rest.len());
-        return Err(LoadError::Fault(ImageFault::Trailing(offset)));
+        return Err(fault_at(ImageFault::Trailing(offset), Field::End, size, rest));
     }
     match Model::check(parts) {
         Ok(model) => Ok(model),
-        Err(fault) => Err(LoadError::Fault(ImageFault::Model(fault))),
+        Err(fault) => Err(fault_at(ImageFault::Model(fault), Field::End, size, &[])),
     }
 }
 
 // The model that the bytes are read as.
-#[tactic(auto, unfolding(crate::specs::Reading::loaded))]
-fn read<A: Allocator + Copy>(alloc: A, bytes: &[u8]) -> Result<Model<A>, LoadError>
-    ensures model { Gives (λ m. m) result (loaded bytes.now) }
-    ensures early { (e : ImageFault) → read_header (length bytes.now) bytes.now ≡ Err e → result ≡ Err (error.Fault e) }
+#[tactic(auto, unfolding(crate::specs::Reading::diagnosed))]
+fn read<A: Allocator + Copy>(alloc: A, bytes: &[u8]) -> Result<Model<A>, ReadError>
+    ensures model { Gives (λ m. m) result (diagnosed bytes.now) }
+    ensures early { (d : ImageDiagnostic) → read_head (length bytes.now) bytes.now ≡ Err d → result ≡ Err (read_error.Fault d) }
 {
     let (parts, rest) = parts(alloc, bytes)?;
     finish(bytes.len(), parts, rest)
@@ -217,6 +222,7 @@ fn read_alike<A: Allocator>(alloc: &A, bytes: &[u8])
 /// The model whose image, in the version that they name, the bytes are (the format is ours). `Fault` with the first
 /// fault of bytes that are no image; `Memory` where there is none, which is found out only behind the magic, the version
 /// and the counts.
+#[tactic(auto, unfolding(crate::specs::Reading::loaded))]
 pub fn load<A: Allocator + Copy>(alloc: A, bytes: &[u8]) -> Result<Model<A>, LoadError>
     ensures ok { IfOk result (λ model. loaded bytes.now ≡ Ok model) }
     ensures fault { IfErr result (IsWhy (loaded {A = A} bytes.now)) }
@@ -226,5 +232,28 @@ pub fn load<A: Allocator + Copy>(alloc: A, bytes: &[u8]) -> Result<Model<A>, Loa
     ensures only { (version : ImageVersion) (m : Parts A) → AreOfModel m → HasImageIn version m → image_in version m ≡ bytes.now → loaded bytes.now ≡ Ok m }
 {
     read_alike(&alloc, bytes);
-    read(alloc, bytes)
+    match read(alloc, bytes) {
+        Ok(model) => Ok(model),
+        Err(ReadError::Memory) => Err(LoadError::Memory),
+        Err(ReadError::Fault(found)) => Err(LoadError::Fault(found.fault)),
+    }
+}
+
+/// Where the bytes are wrong: the fault that `load` answers, the field that has it, and the offset at which that field
+/// begins; `None` where the bytes are the image of a model, which `load` gives. `Err` where there is no memory, which is
+/// found out only behind the magic, the version and the counts.
+#[tactic(auto, unfolding(crate::specs::Reading::loaded))]
+pub fn diagnose<A: Allocator + Copy>(
+    alloc: A,
+    bytes: &[u8],
+) -> Result<Option<ImageDiagnostic>, AllocError>
+    ensures diagnostic { IfOk result (λ found. found ≡ result_err (diagnosed {A = A} bytes.now)) }
+    ensures fault { IfOk result (λ found. option_map (λ d. d.fault) found ≡ result_err (loaded {A = A} bytes.now)) }
+    ensures early { (d : ImageDiagnostic) → read_head (length bytes.now) bytes.now ≡ Err d → result ≡ Ok (Some d) }
+{
+    match read(alloc, bytes) {
+        Ok(_) => Ok(None),
+        Err(ReadError::Memory) => Err(AllocError),
+        Err(ReadError::Fault(found)) => Ok(Some(found)),
+    }
 }

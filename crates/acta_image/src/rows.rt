@@ -6,7 +6,7 @@ ghost use Rattle.acta_image.specs.Reading.{dependent_in, edge_in, field, rank, r
 ghost use Rattle.acta_image.specs.inside.Gives.{Gives, is_fault};
 
 use crate::codes::dependent_code;
-use crate::fault::LoadError;
+use crate::diagnostic::{Field, ReadError};
 use crate::fields::{bad, byte, part};
 use acta_table::{Dep, Dependent, StartEdge, StartEdges};
 use std::alloc::Allocator;
@@ -46,35 +46,36 @@ fn rank_of(edge: &StartEdge) -> u8
 }
 
 // A row whose start edge has this rank at least.
-fn row(size: usize, least: u8, bytes: &[u8]) -> Result<(StartEdge, &[u8]), LoadError>
-    ensures field { Gives (λ x. (x.0, x.1.now)) result (field size 2 (row_in least) bytes.now) }
+fn row(which: Field, size: usize, least: u8, bytes: &[u8]) -> Result<(StartEdge, &[u8]), ReadError>
+    ensures field { Gives (λ x. (x.0, x.1.now)) result (field which size 2 (row_in least) bytes.now) }
     ensures sure { IfErr result (λ e. is_fault e ≡ true) }
 {
-    let (found, rest) = part(bytes, 2)?;
+    let (found, rest) = part(which, size, bytes, 2)?;
     let Some(edge) = edge_of(found[0], found[1]) else {
-        return Err(bad(size, bytes));
+        return Err(bad(which, size, bytes));
     };
     if least <= rank_of(&edge) {
         Ok((edge, rest))
     } else {
-        Err(bad(size, bytes))
+        Err(bad(which, size, bytes))
     }
 }
 
 // So many rows, in order.
 fn rows<A: Allocator>(
     alloc: A,
+    which: Field,
     size: usize,
     count: u8,
     bytes: &[u8],
-) -> Result<(Vec<StartEdge, A>, &[u8]), LoadError>
-    ensures { Gives (λ x. (x.0.items, x.1.now)) result (read_rows size 0 count bytes.now) }
+) -> Result<(Vec<StartEdge, A>, &[u8]), ReadError>
+    ensures { Gives (λ x. (x.0.items, x.1.now)) result (read_rows which size 0 count bytes.now) }
 {
     let mut edges = Vec::new(alloc);
     let mut least = 0;
     let mut rest = bytes;
     for _ in 0..count {
-        let (edge, behind) = row(size, least, rest)?;
+        let (edge, behind) = row(which, size, least, rest)?;
         least = rank_of(&edge) + 1;
         edges.push(edge)?;
         rest = behind;
@@ -82,17 +83,19 @@ fn rows<A: Allocator>(
     Ok((edges, rest))
 }
 
-/// The start edges of one list of a class.
+/// The start edges of one list of a class, whose fields are these: how many there are, and each of them.
 #[tactic(auto, unfolding(crate::specs::Reading::read_edges))]
 pub fn edges<A: Allocator>(
     alloc: A,
+    counted: Field,
+    which: Field,
     size: usize,
     bytes: &[u8],
-) -> Result<(StartEdges<A>, &[u8]), LoadError>
-    ensures { Gives (λ x. (x.0, x.1.now)) result (read_edges size bytes.now) }
+) -> Result<(StartEdges<A>, &[u8]), ReadError>
+    ensures { Gives (λ x. (x.0, x.1.now)) result (read_edges counted which size bytes.now) }
 {
-    let (count, rest) = byte(size, 0, 24, bytes)?;
-    let (edges, rest) = rows(alloc, size, count, rest)?;
+    let (count, rest) = byte(counted, size, 0, 24, bytes)?;
+    let (edges, rest) = rows(alloc, which, size, count, rest)?;
     match StartEdges::ascending(edges) {
         Some(edges) => Ok((edges, rest)),
         None => unreachable!(),

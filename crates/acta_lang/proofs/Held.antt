@@ -7,21 +7,21 @@ use Rattle.std.specs.Str.{bytes_eq}
 use Rattle.std.proofs.lemmas.List.Folds.{list_any-append}
 use Rattle.std.proofs.lemmas.Bool.{ne_eqb}
 use Rattle.std.proofs.Math.Bool.{and-false, or-false}
-use Rattle.acta_table.specs.declared.model.Kind.{Kind}
 use Rattle.acta_lang.specs.declared.form.Form.{Form}
 use Rattle.acta_lang.specs.declared.form.Form.TheVariants as form
-use Rattle.acta_lang.specs.declared.said.Said.{Said}
+use Rattle.acta_lang.specs.declared.draft.ClosedDraft.{ClosedDraft}
+use Rattle.acta_lang.specs.declared.draft.ObjectDraft.{ObjectDraft}
 use Rattle.acta_words.specs.Text.{is_word_among}
 use Rattle.acta_lang.specs.Drafts.{Draft, OpenClass, closed, extended, has_said, has_said_all, with_closed}
 use Rattle.acta_lang.specs.Faults.{is_object, is_class, is_end, missing_part, wrong_place}
 use Rattle.acta_lang.specs.inside.Shown.{object_shown, closed_shown}
 
 -- the names of the objects, and of the classes that are closed
-pub object_names-shown : (A : Type 0) (es : List (Bor (List ℕ) × Kind)) → map (λ o. o.name) (map (object_shown {A = A}) es) ≡ map (λ k. k.now) (keys_of es)
+pub object_names-shown : (A : Type 0) (es : List (Bor (List ℕ) × ObjectDraft)) → map (λ o. o.name) (map (object_shown {A = A}) es) ≡ map (λ k. k.now) (keys_of es)
 object_names-shown A [] = refl
 object_names-shown A (e ∷ es) = ap (λ names. e.0.now ∷ names) (object_names-shown A es)
 
-pub closed_names-shown : {A : Type 0} (es : List (Bor (List ℕ) × Said A)) → map (λ c. c.name) (map (closed_shown {A = A}) es) ≡ map (λ k. k.now) (keys_of es)
+pub closed_names-shown : {A : Type 0} (es : List (Bor (List ℕ) × ClosedDraft A)) → map (λ c. c.name) (map (closed_shown {A = A}) es) ≡ map (λ k. k.now) (keys_of es)
 closed_names-shown [] = refl
 closed_names-shown (e ∷ es) = ap (λ names. e.0.now ∷ names) (closed_names-shown es)
 
@@ -30,7 +30,7 @@ in_one name None = refl
 in_one name (Some c) = or-false (bytes_eq name c.name)
 
 -- a name is among those of the classes where a closed one has it, or the open one
-pub among_classes : {A : Type 0} (name : List ℕ) (es : List (Bor (List ℕ) × Said A)) (o : Option OpenClass)
+pub among_classes : {A : Type 0} (name : List ℕ) (es : List (Bor (List ℕ) × ClosedDraft A)) (o : Option OpenClass)
     → is_word_among (map (λ c. c.name) (map (closed_shown {A = A}) es) ++ option_map_or (λ c. c.name ∷ []) o []) name
     ≡ (is_word_among (map (λ k. k.now) (keys_of es)) name || option_map_or (λ c. bytes_eq name c.name) o false)
 among_classes {A = A} name es o =

@@ -1,9 +1,11 @@
+pub mod Diagnosing
 pub mod EdgesAgain
 mod Examples
 pub mod FormsAgain
 pub mod Held
 pub mod NameLists
 pub mod NoCodes
+pub mod Noting
 pub mod OtherWords
 pub mod ReadAgain
 pub mod Sound

@@ -1,7 +1,10 @@
 pub mod Canonical
+pub mod Diagnostics
 pub mod Drafts
 pub mod Faults
 pub mod Forms
+pub mod Lines
 pub mod Meaning
+pub mod Places
 pub mod Words
 pub mod inside

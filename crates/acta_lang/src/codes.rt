@@ -13,11 +13,17 @@ use acta_table::is_named_well;
 use acta_words::read_i32;
 use std::alloc::Allocator;
 
+/// Whether a text may have the byte: a tab, or one from the space to the tilde.
+pub(crate) fn is_plain(b: u8) -> bool
+    ensures { result ≡ is_printable b }
+{
+    b == b'\t' || (b' ' <= b && b <= b'~')
+}
+
 fn is_printable(line: &[u8]) -> bool
     ensures { result ≡ list_all is_printable line.now }
 {
-    line.iter()
-        .all(|b| *b == b'\t' || (b' ' <= *b && *b <= b'~'))
+    line.iter().all(|b| is_plain(*b))
 }
 
 #[tactic(auto, unfolding(crate::specs::Faults::not_ascii))]

@@ -1,53 +1,74 @@
 //! From one line to the next: the first line at which something is wrong ends it, with the lowest code there.
 
-ghost use Rattle.std.specs.Prelude.{◌≡◌, false, None, Ok, IfOk, IfErr};
+ghost use Rattle.std.specs.Prelude.{◌≡◌, false, None, Ok, IfOk, IfErr, option_map};
+ghost use Rattle.acta_lang.specs.Diagnostics.{told};
+ghost use Rattle.acta_lang.specs.Forms.{form_of};
+ghost use Rattle.acta_words.specs.Text.{words_of};
+ghost use Rattle.acta_lang.specs.inside.Noted.{diagnosis, noted, noted_by};
 ghost use Rattle.acta_lang.specs.Drafts.{extended_by, parts_of};
 ghost use Rattle.acta_lang.specs.Faults.{code_at};
-ghost use Rattle.acta_lang.specs.Meaning.{meaning, IsWhy};
+ghost use Rattle.acta_lang.specs.Meaning.{meaning};
+ghost use Rattle.acta_lang.specs.inside.Read.{IsWhyRead};
 ghost use Rattle.acta_lang.specs.inside.Shown.{is_current_taken, shown};
 
 use crate::codes::lowest_code;
+use crate::diagnostic::{ReadError, TextDiagnostic};
 use crate::draft::Draft;
-use crate::fault::{AsmError, AsmFault, Code};
 use crate::line_forms::form_of;
+use crate::places::place_of;
 use acta_words::{Lines, words_of};
 use std::alloc::{AllocError, Allocator};
 
-// Adds what the next line declares, or answers its lowest code. `Err` where there is no memory.
+// Adds what the next line declares, which has this number, or answers what is wrong with it. `Err` where there is no
+// memory.
 fn read_line<'a, A: Allocator + Copy>(
     draft: &mut Draft<'a, A>,
     alloc: A,
+    number: usize,
     is_last: bool,
     line: &'a [u8],
-) -> Result<Option<Code>, AllocError>
+) -> Result<Option<TextDiagnostic<'a>>, AllocError>
     requires { is_current_taken (shown draft.old) ≡ false }
-    ensures code { IfOk result (λ code. code ≡ code_at (shown draft.old) is_last line.now) }
+    ensures code { IfOk result (λ found. option_map told found ≡ option_map (diagnosis (shown draft.old) (noted draft.old) number line.now) (code_at (shown draft.old) is_last line.now)) }
     ensures added { result ≡ Ok None → shown draft.new ≡ extended_by (shown draft.old) line.now }
+    ensures noted { result ≡ Ok None → noted draft.new ≡ noted_by number (words_of line.now) (form_of (words_of line.now)) (noted draft.old) }
 {
     let words = words_of(alloc, line)?;
     let said = form_of(&words);
-    let code = lowest_code(draft, is_last, line, &words, &said);
-    if code.is_none() {
-        draft.extend(alloc, &words, &said)?;
+    match lowest_code(draft, is_last, line, &words, &said) {
+        Some(code) => {
+            let (place, expected) = place_of(draft, line, &words, &said, code);
+            Ok(Some(TextDiagnostic {
+                line: number,
+                code,
+                place,
+                expected,
+                earlier: draft.earlier(&words, &said, code),
+                class: draft.class_at(number, &words, &said, code),
+            }))
+        }
+        None => {
+            draft.extend(alloc, number, &words, &said)?;
+            Ok(None)
+        }
     }
-    Ok(code)
 }
 
 /// What a text declares, or its first fault. `Memory` where there is none.
 pub(crate) fn declare_all<'a, A: Allocator + Copy>(
     alloc: A,
     text: &'a [u8],
-) -> Result<Draft<'a, A>, AsmError>
+) -> Result<Draft<'a, A>, ReadError<'a>>
     ensures ok { IfOk result (λ all. meaning text.now ≡ Ok (parts_of (shown all))) }
-    ensures fault { IfErr result (IsWhy {A = A} (meaning text.now)) }
+    ensures fault { IfErr result (IsWhyRead A text.now) }
 {
     let mut draft = Draft::nothing(alloc);
     let mut lines = Lines::of(text);
     let mut number = 0usize;
     while let Some(line) = lines.next() {
         number += 1;
-        if let Some(code) = read_line(&mut draft, alloc, lines.is_over(), line)? {
-            return Err(AsmError::Fault(AsmFault { line: number, code }));
+        if let Some(found) = read_line(&mut draft, alloc, number, lines.is_over(), line)? {
+            return Err(ReadError::Fault(found));
         }
     }
     Ok(draft)

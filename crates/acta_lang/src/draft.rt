@@ -1,35 +1,76 @@
 //! What the lines so far declare: objects and classes under their names, and the class that is open. Names are borrowed
 //! from the text, and copied only when the model is made.
 
-ghost use Rattle.std.specs.Prelude.{◌≡◌, map, option_map, false, IfOk, OnOk};
-ghost use Rattle.std.specs.Option.{option_map_or};
+ghost use Rattle.std.specs.Prelude.{◌≡◌, map, option_and_then, option_map, false, IfOk, OnOk};
+ghost use Rattle.std.specs.Option.{option_map_or, option_or};
 ghost use Rattle.std.specs.Str.{bytes_eq};
 ghost use Rattle.acta_words.specs.Text.{is_word_among};
 ghost use Rattle.acta_lang.specs.Drafts.{extended, nothing_yet, parts_of, first_value, with_object, with_closed, with_said};
 ghost use Rattle.acta_lang.specs.Faults.{class_names, duplicate_name, heir_without_spawn, missing_end, missing_part, object_names, too_many, wrong_place};
 ghost use Rattle.acta_lang.specs.Forms.{name_in, value_in};
+ghost use Rattle.acta_lang.specs.Diagnostics.{class_told};
+ghost use Rattle.acta_lang.specs.Lines.{part_line};
+ghost use Rattle.acta_lang.specs.Places.{lacking, wrongly_placed};
+ghost use Rattle.acta_lang.specs.inside.Noted.{class_noted, closed_noted, current_line, earlier_noted, line_of, noted, noted_by, nothing_noted, object_noted, said_noted};
 ghost use Rattle.acta_lang.specs.inside.Shown.{is_current_taken, shown};
 
+use crate::diagnostic::{ClassLines, Expected};
+use crate::fault::Code;
 use crate::form::Form;
-use crate::names::{Named, add_name, is_declared};
+use crate::names::{Named, add_name, found, is_declared};
+use crate::parts::PartLines;
 use crate::said::Said;
 use acta_table::{Class, Items, Kind, MOST_CLASSES, MOST_OBJECTS, Object, Parts};
 use acta_words::read_i32;
 use std::alloc::{AllocError, Allocator};
 use std::hash::BuildHasherDefault;
 
-/// A class that is open.
+/// An object, and the line that declares it.
+#[derive(Clone, Copy)]
+pub(crate) struct ObjectDraft {
+    kind: Kind,
+    line: usize,
+}
+
+impl ObjectDraft {
+    // The line that declares the object.
+    fn line(&self) -> usize
+        ensures { result ≡ self.now.line }
+    {
+        self.line
+    }
+}
+
+/// A class that is closed, and the line that begins it.
+#[derive(Drop)]
+pub(crate) struct ClosedDraft<A: Allocator> {
+    said: Said<A>,
+    line: usize,
+}
+
+impl<A: Allocator> ClosedDraft<A> {
+    // The line that begins the class.
+    fn line(&self) -> usize
+        ensures { result ≡ self.now.line }
+    {
+        self.line
+    }
+}
+
+/// A class that is open, with the line that begins it and those that say its parts.
 #[derive(Drop)]
 pub(crate) struct ClassDraft<'a, A: Allocator> {
     name: &'a [u8],
     said: Said<A>,
+    line: usize,
+    parts: PartLines,
 }
 
 /// What some lines declare.
 #[derive(Drop)]
 pub(crate) struct Draft<'a, A: Allocator> {
-    objects: Named<'a, Kind, A>,
-    classes: Named<'a, Said<A>, A>,
+    objects: Named<'a, ObjectDraft, A>,
+    classes: Named<'a, ClosedDraft<A>, A>,
     current: Option<ClassDraft<'a, A>>,
 }
 
@@ -63,7 +104,8 @@ fn first_value(words: &[&[u8]]) -> i32
 impl<'a, A: Allocator + Copy> Draft<'a, A> {
     /// Before any line. Takes no memory.
     pub(crate) fn nothing(alloc: A) -> Draft<'a, A>
-        ensures { shown result ≡ nothing_yet }
+        ensures shown { shown result ≡ nothing_yet }
+        ensures noted { noted result ≡ nothing_noted }
     {
         Draft {
             objects: Named::with_hasher(alloc, BuildHasherDefault::new()),
@@ -120,6 +162,32 @@ impl<'a, A: Allocator + Copy> Draft<'a, A> {
         }
     }
 
+    /// What is expected of a line in the wrong place.
+    pub(crate) fn wrongly_placed(&self, said: &Form) -> Expected
+        ensures { result ≡ wrongly_placed (shown self.now).current said.now }
+    {
+        match &self.current {
+            Some(class) => {
+                if class.said.has(said) {
+                    Expected::Once
+                } else {
+                    Expected::Ended
+                }
+            }
+            None => Expected::Outside,
+        }
+    }
+
+    /// What a text lacks whose last line is this: parts of the class that is open, or a class.
+    pub(crate) fn lacking(&self) -> Expected
+        ensures { result ≡ lacking (shown self.now).current }
+    {
+        match &self.current {
+            Some(_) => Expected::AllParts,
+            None => Expected::SomeClass,
+        }
+    }
+
     /// Whether there is one object or one class too many.
     #[tactic(auto, unfolding(crate::specs::Faults::too_many))]
     pub(crate) fn too_many(&self, said: &Form) -> bool
@@ -168,62 +236,180 @@ impl<'a, A: Allocator + Copy> Draft<'a, A> {
         }
     }
 
-    fn add_object(&mut self, name: &'a [u8], kind: Kind) -> Result<(), AllocError>
-        requires { is_word_among (map (λ o. o.name) (shown self.old).objects) name.now ≡ false }
-        ensures { OnOk result (shown self.new ≡ with_object (shown self.old) name.now kind) }
+    // The line that declares an object of this name.
+    fn object_line(&self, name: &'a [u8]) -> Option<usize>
+        ensures { result ≡ line_of name.now (noted self.now).objects }
     {
-        add_name(&mut self.objects, name, kind)
+        match found(&self.objects, name) {
+            Some(object) => Some(object.line()),
+            None => None,
+        }
+    }
+
+    // The line that begins the class of this name that is open.
+    fn current_line(&self, name: &[u8]) -> Option<usize>
+        ensures { result ≡ current_line name.now (noted self.now).current }
+    {
+        match &self.current {
+            Some(class) => {
+                if name == class.name {
+                    Some(class.line)
+                } else {
+                    None
+                }
+            }
+            None => None,
+        }
+    }
+
+    // The line that begins a class of this name, the open one too.
+    fn class_line(&self, name: &'a [u8]) -> Option<usize>
+        ensures { result ≡ option_or (line_of name.now (noted self.now).classes) (current_line name.now (noted self.now).current) }
+    {
+        match found(&self.classes, name) {
+            Some(class) => Some(class.line()),
+            None => self.current_line(name),
+        }
+    }
+
+    // The line of the class that is open which has said what a line of this form says.
+    fn said_line(&self, said: &Form) -> Option<usize>
+        ensures { result ≡ option_and_then (λ class. part_line said.now class.parts) (noted self.now).current }
+    {
+        match &self.current {
+            Some(class) => class.parts.line_of(said),
+            None => None,
+        }
+    }
+
+    /// The earlier line that the fault of this code has to do with, at a line of these words, of this form.
+    pub(crate) fn earlier(&self, words: &[&'a [u8]], said: &Form, code: Code) -> Option<usize>
+        ensures { result ≡ earlier_noted (noted self.now) (map (λ word. word.now) words.now) said.now code }
+    {
+        match code {
+            Code::DuplicateName => {
+                if said.is_class() {
+                    self.class_line(name_in(words))
+                } else {
+                    self.object_line(name_in(words))
+                }
+            }
+            Code::WrongPlace => self.said_line(said),
+            _ => None,
+        }
+    }
+
+    // The class that is open.
+    fn open(&self) -> Option<ClassLines<'a>>
+        ensures { option_map class_told result ≡ (noted self.now).current }
+    {
+        match &self.current {
+            Some(class) => Some(ClassLines {
+                name: class.name,
+                line: class.line,
+                parts: class.parts,
+            }),
+            None => None,
+        }
+    }
+
+    /// The class that is open before the line of this number, of these words and this form; and where the code says that
+    /// its end is missing, the class that is open behind the line.
+    pub(crate) fn class_at(
+        &self,
+        number: usize,
+        words: &[&'a [u8]],
+        said: &Form,
+        code: Code,
+    ) -> Option<ClassLines<'a>>
+        ensures { option_map class_told result ≡ class_noted (noted self.now) number (map (λ word. word.now) words.now) said.now code }
+    {
+        if matches!(code, Code::MissingEnd) && said.is_class() {
+            Some(ClassLines {
+                name: name_in(words),
+                line: number,
+                parts: PartLines::none(),
+            })
+        } else {
+            self.open()
+        }
+    }
+
+    fn add_object(&mut self, name: &'a [u8], kind: Kind, line: usize) -> Result<(), AllocError>
+        requires { is_word_among (map (λ o. o.name) (shown self.old).objects) name.now ≡ false }
+        ensures shown { OnOk result (shown self.new ≡ with_object (shown self.old) name.now kind) }
+        ensures noted { OnOk result (noted self.new ≡ object_noted (noted self.old) name.now line) }
+    {
+        add_name(&mut self.objects, name, ObjectDraft { kind, line })
     }
 
     // Closes the class that is open, if one is.
     fn close(&mut self) -> Result<(), AllocError>
         requires { is_current_taken (shown self.old) ≡ false }
-        ensures { OnOk result (shown self.new ≡ with_closed (shown self.old) (shown self.old).current) }
+        ensures shown { OnOk result (shown self.new ≡ with_closed (shown self.old) (shown self.old).current) }
+        ensures noted { OnOk result (noted self.new ≡ closed_noted (noted self.old) (noted self.old).current) }
     {
         match self.current.take() {
             Some(class) => {
-                let ClassDraft { name, said } = class;
-                add_name(&mut self.classes, name, said)
+                let ClassDraft {
+                    name,
+                    said,
+                    line,
+                    ..
+                } = class;
+                add_name(&mut self.classes, name, ClosedDraft { said, line })
             }
             None => Ok(()),
         }
     }
 
-    // Adds what a line inside a class says, if one is open.
-    fn say(&mut self, said: &Form) -> Result<(), AllocError>
-        ensures { OnOk result (shown self.new ≡ record (shown self.old) { current = option_map (with_said said.now) (shown self.old).current }) }
+    // Adds what the line of this number says, inside a class, if one is open.
+    fn say(&mut self, number: usize, said: &Form) -> Result<(), AllocError>
+        ensures shown { OnOk result (shown self.new ≡ record (shown self.old) { current = option_map (with_said said.now) (shown self.old).current }) }
+        ensures noted { OnOk result (noted self.new ≡ said_noted (noted self.old) number said.now) }
     {
         match &mut self.current {
-            Some(class) => class.said.add(said),
+            Some(class) => {
+                class.parts.add(said, number);
+                class.said.add(said)
+            }
             None => Ok(()),
         }
     }
 
-    /// Adds what the line declares. `Err` where there is no memory.
+    /// Adds what the line of this number declares. `Err` where there is no memory.
     #[tactic(auto, unfolding(crate::specs::Drafts::extended, crate::specs::Faults::duplicate_name))]
     pub(crate) fn extend(
         &mut self,
         alloc: A,
+        number: usize,
         words: &[&'a [u8]],
         said: &Form,
     ) -> Result<(), AllocError>
         requires new { duplicate_name (shown self.old) (map (λ word. word.now) words.now) said.now ≡ false }
         requires current_is_new { is_current_taken (shown self.old) ≡ false }
-        ensures { OnOk result (shown self.new ≡ extended (shown self.old) (map (λ word. word.now) words.now) said.now) }
+        ensures shown { OnOk result (shown self.new ≡ extended (shown self.old) (map (λ word. word.now) words.now) said.now) }
+        ensures noted { OnOk result (noted self.new ≡ noted_by number (map (λ word. word.now) words.now) said.now (noted self.old)) }
     {
         match said {
-            Form::Register => self.add_object(name_in(words), Kind::Register(first_value(words))),
-            Form::Counter => self.add_object(name_in(words), Kind::Counter(first_value(words))),
-            Form::Elements => self.add_object(name_in(words), Kind::Elements),
+            Form::Register => {
+                self.add_object(name_in(words), Kind::Register(first_value(words)), number)
+            }
+            Form::Counter => {
+                self.add_object(name_in(words), Kind::Counter(first_value(words)), number)
+            }
+            Form::Elements => self.add_object(name_in(words), Kind::Elements, number),
             Form::Class => {
                 self.current = Some(ClassDraft {
                     name: name_in(words),
                     said: Said::nothing(alloc),
+                    line: number,
+                    parts: PartLines::none(),
                 });
                 Ok(())
             }
             Form::End => self.close(),
-            _ => self.say(said),
+            _ => self.say(number, said),
         }
     }
 
@@ -232,10 +418,10 @@ impl<'a, A: Allocator + Copy> Draft<'a, A> {
         ensures { IfOk result (λ objects. objects ≡ (shown self.now).objects) }
     {
         let mut objects = Vec::with_capacity(alloc, self.objects.len())?;
-        for (name, kind) in self.objects.iter() {
+        for (name, object) in self.objects.iter() {
             objects.push(Object {
                 name: Items::of(Vec::from_slice(alloc, name)?),
-                kind: *kind,
+                kind: object.kind,
             })?;
         }
         Ok(Items::of(objects))
@@ -246,8 +432,8 @@ impl<'a, A: Allocator + Copy> Draft<'a, A> {
         ensures { IfOk result (λ classes. classes ≡ (shown self.now).classes) }
     {
         let mut classes = Vec::with_capacity(alloc, self.classes.len())?;
-        for (name, said) in self.classes.iter() {
-            classes.push(said.class(alloc, name)?)?;
+        for (name, class) in self.classes.iter() {
+            classes.push(class.said.class(alloc, name)?)?;
         }
         Ok(Items::of(classes))
     }

@@ -1,6 +1,6 @@
 //! The language of models. A text is read line by line into a draft of the objects and classes that it declares, up
-//! to the first line at which something is wrong; a draft without a fault is a checked model. And each model has a
-//! canonical text, which means it again.
+//! to the first line at which something is wrong; a draft without a fault is a checked model. Of a faulty line there is
+//! the word at fault, and what is expected in its place. And each model has a canonical text, which means it again.
 #![tactic(auto)]
 
 mod assembling;
@@ -8,18 +8,23 @@ mod class_forms;
 mod class_lines;
 mod codes;
 mod declare;
+mod diagnostic;
 mod draft;
 mod fault;
 mod form;
 mod line_forms;
 mod names;
 mod object_lines;
+mod parts;
+mod places;
 mod policy_forms;
 mod printing;
 mod said;
 mod sentences;
 mod words;
 
-pub use assembling::assemble;
+pub use assembling::{assemble, diagnose};
+pub use diagnostic::{ClassLines, Expected, TextDiagnostic};
 pub use fault::{AsmError, AsmFault, Code};
+pub use parts::PartLines;
 pub use printing::print_model;

@@ -1,6 +1,9 @@
 //! Names in the order in which they were declared, each with what was declared under it. They are found by a hash.
 
 ghost use Rattle.std.specs.Prelude.{◌≡◌, ◌++◌, ◌∷◌, [], false, OnOk};
+ghost use Rattle.std.specs.Map.{lookup};
+ghost use Rattle.std.specs.Option.{option_copied};
+ghost use Rattle.std.specs.Str.{bytes_eq};
 ghost use Rattle.acta_words.specs.Text.{is_word_among};
 ghost use Rattle.acta_lang.specs.inside.Named.{names_in};
 
@@ -19,6 +22,16 @@ pub(crate) fn is_declared<'a, V, A: Allocator + Copy>(
     ensures { result ≡ is_word_among (names_in named.now) name.now }
 {
     named.contains_key(&name)
+}
+
+/// What was declared under this name. Takes no memory.
+pub(crate) fn found<'b, 'a, V, A: Allocator + Copy>(
+    named: &'b Named<'a, V, A>,
+    name: &'a [u8],
+) -> Option<&'b V>
+    ensures { option_copied result ≡ lookup (λ key. bytes_eq name.now key.now) named.now.entries }
+{
+    named.get(&name)
 }
 
 /// Declares it behind all others. `Err` where there is no memory.

@@ -2,8 +2,10 @@
 
 ghost use Rattle.std.specs.Prelude.{◌≡◌, map};
 ghost use Rattle.acta_words.specs.Text.{is_word_among};
+ghost use Rattle.acta_lang.specs.Places.{meant_words};
 ghost use Rattle.acta_lang.specs.Words.{start_words, may_word, may_named, dep_named, scope_word, commit_word, extent_word, scope_named, commit_named, extent_named};
 
+use crate::diagnostic::Expected;
 use acta_table::{AtCommit, Dep, EventKind, Extent, Scope};
 
 /// The kinds of event that a class may do, by code.
@@ -128,4 +130,51 @@ pub(crate) fn extent_named(word: &[u8]) -> Option<Extent>
         .iter()
         .copied()
         .find(|extent| word == extent_word(*extent).as_bytes())
+}
+
+// The words with which lines begin.
+const FIRST_WORDS: [&str; 11] = [
+    "object",
+    "class",
+    "starts",
+    "may",
+    "scope",
+    "policy",
+    "commit",
+    "delegation",
+    "spawn",
+    "split",
+    "end",
+];
+
+// The words of the kinds of event that a class may do, by code.
+const MAY_WORDS: [&str; 9] = [
+    "spawn", "split", "join", "delegate", "form", "operate", "commit", "abort", "permit",
+];
+
+// The words of the kinds of dependency, by code.
+const KIND_WORDS: [&str; 12] = [
+    "CD", "SCD", "AD", "WD", "TD", "ED", "CMD", "BD", "SD", "BCD", "BAD", "WCD",
+];
+
+impl Expected {
+    /// The words of the language that can stand in the place of the word at fault, where that is none of the language's
+    /// words for this place. Empty where it is a name, a number, or one of those words in a line where it is not allowed.
+    pub fn words(self) -> &'static [&'static str]
+        ensures { map (λ word. word.now) result.now ≡ meant_words self }
+    {
+        match self {
+            Expected::FirstWord => &FIRST_WORDS,
+            Expected::ObjectKind => &["register", "counter", "set"],
+            Expected::Starts => &["begin", "spawned", "split"],
+            Expected::May => &MAY_WORDS,
+            Expected::Scope => &["others", "nonancestors"],
+            Expected::Policy => &["refuse", "depend"],
+            Expected::Commit => &["keeps", "toparent"],
+            Expected::Delegation => &["whole", "any"],
+            Expected::SpawnEnd | Expected::SplitEnd => &["starter", "started"],
+            Expected::Kinds | Expected::SpawnKind | Expected::SplitKind => &KIND_WORDS,
+            _ => &[],
+        }
+    }
 }

@@ -1,32 +1,38 @@
 -- What a call that reads fields gives.
-use Rattle.std.specs.Prelude.{◌≡◌, ℕ, ◌<◌, List, length, get_or, take, drop, Bool, true, false, nat_lt, ◌==◌, Result, Ok, Err, if◌then◌else◌}
+use Rattle.std.specs.Prelude.{◌≡◌, ℕ, ◌<◌, List, length, get_or, take, drop, Bool, true, false, nat_lt, ◌==◌, Result, Ok, Err, if◌then◌else◌, ⊤}
 use Rattle.acta_table.specs.declared.policy.Policy.{Policy}
 use Rattle.acta_table.specs.declared.policy.Policy.TheVariants.{Refuse, Depend}
-use Rattle.acta_image.specs.declared.fault.ImageFault.{ImageFault}
+use Rattle.acta_image.specs.declared.diagnostic.Field.{Field}
+use Rattle.acta_image.specs.declared.diagnostic.ImageDiagnostic.{ImageDiagnostic}
+use Rattle.acta_image.specs.declared.diagnostic.ReadError.{ReadError}
+use Rattle.acta_image.specs.declared.diagnostic.ReadError.TheVariants as error
 use Rattle.acta_image.specs.declared.fault.ImageFault.TheVariants.{Truncated}
-use Rattle.acta_image.specs.declared.fault.LoadError.{LoadError}
-use Rattle.acta_image.specs.declared.fault.LoadError.TheVariants as error
-use Rattle.acta_image.specs.Claims.{IsWhy}
-use Rattle.acta_image.specs.Reading.{Reader}
+use Rattle.acta_image.specs.Reading.{Reader, fault_at}
 
 -- each number is that of a byte
 abbrev pub AreBytes : List ℕ → Type 0
 AreBytes bytes = (i : ℕ) → get_or bytes i 0 < 256
 
--- the first n bytes, and those behind them
-abbrev pub part_of : ℕ → Reader (List ℕ)
-part_of n bytes = if nat_lt (length bytes) n then Err Truncated else Ok (take n bytes, drop n bytes)
+-- the first n bytes, of this field, and those behind them
+abbrev pub part_of : Field → ℕ → ℕ → Reader (List ℕ)
+part_of which size n bytes =
+    if nat_lt (length bytes) n then Err (fault_at Truncated which size bytes) else Ok (take n bytes, drop n bytes)
 
 -- the policy that has this code and these bits
 abbrev pub policy_by : ℕ → ℕ → Policy
 policy_by code bits = if code == 0 then Refuse else Depend bits
 
+-- an error is why reading gave nothing: the fault with its field, or want of memory, which says nothing of the bytes
+abbrev pub IsWhyRead : {X : Type 0} → Result X ImageDiagnostic → ReadError → Type 0
+IsWhyRead read error.Memory = ⊤
+IsWhyRead read (error.Fault d) = read ≡ Err d
+
 -- what a call returned is what reading gives, unless there was no memory
-abbrev pub Gives : {X Y : Type 0} → (X → Y) → Result X LoadError → Result Y ImageFault → Type 0
+abbrev pub Gives : {X Y : Type 0} → (X → Y) → Result X ReadError → Result Y ImageDiagnostic → Type 0
 Gives view (Ok x) read = read ≡ Ok (view x)
-Gives view (Err e) read = IsWhy read e
+Gives view (Err e) read = IsWhyRead read e
 
 -- whether the error is a fault, and no want of memory
-abbrev pub is_fault : LoadError → Bool
+abbrev pub is_fault : ReadError → Bool
 is_fault error.Memory = false
-is_fault (error.Fault fault) = true
+is_fault (error.Fault d) = true

@@ -2,10 +2,11 @@
 use Rattle.std.specs.Option.{option_map_or}
 use Rattle.std.specs.Prelude.{ℕ, Bool, false, List, map, option_map}
 use Rattle.acta_table.specs.declared.model.Class.{Class}
-use Rattle.acta_table.specs.declared.model.Kind.{Kind}
 use Rattle.acta_table.specs.declared.model.Object.{Object}
 use Rattle.acta_words.specs.Text.{is_word_among}
 use Rattle.acta_lang.specs.declared.draft.ClassDraft.{ClassDraft}
+use Rattle.acta_lang.specs.declared.draft.ClosedDraft.{ClosedDraft}
+use Rattle.acta_lang.specs.declared.draft.ObjectDraft.{ObjectDraft}
 use Rattle.acta_lang.specs.declared.draft.Draft as held
 use Rattle.acta_lang.specs.declared.said.Said.{Said}
 use Rattle.acta_lang.specs.Drafts.{Draft, OpenClass, closed}
@@ -26,11 +27,11 @@ class_shown name s = record {
 }
 
 -- an object, and a class that is closed, under their names
-abbrev pub object_shown : {A : Type 0} → (Bor (List ℕ) × Kind) → Object A
-object_shown e = record { name = e.0.now; kind = e.1 }
+abbrev pub object_shown : {A : Type 0} → (Bor (List ℕ) × ObjectDraft) → Object A
+object_shown e = record { name = e.0.now; kind = e.1.kind }
 
-abbrev pub closed_shown : {A : Type 0} → (Bor (List ℕ) × Said A) → Class A
-closed_shown e = closed (class_shown e.0.now e.1)
+abbrev pub closed_shown : {A : Type 0} → (Bor (List ℕ) × ClosedDraft A) → Class A
+closed_shown e = closed (class_shown e.0.now e.1.said)
 
 -- the class that is open
 abbrev pub current_shown : {A : Type 0} → ClassDraft A → OpenClass

@@ -1,18 +1,23 @@
-use Rattle.std.proofs.Common.{◌≡◌, ◌≤◌, ◌+◌, length}
+use Rattle.std.proofs.Common.{◌≡◌, ◌≤◌, ◌+◌, length, take, drop}
 use Rattle.acta_words.specs.Text.{lines_of}
 use Rattle.acta_words.specs.inside.LinesToCome.{lines_to_come}
-use Rattle.acta_lang.specs.Drafts.{nothing_yet}
+use Rattle.acta_lang.specs.Drafts.{declared, nothing_yet}
+use Rattle.acta_lang.specs.inside.Noted.{IsNoted, noted}
 use Rattle.acta_lang.specs.inside.Shown.{shown}
 use Rattle.acta_lang.proofs.Sound.{IsFaultless}
 use Rattle.acta_lang.proofs.Turns.{meaning_from}
 use Rattle.acta_lang.proofs.declare.declare_all.Given as goal
 
--- what is left means, by the draft, what all of the text means from nothing on
+-- what is left means, by the draft, what all of the text means from nothing on; and the draft is what the lines declare
+-- that were read, with their numbers
 abbrev pub invariant-loop-line : goal.invariant-loop-line
 invariant-loop-line g l = record {
   means : meaning_from (l.number + 1) (shown l.draft) (lines_to_come l.lines) ≡ meaning_from 1 nothing_yet (lines_of l.text);
   counts : l.number + length (lines_to_come l.lines) ≤ length l.text + 1;
   faultless : IsFaultless (shown l.draft);
+  declares : shown l.draft ≡ declared (take l.number (lines_of l.text));
+  notes : IsNoted (take l.number (lines_of l.text)) (noted l.draft);
+  left : drop l.number (lines_of l.text) ≡ lines_to_come l.lines;
 }
 
 abbrev pub decreases-loop-line : goal.decreases-loop-line

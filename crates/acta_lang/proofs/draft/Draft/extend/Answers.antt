@@ -3,9 +3,9 @@ use Rattle.acta_lang.specs.Drafts.{opened, extended}
 use Rattle.acta_lang.specs.inside.Shown.{shown}
 use Rattle.acta_lang.proofs.draft.Draft.extend.Goals as goal
 
-pub returns-in-Class : goal.returns-in-Class
+pub returns-in-Class-clause-shown : goal.returns-in-Class-clause-shown
 unfolding extended
-returns-in-Class g c =
+returns-in-Class-clause-shown g c =
     let d = shown c.args.self.now in
     let words = map (λ word. word.now) c.args.words.now in
     ap (λ class. record d { current = Some class }) (c.nothing.ensures c.name_in-in-Class.result.now ∙ ap opened c.name_in-in-Class.ensures)

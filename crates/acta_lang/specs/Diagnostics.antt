@@ -1,0 +1,100 @@
+-- Where a text is wrong: the fault that it means, the place of the word at fault, what is expected there, and the earlier
+-- lines that the fault has to do with.
+use Rattle.std.specs.Prelude.{ℕ, ◌+◌, ◌-◌, List, [], length, take, slice_get, if◌then◌else◌, Option, Some, None, option_and_then, option_map, unwrap_or}
+use Rattle.std.specs.Result.{result_err}
+use Rattle.acta_words.specs.Text.{lines_of, words_of}
+use Rattle.acta_lang.specs.declared.diagnostic.ClassLines.{ClassLines}
+use Rattle.acta_lang.specs.declared.diagnostic.Expected.{Expected}
+use Rattle.acta_lang.specs.declared.diagnostic.ReadError.{ReadError}
+use Rattle.acta_lang.specs.declared.diagnostic.ReadError.TheVariants as read
+use Rattle.acta_lang.specs.declared.diagnostic.TextDiagnostic.{TextDiagnostic}
+use Rattle.acta_lang.specs.declared.fault.AsmError.{AsmError}
+use Rattle.acta_lang.specs.declared.fault.AsmError.TheVariants as error
+use Rattle.acta_lang.specs.declared.fault.AsmFault.{AsmFault}
+use Rattle.acta_lang.specs.declared.fault.Code.{Code}
+use Rattle.acta_lang.specs.declared.fault.Code.TheVariants.{DuplicateName, WrongPlace, MissingEnd}
+use Rattle.acta_lang.specs.declared.form.Form.{Form}
+use Rattle.acta_lang.specs.Drafts.{Draft, declared}
+use Rattle.acta_lang.specs.Faults.{is_class, is_object}
+use Rattle.acta_lang.specs.Forms.{form_of, name_in}
+use Rattle.acta_lang.specs.Lines.{ClassAt, begun, declares, first_line, last_class, part_line}
+use Rattle.acta_lang.specs.Meaning.{meaning}
+use Rattle.acta_lang.specs.Places.{place_of}
+
+-- what a diagnostic tells, names as their bytes
+pub record Diagnostic : Type 0 where
+  pub line : ℕ
+  pub code : Code
+  pub place : Option ℕ
+  pub expected : Expected
+  pub earlier : Option ℕ
+  pub class : Option ClassAt
+
+abbrev pub class_told : ClassLines → ClassAt
+class_told c = record { name = c.name.now; line = c.line; parts = c.parts }
+
+abbrev pub told : TextDiagnostic → Diagnostic
+told d = record {
+  line = d.line;
+  code = d.code;
+  place = d.place;
+  expected = d.expected;
+  earlier = d.earlier;
+  class = option_map class_told d.class;
+}
+
+-- the fault that a diagnostic is of
+abbrev pub fault_of : Diagnostic → AsmFault
+fault_of d = record { line = d.line; code = d.code }
+
+-- the class that is open behind these lines
+abbrev pub open_class : Type 0 → List (List ℕ) → Option ClassAt
+open_class A before = option_map (λ c. last_class c.name before) (declared {A = A} before).current
+
+-- the earlier line that the fault has to do with: the first that declares the name, or the line that has said the part
+abbrev pub earlier_line : Type 0 → List (List ℕ) → List (List ℕ) → Form → Code → Option ℕ
+earlier_line A before words said DuplicateName =
+    first_line (declares (if is_class said then is_class else is_object) (name_in words)) before
+earlier_line A before words said WrongPlace = option_and_then (λ c. part_line said c.parts) (open_class A before)
+earlier_line A before words said _ = None
+
+-- the class that is open before the line; and where its end is missing, behind the line
+abbrev pub class_of : Type 0 → List (List ℕ) → List (List ℕ) → Form → Code → Option ClassAt
+class_of A before words said MissingEnd =
+    if is_class said then Some (begun (name_in words) (length before + 1)) else open_class A before
+class_of A before words said _ = open_class A before
+
+-- the diagnostic of a line that has this code, behind these lines
+abbrev pub diagnostic_of : Type 0 → List (List ℕ) → List ℕ → Code → Diagnostic
+diagnostic_of A before line code =
+    let words = words_of line in
+    let said = form_of words in
+    let at = place_of (declared {A = A} before) line words said code in
+    record {
+      line = length before + 1;
+      code = code;
+      place = at.0;
+      expected = at.1;
+      earlier = earlier_line A before words said code;
+      class = class_of A before words said code;
+    }
+
+-- the lines of the text before the one of this number, and that line
+abbrev pub lines_before : List ℕ → ℕ → List (List ℕ)
+lines_before text number = take (number - 1) (lines_of text)
+
+abbrev pub line_at : List ℕ → ℕ → List ℕ
+line_at text number = unwrap_or (slice_get (lines_of text) (number - 1)) []
+
+-- the diagnostic of a fault of the text
+abbrev pub diagnostic_in : Type 0 → List ℕ → AsmFault → Diagnostic
+diagnostic_in A text fault = diagnostic_of A (lines_before text fault.line) (line_at text fault.line) fault.code
+
+-- the diagnostic of a text: none, where it means a model
+abbrev pub diagnosed : Type 0 → List ℕ → Option Diagnostic
+diagnosed A text = option_map (diagnostic_in A text) (result_err (meaning {A = A} text))
+
+-- the error of a text, without the diagnostic
+abbrev pub asm_error_of : ReadError → AsmError
+asm_error_of read.Memory = error.Memory
+asm_error_of (read.Fault d) = error.Fault (fault_of (told d))

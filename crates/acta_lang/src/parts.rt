@@ -1,0 +1,63 @@
+//! The six parts of a class, each with the line that says it.
+
+ghost use Rattle.std.specs.Prelude.{◌≡◌};
+ghost use Rattle.acta_lang.specs.Lines.{no_lines, part_line, with_line};
+
+use crate::form::Form;
+
+/// The line of each of the six parts of a class, from 1; `None` of one that no line has said.
+#[derive(Clone, Copy, PartialEq, Eq, Debug)]
+pub struct PartLines {
+    pub starts: Option<usize>,
+    pub may: Option<usize>,
+    pub scope: Option<usize>,
+    pub policy: Option<usize>,
+    pub commit: Option<usize>,
+    pub delegation: Option<usize>,
+}
+
+impl PartLines {
+    /// No part has been said.
+    pub(crate) fn none() -> PartLines
+        ensures { result ≡ no_lines }
+    {
+        PartLines {
+            starts: None,
+            may: None,
+            scope: None,
+            policy: None,
+            commit: None,
+            delegation: None,
+        }
+    }
+
+    /// Notes that the line of this number, of this form, says its part, if it says one.
+    pub(crate) fn add(&mut self, said: &Form, number: usize)
+        ensures { self.new ≡ with_line said.now number self.old }
+    {
+        match said {
+            Form::Starts(_) => self.starts = Some(number),
+            Form::May(_) => self.may = Some(number),
+            Form::Scope(_) => self.scope = Some(number),
+            Form::Policy(_) => self.policy = Some(number),
+            Form::Commit(_) => self.commit = Some(number),
+            Form::Delegation(_) => self.delegation = Some(number),
+            _ => {}
+        }
+    }
+
+    /// The line that has said the part which a line of this form says.
+    pub(crate) fn line_of(&self, said: &Form) -> Option<usize>
+        ensures { result ≡ part_line said.now self.now }
+    {
+        match said {
+            Form::Starts(_) => self.starts,
+            Form::May(_) => self.may,
+            Form::Scope(_) => self.scope,
+            Form::Policy(_) => self.policy,
+            Form::Commit(_) => self.commit,
+            Form::Delegation(_) => self.delegation,
+            _ => None,
+        }
+    }
+}

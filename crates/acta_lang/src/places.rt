@@ -1,0 +1,255 @@
+//! Where a faulty line is wrong: the place of the word at fault, and what is expected there.
+
+ghost use Rattle.std.specs.Prelude.{◌≡◌, ◌<◌, length, map, not, IfSome};
+ghost use Rattle.std.specs.List.{position_from};
+ghost use Rattle.acta_lang.specs.Faults.{is_printable};
+ghost use Rattle.acta_lang.specs.declared.diagnostic.Expected.TheVariants.{PolicyKinds};
+ghost use Rattle.acta_lang.specs.Places.{bad_class_line, bad_edge, bad_object, bad_policy, bad_word_place, is_edge_end, is_object_kind, may_stand, place_if, place_of, policy_place, stray, stray_byte, word_at};
+ghost use Rattle.acta_lang.specs.inside.Shown.{shown};
+
+use crate::codes::is_plain;
+use crate::diagnostic::Expected;
+use crate::draft::Draft;
+use crate::fault::Code;
+use crate::form::Form;
+use crate::words::{commit_named, dep_named, extent_named, is_start, may_named, scope_named};
+use acta_table::Dep;
+use std::alloc::Allocator;
+
+// The word at this place; none is the empty word.
+fn word_at<'a>(words: &[&'a [u8]], place: usize) -> &'a [u8]
+    ensures { result.now ≡ word_at (map (λ word. word.now) words.now) place }
+{
+    match words.get(place) {
+        Some(word) => word,
+        None => b"".as_slice(),
+    }
+}
+
+// The place, if there is a word.
+fn place_if(words: &[&[u8]], place: usize) -> Option<usize>
+    ensures { result ≡ place_if (map (λ word. word.now) words.now) place }
+{
+    if place < words.len() {
+        Some(place)
+    } else {
+        None
+    }
+}
+
+// Whether a policy may form edges of the kind that the word names.
+fn is_policy_kind(word: &[u8]) -> bool
+    ensures { result ≡ may_stand PolicyKinds word.now }
+{
+    matches!(dep_named(word), Some(Dep::Cd | Dep::Ad | Dep::Wd | Dep::Td))
+}
+
+// Whether the word may stand where this is expected, of what takes any number of words.
+fn may_stand(expected: Expected, word: &[u8]) -> bool
+    ensures { result ≡ may_stand expected word.now }
+{
+    match expected {
+        Expected::Starts => is_start(word),
+        Expected::May => may_named(word).is_some(),
+        Expected::Scope => scope_named(word).is_some(),
+        Expected::Commit => commit_named(word).is_some(),
+        Expected::Delegation => extent_named(word).is_some(),
+        Expected::Kinds => dep_named(word).is_some(),
+        Expected::PolicyKinds => is_policy_kind(word),
+        _ => false,
+    }
+}
+
+// The place of the first of these words that may not stand there.
+fn first_stray(expected: Expected, words: &[&[u8]]) -> Option<usize>
+    ensures first { result ≡ position_from (λ word. not (may_stand expected word.now)) 0 words.now }
+    ensures within { IfSome result (λ place. place < length words.now) }
+{
+    words.iter().position(|word| !may_stand(expected, word))
+}
+
+// The place in the line of the first of the words from this place on that may not stand there, and else 2.
+fn stray(expected: Expected, from: u8, words: &[&[u8]]) -> usize
+    ensures { result ≡ stray expected from (map (λ word. word.now) words.now) }
+{
+    match first_stray(expected, words) {
+        Some(place) => usize::from(from) + place,
+        None => 2,
+    }
+}
+
+fn is_object_kind(word: &[u8]) -> bool
+    ensures { result ≡ is_object_kind word.now }
+{
+    word == b"register".as_slice() || word == b"counter".as_slice() || word == b"set".as_slice()
+}
+
+// The place of an object's line that has no form, and what is expected there.
+fn bad_object(words: &[&[u8]]) -> (usize, Expected)
+    ensures { result ≡ bad_object (map (λ word. word.now) words.now) }
+{
+    let [_, kind, ..] = words else {
+        return (4, Expected::Object);
+    };
+    if !is_object_kind(kind) {
+        (2, Expected::ObjectKind)
+    } else if *kind == b"set".as_slice() {
+        (3, Expected::Object)
+    } else {
+        (4, Expected::Object)
+    }
+}
+
+// The same of a policy's line.
+fn bad_policy(words: &[&[u8]]) -> (usize, Expected)
+    ensures { result ≡ bad_policy (map (λ word. word.now) words.now) }
+{
+    let [word, kinds @ ..] = words else {
+        return (1, Expected::Policy);
+    };
+    if *word == b"depend".as_slice() {
+        (stray(Expected::Kinds, 2, kinds), Expected::Kinds)
+    } else if *word == b"refuse".as_slice() {
+        (2, Expected::Policy)
+    } else {
+        (1, Expected::Policy)
+    }
+}
+
+fn is_edge_end(word: &[u8]) -> bool
+    ensures { result ≡ is_edge_end word.now }
+{
+    word == b"starter".as_slice() || word == b"started".as_slice()
+}
+
+// The same of a line of an edge, of which this is expected: its first end, its kind and its other end.
+fn bad_edge(words: &[&[u8]], end: Expected, kind: Expected, other: Expected) -> (usize, Expected)
+    ensures { result ≡ bad_edge end kind other (map (λ word. word.now) words.now) }
+{
+    let first = word_at(words, 1);
+    let last = word_at(words, 3);
+    if !is_edge_end(first) {
+        (1, end)
+    } else if dep_named(word_at(words, 2)).is_none() {
+        (2, kind)
+    } else if !is_edge_end(last) || first == last {
+        (3, other)
+    } else {
+        (4, other)
+    }
+}
+
+// The same of a line with this first word, and these behind it.
+fn bad_class_line(first: &[u8], words: &[&[u8]]) -> (usize, Expected)
+    ensures { result ≡ bad_class_line first.now (map (λ word. word.now) words.now) }
+{
+    if first == b"starts".as_slice() {
+        (stray(Expected::Starts, 1, words), Expected::Starts)
+    } else if first == b"may".as_slice() {
+        (stray(Expected::May, 1, words), Expected::May)
+    } else if first == b"scope".as_slice() {
+        (stray(Expected::Scope, 1, words), Expected::Scope)
+    } else if first == b"commit".as_slice() {
+        (stray(Expected::Commit, 1, words), Expected::Commit)
+    } else if first == b"delegation".as_slice() {
+        (stray(Expected::Delegation, 1, words), Expected::Delegation)
+    } else if first == b"end".as_slice() {
+        (1, Expected::End)
+    } else {
+        (0, Expected::FirstWord)
+    }
+}
+
+// The place of the word at fault in a line that has no form, and what is expected there.
+fn bad_word(words: &[&[u8]]) -> (usize, Expected)
+    ensures { result ≡ bad_word_place (map (λ word. word.now) words.now) }
+{
+    let [first, rest @ ..] = words else {
+        return (0, Expected::FirstWord);
+    };
+    if *first == b"object".as_slice() {
+        bad_object(rest)
+    } else if *first == b"class".as_slice() {
+        (2, Expected::Class)
+    } else if *first == b"policy".as_slice() {
+        bad_policy(rest)
+    } else if *first == b"spawn".as_slice() {
+        bad_edge(
+            words,
+            Expected::SpawnEnd,
+            Expected::SpawnKind,
+            Expected::SpawnOther,
+        )
+    } else if *first == b"split".as_slice() {
+        bad_edge(
+            words,
+            Expected::SplitEnd,
+            Expected::SplitKind,
+            Expected::SplitOther,
+        )
+    } else {
+        bad_class_line(first, rest)
+    }
+}
+
+// The place of the kind by which no class may depend, or else of that which a policy lacks.
+fn policy_place(words: &[&[u8]]) -> usize
+    ensures { result ≡ policy_place (map (λ word. word.now) words.now) }
+{
+    match words {
+        [_, _, kinds @ ..] => stray(Expected::PolicyKinds, 2, kinds),
+        _ => 2,
+    }
+}
+
+// The offset of the first byte that no line has, if there is one.
+fn first_not_plain(line: &[u8]) -> Option<usize>
+    ensures { result ≡ position_from (λ b. not (is_printable b)) 0 line.now }
+{
+    line.iter().position(|b| !is_plain(*b))
+}
+
+// The same offset, and else 0.
+fn stray_byte(line: &[u8]) -> usize
+    ensures { result ≡ stray_byte line.now }
+{
+    match first_not_plain(line) {
+        Some(place) => place,
+        None => 0,
+    }
+}
+
+/// The place of the word at fault, in a line of these words, of this form, which has this code; and what is expected
+/// there.
+pub(crate) fn place_of<'a, A: Allocator + Copy>(
+    draft: &Draft<'a, A>,
+    line: &[u8],
+    words: &[&[u8]],
+    said: &Form,
+    code: Code,
+) -> (Option<usize>, Expected)
+    ensures { result ≡ place_of (shown draft.now) line.now (map (λ word. word.now) words.now) said.now code }
+{
+    let (place, expected) = match code {
+        Code::NotAscii => return (None, Expected::Printable(stray_byte(line))),
+        Code::BadWord => bad_word(words),
+        Code::BadName => (1, Expected::Name),
+        Code::DuplicateName => (
+            1,
+            if said.is_class() {
+                Expected::NewClass
+            } else {
+                Expected::NewObject
+            },
+        ),
+        Code::WrongPlace => (0, draft.wrongly_placed(said)),
+        Code::BadNumber => (3, Expected::Number),
+        Code::TooMany => (0, Expected::Fewer),
+        Code::MissingEnd => (0, Expected::ClassEnd),
+        Code::MissingPart => (0, draft.lacking()),
+        Code::BeginKindAtStart => (2, Expected::StartKind),
+        Code::HeirWithoutSpawn => (0, Expected::Parents),
+        Code::BadPolicyKind => (policy_place(words), Expected::PolicyKinds),
+    };
+    (place_if(words, place), expected)
+}
