@@ -16,3 +16,4 @@ pub mod Spelled
 pub mod SplitSaid
 pub mod Told
 pub mod WordsLeft
+pub mod WrongPlaces

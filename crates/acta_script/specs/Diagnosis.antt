@@ -1,7 +1,7 @@
 -- Where a line of an event or of a kept item is wrong: its lowest fault, the first word that has this fault, and what is
 -- expected there. By its place each word stands for something, as a transaction or a class. The word has a fault where
 -- it cannot be read so.
-use Rattle.std.specs.Prelude.{ℕ, ◌+◌, Bool, false, ◌==◌, nat_lt, nat_le, List, [], ◌∷◌, length, if◌then◌else◌, Option, Some, None, Result, Ok, Err, ok_or}
+use Rattle.std.specs.Prelude.{◌≡◌, ℕ, ◌<◌, ◌≤◌, ◌+◌, Bool, false, ◌==◌, nat_lt, nat_le, List, [], ◌∷◌, length, if◌then◌else◌, Option, Some, None, Result, Ok, Err, ok_or, option_and_then, slice_get}
 use Rattle.std.specs.List.{list_any, before_first, after_first, position_or_len}
 use Rattle.std.specs.Option.{option_map_or, option_or}
 use Rattle.std.specs.Result.{result_ok, result_err}
@@ -13,6 +13,7 @@ use Rattle.acta_script.specs.declared.diagnosis.Expected.{Expected}
 use Rattle.acta_script.specs.declared.diagnosis.Expected.TheVariants.{Part, EventForm, OperationForm}
 use Rattle.acta_script.specs.declared.diagnosis.LinePart.{LinePart}
 use Rattle.acta_script.specs.declared.diagnosis.LinePart.TheVariants.{Event, Kind, Operation, Transaction, Integer, Operations, Class, Object, Return}
+use Rattle.acta_script.specs.declared.diagnosis.WordPlace.{WordPlace}
 use Rattle.acta_script.specs.declared.diagnosis.WordPlace.TheVariants.{Wrong, Missing}
 use Rattle.acta_script.specs.declared.fault.LineFault.{LineFault}
 use Rattle.acta_script.specs.declared.fault.LineFault.TheVariants.{Empty, Word, Arity, Number, Name}
@@ -57,6 +58,19 @@ wrong_in m parts expected n words =
     option_or (wrong_word m Word n parts words)
     (option_or (wrong_count expected n (length parts) (length words))
     (option_or (wrong_word m Number n parts words) (wrong_word m Name n parts words)))
+
+-- why the place is wrong: its word cannot be read as the part expected there, and has this fault; for a wrong number of
+-- words it is one of the words, or a place after some of them; the first word is missing where there is none
+abbrev pub IsWrongAt : {A : Type 0} → Parts A → List (List ℕ) → LineFault → WordPlace → Expected → Type 0
+IsWrongAt m words Empty place expected = place ≡ Missing 0
+IsWrongAt m words Arity (Wrong n) expected = n < length words
+IsWrongAt m words Arity (Missing n) expected = n ≤ length words
+IsWrongAt m words fault (Wrong n) (Part part) =
+    option_and_then (λ word. fault_of_word m part word) (slice_get words n) ≡ Some fault
+IsWrongAt m words fault place expected = ⊥
+
+abbrev pub IsWrong : {A : Type 0} → Parts A → List (List ℕ) → Diagnostic → Type 0
+IsWrong m words d = IsWrongAt m words d.fault d.place d.expected
 
 -- the operation that the words after a `do` name, if they get that far and name one
 abbrev pub op_kind_in : List (List ℕ) → Option OpKind

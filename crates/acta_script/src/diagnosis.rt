@@ -1,9 +1,9 @@
 //! Where a line of an event or of a kept item is wrong, and what is expected there.
 
-ghost use Rattle.std.specs.Prelude.{◌≡◌, ◌<◌, ◌≤◌, ◌+◌, ◌^◌, length, map, option_map, IfOk};
+ghost use Rattle.std.specs.Prelude.{◌≡◌, ◌<◌, ◌≤◌, ◌+◌, ◌^◌, length, map, option_map, IfOk, IfSome};
 ghost use Rattle.std.specs.Result.{result_err};
 ghost use Rattle.acta_words.specs.Text.{words_of};
-ghost use Rattle.acta_script.specs.Diagnosis.{fault_of_word, is_fault, wrong_word, wrong_count, wrong_in, op_kind_in, operation_parts, parts_of, form_of, wrong_behind, wrong_event, wrong_return, lower_of, wrong_kept};
+ghost use Rattle.acta_script.specs.Diagnosis.{IsWrong, fault_of_word, is_fault, wrong_word, wrong_count, wrong_in, op_kind_in, operation_parts, parts_of, form_of, wrong_behind, wrong_event, wrong_return, lower_of, wrong_kept};
 ghost use Rattle.acta_script.specs.Reading.{operations_said, event_said, return_said, kept_said, event_of, kept_of};
 
 use crate::fault::{LineError, LineFault};
@@ -350,6 +350,7 @@ pub fn diagnose_event<A: Allocator + Copy>(
 ) -> Result<Option<Diagnostic>, AllocError>
     ensures found { IfOk result (λ found. found ≡ wrong_event model.now (words_of line.now)) }
     ensures fault { IfOk result (λ found. option_map (λ d. d.fault) found ≡ result_err (event_of model.now line.now)) }
+    ensures wrong { IfOk result (λ found. IfSome found (IsWrong model.now (words_of line.now))) }
 {
     let words = words_of(alloc, line)?;
     wrong_event(alloc, model, &words)
@@ -365,6 +366,7 @@ pub fn diagnose_kept<A: Allocator + Copy>(
 ) -> Result<Option<Diagnostic>, AllocError>
     ensures found { IfOk result (λ found. found ≡ wrong_kept model.now (words_of line.now)) }
     ensures fault { IfOk result (λ found. option_map (λ d. d.fault) found ≡ result_err (kept_of model.now line.now)) }
+    ensures wrong { IfOk result (λ found. IfSome found (IsWrong model.now (words_of line.now))) }
 {
     let words = words_of(alloc, line)?;
     wrong_kept(alloc, model, &words)
