@@ -1,6 +1,6 @@
 -- Examples: what the definitions make of some texts, with faults and without.
 use Rattle.std.specs.Fmt.{digits}
-use Rattle.std.specs.Prelude.{ℕ, List, [], ◌∷◌, ◌++◌, codes, replicate, Some, None, Result, Ok, Err, ◌≡◌, refl, neg_ℤ, pos, true, false}
+use Rattle.std.specs.Prelude.{ℕ, List, [], ◌∷◌, ◌++◌, codes, replicate, Option, Some, None, Result, Ok, Err, ◌≡◌, refl, neg_ℤ, pos, true, false}
 use Rattle.acta_table.specs.declared.dep.Dep.{Dep}
 use Rattle.acta_table.specs.declared.dep.Dep.TheVariants.{Cd, Wd}
 use Rattle.acta_table.specs.declared.model.AtCommit.TheVariants.{Keeps, ToParent}
@@ -17,12 +17,16 @@ use Rattle.acta_table.specs.declared.start_edges.Dependent.TheVariants.{Starter,
 use Rattle.acta_table.specs.declared.start_edges.StartEdge.{StartEdge}
 use Rattle.acta_table.specs.declared.limits.TheConstants.{MOST_CLASSES, MOST_OBJECTS}
 use Rattle.acta_words.specs.Text.{text_of}
+use Rattle.acta_lang.specs.declared.diagnostic.Expected.{Expected}
+use Rattle.acta_lang.specs.declared.diagnostic.Expected.TheVariants as want
 use Rattle.acta_lang.specs.declared.fault.AsmFault.{AsmFault}
 use Rattle.acta_lang.specs.declared.fault.Code.{Code}
 use Rattle.acta_lang.specs.declared.fault.Code.TheVariants.{NotAscii, BadWord, BadName, DuplicateName, WrongPlace, BadNumber, TooMany, MissingEnd, MissingPart, BeginKindAtStart, HeirWithoutSpawn, BadPolicyKind}
 use Rattle.acta_lang.specs.Canonical.{canonical, may_words}
+use Rattle.acta_lang.specs.Diagnostics.{Diagnostic, diagnosed}
 use Rattle.acta_lang.specs.Drafts.{Draft, extended}
 use Rattle.acta_lang.specs.Faults.{not_ascii, bad_word, bad_name, duplicate_name, wrong_place, bad_number, too_many, missing_end, missing_part, begin_kind_at_start, heir_without_spawn, bad_policy_kind, code_at}
+use Rattle.acta_lang.specs.Lines.{ClassAt, begun, no_lines}
 use Rattle.acta_lang.specs.Meaning.{meaning, meaning_behind}
 
 -- a model, or a fault; which allocator there is makes no difference
@@ -317,3 +321,56 @@ bad_object_more = refl
 one_class_more : code_at many true (codes "class x") ≡ Some TooMany
 unfolding meaning_behind extended not_ascii bad_word bad_name duplicate_name wrong_place bad_number too_many missing_end missing_part begin_kind_at_start heir_without_spawn bad_policy_kind
 one_class_more = refl
+
+-- ---- where a text is wrong
+
+-- the place of the word at fault, what is expected there, the earlier line and the class that is open
+abbrev Told : Type 0
+Told = Option (Option ℕ × (Expected × (Option ℕ × Option ClassAt)))
+
+abbrev told_of : Option Diagnostic → Told
+told_of None = None
+told_of (Some d) = Some (d.place, (d.expected, (d.earlier, d.class)))
+
+abbrev told : List (List ℕ) → Told
+told lines = told_of (diagnosed (Unit {0}) (text_of lines))
+
+-- the kind of an object, a word too many, and a word that lacks
+no_object_kind : told (codes "object x list" ∷ []) ≡ Some (Some 2, (want.ObjectKind, (None, None)))
+unfolding meaning_behind extended not_ascii bad_word bad_name duplicate_name wrong_place bad_number too_many missing_end missing_part begin_kind_at_start heir_without_spawn bad_policy_kind
+no_object_kind = refl
+
+too_many_words : told (codes "object x set 1" ∷ []) ≡ Some (Some 3, (want.Object, (None, None)))
+unfolding meaning_behind extended not_ascii bad_word bad_name duplicate_name wrong_place bad_number too_many missing_end missing_part begin_kind_at_start heir_without_spawn bad_policy_kind
+too_many_words = refl
+
+lacks_a_word : told (codes "object x register" ∷ []) ≡ Some (None, (want.Object, (None, None)))
+unfolding meaning_behind extended not_ascii bad_word bad_name duplicate_name wrong_place bad_number too_many missing_end missing_part begin_kind_at_start heir_without_spawn bad_policy_kind
+lacks_a_word = refl
+
+-- the first line that declares the name
+named_before : told (codes "object y set" ∷ codes "# x" ∷ codes "object x set" ∷ codes "object x counter 0" ∷ []) ≡ Some (Some 1, (want.NewObject, (Some 3, None)))
+unfolding meaning_behind extended not_ascii bad_word bad_name duplicate_name wrong_place bad_number too_many missing_end missing_part begin_kind_at_start heir_without_spawn bad_policy_kind
+named_before = refl
+
+-- the line that has said the part, of the class that is open
+said_before : told (codes "class a" ∷ codes "may" ∷ codes "starts begin" ∷ codes "starts" ∷ [])
+    ≡ Some (Some 0, (want.Once, (Some 3, Some (record { name = codes "a"; line = 1; parts = record no_lines { starts = Some 3; may = Some 2 } }))))
+unfolding meaning_behind extended not_ascii bad_word bad_name duplicate_name wrong_place bad_number too_many missing_end missing_part begin_kind_at_start heir_without_spawn bad_policy_kind
+said_before = refl
+
+-- a class that ends without a part, behind a class that is closed
+lacks_a_part : told (codes "class a" ∷ codes "starts begin" ∷ codes "may operate commit" ∷ codes "scope others" ∷ codes "policy refuse" ∷ codes "commit keeps" ∷ codes "delegation whole" ∷ codes "end" ∷ codes "class b" ∷ codes "scope others" ∷ codes "end" ∷ [])
+    ≡ Some (Some 0, (want.AllParts, (None, Some (record { name = codes "b"; line = 9; parts = record no_lines { scope = Some 10 } }))))
+unfolding meaning_behind extended not_ascii bad_word bad_name duplicate_name wrong_place bad_number too_many missing_end missing_part begin_kind_at_start heir_without_spawn bad_policy_kind
+lacks_a_part = refl
+
+-- a class that the last line begins
+begun_last : told (codes "object x set" ∷ codes "class a" ∷ []) ≡ Some (Some 0, (want.ClassEnd, (None, Some (begun (codes "a") 2))))
+unfolding meaning_behind extended not_ascii bad_word bad_name duplicate_name wrong_place bad_number too_many missing_end missing_part begin_kind_at_start heir_without_spawn bad_policy_kind
+begun_last = refl
+
+-- no text without a fault has a diagnostic
+none_told : told (codes "class a" ∷ codes "starts begin" ∷ codes "may operate commit" ∷ codes "scope others" ∷ codes "policy refuse" ∷ codes "commit keeps" ∷ codes "delegation whole" ∷ codes "end" ∷ []) ≡ None
+unfolding meaning_behind extended not_ascii bad_word bad_name duplicate_name wrong_place bad_number too_many missing_end missing_part begin_kind_at_start heir_without_spawn bad_policy_kind
+none_told = refl

@@ -9,7 +9,8 @@ ghost use Rattle.acta_lang.specs.Words.{start_words};
 
 use crate::form::Form;
 use crate::words::{
-    commit_named, dep_named, extent_named, is_among, is_start, may_named, scope_named,
+    BEGIN, SPAWNED, SPLIT, STARTED, STARTER, commit_named, dep_named, extent_named, is_among,
+    is_start, may_named, scope_named,
 };
 use acta_table::{Dependent, Kinds, StartEdge, Starts};
 
@@ -27,9 +28,9 @@ pub(crate) fn starts_form(words: &[&[u8]]) -> Form
         return Form::Unknown;
     }
     Form::Starts(Starts {
-        begin: is_among(words, b"begin".as_slice()),
-        spawned: is_among(words, b"spawned".as_slice()),
-        split: is_among(words, b"split".as_slice()),
+        begin: is_among(words, BEGIN.as_bytes()),
+        spawned: is_among(words, SPAWNED.as_bytes()),
+        split: is_among(words, SPLIT.as_bytes()),
     })
 }
 
@@ -90,9 +91,9 @@ pub(crate) fn delegation_form(words: &[&[u8]]) -> Form
 fn dependent_named(j: &[u8], i: &[u8]) -> Option<Dependent>
     ensures { result ≡ dependent_named j.now i.now }
 {
-    if j == b"starter".as_slice() && i == b"started".as_slice() {
+    if j == STARTER.as_bytes() && i == STARTED.as_bytes() {
         Some(Dependent::Starter)
-    } else if j == b"started".as_slice() && i == b"starter".as_slice() {
+    } else if j == STARTED.as_bytes() && i == STARTER.as_bytes() {
         Some(Dependent::Started)
     } else {
         None

@@ -5,7 +5,10 @@ ghost use Rattle.acta_table.specs.Dependencies.{word_of};
 ghost use Rattle.acta_lang.specs.Canonical.{class_words, dep_words, edge_words, may_words, policy_words, starts_words, word_if};
 ghost use Rattle.acta_lang.specs.inside.Written.{rest_lines, spaced, start_lines, written};
 
-use crate::words::{MAY, commit_word, extent_word, may_word, scope_word};
+use crate::words::{
+    BEGIN, CLASS, COMMIT, DELEGATION, DEPEND, MAY, MAY_KINDS, POLICY, REFUSE, SCOPE, SPAWN,
+    SPAWNED, SPLIT, STARTED, STARTER, STARTS, commit_word, extent_word, may_word, scope_word,
+};
 use acta_table::{Class, Dep, DepKinds, Dependent, Kinds, Policy, StartEdge, Starts};
 use acta_words::push_word;
 use std::alloc::{AllocError, Allocator};
@@ -40,10 +43,10 @@ fn push_word_if<A: Allocator>(
 fn push_starts<A: Allocator>(text: &mut Vec<u8, A>, starts: Starts) -> Result<(), AllocError>
     ensures { OnOk result (text.new.items ≡ text.old.items ++ written ((codes "starts" ∷ starts_words starts) ∷ [])) }
 {
-    text.extend_from_slice(b"starts".as_slice())?;
-    push_word_if(text, starts.begin, b"begin".as_slice())?;
-    push_word_if(text, starts.spawned, b"spawned".as_slice())?;
-    push_word_if(text, starts.split, b"split".as_slice())?;
+    text.extend_from_slice(STARTS.as_bytes())?;
+    push_word_if(text, starts.begin, BEGIN.as_bytes())?;
+    push_word_if(text, starts.spawned, SPAWNED.as_bytes())?;
+    push_word_if(text, starts.split, SPLIT.as_bytes())?;
     text.push(b'\n')?;
     Ok(())
 }
@@ -51,7 +54,7 @@ fn push_starts<A: Allocator>(text: &mut Vec<u8, A>, starts: Starts) -> Result<()
 fn push_may_words<A: Allocator>(text: &mut Vec<u8, A>, kinds: Kinds) -> Result<(), AllocError>
     ensures { OnOk result (text.new.items ≡ text.old.items ++ spaced (may_words kinds)) }
 {
-    for kind in MAY {
+    for kind in MAY_KINDS {
         push_word_if(text, kinds.has(kind), may_word(kind).as_bytes())?;
     }
     Ok(())
@@ -60,7 +63,7 @@ fn push_may_words<A: Allocator>(text: &mut Vec<u8, A>, kinds: Kinds) -> Result<(
 fn push_may<A: Allocator>(text: &mut Vec<u8, A>, kinds: Kinds) -> Result<(), AllocError>
     ensures { OnOk result (text.new.items ≡ text.old.items ++ written ((codes "may" ∷ may_words kinds) ∷ [])) }
 {
-    text.extend_from_slice(b"may".as_slice())?;
+    text.extend_from_slice(MAY.as_bytes())?;
     push_may_words(text, kinds)?;
     text.push(b'\n')?;
     Ok(())
@@ -79,9 +82,9 @@ fn push_policy_words<A: Allocator>(text: &mut Vec<u8, A>, policy: Policy) -> Res
     ensures { OnOk result (text.new.items ≡ text.old.items ++ spaced (policy_words policy)) }
 {
     match policy {
-        Policy::Refuse => push_word(text, b"refuse".as_slice())?,
+        Policy::Refuse => push_word(text, REFUSE.as_bytes())?,
         Policy::Depend(kinds) => {
-            push_word(text, b"depend".as_slice())?;
+            push_word(text, DEPEND.as_bytes())?;
             push_dep_words(text, kinds)?;
         }
     }
@@ -91,7 +94,7 @@ fn push_policy_words<A: Allocator>(text: &mut Vec<u8, A>, policy: Policy) -> Res
 fn push_policy<A: Allocator>(text: &mut Vec<u8, A>, policy: Policy) -> Result<(), AllocError>
     ensures { OnOk result (text.new.items ≡ text.old.items ++ written ((codes "policy" ∷ policy_words policy) ∷ [])) }
 {
-    text.extend_from_slice(b"policy".as_slice())?;
+    text.extend_from_slice(POLICY.as_bytes())?;
     push_policy_words(text, policy)?;
     text.push(b'\n')?;
     Ok(())
@@ -122,8 +125,8 @@ fn push_edge<A: Allocator>(
 ) -> Result<(), AllocError>
     ensures { OnOk result (text.new.items ≡ text.old.items ++ written (edge_words at.now edge.now ∷ [])) }
 {
-    let starter = b"starter".as_slice();
-    let started = b"started".as_slice();
+    let starter = STARTER.as_bytes();
+    let started = STARTED.as_bytes();
     match edge.dependent {
         Dependent::Starter => push_directed(text, at, starter, edge.kind, started),
         Dependent::Started => push_directed(text, at, started, edge.kind, starter),
@@ -148,14 +151,10 @@ fn push_edges<A: Allocator>(
 fn push_start<A: Allocator>(text: &mut Vec<u8, A>, class: &Class<A>) -> Result<(), AllocError>
     ensures { OnOk result (text.new.items ≡ text.old.items ++ written (start_lines class.now)) }
 {
-    push_pair(text, b"class".as_slice(), class.name.as_slice())?;
+    push_pair(text, CLASS.as_bytes(), class.name.as_slice())?;
     push_starts(text, class.starts)?;
     push_may(text, class.may)?;
-    push_pair(
-        text,
-        b"scope".as_slice(),
-        scope_word(class.scope).as_bytes(),
-    )?;
+    push_pair(text, SCOPE.as_bytes(), scope_word(class.scope).as_bytes())?;
     Ok(())
 }
 
@@ -166,12 +165,12 @@ fn push_rest<A: Allocator>(text: &mut Vec<u8, A>, class: &Class<A>) -> Result<()
     push_policy(text, class.policy)?;
     push_pair(
         text,
-        b"commit".as_slice(),
+        COMMIT.as_bytes(),
         commit_word(class.at_commit).as_bytes(),
     )?;
     push_pair(
         text,
-        b"delegation".as_slice(),
+        DELEGATION.as_bytes(),
         extent_word(class.extent).as_bytes(),
     )?;
     Ok(())
@@ -186,8 +185,8 @@ pub(crate) fn push_class<A: Allocator>(
 {
     push_start(text, class)?;
     push_rest(text, class)?;
-    push_edges(text, b"spawn".as_slice(), class.spawn_edges.as_slice())?;
-    push_edges(text, b"split".as_slice(), class.split_edges.as_slice())?;
+    push_edges(text, SPAWN.as_bytes(), class.spawn_edges.as_slice())?;
+    push_edges(text, SPLIT.as_bytes(), class.split_edges.as_slice())?;
     text.extend_from_slice(b"end\n".as_slice())?;
     Ok(())
 }

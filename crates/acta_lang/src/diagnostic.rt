@@ -1,12 +1,14 @@
 //! Where a text is wrong: the line and its code, the word at fault, what is expected in its place, and the earlier lines
 //! that the fault has to do with.
 
-ghost use Rattle.std.specs.Prelude.{◌≡◌};
+ghost use Rattle.std.specs.Prelude.{◌≡◌, map};
 ghost use Rattle.acta_lang.specs.Diagnostics.{asm_error_of};
+ghost use Rattle.acta_lang.specs.Places.{meant_words};
 ghost use Rattle.acta_lang.specs.declared.diagnostic.ReadError.TheVariants.{Memory};
 
 use crate::fault::{AsmError, AsmFault, Code};
 use crate::parts::PartLines;
+use crate::words::meant_words;
 use std::alloc::{AllocError, AllocFailed};
 
 /// What is expected in the place of the word at fault.
@@ -78,6 +80,16 @@ pub enum Expected {
     Parents,
     /// The kinds of dependency by which a class may depend, and one at least.
     PolicyKinds,
+}
+
+impl Expected {
+    /// The words of the language that can stand in the place of the word at fault, where that is none of the language's
+    /// words for this place. Empty where it is a name, a number, or one of those words in a line where it is not allowed.
+    pub fn words(self) -> &'static [&'static str]
+        ensures { map (λ word. word.now) result.now ≡ meant_words self }
+    {
+        meant_words(self)
+    }
 }
 
 /// A class that is open, and its lines so far.

@@ -8,6 +8,10 @@ use crate::class_forms::{
 };
 use crate::form::Form;
 use crate::policy_forms::policy_form;
+use crate::words::{
+    CLASS, COMMIT, COUNTER, DELEGATION, END, MAY, OBJECT, POLICY, REGISTER, SCOPE, SET, SPAWN,
+    SPLIT, STARTS,
+};
 
 // NAME register INT, NAME counter INT, NAME set
 fn object_form(words: &[&[u8]]) -> Form
@@ -15,16 +19,16 @@ fn object_form(words: &[&[u8]]) -> Form
 {
     match words {
         [_, kind] => {
-            if *kind == b"set".as_slice() {
+            if *kind == SET.as_bytes() {
                 Form::Elements
             } else {
                 Form::Unknown
             }
         }
         [_, kind, _] => {
-            if *kind == b"register".as_slice() {
+            if *kind == REGISTER.as_bytes() {
                 Form::Register
-            } else if *kind == b"counter".as_slice() {
+            } else if *kind == COUNTER.as_bytes() {
                 Form::Counter
             } else {
                 Form::Unknown
@@ -78,21 +82,21 @@ fn end_form(words: &[&[u8]]) -> Form
 fn form_in_class(first: &[u8], rest: &[&[u8]]) -> Form
     ensures { result ≡ form_in_class first.now (map (λ word. word.now) rest.now) }
 {
-    if first == b"starts".as_slice() {
+    if first == STARTS.as_bytes() {
         starts_form(rest)
-    } else if first == b"may".as_slice() {
+    } else if first == MAY.as_bytes() {
         may_form(rest)
-    } else if first == b"scope".as_slice() {
+    } else if first == SCOPE.as_bytes() {
         scope_form(rest)
-    } else if first == b"policy".as_slice() {
+    } else if first == POLICY.as_bytes() {
         policy_form(rest)
-    } else if first == b"commit".as_slice() {
+    } else if first == COMMIT.as_bytes() {
         commit_form(rest)
-    } else if first == b"delegation".as_slice() {
+    } else if first == DELEGATION.as_bytes() {
         delegation_form(rest)
-    } else if first == b"spawn".as_slice() {
+    } else if first == SPAWN.as_bytes() {
         spawn_form(rest)
-    } else if first == b"split".as_slice() {
+    } else if first == SPLIT.as_bytes() {
         split_form(rest)
     } else {
         Form::Unknown
@@ -106,11 +110,11 @@ pub(crate) fn form_of(words: &[&[u8]]) -> Form
     let [first, rest @ ..] = words else {
         return Form::Blank;
     };
-    if *first == b"object".as_slice() {
+    if *first == OBJECT.as_bytes() {
         object_form(rest)
-    } else if *first == b"class".as_slice() {
+    } else if *first == CLASS.as_bytes() {
         class_form(rest)
-    } else if *first == b"end".as_slice() {
+    } else if *first == END.as_bytes() {
         end_form(rest)
     } else {
         form_in_class(first, rest)

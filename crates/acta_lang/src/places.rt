@@ -12,7 +12,11 @@ use crate::diagnostic::Expected;
 use crate::draft::Draft;
 use crate::fault::Code;
 use crate::form::Form;
-use crate::words::{commit_named, dep_named, extent_named, is_start, may_named, scope_named};
+use crate::words::{
+    CLASS, COMMIT, COUNTER, DELEGATION, DEPEND, END, MAY, OBJECT, POLICY, REFUSE, REGISTER, SCOPE,
+    SET, SPAWN, SPLIT, STARTED, STARTER, STARTS, commit_named, dep_named, extent_named, is_start,
+    may_named, scope_named,
+};
 use acta_table::Dep;
 use std::alloc::Allocator;
 
@@ -81,7 +85,7 @@ fn stray(expected: Expected, from: u8, words: &[&[u8]]) -> usize
 fn is_object_kind(word: &[u8]) -> bool
     ensures { result ≡ is_object_kind word.now }
 {
-    word == b"register".as_slice() || word == b"counter".as_slice() || word == b"set".as_slice()
+    word == REGISTER.as_bytes() || word == COUNTER.as_bytes() || word == SET.as_bytes()
 }
 
 // The place of an object's line that has no form, and what is expected there.
@@ -93,7 +97,7 @@ fn bad_object(words: &[&[u8]]) -> (usize, Expected)
     };
     if !is_object_kind(kind) {
         (2, Expected::ObjectKind)
-    } else if *kind == b"set".as_slice() {
+    } else if *kind == SET.as_bytes() {
         (3, Expected::Object)
     } else {
         (4, Expected::Object)
@@ -107,9 +111,9 @@ fn bad_policy(words: &[&[u8]]) -> (usize, Expected)
     let [word, kinds @ ..] = words else {
         return (1, Expected::Policy);
     };
-    if *word == b"depend".as_slice() {
+    if *word == DEPEND.as_bytes() {
         (stray(Expected::Kinds, 2, kinds), Expected::Kinds)
-    } else if *word == b"refuse".as_slice() {
+    } else if *word == REFUSE.as_bytes() {
         (2, Expected::Policy)
     } else {
         (1, Expected::Policy)
@@ -119,7 +123,7 @@ fn bad_policy(words: &[&[u8]]) -> (usize, Expected)
 fn is_edge_end(word: &[u8]) -> bool
     ensures { result ≡ is_edge_end word.now }
 {
-    word == b"starter".as_slice() || word == b"started".as_slice()
+    word == STARTER.as_bytes() || word == STARTED.as_bytes()
 }
 
 // The same of a line of an edge, of which this is expected: its first end, its kind and its other end.
@@ -143,17 +147,17 @@ fn bad_edge(words: &[&[u8]], end: Expected, kind: Expected, other: Expected) -> 
 fn bad_class_line(first: &[u8], words: &[&[u8]]) -> (usize, Expected)
     ensures { result ≡ bad_class_line first.now (map (λ word. word.now) words.now) }
 {
-    if first == b"starts".as_slice() {
+    if first == STARTS.as_bytes() {
         (stray(Expected::Starts, 1, words), Expected::Starts)
-    } else if first == b"may".as_slice() {
+    } else if first == MAY.as_bytes() {
         (stray(Expected::May, 1, words), Expected::May)
-    } else if first == b"scope".as_slice() {
+    } else if first == SCOPE.as_bytes() {
         (stray(Expected::Scope, 1, words), Expected::Scope)
-    } else if first == b"commit".as_slice() {
+    } else if first == COMMIT.as_bytes() {
         (stray(Expected::Commit, 1, words), Expected::Commit)
-    } else if first == b"delegation".as_slice() {
+    } else if first == DELEGATION.as_bytes() {
         (stray(Expected::Delegation, 1, words), Expected::Delegation)
-    } else if first == b"end".as_slice() {
+    } else if first == END.as_bytes() {
         (1, Expected::End)
     } else {
         (0, Expected::FirstWord)
@@ -167,20 +171,20 @@ fn bad_word(words: &[&[u8]]) -> (usize, Expected)
     let [first, rest @ ..] = words else {
         return (0, Expected::FirstWord);
     };
-    if *first == b"object".as_slice() {
+    if *first == OBJECT.as_bytes() {
         bad_object(rest)
-    } else if *first == b"class".as_slice() {
+    } else if *first == CLASS.as_bytes() {
         (2, Expected::Class)
-    } else if *first == b"policy".as_slice() {
+    } else if *first == POLICY.as_bytes() {
         bad_policy(rest)
-    } else if *first == b"spawn".as_slice() {
+    } else if *first == SPAWN.as_bytes() {
         bad_edge(
             words,
             Expected::SpawnEnd,
             Expected::SpawnKind,
             Expected::SpawnOther,
         )
-    } else if *first == b"split".as_slice() {
+    } else if *first == SPLIT.as_bytes() {
         bad_edge(
             words,
             Expected::SplitEnd,

@@ -4,7 +4,7 @@ ghost use Rattle.std.specs.Prelude.{◌≡◌, map};
 ghost use Rattle.acta_lang.specs.Forms.{policy_form, depend_form};
 
 use crate::form::Form;
-use crate::words::dep_named;
+use crate::words::{DEPEND, REFUSE, dep_named};
 use acta_table::{DepKinds, Policy};
 
 // [KIND]...
@@ -28,9 +28,9 @@ pub(crate) fn policy_form(words: &[&[u8]]) -> Form
     let [word, kinds @ ..] = words else {
         return Form::Unknown;
     };
-    if *word == b"refuse".as_slice() && kinds.is_empty() {
+    if *word == REFUSE.as_bytes() && kinds.is_empty() {
         Form::Policy(Policy::Refuse)
-    } else if *word == b"depend".as_slice() {
+    } else if *word == DEPEND.as_bytes() {
         depend_form(kinds)
     } else {
         Form::Unknown

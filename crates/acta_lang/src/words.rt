@@ -8,8 +8,50 @@ ghost use Rattle.acta_lang.specs.Words.{start_words, may_word, may_named, dep_na
 use crate::diagnostic::Expected;
 use acta_table::{AtCommit, Dep, EventKind, Extent, Scope};
 
+// The words with which lines begin. Some of them stand elsewhere too.
+pub(crate) const OBJECT: &str = "object";
+
+pub(crate) const CLASS: &str = "class";
+
+pub(crate) const STARTS: &str = "starts";
+
+pub(crate) const MAY: &str = "may";
+
+pub(crate) const SCOPE: &str = "scope";
+
+pub(crate) const POLICY: &str = "policy";
+
+pub(crate) const COMMIT: &str = "commit";
+
+pub(crate) const DELEGATION: &str = "delegation";
+
+pub(crate) const SPAWN: &str = "spawn";
+
+pub(crate) const SPLIT: &str = "split";
+
+pub(crate) const END: &str = "end";
+
+// Other words of lines.
+pub(crate) const REGISTER: &str = "register";
+
+pub(crate) const COUNTER: &str = "counter";
+
+pub(crate) const SET: &str = "set";
+
+pub(crate) const BEGIN: &str = "begin";
+
+pub(crate) const SPAWNED: &str = "spawned";
+
+pub(crate) const REFUSE: &str = "refuse";
+
+pub(crate) const DEPEND: &str = "depend";
+
+pub(crate) const STARTER: &str = "starter";
+
+pub(crate) const STARTED: &str = "started";
+
 /// The kinds of event that a class may do, by code.
-pub(crate) const MAY: [EventKind; 9] = [
+pub(crate) const MAY_KINDS: [EventKind; 9] = [
     EventKind::Spawn,
     EventKind::Split,
     EventKind::Join,
@@ -32,7 +74,7 @@ pub(crate) fn is_among(words: &[&[u8]], word: &[u8]) -> bool
 pub(crate) fn is_start(word: &[u8]) -> bool
     ensures { result ≡ is_word_among start_words word.now }
 {
-    word == b"begin".as_slice() || word == b"spawned".as_slice() || word == b"split".as_slice()
+    word == BEGIN.as_bytes() || word == SPAWNED.as_bytes() || word == SPLIT.as_bytes()
 }
 
 /// The word of a kind of event.
@@ -57,7 +99,8 @@ pub(crate) fn may_word(kind: EventKind) -> &'static str
 pub(crate) fn may_named(word: &[u8]) -> Option<EventKind>
     ensures { result ≡ may_named word.now }
 {
-    MAY.iter()
+    MAY_KINDS
+        .iter()
         .copied()
         .find(|kind| word == may_word(*kind).as_bytes())
 }
@@ -134,17 +177,7 @@ pub(crate) fn extent_named(word: &[u8]) -> Option<Extent>
 
 // The words with which lines begin.
 const FIRST_WORDS: [&str; 11] = [
-    "object",
-    "class",
-    "starts",
-    "may",
-    "scope",
-    "policy",
-    "commit",
-    "delegation",
-    "spawn",
-    "split",
-    "end",
+    OBJECT, CLASS, STARTS, MAY, SCOPE, POLICY, COMMIT, DELEGATION, SPAWN, SPLIT, END,
 ];
 
 // The words of the kinds of event that a class may do, by code.
@@ -157,24 +190,21 @@ const KIND_WORDS: [&str; 12] = [
     "CD", "SCD", "AD", "WD", "TD", "ED", "CMD", "BD", "SD", "BCD", "BAD", "WCD",
 ];
 
-impl Expected {
-    /// The words of the language that can stand in the place of the word at fault, where that is none of the language's
-    /// words for this place. Empty where it is a name, a number, or one of those words in a line where it is not allowed.
-    pub fn words(self) -> &'static [&'static str]
-        ensures { map (λ word. word.now) result.now ≡ meant_words self }
-    {
-        match self {
-            Expected::FirstWord => &FIRST_WORDS,
-            Expected::ObjectKind => &["register", "counter", "set"],
-            Expected::Starts => &["begin", "spawned", "split"],
-            Expected::May => &MAY_WORDS,
-            Expected::Scope => &["others", "nonancestors"],
-            Expected::Policy => &["refuse", "depend"],
-            Expected::Commit => &["keeps", "toparent"],
-            Expected::Delegation => &["whole", "any"],
-            Expected::SpawnEnd | Expected::SplitEnd => &["starter", "started"],
-            Expected::Kinds | Expected::SpawnKind | Expected::SplitKind => &KIND_WORDS,
-            _ => &[],
-        }
+/// The words of the language that can stand in the place of a word that is none of them.
+pub(crate) fn meant_words(expected: Expected) -> &'static [&'static str]
+    ensures { map (λ word. word.now) result.now ≡ meant_words expected }
+{
+    match expected {
+        Expected::FirstWord => &FIRST_WORDS,
+        Expected::ObjectKind => &[REGISTER, COUNTER, SET],
+        Expected::Starts => &[BEGIN, SPAWNED, SPLIT],
+        Expected::May => &MAY_WORDS,
+        Expected::Scope => &["others", "nonancestors"],
+        Expected::Policy => &[REFUSE, DEPEND],
+        Expected::Commit => &["keeps", "toparent"],
+        Expected::Delegation => &["whole", "any"],
+        Expected::SpawnEnd | Expected::SplitEnd => &[STARTER, STARTED],
+        Expected::Kinds | Expected::SpawnKind | Expected::SplitKind => &KIND_WORDS,
+        _ => &[],
     }
 }

@@ -16,6 +16,6 @@ returns g c =
     (lines_more old _ _ (start ++ rest ++ spawns) splits
     (lines_more old _ _ (start ++ rest) spawns
     (lines_more old _ _ start rest c.in_ok-push_start.ensures c.in_ok-push_rest.ensures)
-    (c.in_ok-push_edges.ensures ∙ (λ i. c.push_rest.new.text.items ++ written (map (edge_words (c.as_slice.ensures i)) (c.as_slice-2.ensures.items i)))))
-    (c.in_ok-push_edges-2.ensures ∙ (λ i. c.push_edges.new.text.items ++ written (map (edge_words (c.as_slice-3.ensures i)) (c.as_slice-4.ensures.items i)))))
-    (c.in_ok-extend_from_slice.ensures.items ∙ ap (λ w. c.push_edges-2.new.text.items ++ w) c.as_slice-5.ensures)
+    (c.in_ok-push_edges.ensures ∙ (λ i. c.push_rest.new.text.items ++ written (map (edge_words (c.as_bytes.ensures.value i)) (c.as_slice.ensures.items i)))))
+    (c.in_ok-push_edges-2.ensures ∙ (λ i. c.push_edges.new.text.items ++ written (map (edge_words (c.as_bytes-2.ensures.value i)) (c.as_slice-2.ensures.items i)))))
+    (c.in_ok-extend_from_slice.ensures.items ∙ ap (λ w. c.push_edges-2.new.text.items ++ w) c.as_slice-3.ensures)

@@ -6,4 +6,4 @@ use Rattle.acta_lang.proofs.class_lines.push_policy.Goals as goal
 pub returns : goal.returns
 returns g c =
     let old = c.args.text.now.items in
-    line_pieces old (codes "policy") (policy_words c.args.policy) _ _ _ (c.in_ok-extend_from_slice.ensures.items ∙ ap (λ w. old ++ w) c.as_slice.ensures) c.in_ok-push_policy_words.ensures c.in_ok-push.ensures.items
+    line_pieces old (codes "policy") (policy_words c.args.policy) _ _ _ (c.in_ok-extend_from_slice.ensures.items ∙ ap (λ w. old ++ w) c.as_bytes.ensures.value) c.in_ok-push_policy_words.ensures c.in_ok-push.ensures.items

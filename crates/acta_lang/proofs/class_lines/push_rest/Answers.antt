@@ -15,5 +15,5 @@ returns g c =
     lines_more old _ _ (policy ∷ commit ∷ []) (extent ∷ [])
     (lines_more old _ _ (policy ∷ []) (commit ∷ [])
     c.in_ok-push_policy.ensures
-    (c.in_ok-push_pair.ensures ∙ (λ i. c.push_policy.new.text.items ++ written ((c.as_slice.ensures i ∷ (c.as_bytes.ensures.value ∙ c.commit_word.ensures) i ∷ []) ∷ []))))
-    (c.in_ok-push_pair-2.ensures ∙ (λ i. c.push_pair.new.text.items ++ written ((c.as_slice-2.ensures i ∷ (c.as_bytes-2.ensures.value ∙ c.extent_word.ensures) i ∷ []) ∷ [])))
+    (c.in_ok-push_pair.ensures ∙ (λ i. c.push_policy.new.text.items ++ written ((c.as_bytes.ensures.value i ∷ (c.as_bytes-2.ensures.value ∙ c.commit_word.ensures) i ∷ []) ∷ []))))
+    (c.in_ok-push_pair-2.ensures ∙ (λ i. c.push_pair.new.text.items ++ written ((c.as_bytes-3.ensures.value i ∷ (c.as_bytes-4.ensures.value ∙ c.extent_word.ensures) i ∷ []) ∷ [])))
