@@ -8,5 +8,5 @@ use Rattle.acta_script.proofs.diagnosis.diagnose_event.Goals as goal
 pub returns-clause-fault : goal.returns-clause-fault
 returns-clause-fault g c =
     let words = map (λ word. word.now) c.deref.result.now in
-    diagnosed_if c.wrong_event.result (wrong_event c.args.model.now words) _ c.wrong_event.ensures
-    (diagnosed_event c.args.model.now words ∙ ap (λ ws. result_err (event_said c.args.model.now ws)) (ap (map (λ word. word.now)) c.deref.ensures.value ∙ c.in_ok-words.ensures))
+    diagnosed_if c.wrong_event.result (wrong_event c.args.model.now 0 words) _ c.wrong_event.ensures
+    (diagnosed_event c.args.model.now 0 words ∙ ap (λ ws. result_err (event_said c.args.model.now ws)) (ap (map (λ word. word.now)) c.deref.ensures.value ∙ c.in_ok-words.ensures))
