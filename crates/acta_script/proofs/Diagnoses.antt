@@ -1,5 +1,5 @@
 -- The fault of a diagnosis is the one that reading finds.
-use Rattle.std.proofs.Common.{◌≡◌, ◌<◌, ℕ, suc, ◌+◌, ◌==◌, nat_lt, nat_le, Bool, true, false, ◌||◌, cond, List, [], ◌∷◌, length, Option, Some, None, option_map, ok_or, Result, Ok, Err, IfOk, ℤ, refl, sym, ap, ◌∙◌, arith}
+use Rattle.std.proofs.Common.{◌≡◌, ◌<◌, ℕ, suc, ◌+◌, ◌==◌, nat_lt, nat_le, Bool, true, false, ◌||◌, ◌&&◌, cond, List, [], ◌∷◌, length, Option, Some, None, option_map, ok_or, Result, Ok, Err, IfOk, ℤ, refl, sym, ap, ◌∙◌, arith}
 use Rattle.std.specs.Prelude.{⊤}
 use Rattle.std.specs.List.{list_any, list_all, before_first, after_first, position_or_len}
 use Rattle.std.specs.Option.{option_or}
@@ -11,12 +11,20 @@ use Rattle.acta_table.specs.declared.event.Event.{Event}
 use Rattle.acta_table.specs.declared.event.Event.TheVariants.{Operate}
 use Rattle.acta_table.specs.declared.event.EventKind.{EventKind}
 use Rattle.acta_table.specs.declared.event.EventKind.TheVariants as event_kind
+use Rattle.acta_table.specs.declared.event.ObjId.{ObjId}
 use Rattle.acta_table.specs.declared.event.Op.{Op}
 use Rattle.acta_table.specs.declared.event.Op.TheVariants.{Read, Write, Get, Add, Insert, Remove, Has, Size}
 use Rattle.acta_table.specs.declared.event.Ret.{Ret}
+use Rattle.acta_table.specs.declared.event.TxnId.{TxnId}
 use Rattle.acta_table.specs.declared.dep.Dep.{Dep}
 use Rattle.acta_table.specs.declared.model.Parts.{Parts}
 use Rattle.acta_table.specs.Sets.{each_once}
+use Rattle.acta_script.specs.declared.command_words.BreakKind.{BreakKind}
+use Rattle.acta_script.specs.declared.command_words.BreakKind.TheVariants as break_kind
+use Rattle.acta_script.specs.declared.command_words.CommandKind.{CommandKind}
+use Rattle.acta_script.specs.declared.command_words.CommandKind.TheVariants as command_kind
+use Rattle.acta_script.specs.declared.commands.BreakOn.TheVariants as break_on
+use Rattle.acta_script.specs.declared.commands.DebugCommand.TheVariants as command
 use Rattle.acta_script.specs.declared.diagnosis.Diagnostic.{Diagnostic}
 use Rattle.acta_script.specs.declared.diagnosis.Expected.{Expected}
 use Rattle.acta_script.specs.declared.diagnosis.Expected.TheVariants.{Part}
@@ -24,12 +32,14 @@ use Rattle.acta_script.specs.declared.diagnosis.LinePart.{LinePart}
 use Rattle.acta_script.specs.declared.diagnosis.LinePart.TheVariants as part
 use Rattle.acta_script.specs.declared.diagnosis.WordPlace.TheVariants.{Wrong, Missing}
 use Rattle.acta_script.specs.declared.fault.LineFault.{LineFault}
-use Rattle.acta_script.specs.declared.fault.LineFault.TheVariants.{Word, Arity, Number, Name}
+use Rattle.acta_script.specs.declared.fault.LineFault.TheVariants.{Empty, Word, Arity, Number, Name}
 use Rattle.acta_script.specs.declared.op_kind.OpKind.{OpKind}
 use Rattle.acta_script.specs.declared.op_kind.OpKind.TheVariants as op_kind
-use Rattle.acta_script.specs.Diagnosis.{fault_of_word, is_fault, wrong_word, wrong_count, wrong_in, op_kind_in, operation_parts, wrong_behind, wrong_event, wrong_return, lower_of, wrong_kept}
-use Rattle.acta_script.specs.Reading.{◌>>=◌, fault_number, txn_said, integer_said, class_said, object_said, kind_said, numbers_said, operations_said, op_kind_said, alone, with_integer, operation_of_kind, begin_said, spawn_said, split_said, join_said, delegate_said, form_of_kind, form_said, do_said, commit_said, abort_said, permit_said, event_kind_said, event_of_kind, event_said, both, return_named, return_said, is_equals, with_return, plain, kept_said}
-use Rattle.acta_script.specs.Words.{op_word}
+use Rattle.acta_script.specs.Diagnosis.{fault_of_word, is_fault, wrong_word, wrong_count, wrong_in, op_kind_in, operation_parts, wrong_behind, wrong_event, wrong_return, lower_of, wrong_kept, wrong_seat, wrong_after_seat, wrong_seated, wrong_break_of, wrong_break, wrong_command_of, wrong_command}
+use Rattle.acta_script.specs.Commands.{count_said, one_word, kind_break_said, break_kind_said, break_of_kind, break_said, command_kind_said, command_of_kind, command_said}
+use Rattle.acta_words.specs.Numerals.{read_natural}
+use Rattle.acta_script.specs.Reading.{◌>>=◌, fault_number, txn_said, integer_said, class_said, object_said, kind_said, numbers_said, operations_said, op_kind_said, alone, with_integer, operation_of_kind, begin_said, spawn_said, split_said, join_said, delegate_said, form_of_kind, form_said, do_said, commit_said, abort_said, permit_said, event_kind_said, event_of_kind, event_said, both, return_named, return_said, is_equals, with_return, plain, kept_said, lower, seat_said, event_behind, at_seat, seated_said}
+use Rattle.acta_script.specs.Words.{event_word, op_word}
 
 -- the fault of a diagnosis
 abbrev pub diagnosed_fault : Option Diagnostic → Option LineFault
@@ -118,6 +128,20 @@ only_txn word = only_or _ Number
 only_integer : (word : List ℕ) → Only Number (integer_said word)
 only_integer word = only_or _ Number
 
+only_count : (word : List ℕ) → Only Number (count_said word)
+only_count word = only_or _ Number
+
+only_both : {X : Type 0} (f : LineFault) (b : Bool) (x : X) → Only f (cond b (Ok x) (Err f))
+only_both f true x = tt
+only_both f false x = refl
+
+only_next : {X Y : Type 0} (f : LineFault) (r : Result X LineFault) (k : X → Result Y LineFault) → Only f r → ((x : X) → Only f (k x)) → Only f (r >>= k)
+only_next f (Ok x) k only then = then x
+only_next f (Err g) k only then = only
+
+only_seat : (seats : ℕ) (word : List ℕ) → Only Number (seat_said seats word)
+only_seat seats word = only_next Number (ok_or (read_natural seats word) Number) _ (only_or _ Number) (λ seat. only_both Number (nat_le 1 seat) seat)
+
 only_operations : (word : List ℕ) → Only Number (operations_said word)
 only_operations word = only_else Number _ [] _ (only_then Number (numbers_said word) (λ ops. each_once ops) (only_or _ Number))
 
@@ -152,6 +176,8 @@ is_plain part.Operations = true
 is_plain part.Class = true
 is_plain part.Object = true
 is_plain part.Return = true
+is_plain (part.Seat seats) = true
+is_plain part.Count = true
 is_plain _ = false
 
 module _ {A : Type 0} (m : Parts A) where
@@ -168,6 +194,10 @@ module _ {A : Type 0} (m : Parts A) where
   no_unknown part.Class word is = other Word Name (class_said m word) (only_class word) refl
   no_unknown part.Object word is = other Word Name (object_said m word) (only_object word) refl
   no_unknown part.Return word is = other Word Number (ok_or (return_named word) Number) (only_or _ Number) refl
+  no_unknown (part.Seat seats) word is = other Word Number (seat_said seats word) (only_seat seats word) refl
+  no_unknown part.Count word is = other Word Number (count_said word) (only_count word) refl
+  no_unknown part.Command word is = absurd (cc)
+  no_unknown part.Break word is = absurd (cc)
   no_unknown part.Event word is = absurd (cc)
   no_unknown part.Kind word is = absurd (cc)
   no_unknown part.Operation word is = absurd (cc)
@@ -284,107 +314,107 @@ joined : {X Y Z : Type 0} (r : Result X LineFault) (k : X → Result Y LineFault
 joined (Ok x) k h = refl
 joined (Err f) k h = refl
 
-module _ {A : Type 0} (m : Parts A) (e : Expected) where
-  diagnosed_begin : (words : List (List ℕ)) → diagnosed_fault (wrong_in m (part.Transaction ∷ part.Class ∷ []) e 1 words) ≡ result_err (begin_said m words)
+module _ {A : Type 0} (m : Parts A) (e : Expected) (n : ℕ) where
+  diagnosed_begin : (words : List (List ℕ)) → diagnosed_fault (wrong_in m (part.Transaction ∷ part.Class ∷ []) e n words) ≡ result_err (begin_said m words)
   unfolding begin_said
-  diagnosed_begin [] = short m (part.Transaction ∷ part.Class ∷ []) e 1 [] refl refl
-  diagnosed_begin (t ∷ []) = short_plain m (part.Transaction ∷ part.Class ∷ []) e 1 (t ∷ []) refl refl
+  diagnosed_begin [] = short m (part.Transaction ∷ part.Class ∷ []) e n [] refl refl
+  diagnosed_begin (t ∷ []) = short_plain m (part.Transaction ∷ part.Class ∷ []) e n (t ∷ []) refl refl
   diagnosed_begin (t ∷ class ∷ []) =
-      exact_plain m (part.Transaction ∷ part.Class ∷ []) e 1 (t ∷ class ∷ []) refl refl
+      exact_plain m (part.Transaction ∷ part.Class ∷ []) e n (t ∷ class ∷ []) refl refl
       ∙ number_first (txn_said t) _ _ (only_txn t) (λ t. name_last (class_said m class) _ (only_class m class))
-  diagnosed_begin (t ∷ class ∷ x ∷ ws) = short_plain m (part.Transaction ∷ part.Class ∷ []) e 1 (t ∷ class ∷ x ∷ ws) refl (many 2 (suc (suc (suc (length ws)))) (omega arith))
+  diagnosed_begin (t ∷ class ∷ x ∷ ws) = short_plain m (part.Transaction ∷ part.Class ∷ []) e n (t ∷ class ∷ x ∷ ws) refl (many 2 (suc (suc (suc (length ws)))) (omega arith))
 
-  diagnosed_spawn : (words : List (List ℕ)) → diagnosed_fault (wrong_in m (part.Transaction ∷ part.Transaction ∷ part.Class ∷ []) e 1 words) ≡ result_err (spawn_said m words)
+  diagnosed_spawn : (words : List (List ℕ)) → diagnosed_fault (wrong_in m (part.Transaction ∷ part.Transaction ∷ part.Class ∷ []) e n words) ≡ result_err (spawn_said m words)
   unfolding spawn_said
-  diagnosed_spawn [] = short m (part.Transaction ∷ part.Transaction ∷ part.Class ∷ []) e 1 [] refl refl
-  diagnosed_spawn (t ∷ []) = short_plain m (part.Transaction ∷ part.Transaction ∷ part.Class ∷ []) e 1 (t ∷ []) refl refl
-  diagnosed_spawn (t ∷ c ∷ []) = short_plain m (part.Transaction ∷ part.Transaction ∷ part.Class ∷ []) e 1 (t ∷ c ∷ []) refl refl
+  diagnosed_spawn [] = short m (part.Transaction ∷ part.Transaction ∷ part.Class ∷ []) e n [] refl refl
+  diagnosed_spawn (t ∷ []) = short_plain m (part.Transaction ∷ part.Transaction ∷ part.Class ∷ []) e n (t ∷ []) refl refl
+  diagnosed_spawn (t ∷ c ∷ []) = short_plain m (part.Transaction ∷ part.Transaction ∷ part.Class ∷ []) e n (t ∷ c ∷ []) refl refl
   diagnosed_spawn (t ∷ c ∷ class ∷ []) =
-      exact_plain m (part.Transaction ∷ part.Transaction ∷ part.Class ∷ []) e 1 (t ∷ c ∷ class ∷ []) refl refl
+      exact_plain m (part.Transaction ∷ part.Transaction ∷ part.Class ∷ []) e n (t ∷ c ∷ class ∷ []) refl refl
       ∙ number_first (txn_said t) _ _ (only_txn t) (λ t. number_first (txn_said c) _ _ (only_txn c) (λ c. name_last (class_said m class) _ (only_class m class)))
-  diagnosed_spawn (t ∷ c ∷ class ∷ x ∷ ws) = short_plain m (part.Transaction ∷ part.Transaction ∷ part.Class ∷ []) e 1 (t ∷ c ∷ class ∷ x ∷ ws) refl (many 3 (suc (suc (suc (suc (length ws))))) (omega arith))
+  diagnosed_spawn (t ∷ c ∷ class ∷ x ∷ ws) = short_plain m (part.Transaction ∷ part.Transaction ∷ part.Class ∷ []) e n (t ∷ c ∷ class ∷ x ∷ ws) refl (many 3 (suc (suc (suc (suc (length ws))))) (omega arith))
 
-  diagnosed_split : (words : List (List ℕ)) → diagnosed_fault (wrong_in m (part.Transaction ∷ part.Transaction ∷ part.Class ∷ part.Operations ∷ []) e 1 words) ≡ result_err (split_said m words)
+  diagnosed_split : (words : List (List ℕ)) → diagnosed_fault (wrong_in m (part.Transaction ∷ part.Transaction ∷ part.Class ∷ part.Operations ∷ []) e n words) ≡ result_err (split_said m words)
   unfolding split_said
-  diagnosed_split [] = short m (part.Transaction ∷ part.Transaction ∷ part.Class ∷ part.Operations ∷ []) e 1 [] refl refl
-  diagnosed_split (t ∷ []) = short_plain m (part.Transaction ∷ part.Transaction ∷ part.Class ∷ part.Operations ∷ []) e 1 (t ∷ []) refl refl
-  diagnosed_split (t ∷ u ∷ []) = short_plain m (part.Transaction ∷ part.Transaction ∷ part.Class ∷ part.Operations ∷ []) e 1 (t ∷ u ∷ []) refl refl
-  diagnosed_split (t ∷ u ∷ class ∷ []) = short_plain m (part.Transaction ∷ part.Transaction ∷ part.Class ∷ part.Operations ∷ []) e 1 (t ∷ u ∷ class ∷ []) refl refl
+  diagnosed_split [] = short m (part.Transaction ∷ part.Transaction ∷ part.Class ∷ part.Operations ∷ []) e n [] refl refl
+  diagnosed_split (t ∷ []) = short_plain m (part.Transaction ∷ part.Transaction ∷ part.Class ∷ part.Operations ∷ []) e n (t ∷ []) refl refl
+  diagnosed_split (t ∷ u ∷ []) = short_plain m (part.Transaction ∷ part.Transaction ∷ part.Class ∷ part.Operations ∷ []) e n (t ∷ u ∷ []) refl refl
+  diagnosed_split (t ∷ u ∷ class ∷ []) = short_plain m (part.Transaction ∷ part.Transaction ∷ part.Class ∷ part.Operations ∷ []) e n (t ∷ u ∷ class ∷ []) refl refl
   diagnosed_split (t ∷ u ∷ class ∷ ops ∷ []) =
-      exact_plain m (part.Transaction ∷ part.Transaction ∷ part.Class ∷ part.Operations ∷ []) e 1 (t ∷ u ∷ class ∷ ops ∷ []) refl refl
+      exact_plain m (part.Transaction ∷ part.Transaction ∷ part.Class ∷ part.Operations ∷ []) e n (t ∷ u ∷ class ∷ ops ∷ []) refl refl
       ∙ number_first (txn_said t) _ _ (only_txn t) (λ t. number_first (txn_said u) _ _ (only_txn u) (λ u. exchanged (result_err (class_said m class)) (result_err (operations_said ops)) ∙ number_first (operations_said ops) _ _ (only_operations ops) (λ ops. name_last (class_said m class) _ (only_class m class))))
-  diagnosed_split (t ∷ u ∷ class ∷ ops ∷ x ∷ ws) = short_plain m (part.Transaction ∷ part.Transaction ∷ part.Class ∷ part.Operations ∷ []) e 1 (t ∷ u ∷ class ∷ ops ∷ x ∷ ws) refl (many 4 (suc (suc (suc (suc (suc (length ws)))))) (omega arith))
+  diagnosed_split (t ∷ u ∷ class ∷ ops ∷ x ∷ ws) = short_plain m (part.Transaction ∷ part.Transaction ∷ part.Class ∷ part.Operations ∷ []) e n (t ∷ u ∷ class ∷ ops ∷ x ∷ ws) refl (many 4 (suc (suc (suc (suc (suc (length ws)))))) (omega arith))
 
-  diagnosed_join : (words : List (List ℕ)) → diagnosed_fault (wrong_in m (part.Transaction ∷ part.Transaction ∷ []) e 1 words) ≡ result_err (join_said {A = A} words)
+  diagnosed_join : (words : List (List ℕ)) → diagnosed_fault (wrong_in m (part.Transaction ∷ part.Transaction ∷ []) e n words) ≡ result_err (join_said {A = A} words)
   unfolding join_said
-  diagnosed_join [] = short m (part.Transaction ∷ part.Transaction ∷ []) e 1 [] refl refl
-  diagnosed_join (t ∷ []) = short_plain m (part.Transaction ∷ part.Transaction ∷ []) e 1 (t ∷ []) refl refl
+  diagnosed_join [] = short m (part.Transaction ∷ part.Transaction ∷ []) e n [] refl refl
+  diagnosed_join (t ∷ []) = short_plain m (part.Transaction ∷ part.Transaction ∷ []) e n (t ∷ []) refl refl
   diagnosed_join (t ∷ u ∷ []) =
-      exact_plain m (part.Transaction ∷ part.Transaction ∷ []) e 1 (t ∷ u ∷ []) refl refl
+      exact_plain m (part.Transaction ∷ part.Transaction ∷ []) e n (t ∷ u ∷ []) refl refl
       ∙ number_first (txn_said t) _ _ (only_txn t) (λ t. number_last (txn_said u) _ (only_txn u))
-  diagnosed_join (t ∷ u ∷ x ∷ ws) = short_plain m (part.Transaction ∷ part.Transaction ∷ []) e 1 (t ∷ u ∷ x ∷ ws) refl (many 2 (suc (suc (suc (length ws)))) (omega arith))
+  diagnosed_join (t ∷ u ∷ x ∷ ws) = short_plain m (part.Transaction ∷ part.Transaction ∷ []) e n (t ∷ u ∷ x ∷ ws) refl (many 2 (suc (suc (suc (length ws)))) (omega arith))
 
-  diagnosed_delegate : (words : List (List ℕ)) → diagnosed_fault (wrong_in m (part.Transaction ∷ part.Transaction ∷ part.Operations ∷ []) e 1 words) ≡ result_err (delegate_said {A = A} words)
+  diagnosed_delegate : (words : List (List ℕ)) → diagnosed_fault (wrong_in m (part.Transaction ∷ part.Transaction ∷ part.Operations ∷ []) e n words) ≡ result_err (delegate_said {A = A} words)
   unfolding delegate_said
-  diagnosed_delegate [] = short m (part.Transaction ∷ part.Transaction ∷ part.Operations ∷ []) e 1 [] refl refl
-  diagnosed_delegate (t ∷ []) = short_plain m (part.Transaction ∷ part.Transaction ∷ part.Operations ∷ []) e 1 (t ∷ []) refl refl
-  diagnosed_delegate (t ∷ u ∷ []) = short_plain m (part.Transaction ∷ part.Transaction ∷ part.Operations ∷ []) e 1 (t ∷ u ∷ []) refl refl
+  diagnosed_delegate [] = short m (part.Transaction ∷ part.Transaction ∷ part.Operations ∷ []) e n [] refl refl
+  diagnosed_delegate (t ∷ []) = short_plain m (part.Transaction ∷ part.Transaction ∷ part.Operations ∷ []) e n (t ∷ []) refl refl
+  diagnosed_delegate (t ∷ u ∷ []) = short_plain m (part.Transaction ∷ part.Transaction ∷ part.Operations ∷ []) e n (t ∷ u ∷ []) refl refl
   diagnosed_delegate (t ∷ u ∷ ops ∷ []) =
-      exact_plain m (part.Transaction ∷ part.Transaction ∷ part.Operations ∷ []) e 1 (t ∷ u ∷ ops ∷ []) refl refl
+      exact_plain m (part.Transaction ∷ part.Transaction ∷ part.Operations ∷ []) e n (t ∷ u ∷ ops ∷ []) refl refl
       ∙ number_first (txn_said t) _ _ (only_txn t) (λ t. number_first (txn_said u) _ _ (only_txn u) (λ u. number_last (operations_said ops) _ (only_operations ops)))
-  diagnosed_delegate (t ∷ u ∷ ops ∷ x ∷ ws) = short_plain m (part.Transaction ∷ part.Transaction ∷ part.Operations ∷ []) e 1 (t ∷ u ∷ ops ∷ x ∷ ws) refl (many 3 (suc (suc (suc (suc (length ws))))) (omega arith))
+  diagnosed_delegate (t ∷ u ∷ ops ∷ x ∷ ws) = short_plain m (part.Transaction ∷ part.Transaction ∷ part.Operations ∷ []) e n (t ∷ u ∷ ops ∷ x ∷ ws) refl (many 3 (suc (suc (suc (suc (length ws))))) (omega arith))
 
-  diagnosed_commit : (words : List (List ℕ)) → diagnosed_fault (wrong_in m (part.Transaction ∷ []) e 1 words) ≡ result_err (commit_said {A = A} words)
+  diagnosed_commit : (words : List (List ℕ)) → diagnosed_fault (wrong_in m (part.Transaction ∷ []) e n words) ≡ result_err (commit_said {A = A} words)
   unfolding commit_said
-  diagnosed_commit [] = short m (part.Transaction ∷ []) e 1 [] refl refl
+  diagnosed_commit [] = short m (part.Transaction ∷ []) e n [] refl refl
   diagnosed_commit (t ∷ []) =
-      exact_plain m (part.Transaction ∷ []) e 1 (t ∷ []) refl refl ∙ number_last (txn_said t) _ (only_txn t)
-  diagnosed_commit (t ∷ x ∷ ws) = short_plain m (part.Transaction ∷ []) e 1 (t ∷ x ∷ ws) refl (many 1 (suc (suc (length ws))) (omega arith))
+      exact_plain m (part.Transaction ∷ []) e n (t ∷ []) refl refl ∙ number_last (txn_said t) _ (only_txn t)
+  diagnosed_commit (t ∷ x ∷ ws) = short_plain m (part.Transaction ∷ []) e n (t ∷ x ∷ ws) refl (many 1 (suc (suc (length ws))) (omega arith))
 
-  diagnosed_abort : (words : List (List ℕ)) → diagnosed_fault (wrong_in m (part.Transaction ∷ []) e 1 words) ≡ result_err (abort_said {A = A} words)
+  diagnosed_abort : (words : List (List ℕ)) → diagnosed_fault (wrong_in m (part.Transaction ∷ []) e n words) ≡ result_err (abort_said {A = A} words)
   unfolding abort_said
-  diagnosed_abort [] = short m (part.Transaction ∷ []) e 1 [] refl refl
+  diagnosed_abort [] = short m (part.Transaction ∷ []) e n [] refl refl
   diagnosed_abort (t ∷ []) =
-      exact_plain m (part.Transaction ∷ []) e 1 (t ∷ []) refl refl ∙ number_last (txn_said t) _ (only_txn t)
-  diagnosed_abort (t ∷ x ∷ ws) = short_plain m (part.Transaction ∷ []) e 1 (t ∷ x ∷ ws) refl (many 1 (suc (suc (length ws))) (omega arith))
+      exact_plain m (part.Transaction ∷ []) e n (t ∷ []) refl refl ∙ number_last (txn_said t) _ (only_txn t)
+  diagnosed_abort (t ∷ x ∷ ws) = short_plain m (part.Transaction ∷ []) e n (t ∷ x ∷ ws) refl (many 1 (suc (suc (length ws))) (omega arith))
 
-  diagnosed_permit : (words : List (List ℕ)) → diagnosed_fault (wrong_in m (part.Transaction ∷ part.Transaction ∷ part.Object ∷ []) e 1 words) ≡ result_err (permit_said m words)
+  diagnosed_permit : (words : List (List ℕ)) → diagnosed_fault (wrong_in m (part.Transaction ∷ part.Transaction ∷ part.Object ∷ []) e n words) ≡ result_err (permit_said m words)
   unfolding permit_said
-  diagnosed_permit [] = short m (part.Transaction ∷ part.Transaction ∷ part.Object ∷ []) e 1 [] refl refl
-  diagnosed_permit (t ∷ []) = short_plain m (part.Transaction ∷ part.Transaction ∷ part.Object ∷ []) e 1 (t ∷ []) refl refl
-  diagnosed_permit (t ∷ u ∷ []) = short_plain m (part.Transaction ∷ part.Transaction ∷ part.Object ∷ []) e 1 (t ∷ u ∷ []) refl refl
+  diagnosed_permit [] = short m (part.Transaction ∷ part.Transaction ∷ part.Object ∷ []) e n [] refl refl
+  diagnosed_permit (t ∷ []) = short_plain m (part.Transaction ∷ part.Transaction ∷ part.Object ∷ []) e n (t ∷ []) refl refl
+  diagnosed_permit (t ∷ u ∷ []) = short_plain m (part.Transaction ∷ part.Transaction ∷ part.Object ∷ []) e n (t ∷ u ∷ []) refl refl
   diagnosed_permit (t ∷ u ∷ object ∷ []) =
-      exact_plain m (part.Transaction ∷ part.Transaction ∷ part.Object ∷ []) e 1 (t ∷ u ∷ object ∷ []) refl refl
+      exact_plain m (part.Transaction ∷ part.Transaction ∷ part.Object ∷ []) e n (t ∷ u ∷ object ∷ []) refl refl
       ∙ number_first (txn_said t) _ _ (only_txn t) (λ t. number_first (txn_said u) _ _ (only_txn u) (λ u. name_last (object_said m object) _ (only_object m object)))
-  diagnosed_permit (t ∷ u ∷ object ∷ x ∷ ws) = short_plain m (part.Transaction ∷ part.Transaction ∷ part.Object ∷ []) e 1 (t ∷ u ∷ object ∷ x ∷ ws) refl (many 3 (suc (suc (suc (suc (length ws))))) (omega arith))
+  diagnosed_permit (t ∷ u ∷ object ∷ x ∷ ws) = short_plain m (part.Transaction ∷ part.Transaction ∷ part.Object ∷ []) e n (t ∷ u ∷ object ∷ x ∷ ws) refl (many 3 (suc (suc (suc (suc (length ws))))) (omega arith))
 
 -- an unknown word
 unknown : (os : List (Option LineFault)) (a b : ℕ) → has Word os ≡ true → lowest_of os a b ≡ Some Word
 unknown os a b is = ap (λ t. option_or (when t Word) (option_or (when (differ a b) Arity) (number_or_name os))) is
 
-module _ {A : Type 0} (m : Parts A) (e : Expected) where
+module _ {A : Type 0} (m : Parts A) (e : Expected) (n : ℕ) where
   -- a kind of dependency at the front, known or not
-  diagnosed_kind : (word : List ℕ) (words : List (List ℕ)) (r : Result Dep LineFault) → Only Word r → kind_said word ≡ r → diagnosed_fault (wrong_in m (part.Kind ∷ part.Transaction ∷ part.Transaction ∷ []) e 1 (word ∷ words)) ≡ result_err (r >>= (λ kind. form_of_kind {A = A} kind words))
+  diagnosed_kind : (word : List ℕ) (words : List (List ℕ)) (r : Result Dep LineFault) → Only Word r → kind_said word ≡ r → diagnosed_fault (wrong_in m (part.Kind ∷ part.Transaction ∷ part.Transaction ∷ []) e n (word ∷ words)) ≡ result_err (r >>= (λ kind. form_of_kind {A = A} kind words))
   diagnosed_kind word words (Err f) only is =
-      diagnosed_in m (part.Kind ∷ part.Transaction ∷ part.Transaction ∷ []) e 1 (word ∷ words)
+      diagnosed_in m (part.Kind ∷ part.Transaction ∷ part.Transaction ∷ []) e n (word ∷ words)
       ∙ unknown (faults m (part.Kind ∷ part.Transaction ∷ part.Transaction ∷ []) (word ∷ words)) 3 (length (word ∷ words)) (ap (λ r. is_fault Word (result_err r) || has Word (faults m (part.Transaction ∷ part.Transaction ∷ []) words)) (is ∙ ap Err only))
       ∙ ap Some (sym only)
   diagnosed_kind word [] (Ok kind) only is =
-      short m (part.Kind ∷ part.Transaction ∷ part.Transaction ∷ []) e 1 (word ∷ []) (ap (λ r. is_fault Word (result_err r) || false) is) refl
+      short m (part.Kind ∷ part.Transaction ∷ part.Transaction ∷ []) e n (word ∷ []) (ap (λ r. is_fault Word (result_err r) || false) is) refl
   diagnosed_kind word (j ∷ []) (Ok kind) only is =
-      short m (part.Kind ∷ part.Transaction ∷ part.Transaction ∷ []) e 1 (word ∷ j ∷ []) (ap (λ r. is_fault Word (result_err r) || has Word (faults m (part.Transaction ∷ part.Transaction ∷ []) (j ∷ []))) is ∙ all_known m (part.Transaction ∷ part.Transaction ∷ []) (j ∷ []) refl) refl
+      short m (part.Kind ∷ part.Transaction ∷ part.Transaction ∷ []) e n (word ∷ j ∷ []) (ap (λ r. is_fault Word (result_err r) || has Word (faults m (part.Transaction ∷ part.Transaction ∷ []) (j ∷ []))) is ∙ all_known m (part.Transaction ∷ part.Transaction ∷ []) (j ∷ []) refl) refl
   diagnosed_kind word (j ∷ i ∷ []) (Ok kind) only is =
-      exact m (part.Kind ∷ part.Transaction ∷ part.Transaction ∷ []) e 1 (word ∷ j ∷ i ∷ []) (ap (λ r. is_fault Word (result_err r) || has Word (faults m (part.Transaction ∷ part.Transaction ∷ []) (j ∷ i ∷ []))) is ∙ all_known m (part.Transaction ∷ part.Transaction ∷ []) (j ∷ i ∷ []) refl) refl
+      exact m (part.Kind ∷ part.Transaction ∷ part.Transaction ∷ []) e n (word ∷ j ∷ i ∷ []) (ap (λ r. is_fault Word (result_err r) || has Word (faults m (part.Transaction ∷ part.Transaction ∷ []) (j ∷ i ∷ []))) is ∙ all_known m (part.Transaction ∷ part.Transaction ∷ []) (j ∷ i ∷ []) refl) refl
       ∙ ap (λ r. number_or_name (result_err r ∷ result_err (txn_said j) ∷ result_err (txn_said i) ∷ [])) is
       ∙ known_first (result_err (txn_said j) ∷ result_err (txn_said i) ∷ [])
       ∙ number_first (txn_said j) _ _ (only_txn j) (λ j. number_last (txn_said i) _ (only_txn i))
   diagnosed_kind word (j ∷ i ∷ x ∷ ws) (Ok kind) only is =
-      short m (part.Kind ∷ part.Transaction ∷ part.Transaction ∷ []) e 1 (word ∷ j ∷ i ∷ x ∷ ws) (ap (λ r. is_fault Word (result_err r) || has Word (faults m (part.Transaction ∷ part.Transaction ∷ []) (j ∷ i ∷ x ∷ ws))) is ∙ all_known m (part.Transaction ∷ part.Transaction ∷ []) (j ∷ i ∷ x ∷ ws) refl)
+      short m (part.Kind ∷ part.Transaction ∷ part.Transaction ∷ []) e n (word ∷ j ∷ i ∷ x ∷ ws) (ap (λ r. is_fault Word (result_err r) || has Word (faults m (part.Transaction ∷ part.Transaction ∷ []) (j ∷ i ∷ x ∷ ws))) is ∙ all_known m (part.Transaction ∷ part.Transaction ∷ []) (j ∷ i ∷ x ∷ ws) refl)
       (many 3 (suc (suc (suc (suc (length ws))))) (omega arith))
 
-  diagnosed_form : (words : List (List ℕ)) → diagnosed_fault (wrong_in m (part.Kind ∷ part.Transaction ∷ part.Transaction ∷ []) e 1 words) ≡ result_err (form_said {A = A} words)
+  diagnosed_form : (words : List (List ℕ)) → diagnosed_fault (wrong_in m (part.Kind ∷ part.Transaction ∷ part.Transaction ∷ []) e n words) ≡ result_err (form_said {A = A} words)
   unfolding form_said
-  diagnosed_form [] = short m (part.Kind ∷ part.Transaction ∷ part.Transaction ∷ []) e 1 [] refl refl
+  diagnosed_form [] = short m (part.Kind ∷ part.Transaction ∷ part.Transaction ∷ []) e n [] refl refl
   diagnosed_form (word ∷ words) = diagnosed_kind word words (kind_said word) (only_kind word) refl
 
   -- the first three words behind a `do`
@@ -400,30 +430,30 @@ module _ {A : Type 0} (m : Parts A) (e : Expected) where
       λ i. no_unknown m part.Transaction t refl i || (no_unknown m part.Object ob refl i || (ap (λ r. is_fault Word (result_err r)) is i || all_known m parts ws plain i))
 
   -- an operation with no number
-  diagnosed_alone : (t ob op : List ℕ) (x : Op) (kind : OpKind) → op_kind_said op ≡ Ok kind → (ws : List (List ℕ)) → diagnosed_fault (wrong_in m (asked []) e 1 (t ∷ ob ∷ op ∷ ws)) ≡ result_err (doing t ob (alone x ws))
+  diagnosed_alone : (t ob op : List ℕ) (x : Op) (kind : OpKind) → op_kind_said op ≡ Ok kind → (ws : List (List ℕ)) → diagnosed_fault (wrong_in m (asked []) e n (t ∷ ob ∷ op ∷ ws)) ≡ result_err (doing t ob (alone x ws))
   diagnosed_alone t ob op x kind is [] =
-      exact m (asked []) e 1 (t ∷ ob ∷ op ∷ []) (known t ob op [] [] kind is refl) refl
+      exact m (asked []) e n (t ∷ ob ∷ op ∷ []) (known t ob op [] [] kind is refl) refl
       ∙ ap (λ r. number_or_name (result_err (txn_said t) ∷ result_err (object_said m ob) ∷ result_err r ∷ [])) is
       ∙ number_first (txn_said t) _ _ (only_txn t) (λ t. name_before (object_said m ob) _ (only_object m ob))
   diagnosed_alone t ob op x kind is (w ∷ ws) =
-      short m (asked []) e 1 (t ∷ ob ∷ op ∷ w ∷ ws) (known t ob op [] (w ∷ ws) kind is refl) (many 3 (suc (suc (suc (suc (length ws))))) (omega arith))
+      short m (asked []) e n (t ∷ ob ∷ op ∷ w ∷ ws) (known t ob op [] (w ∷ ws) kind is refl) (many 3 (suc (suc (suc (suc (length ws))))) (omega arith))
 
   -- an operation with a number
-  diagnosed_number : (t ob op : List ℕ) (x : ℤ → Op) (kind : OpKind) → op_kind_said op ≡ Ok kind → (ws : List (List ℕ)) → diagnosed_fault (wrong_in m (asked (part.Integer ∷ [])) e 1 (t ∷ ob ∷ op ∷ ws)) ≡ result_err (doing t ob (with_integer x ws))
+  diagnosed_number : (t ob op : List ℕ) (x : ℤ → Op) (kind : OpKind) → op_kind_said op ≡ Ok kind → (ws : List (List ℕ)) → diagnosed_fault (wrong_in m (asked (part.Integer ∷ [])) e n (t ∷ ob ∷ op ∷ ws)) ≡ result_err (doing t ob (with_integer x ws))
   diagnosed_number t ob op x kind is [] =
-      short m (asked (part.Integer ∷ [])) e 1 (t ∷ ob ∷ op ∷ []) (known t ob op (part.Integer ∷ []) [] kind is refl) refl
+      short m (asked (part.Integer ∷ [])) e n (t ∷ ob ∷ op ∷ []) (known t ob op (part.Integer ∷ []) [] kind is refl) refl
   diagnosed_number t ob op x kind is (w ∷ []) =
-      exact m (asked (part.Integer ∷ [])) e 1 (t ∷ ob ∷ op ∷ w ∷ []) (known t ob op (part.Integer ∷ []) (w ∷ []) kind is refl) refl
+      exact m (asked (part.Integer ∷ [])) e n (t ∷ ob ∷ op ∷ w ∷ []) (known t ob op (part.Integer ∷ []) (w ∷ []) kind is refl) refl
       ∙ ap (λ r. number_or_name (result_err (txn_said t) ∷ result_err (object_said m ob) ∷ result_err r ∷ result_err (integer_said w) ∷ [])) is
       ∙ moved (result_err (txn_said t)) (result_err (object_said m ob)) (result_err (integer_said w))
       ∙ number_first (integer_said w) (λ v. doing t ob (Ok (x v))) _ (only_integer w) (λ v. number_first (txn_said t) _ _ (only_txn t) (λ t. name_last (object_said m ob) _ (only_object m ob)))
       ∙ ap result_err (sym (joined (integer_said w) (λ v. Ok (x v)) _))
   diagnosed_number t ob op x kind is (w ∷ y ∷ ws) =
-      short m (asked (part.Integer ∷ [])) e 1 (t ∷ ob ∷ op ∷ w ∷ y ∷ ws) (known t ob op (part.Integer ∷ []) (w ∷ y ∷ ws) kind is refl) (many 4 (suc (suc (suc (suc (suc (length ws)))))) (omega arith))
+      short m (asked (part.Integer ∷ [])) e n (t ∷ ob ∷ op ∷ w ∷ y ∷ ws) (known t ob op (part.Integer ∷ []) (w ∷ y ∷ ws) kind is refl) (many 4 (suc (suc (suc (suc (suc (length ws)))))) (omega arith))
 
-  diagnosed_operation : (t ob op : List ℕ) (r : Result OpKind LineFault) → Only Word r → op_kind_said op ≡ r → (ws : List (List ℕ)) → diagnosed_fault (wrong_in m (operation_parts (result_ok r)) e 1 (t ∷ ob ∷ op ∷ ws)) ≡ result_err (doing t ob (r >>= (λ kind. operation_of_kind kind ws)))
+  diagnosed_operation : (t ob op : List ℕ) (r : Result OpKind LineFault) → Only Word r → op_kind_said op ≡ r → (ws : List (List ℕ)) → diagnosed_fault (wrong_in m (operation_parts (result_ok r)) e n (t ∷ ob ∷ op ∷ ws)) ≡ result_err (doing t ob (r >>= (λ kind. operation_of_kind kind ws)))
   diagnosed_operation t ob op (Err f) only is ws =
-      diagnosed_in m (asked []) e 1 (t ∷ ob ∷ op ∷ ws)
+      diagnosed_in m (asked []) e n (t ∷ ob ∷ op ∷ ws)
       ∙ unknown (faults m (asked []) (t ∷ ob ∷ op ∷ ws)) 3 (length (t ∷ ob ∷ op ∷ ws)) (λ i. no_unknown m part.Transaction t refl i || (no_unknown m part.Object ob refl i || (ap (λ r. is_fault Word (result_err r)) (is ∙ ap Err only) i || has Word (faults m [] ws))))
       ∙ ap Some (sym only)
   diagnosed_operation t ob op (Ok op_kind.Read) only is ws = diagnosed_alone t ob op Read op_kind.Read is ws
@@ -436,31 +466,31 @@ module _ {A : Type 0} (m : Parts A) (e : Expected) where
   diagnosed_operation t ob op (Ok op_kind.Size) only is ws = diagnosed_alone t ob op Size op_kind.Size is ws
 
 module _ {A : Type 0} (m : Parts A) where
-  diagnosed_do : (e : Expected) (words : List (List ℕ)) → diagnosed_fault (wrong_in m (operation_parts (op_kind_in words)) e 1 words) ≡ result_err (do_said m words)
+  diagnosed_do : (e : Expected) (n : ℕ) (words : List (List ℕ)) → diagnosed_fault (wrong_in m (operation_parts (op_kind_in words)) e n words) ≡ result_err (do_said m words)
   unfolding do_said
-  diagnosed_do e [] = short m (operation_parts None) e 1 [] refl refl
-  diagnosed_do e (t ∷ []) = short m (operation_parts None) e 1 (t ∷ []) (all_known m (part.Transaction ∷ []) (t ∷ []) refl) refl
-  diagnosed_do e (t ∷ ob ∷ []) = short m (operation_parts None) e 1 (t ∷ ob ∷ []) (all_known m (part.Transaction ∷ part.Object ∷ []) (t ∷ ob ∷ []) refl) refl
-  diagnosed_do e (t ∷ ob ∷ op ∷ ws) = diagnosed_operation m e t ob op (op_kind_said op) (only_op_kind op) refl ws
+  diagnosed_do e n [] = short m (operation_parts None) e n [] refl refl
+  diagnosed_do e n (t ∷ []) = short m (operation_parts None) e n (t ∷ []) (all_known m (part.Transaction ∷ []) (t ∷ []) refl) refl
+  diagnosed_do e n (t ∷ ob ∷ []) = short m (operation_parts None) e n (t ∷ ob ∷ []) (all_known m (part.Transaction ∷ part.Object ∷ []) (t ∷ ob ∷ []) refl) refl
+  diagnosed_do e n (t ∷ ob ∷ op ∷ ws) = diagnosed_operation m e n t ob op (op_kind_said op) (only_op_kind op) refl ws
 
-  diagnosed_behind : (r : Result EventKind LineFault) (words : List (List ℕ)) → diagnosed_fault (wrong_behind m r words) ≡ result_err (r >>= (λ kind. event_of_kind m kind words))
-  diagnosed_behind (Err f) words = refl
-  diagnosed_behind (Ok event_kind.Begin) words = diagnosed_begin m _ words
-  diagnosed_behind (Ok event_kind.Spawn) words = diagnosed_spawn m _ words
-  diagnosed_behind (Ok event_kind.Split) words = diagnosed_split m _ words
-  diagnosed_behind (Ok event_kind.Join) words = diagnosed_join m _ words
-  diagnosed_behind (Ok event_kind.Delegate) words = diagnosed_delegate m _ words
-  diagnosed_behind (Ok event_kind.Form) words = diagnosed_form m _ words
-  diagnosed_behind (Ok event_kind.Operate) words = diagnosed_do _ words
-  diagnosed_behind (Ok event_kind.Commit) words = diagnosed_commit m _ words
-  diagnosed_behind (Ok event_kind.Abort) words = diagnosed_abort m _ words
-  diagnosed_behind (Ok event_kind.Permit) words = diagnosed_permit m _ words
+  diagnosed_behind : (n : ℕ) (r : Result EventKind LineFault) (words : List (List ℕ)) → diagnosed_fault (wrong_behind m n r words) ≡ result_err (r >>= (λ kind. event_of_kind m kind words))
+  diagnosed_behind n (Err f) words = refl
+  diagnosed_behind n (Ok event_kind.Begin) words = diagnosed_begin m _ (n + 1) words
+  diagnosed_behind n (Ok event_kind.Spawn) words = diagnosed_spawn m _ (n + 1) words
+  diagnosed_behind n (Ok event_kind.Split) words = diagnosed_split m _ (n + 1) words
+  diagnosed_behind n (Ok event_kind.Join) words = diagnosed_join m _ (n + 1) words
+  diagnosed_behind n (Ok event_kind.Delegate) words = diagnosed_delegate m _ (n + 1) words
+  diagnosed_behind n (Ok event_kind.Form) words = diagnosed_form m _ (n + 1) words
+  diagnosed_behind n (Ok event_kind.Operate) words = diagnosed_do _ (n + 1) words
+  diagnosed_behind n (Ok event_kind.Commit) words = diagnosed_commit m _ (n + 1) words
+  diagnosed_behind n (Ok event_kind.Abort) words = diagnosed_abort m _ (n + 1) words
+  diagnosed_behind n (Ok event_kind.Permit) words = diagnosed_permit m _ (n + 1) words
 
   -- the fault of a diagnosis of words of an event
-  pub diagnosed_event : (words : List (List ℕ)) → diagnosed_fault (wrong_event m words) ≡ result_err (event_said m words)
+  pub diagnosed_event : (n : ℕ) (words : List (List ℕ)) → diagnosed_fault (wrong_event m n words) ≡ result_err (event_said m words)
   unfolding event_said
-  diagnosed_event [] = refl
-  diagnosed_event (word ∷ words) = diagnosed_behind (event_kind_said word) words
+  diagnosed_event n [] = refl
+  diagnosed_event n (word ∷ words) = diagnosed_behind n (event_kind_said word) words
 
   diagnosed_return : (n : ℕ) (words : List (List ℕ)) → diagnosed_fault (wrong_return m n words) ≡ result_err (return_said words)
   unfolding return_said
@@ -475,9 +505,134 @@ module _ {A : Type 0} (m : Parts A) where
   unfolding kept_said
   diagnosed_kept words =
       kept_or_plain (list_any is_equals words) _ _ _ _ _ _
-      (diagnosed_event (before_first is_equals words))
+      (diagnosed_event 0 (before_first is_equals words))
       (diagnosed_return (position_or_len is_equals words + 1) (after_first is_equals words))
-      (diagnosed_event words)
+      (diagnosed_event 0 words)
+
+-- a seat's fault is Number: so of two faults either may come first
+with_number : (f : LineFault) → lower Number f ≡ lower f Number
+with_number Empty = refl
+with_number Word = refl
+with_number Arity = refl
+with_number Number = refl
+with_number Name = refl
+
+turned : {X Y Z : Type 0} (make : X → Y → Z) (r : Result X LineFault) (s : Result Y LineFault) → Only Number s → result_err (both (λ y x. make x y) s r) ≡ result_err (both make r s)
+turned make (Ok x) (Ok y) only = refl
+turned make (Ok x) (Err g) only = refl
+turned make (Err f) (Ok y) only = refl
+turned make (Err f) (Err g) only = ap Some (ap (λ h. lower h f) only ∙ with_number f ∙ ap (λ h. lower f h) (sym only))
+
+module _ {A : Type 0} (m : Parts A) (seats : ℕ) where
+  diagnosed_seat : (word : List ℕ) → diagnosed_fault (wrong_seat m seats word) ≡ result_err (seat_said seats word)
+  diagnosed_seat word =
+      exact_plain m (part.Seat seats ∷ []) (Part (part.Seat seats)) 0 (word ∷ []) refl refl
+      ∙ number_alone (seat_said seats word) (only_seat seats word)
+
+  diagnosed_after_seat : (words : List (List ℕ)) → diagnosed_fault (wrong_after_seat m words) ≡ result_err (event_behind m words)
+  diagnosed_after_seat [] = refl
+  diagnosed_after_seat (word ∷ words) = diagnosed_event m 1 (word ∷ words)
+
+  -- the fault of a diagnosis of words of a seated event
+  pub diagnosed_seated : (words : List (List ℕ)) → diagnosed_fault (wrong_seated m seats words) ≡ result_err (seated_said m seats words)
+  unfolding seated_said
+  diagnosed_seated [] = refl
+  diagnosed_seated (seat ∷ words) =
+      diagnosed_lower (λ n event. at_seat event n) (wrong_seat m seats seat) (wrong_after_seat m words) (seat_said seats seat) (event_behind m words) (diagnosed_seat seat) (diagnosed_after_seat words)
+      ∙ turned at_seat (event_behind m words) (seat_said seats seat) (only_seat seats seat)
+
+known_event : (a b c d e f g h i j : Bool) → Only {X = EventKind} Word (cond a (Ok event_kind.Begin) (cond b (Ok event_kind.Spawn) (cond c (Ok event_kind.Split) (cond d (Ok event_kind.Join) (cond e (Ok event_kind.Delegate) (cond f (Ok event_kind.Form) (cond g (Ok event_kind.Operate) (cond h (Ok event_kind.Commit) (cond i (Ok event_kind.Abort) (cond j (Ok event_kind.Permit) (Err Word)))))))))))
+known_event a b c d e f g h i j =
+    only_else Word a event_kind.Begin _ (only_else Word b event_kind.Spawn _ (only_else Word c event_kind.Split _ (only_else Word d event_kind.Join _ (only_else Word e event_kind.Delegate _ (only_else Word f event_kind.Form _ (only_else Word g event_kind.Operate _ (only_else Word h event_kind.Commit _ (only_else Word i event_kind.Abort _ (only_both Word j event_kind.Permit)))))))))
+
+only_event : (word : List ℕ) → Only Word (event_kind_said word)
+only_event word =
+    known_event (bytes_eq word (event_word event_kind.Begin)) (bytes_eq word (event_word event_kind.Spawn)) (bytes_eq word (event_word event_kind.Split)) (bytes_eq word (event_word event_kind.Join)) (bytes_eq word (event_word event_kind.Delegate)) (bytes_eq word (event_word event_kind.Form)) (bytes_eq word (event_word event_kind.Operate)) (bytes_eq word (event_word event_kind.Commit)) (bytes_eq word (event_word event_kind.Abort)) (bytes_eq word (event_word event_kind.Permit))
+
+-- the same fault before a further step that has none
+kept_fault : {X Y : Type 0} (r : Result X LineFault) (make : X → Y) → result_err r ≡ result_err (r >>= (λ x. Ok (make x)))
+kept_fault (Ok x) make = refl
+kept_fault (Err f) make = refl
+
+module _ {A : Type 0} (m : Parts A) (e : Expected) (n : ℕ) where
+  -- no word left
+  diagnosed_none : {X : Type 0} (x : X) (words : List (List ℕ)) → diagnosed_fault (wrong_in m [] e n words) ≡ result_err (alone x words)
+  unfolding number_or_name
+  diagnosed_none x [] = exact_plain m [] e n [] refl refl
+  diagnosed_none x (w ∷ ws) = short_plain m [] e n (w ∷ ws) refl (many 0 (suc (length ws)) (omega arith))
+
+  -- the one word left, a number
+  diagnosed_one_number : {X Y : Type 0} (p : LinePart) (read : List ℕ → Result X LineFault) (make : X → Y) → is_plain p ≡ true → ((word : List ℕ) → fault_of_word m p word ≡ result_err (read word)) → ((word : List ℕ) → Only Number (read word)) → (words : List (List ℕ)) → diagnosed_fault (wrong_in m (p ∷ []) e n words) ≡ result_err (one_word words >>= (λ word. read word >>= (λ x. Ok (make x))))
+  diagnosed_one_number p read make plain same only [] = short m (p ∷ []) e n [] refl refl
+  diagnosed_one_number p read make plain same only (w ∷ []) =
+      exact_plain m (p ∷ []) e n (w ∷ []) (ap (λ b. b && true) plain) refl
+      ∙ ap (λ o. number_or_name (o ∷ [])) (same w)
+      ∙ number_last (read w) make (only w)
+  diagnosed_one_number p read make plain same only (w ∷ x ∷ ws) =
+      short_plain m (p ∷ []) e n (w ∷ x ∷ ws) (ap (λ b. b && true) plain) (many 1 (suc (suc (length ws))) (omega arith))
+
+  -- the one word left, an object
+  diagnosed_one_object : {Y : Type 0} (make : ObjId → Y) (words : List (List ℕ)) → diagnosed_fault (wrong_in m (part.Object ∷ []) e n words) ≡ result_err (one_word words >>= (λ word. object_said m word >>= (λ x. Ok (make x))))
+  diagnosed_one_object make [] = short m (part.Object ∷ []) e n [] refl refl
+  diagnosed_one_object make (w ∷ []) =
+      exact_plain m (part.Object ∷ []) e n (w ∷ []) refl refl ∙ name_last (object_said m w) make (only_object m w)
+  diagnosed_one_object make (w ∷ x ∷ ws) =
+      short_plain m (part.Object ∷ []) e n (w ∷ x ∷ ws) refl (many 1 (suc (suc (length ws))) (omega arith))
+
+  diagnosed_one_count : {Y : Type 0} (make : ℕ → Y) (words : List (List ℕ)) → diagnosed_fault (wrong_in m (part.Count ∷ []) e n words) ≡ result_err (one_word words >>= (λ word. count_said word >>= (λ x. Ok (make x))))
+  diagnosed_one_count make words = diagnosed_one_number part.Count count_said make refl (λ word. refl) only_count words
+
+  diagnosed_one_txn : {Y : Type 0} (make : TxnId → Y) (words : List (List ℕ)) → diagnosed_fault (wrong_in m (part.Transaction ∷ []) e n words) ≡ result_err (one_word words >>= (λ word. txn_said word >>= (λ x. Ok (make x))))
+  diagnosed_one_txn make words = diagnosed_one_number part.Transaction txn_said make refl (λ word. refl) only_txn words
+
+  -- a kind of event, known or not
+  diagnosed_one_event : (word : List ℕ) (words : List (List ℕ)) (r : Result EventKind LineFault) → Only Word r → event_kind_said word ≡ r → diagnosed_fault (wrong_in m (part.Event ∷ []) e n (word ∷ words)) ≡ result_err (r >>= (λ kind. alone (break_on.Kind kind) words))
+  unfolding number_or_name
+  diagnosed_one_event word words (Err f) only is =
+      diagnosed_in m (part.Event ∷ []) e n (word ∷ words)
+      ∙ unknown (faults m (part.Event ∷ []) (word ∷ words)) 1 (length (word ∷ words)) (ap (λ r. is_fault Word (result_err r) || false) (is ∙ ap Err only))
+      ∙ ap Some (sym only)
+  diagnosed_one_event word [] (Ok kind) only is =
+      exact m (part.Event ∷ []) e n (word ∷ []) (ap (λ r. is_fault Word (result_err r) || false) is) refl
+      ∙ ap (λ r. number_or_name (result_err r ∷ [])) is
+  diagnosed_one_event word (x ∷ ws) (Ok kind) only is =
+      short m (part.Event ∷ []) e n (word ∷ x ∷ ws) (ap (λ r. is_fault Word (result_err r) || false) is) (many 1 (suc (suc (length ws))) (omega arith))
+
+  diagnosed_kind_break : (words : List (List ℕ)) → diagnosed_fault (wrong_in m (part.Event ∷ []) e n words) ≡ result_err (kind_break_said words)
+  diagnosed_kind_break [] = short m (part.Event ∷ []) e n [] refl refl
+  diagnosed_kind_break (word ∷ words) = diagnosed_one_event word words (event_kind_said word) (only_event word) refl
+
+module _ {A : Type 0} (m : Parts A) where
+  diagnosed_break_of : (r : Result BreakKind LineFault) (words : List (List ℕ)) → diagnosed_fault (wrong_break_of m r words) ≡ result_err (r >>= (λ kind. break_of_kind m kind words))
+  diagnosed_break_of (Err f) words = refl
+  diagnosed_break_of (Ok break_kind.Kind) words = diagnosed_kind_break m _ 2 words
+  diagnosed_break_of (Ok break_kind.Txn) words = diagnosed_one_txn m _ 2 (λ t. break_on.Txn t) words
+  diagnosed_break_of (Ok break_kind.Object) words = diagnosed_one_object m _ 2 (λ object. break_on.Object object) words
+  diagnosed_break_of (Ok break_kind.Owed) words = diagnosed_one_count m _ 2 (λ k. break_on.Owed k) words
+  diagnosed_break_of (Ok break_kind.Ended) words = diagnosed_one_txn m _ 2 (λ t. break_on.Ended t) words
+
+  diagnosed_break : (words : List (List ℕ)) → diagnosed_fault (wrong_break m words) ≡ result_err (break_said m words)
+  unfolding break_said
+  diagnosed_break [] = refl
+  diagnosed_break (word ∷ words) = diagnosed_break_of (break_kind_said word) words
+
+  diagnosed_command_of : (r : Result CommandKind LineFault) (words : List (List ℕ)) → diagnosed_fault (wrong_command_of m r words) ≡ result_err (r >>= (λ kind. command_of_kind m kind words))
+  diagnosed_command_of (Err f) words = refl
+  diagnosed_command_of (Ok command_kind.Step) words = diagnosed_none m _ 1 command.Step words
+  diagnosed_command_of (Ok command_kind.Back) words = diagnosed_none m _ 1 command.Back words
+  diagnosed_command_of (Ok command_kind.Goto) words = diagnosed_one_count m _ 1 (λ k. command.Goto k) words
+  diagnosed_command_of (Ok command_kind.Run) words = diagnosed_none m _ 1 command.Run words
+  diagnosed_command_of (Ok command_kind.Break) words = diagnosed_break words ∙ kept_fault (break_said m words) (λ on. command.Break on)
+  diagnosed_command_of (Ok command_kind.Clear) words = diagnosed_none m _ 1 command.Clear words
+  diagnosed_command_of (Ok command_kind.Value) words = diagnosed_one_object m _ 1 (λ object. command.Value object) words
+  diagnosed_command_of (Ok command_kind.Status) words = diagnosed_one_txn m _ 1 (λ t. command.Status t) words
+  diagnosed_command_of (Ok command_kind.Owed) words = diagnosed_none m _ 1 command.Owed words
+
+  -- the fault of a diagnosis of words of a command
+  pub diagnosed_command : (words : List (List ℕ)) → diagnosed_fault (wrong_command m words) ≡ result_err (command_said m words)
+  unfolding command_said
+  diagnosed_command [] = refl
+  diagnosed_command (word ∷ words) = diagnosed_command_of (command_kind_said word) words
 
 -- the fault of a diagnosis, where memory suffices for it
 pub diagnosed_if : {E : Type 0} (r : Result (Option Diagnostic) E) (d : Option Diagnostic) (fault : Option LineFault) → IfOk r (λ found. found ≡ d) → diagnosed_fault d ≡ fault → IfOk r (λ found. diagnosed_fault found ≡ fault)

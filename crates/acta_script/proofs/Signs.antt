@@ -52,17 +52,17 @@ module _ {A X : Type 0} (m : Parts A) (f : X → List ℕ) (xs : List X) where
       (any-sign ∙ lacking (nat_lt (position_or_len (λ x. is_equals (f x)) xs) (length xs)) (position_or_len (λ x. is_equals (f x)) xs) is)
 
   -- what is wrong with words with a sign is wrong with the event, or with its return
-  pub wrong-with_sign : (at : ℕ) → position (λ x. is_equals (f x)) xs ≡ Some at → wrong_kept m (map f xs) ≡ lower_of (wrong_event m (map f (take at xs))) (wrong_return m (at + 1) (map f (take (length xs - (at + 1)) (drop (at + 1) xs))))
+  pub wrong-with_sign : (at : ℕ) → position (λ x. is_equals (f x)) xs ≡ Some at → wrong_kept m (map f xs) ≡ lower_of (wrong_event m 0 (map f (take at xs))) (wrong_return m (at + 1) (map f (take (length xs - (at + 1)) (drop (at + 1) xs))))
   wrong-with_sign at is =
       let cut = found (nat_lt (position_or_len (λ x. is_equals (f x)) xs) (length xs)) (position_or_len (λ x. is_equals (f x)) xs) at is in
       let place = position_or_len-map is_equals f xs ∙ cut.1 in
       let few : length (drop (at + 1) xs) ≤ length xs - (at + 1) = omega (arith, length-drop (at + 1) xs) in
-      ap (λ (b : Bool). cond b (lower_of (wrong_event m (before_first is_equals (map f xs))) (wrong_return m (position_or_len is_equals (map f xs) + 1) (after_first is_equals (map f xs)))) (wrong_event m (map f xs))) (any-sign ∙ cut.0)
-      ∙ ap (λ (n : ℕ). lower_of (wrong_event m (take n (map f xs))) (wrong_return m (n + 1) (drop (n + 1) (map f xs)))) place
-      ∙ (λ i. lower_of (wrong_event m (take-map f at xs i)) (wrong_return m (at + 1) (drop-map f (at + 1) xs i)))
-      ∙ ap (λ (ys : List X). lower_of (wrong_event m (map f (take at xs))) (wrong_return m (at + 1) (map f ys))) (sym (take_all (length xs - (at + 1)) (drop (at + 1) xs) few))
+      ap (λ (b : Bool). cond b (lower_of (wrong_event m 0 (before_first is_equals (map f xs))) (wrong_return m (position_or_len is_equals (map f xs) + 1) (after_first is_equals (map f xs)))) (wrong_event m 0 (map f xs))) (any-sign ∙ cut.0)
+      ∙ ap (λ (n : ℕ). lower_of (wrong_event m 0 (take n (map f xs))) (wrong_return m (n + 1) (drop (n + 1) (map f xs)))) place
+      ∙ (λ i. lower_of (wrong_event m 0 (take-map f at xs i)) (wrong_return m (at + 1) (drop-map f (at + 1) xs i)))
+      ∙ ap (λ (ys : List X). lower_of (wrong_event m 0 (map f (take at xs))) (wrong_return m (at + 1) (map f ys))) (sym (take_all (length xs - (at + 1)) (drop (at + 1) xs) few))
 
-  pub wrong-without_sign : position (λ x. is_equals (f x)) xs ≡ None → wrong_kept m (map f xs) ≡ wrong_event m (map f xs)
+  pub wrong-without_sign : position (λ x. is_equals (f x)) xs ≡ None → wrong_kept m (map f xs) ≡ wrong_event m 0 (map f xs)
   wrong-without_sign is =
-      ap (λ (b : Bool). cond b (lower_of (wrong_event m (before_first is_equals (map f xs))) (wrong_return m (position_or_len is_equals (map f xs) + 1) (after_first is_equals (map f xs)))) (wrong_event m (map f xs)))
+      ap (λ (b : Bool). cond b (lower_of (wrong_event m 0 (before_first is_equals (map f xs))) (wrong_return m (position_or_len is_equals (map f xs) + 1) (after_first is_equals (map f xs)))) (wrong_event m 0 (map f xs)))
       (any-sign ∙ lacking (nat_lt (position_or_len (λ x. is_equals (f x)) xs) (length xs)) (position_or_len (λ x. is_equals (f x)) xs) is)

@@ -8,16 +8,18 @@ use Rattle.acta_table.specs.declared.model.Parts.{Parts}
 use Rattle.acta_table.specs.declared.model.Scope.TheVariants.{Others}
 use Rattle.acta_table.specs.declared.policy.Policy.TheVariants.{Refuse}
 use Rattle.acta_words.specs.Text.{words_of}
+use Rattle.acta_script.specs.declared.command_words.BreakKind.TheVariants as break_kind
+use Rattle.acta_script.specs.declared.command_words.CommandKind.TheVariants as command_kind
 use Rattle.acta_script.specs.declared.diagnosis.Diagnostic.{Diagnostic}
 use Rattle.acta_script.specs.declared.diagnosis.Expected.{Expected}
-use Rattle.acta_script.specs.declared.diagnosis.Expected.TheVariants.{Part, EventForm, OperationForm}
-use Rattle.acta_script.specs.declared.diagnosis.LinePart.TheVariants.{Event, Kind, Operation, Transaction, Operations, Class, Object, Return}
+use Rattle.acta_script.specs.declared.diagnosis.Expected.TheVariants.{Part, EventForm, OperationForm, CommandForm, BreakForm}
+use Rattle.acta_script.specs.declared.diagnosis.LinePart.TheVariants.{Event, Kind, Operation, Transaction, Operations, Class, Object, Return, Seat, Count, Command, Break}
 use Rattle.acta_script.specs.declared.diagnosis.WordPlace.{WordPlace}
 use Rattle.acta_script.specs.declared.diagnosis.WordPlace.TheVariants.{Wrong, Missing}
 use Rattle.acta_script.specs.declared.fault.LineFault.{LineFault}
 use Rattle.acta_script.specs.declared.fault.LineFault.TheVariants.{Empty, Word, Arity, Number, Name}
 use Rattle.acta_script.specs.declared.op_kind.OpKind.TheVariants as op_kind
-use Rattle.acta_script.specs.Diagnosis.{wrong_event, wrong_kept}
+use Rattle.acta_script.specs.Diagnosis.{wrong_event, wrong_kept, wrong_seated, wrong_command}
 
 -- a register and a class
 abbrev model : Parts (Unit {0})
@@ -27,10 +29,16 @@ model = record {
 }
 
 abbrev event : List ℕ → Option Diagnostic
-event line = wrong_event model (words_of line)
+event line = wrong_event model 0 (words_of line)
 
 abbrev kept : List ℕ → Option Diagnostic
 kept line = wrong_kept model (words_of line)
+
+abbrev seated : List ℕ → Option Diagnostic
+seated line = wrong_seated model 16 (words_of line)
+
+abbrev command : List ℕ → Option Diagnostic
+command line = wrong_command model (words_of line)
 
 abbrev found : LineFault → WordPlace → Expected → Option Diagnostic
 found fault place expected = Some (record { fault = fault; place = place; expected = expected })
@@ -91,3 +99,57 @@ both_numbers = refl
 
 lower_return : kept (codes "begin x part = done done") ≡ found Arity (Wrong 5) (Part Return)
 lower_return = refl
+
+good_seat : seated (codes "16 begin 1 part") ≡ None
+good_seat = refl
+
+no_seat : seated (codes "17 begin 1 part") ≡ found Number (Wrong 0) (Part (Seat 16))
+no_seat = refl
+
+-- the event has the lower fault
+lower_event : seated (codes "0 begin 1") ≡ found Arity (Missing 3) (EventForm Begin)
+lower_event = refl
+
+-- of equal faults that of the seat
+seat_first : seated (codes "x begin y part") ≡ found Number (Wrong 0) (Part (Seat 16))
+seat_first = refl
+
+-- the seat has the lower fault
+lower_seat : seated (codes "x begin 1 nosuch") ≡ found Number (Wrong 0) (Part (Seat 16))
+lower_seat = refl
+
+behind_seat : seated (codes "1 begin 1 nosuch") ≡ found Name (Wrong 3) (Part Class)
+behind_seat = refl
+
+seat_alone : seated (codes "x # 1") ≡ found Arity (Missing 1) (Part Event)
+seat_alone = refl
+
+misspelt_command : command (codes "stpe 1") ≡ found Word (Wrong 0) (Part Command)
+misspelt_command = refl
+
+goto_far : command (codes "goto 4294967296") ≡ found Number (Wrong 1) (Part Count)
+goto_far = refl
+
+goto_nowhere : command (codes "goto") ≡ found Arity (Missing 1) (CommandForm command_kind.Goto)
+goto_nowhere = refl
+
+long_step : command (codes "step 2") ≡ found Arity (Wrong 1) (CommandForm command_kind.Step)
+long_step = refl
+
+no_value : command (codes "value y") ≡ found Name (Wrong 1) (Part Object)
+no_value = refl
+
+no_break : command (codes "break") ≡ found Arity (Missing 1) (Part Break)
+no_break = refl
+
+unknown_break : command (codes "break class part") ≡ found Word (Wrong 1) (Part Break)
+unknown_break = refl
+
+unknown_event : command (codes "break kind bgin x") ≡ found Word (Wrong 2) (Part Event)
+unknown_event = refl
+
+long_break : command (codes "break txn x y") ≡ found Arity (Wrong 3) (BreakForm break_kind.Txn)
+long_break = refl
+
+no_txn : command (codes "break ended 65536") ≡ found Number (Wrong 2) (Part Transaction)
+no_txn = refl

@@ -132,16 +132,17 @@ module _ {A : Type 0} (m : Parts A) (all : List (List ℕ)) where
       (either _ _ (wrong_as (wrong_word m Number n parts words) Number (word_wrong Number n parts words at) (λ n part is. is))
       (wrong_as (wrong_word m Name n parts words) Name (word_wrong Name n parts words at) (λ n part is. is))))
 
-  behind_wrong : (word : List ℕ) (words : List (List ℕ)) → AreAt 0 (word ∷ words) all → (r : Result EventKind LineFault) → event_kind_said word ≡ r → IfSome (wrong_behind m r words) (IsWrong m all)
-  behind_wrong word words at (Ok kind) is = wrong_there (parts_of kind (op_kind_in words)) (form_of kind (op_kind_in words)) 1 words (next_at 0 word words all at)
-  behind_wrong word words at (Err fault) is =
+  behind_wrong : (n : ℕ) (word : List ℕ) (words : List (List ℕ)) → AreAt n (word ∷ words) all → (r : Result EventKind LineFault) → event_kind_said word ≡ r → IfSome (wrong_behind m n r words) (IsWrong m all)
+  behind_wrong n word words at (Ok kind) is = wrong_there (parts_of kind (op_kind_in words)) (form_of kind (op_kind_in words)) (n + 1) words (next_at n word words all at)
+  behind_wrong n word words at (Err fault) is =
       let unknown : fault ≡ Word = no_event_kind word fault is in
-      subst (λ (f : LineFault). IsWrong m all (record { fault = f; place = Wrong 0; expected = Part part.Event })) (sym unknown)
-      (ap (option_and_then (λ word. fault_of_word m part.Event word)) (at.each 0 word refl) ∙ ap result_err is ∙ ap Some unknown)
+      let here : slice_get all n ≡ Some word = ap (slice_get all) (sym (nothing n)) ∙ at.each 0 word refl in
+      subst (λ (f : LineFault). IsWrong m all (record { fault = f; place = Wrong n; expected = Part part.Event })) (sym unknown)
+      (ap (option_and_then (λ word. fault_of_word m part.Event word)) here ∙ ap result_err is ∙ ap Some unknown)
 
-  pub event_wrong : (words : List (List ℕ)) → AreAt 0 words all → IfSome (wrong_event m words) (IsWrong m all)
+  pub event_wrong : (words : List (List ℕ)) → AreAt 0 words all → IfSome (wrong_event m 0 words) (IsWrong m all)
   event_wrong [] at = refl
-  event_wrong (word ∷ words) at = behind_wrong word words at (event_kind_said word) refl
+  event_wrong (word ∷ words) at = behind_wrong 0 word words at (event_kind_said word) refl
 
   lower_wrong : (p q : Option Diagnostic) → IfSome p (IsWrong m all) → IfSome q (IsWrong m all) → IfSome (lower_of p q) (IsWrong m all)
   lower_wrong None q first second = second
@@ -175,7 +176,7 @@ rest_at : (n : ℕ) (all : List (List ℕ)) → n ≤ length all → AreAt n (dr
 rest_at n all within = record { each = λ k word is. dropped n all k word is; within = omega (arith, length-drop n all) }
 
 module _ {A : Type 0} (m : Parts A) (all : List (List ℕ)) where
-  with_sign : (b : Bool) → list_any is_equals all ≡ b → IfSome (cond b (lower_of (wrong_event m (before_first is_equals all)) (wrong_return m (position_or_len is_equals all + 1) (after_first is_equals all))) (wrong_event m all)) (IsWrong m all)
+  with_sign : (b : Bool) → list_any is_equals all ≡ b → IfSome (cond b (lower_of (wrong_event m 0 (before_first is_equals all)) (wrong_return m (position_or_len is_equals all + 1) (after_first is_equals all))) (wrong_event m 0 all)) (IsWrong m all)
   with_sign true is =
       let at = position_or_len is_equals all in
       let inside : at < length all = ltb-true at (length all) (sym (any-first is_equals all) ∙ is) in

@@ -1,24 +1,29 @@
--- Where a line of an event or of a kept item is wrong: its lowest fault, the first word that has this fault, and what is
--- expected there. By its place each word stands for something, as a transaction or a class. The word has a fault where
--- it cannot be read so.
-use Rattle.std.specs.Prelude.{◌≡◌, ℕ, ◌<◌, ◌≤◌, ◌+◌, Bool, false, ◌==◌, nat_lt, nat_le, List, [], ◌∷◌, length, if◌then◌else◌, Option, Some, None, Result, Ok, Err, ok_or, option_and_then, slice_get}
+-- Where a line is wrong, of an event, a kept item, a seated event or a command to a debugger: its lowest fault, the first
+-- word that has this fault, and what is expected there. By its place each word stands for something, as a transaction
+-- or a class. The word has a fault where it cannot be read so.
+use Rattle.std.specs.Prelude.{◌≡◌, ℕ, ◌<◌, ◌≤◌, ◌+◌, Bool, true, false, ◌==◌, nat_lt, nat_le, List, [], ◌∷◌, length, if◌then◌else◌, Option, Some, None, Result, Ok, Err, ok_or, option_and_then, slice_get}
 use Rattle.std.specs.List.{list_any, before_first, after_first, position_or_len}
 use Rattle.std.specs.Option.{option_map_or, option_or}
 use Rattle.std.specs.Result.{result_ok, result_err}
 use Rattle.acta_table.specs.declared.event.EventKind.{EventKind}
 use Rattle.acta_table.specs.declared.event.EventKind.TheVariants as event_kind
 use Rattle.acta_table.specs.declared.model.Parts.{Parts}
+use Rattle.acta_script.specs.declared.command_words.BreakKind.{BreakKind}
+use Rattle.acta_script.specs.declared.command_words.BreakKind.TheVariants as break_kind
+use Rattle.acta_script.specs.declared.command_words.CommandKind.{CommandKind}
+use Rattle.acta_script.specs.declared.command_words.CommandKind.TheVariants as command_kind
 use Rattle.acta_script.specs.declared.diagnosis.Diagnostic.{Diagnostic}
 use Rattle.acta_script.specs.declared.diagnosis.Expected.{Expected}
-use Rattle.acta_script.specs.declared.diagnosis.Expected.TheVariants.{Part, EventForm, OperationForm}
+use Rattle.acta_script.specs.declared.diagnosis.Expected.TheVariants.{Part, EventForm, OperationForm, CommandForm, BreakForm}
 use Rattle.acta_script.specs.declared.diagnosis.LinePart.{LinePart}
-use Rattle.acta_script.specs.declared.diagnosis.LinePart.TheVariants.{Event, Kind, Operation, Transaction, Integer, Operations, Class, Object, Return}
+use Rattle.acta_script.specs.declared.diagnosis.LinePart.TheVariants.{Event, Kind, Operation, Transaction, Integer, Operations, Class, Object, Return, Seat, Count, Command, Break}
 use Rattle.acta_script.specs.declared.diagnosis.WordPlace.{WordPlace}
 use Rattle.acta_script.specs.declared.diagnosis.WordPlace.TheVariants.{Wrong, Missing}
 use Rattle.acta_script.specs.declared.fault.LineFault.{LineFault}
 use Rattle.acta_script.specs.declared.fault.LineFault.TheVariants.{Empty, Word, Arity, Number, Name}
 use Rattle.acta_script.specs.declared.op_kind.OpKind.{OpKind}
-use Rattle.acta_script.specs.Reading.{fault_number, txn_said, integer_said, class_said, object_said, kind_said, operations_said, op_kind_said, event_kind_said, return_named, is_equals}
+use Rattle.acta_script.specs.Commands.{break_kind_said, command_kind_said, count_said}
+use Rattle.acta_script.specs.Reading.{fault_number, txn_said, integer_said, class_said, object_said, kind_said, operations_said, op_kind_said, event_kind_said, return_named, is_equals, seat_said}
 use Rattle.acta_script.specs.Words.{takes_integer}
 
 -- the fault of a word that stands for this, if it has one
@@ -32,6 +37,10 @@ fault_of_word m Operations word = result_err (operations_said word)
 fault_of_word m Class word = result_err (class_said m word)
 fault_of_word m Object word = result_err (object_said m word)
 fault_of_word m Return word = result_err (ok_or (return_named word) Number)
+fault_of_word m (Seat seats) word = result_err (seat_said seats word)
+fault_of_word m Count word = result_err (count_said word)
+fault_of_word m Command word = result_err (command_kind_said word)
+fault_of_word m Break word = result_err (break_kind_said word)
 
 -- whether it is this fault
 abbrev pub is_fault : LineFault → Option LineFault → Bool
@@ -102,16 +111,17 @@ abbrev pub form_of : EventKind → Option OpKind → Expected
 form_of event_kind.Operate op = option_map_or (λ op. OperationForm op) op (EventForm event_kind.Operate)
 form_of kind op = EventForm kind
 
--- what is wrong with the words of an event whose first word was read as its kind, or has a fault; words are the others
-abbrev pub wrong_behind : {A : Type 0} → Parts A → Result EventKind LineFault → List (List ℕ) → Option Diagnostic
-wrong_behind m (Ok kind) words =
-    wrong_in m (parts_of kind (op_kind_in words)) (form_of kind (op_kind_in words)) 1 words
-wrong_behind m (Err fault) words = Some (record { fault = fault; place = Wrong 0; expected = Part Event })
+-- what is wrong with the words of an event whose first word was read as its kind, or has a fault; it has number n in its
+-- line, and words are the others
+abbrev pub wrong_behind : {A : Type 0} → Parts A → ℕ → Result EventKind LineFault → List (List ℕ) → Option Diagnostic
+wrong_behind m n (Ok kind) words =
+    wrong_in m (parts_of kind (op_kind_in words)) (form_of kind (op_kind_in words)) (n + 1) words
+wrong_behind m n (Err fault) words = Some (record { fault = fault; place = Wrong n; expected = Part Event })
 
--- what is wrong with the words of an event
-abbrev pub wrong_event : {A : Type 0} → Parts A → List (List ℕ) → Option Diagnostic
-wrong_event m [] = Some (record { fault = Empty; place = Missing 0; expected = Part Event })
-wrong_event m (word ∷ words) = wrong_behind m (event_kind_said word) words
+-- what is wrong with the words of an event, of which the first has number n in its line
+abbrev pub wrong_event : {A : Type 0} → Parts A → ℕ → List (List ℕ) → Option Diagnostic
+wrong_event m n [] = Some (record { fault = Empty; place = Missing n; expected = Part Event })
+wrong_event m n (word ∷ words) = wrong_behind m n (event_kind_said word) words
 
 -- what is wrong with the words after a `=`, of which the first has number n in its line
 abbrev pub wrong_return : {A : Type 0} → Parts A → ℕ → List (List ℕ) → Option Diagnostic
@@ -126,5 +136,65 @@ lower_of d e = option_or d e
 abbrev pub wrong_kept : {A : Type 0} → Parts A → List (List ℕ) → Option Diagnostic
 wrong_kept m words =
     if list_any is_equals words
-    then lower_of (wrong_event m (before_first is_equals words)) (wrong_return m (position_or_len is_equals words + 1) (after_first is_equals words))
-    else wrong_event m words
+    then lower_of (wrong_event m 0 (before_first is_equals words)) (wrong_return m (position_or_len is_equals words + 1) (after_first is_equals words))
+    else wrong_event m 0 words
+
+-- what is wrong with the word of a seat, one of this many, which is the first of its line
+abbrev pub wrong_seat : {A : Type 0} → Parts A → ℕ → List ℕ → Option Diagnostic
+wrong_seat m seats word = wrong_in m (Seat seats ∷ []) (Part (Seat seats)) 0 (word ∷ [])
+
+-- what is wrong with the words after a seat
+abbrev pub wrong_after_seat : {A : Type 0} → Parts A → List (List ℕ) → Option Diagnostic
+wrong_after_seat m [] = Some (record { fault = Arity; place = Missing 1; expected = Part Event })
+wrong_after_seat m (word ∷ words) = wrong_event m 1 (word ∷ words)
+
+-- what is wrong with the words of a seated event: with its seat, or with its event
+abbrev pub wrong_seated : {A : Type 0} → Parts A → ℕ → List (List ℕ) → Option Diagnostic
+wrong_seated m seats [] = Some (record { fault = Empty; place = Missing 0; expected = Part (Seat seats) })
+wrong_seated m seats (seat ∷ words) = lower_of (wrong_seat m seats seat) (wrong_after_seat m words)
+
+-- what the word after a kind of break stands for
+abbrev pub break_parts : BreakKind → List LinePart
+break_parts break_kind.Kind = Event ∷ []
+break_parts break_kind.Txn = Transaction ∷ []
+break_parts break_kind.Object = Object ∷ []
+break_parts break_kind.Owed = Count ∷ []
+break_parts break_kind.Ended = Transaction ∷ []
+
+-- what is wrong with a break whose first word was read as its kind, or has a fault; words are the others
+abbrev pub wrong_break_of : {A : Type 0} → Parts A → Result BreakKind LineFault → List (List ℕ) → Option Diagnostic
+wrong_break_of m (Ok kind) words = wrong_in m (break_parts kind) (BreakForm kind) 2 words
+wrong_break_of m (Err fault) words = Some (record { fault = fault; place = Wrong 1; expected = Part Break })
+
+-- what is wrong with the words after `break`
+abbrev pub wrong_break : {A : Type 0} → Parts A → List (List ℕ) → Option Diagnostic
+wrong_break m [] = Some (record { fault = Arity; place = Missing 1; expected = Part Break })
+wrong_break m (word ∷ words) = wrong_break_of m (break_kind_said word) words
+
+-- what the words after the first stand for in a command of this kind; those of a break are another matter
+abbrev pub command_parts : CommandKind → List LinePart
+command_parts command_kind.Goto = Count ∷ []
+command_parts command_kind.Value = Object ∷ []
+command_parts command_kind.Status = Transaction ∷ []
+command_parts _ = []
+
+-- whether it is the kind of command that adds a break
+abbrev pub is_break : CommandKind → Bool
+is_break command_kind.Break = true
+is_break _ = false
+
+-- what is wrong with the words after the first of a command of this kind
+abbrev pub wrong_argument : {A : Type 0} → Parts A → CommandKind → List (List ℕ) → Option Diagnostic
+wrong_argument m kind words =
+    if is_break kind then wrong_break m words
+    else wrong_in m (command_parts kind) (CommandForm kind) 1 words
+
+-- what is wrong with a command whose first word was read as its kind, or has a fault; words are the others
+abbrev pub wrong_command_of : {A : Type 0} → Parts A → Result CommandKind LineFault → List (List ℕ) → Option Diagnostic
+wrong_command_of m (Ok kind) words = wrong_argument m kind words
+wrong_command_of m (Err fault) words = Some (record { fault = fault; place = Wrong 0; expected = Part Command })
+
+-- what is wrong with the words of a command
+abbrev pub wrong_command : {A : Type 0} → Parts A → List (List ℕ) → Option Diagnostic
+wrong_command m [] = Some (record { fault = Empty; place = Missing 0; expected = Part Command })
+wrong_command m (word ∷ words) = wrong_command_of m (command_kind_said word) words

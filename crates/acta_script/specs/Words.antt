@@ -1,7 +1,11 @@
--- The words of events, operations and returns, and the forms of their lines.
+-- The words of events, operations, returns, and commands to a debugger, and the forms of their lines.
 use Rattle.std.specs.Prelude.{ℕ, Bool, true, false, List, codes}
 use Rattle.acta_table.specs.declared.event.EventKind.{EventKind}
 use Rattle.acta_table.specs.declared.event.EventKind.TheVariants.{Begin, Spawn, Split, Join, Delegate, Form, Operate, Commit, Abort, Permit}
+use Rattle.acta_script.specs.declared.command_words.BreakKind.{BreakKind}
+use Rattle.acta_script.specs.declared.command_words.BreakKind.TheVariants as break_kind
+use Rattle.acta_script.specs.declared.command_words.CommandKind.{CommandKind}
+use Rattle.acta_script.specs.declared.command_words.CommandKind.TheVariants as command_kind
 use Rattle.acta_script.specs.declared.op_kind.OpKind.{OpKind}
 use Rattle.acta_script.specs.declared.op_kind.OpKind.TheVariants as op_kind
 
@@ -71,3 +75,43 @@ done_word = codes "done"
 abbrev pub flag_word : Bool → List ℕ
 flag_word true = codes "yes"
 flag_word false = codes "no"
+
+-- the first word of a command to a debugger
+abbrev pub command_word : CommandKind → List ℕ
+command_word command_kind.Step = codes "step"
+command_word command_kind.Back = codes "back"
+command_word command_kind.Goto = codes "goto"
+command_word command_kind.Run = codes "run"
+command_word command_kind.Break = codes "break"
+command_word command_kind.Clear = codes "clear"
+command_word command_kind.Value = codes "value"
+command_word command_kind.Status = codes "status"
+command_word command_kind.Owed = codes "owed"
+
+-- the form of a command's line, with a word in capitals for each that varies
+abbrev pub command_form : CommandKind → List ℕ
+command_form command_kind.Step = codes "step"
+command_form command_kind.Back = codes "back"
+command_form command_kind.Goto = codes "goto N"
+command_form command_kind.Run = codes "run"
+command_form command_kind.Break = codes "break BREAK"
+command_form command_kind.Clear = codes "clear"
+command_form command_kind.Value = codes "value OBJECT"
+command_form command_kind.Status = codes "status T"
+command_form command_kind.Owed = codes "owed"
+
+-- the word of a kind of break, which follows `break`
+abbrev pub break_word : BreakKind → List ℕ
+break_word break_kind.Kind = codes "kind"
+break_word break_kind.Txn = codes "txn"
+break_word break_kind.Object = codes "object"
+break_word break_kind.Owed = codes "owed"
+break_word break_kind.Ended = codes "ended"
+
+-- the form of the line of a command that adds such a break
+abbrev pub break_form : BreakKind → List ℕ
+break_form break_kind.Kind = codes "break kind EVENT"
+break_form break_kind.Txn = codes "break txn T"
+break_form break_kind.Object = codes "break object OBJECT"
+break_form break_kind.Owed = codes "break owed N"
+break_form break_kind.Ended = codes "break ended T"

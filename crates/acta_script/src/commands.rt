@@ -2,9 +2,10 @@
 //! numbers, then names. So the fault that is told is the lowest. What a command does is no matter of lines.
 
 ghost use Rattle.std.specs.Prelude.{◌≡◌, map, Ok, Err, IfOk, IfErr};
-ghost use Rattle.acta_script.specs.Commands.{break_command_said, break_said, command_of, command_said, ended_break_said, goto_said, kind_break_said, object_break_said, one_word, owed_break_said, plain_command, plain_said, status_said, txn_break_said, value_said};
+ghost use Rattle.acta_script.specs.Commands.{break_command_said, break_of_kind, break_said, command_of, command_of_kind, command_said, ended_break_said, goto_said, kind_break_said, object_break_said, one_word, owed_break_said, status_said, txn_break_said, value_said};
 ghost use Rattle.acta_script.specs.Reading.{IsWhy};
 
+use crate::command_words::{BreakKind, CommandKind, break_kind_said, command_kind_said};
 use crate::fault::{LineError, LineFault};
 use crate::names::object_said;
 use crate::numbers::{count_said, txn_said};
@@ -110,7 +111,24 @@ fn ended_break_said(words: &[&[u8]]) -> Result<BreakOn, LineFault>
     Ok(BreakOn::Ended(t))
 }
 
-// The break that the words behind `break` say.
+// The break of this kind that the words after the kind's word say.
+fn break_of_kind<A: Allocator>(
+    model: &Model<A>,
+    kind: BreakKind,
+    words: &[&[u8]],
+) -> Result<BreakOn, LineFault>
+    ensures { result ≡ break_of_kind model.now kind (map (λ word. word.now) words.now) }
+{
+    match kind {
+        BreakKind::Kind => kind_break_said(words),
+        BreakKind::Txn => txn_break_said(words),
+        BreakKind::Object => object_break_said(model, words),
+        BreakKind::Owed => owed_break_said(words),
+        BreakKind::Ended => ended_break_said(words),
+    }
+}
+
+// The break that the words after `break` say.
 #[tactic(auto, unfolding(crate::specs::Commands::break_said))]
 fn break_said<A: Allocator>(model: &Model<A>, words: &[&[u8]]) -> Result<BreakOn, LineFault>
     ensures { result ≡ break_said model.now (map (λ word. word.now) words.now) }
@@ -118,19 +136,8 @@ fn break_said<A: Allocator>(model: &Model<A>, words: &[&[u8]]) -> Result<BreakOn
     let [word, words @ ..] = words else {
         return Err(LineFault::Arity);
     };
-    if *word == b"kind".as_slice() {
-        kind_break_said(words)
-    } else if *word == b"txn".as_slice() {
-        txn_break_said(words)
-    } else if *word == b"object".as_slice() {
-        object_break_said(model, words)
-    } else if *word == b"owed".as_slice() {
-        owed_break_said(words)
-    } else if *word == b"ended".as_slice() {
-        ended_break_said(words)
-    } else {
-        Err(LineFault::Word)
-    }
+    let kind = break_kind_said(word)?;
+    break_of_kind(model, kind, words)
 }
 
 // goto N
@@ -171,32 +178,25 @@ fn break_command_said<A: Allocator>(
     Ok(DebugCommand::Break(on))
 }
 
-// The command that the word says.
-#[tactic(auto, unfolding(crate::specs::Commands::plain_command))]
-fn plain_command(word: &[u8]) -> Result<DebugCommand, LineFault>
-    ensures { result ≡ plain_command word.now }
+// The command of this kind that the words after the first say.
+fn command_of_kind<A: Allocator>(
+    model: &Model<A>,
+    kind: CommandKind,
+    words: &[&[u8]],
+) -> Result<DebugCommand, LineFault>
+    ensures { result ≡ command_of_kind model.now kind (map (λ word. word.now) words.now) }
 {
-    if word == b"step".as_slice() {
-        Ok(DebugCommand::Step)
-    } else if word == b"back".as_slice() {
-        Ok(DebugCommand::Back)
-    } else if word == b"run".as_slice() {
-        Ok(DebugCommand::Run)
-    } else if word == b"clear".as_slice() {
-        Ok(DebugCommand::Clear)
-    } else if word == b"owed".as_slice() {
-        Ok(DebugCommand::Owed)
-    } else {
-        Err(LineFault::Word)
+    match kind {
+        CommandKind::Step => alone(DebugCommand::Step, words),
+        CommandKind::Back => alone(DebugCommand::Back, words),
+        CommandKind::Goto => goto_said(words),
+        CommandKind::Run => alone(DebugCommand::Run, words),
+        CommandKind::Break => break_command_said(model, words),
+        CommandKind::Clear => alone(DebugCommand::Clear, words),
+        CommandKind::Value => value_said(model, words),
+        CommandKind::Status => status_said(words),
+        CommandKind::Owed => alone(DebugCommand::Owed, words),
     }
-}
-
-// A command of one word, with no word behind it.
-fn plain_said(word: &[u8], words: &[&[u8]]) -> Result<DebugCommand, LineFault>
-    ensures { result ≡ plain_said word.now (map (λ word. word.now) words.now) }
-{
-    let command = plain_command(word)?;
-    alone(command, words)
 }
 
 // The command that the words say.
@@ -207,17 +207,8 @@ fn command_said<A: Allocator>(model: &Model<A>, words: &[&[u8]]) -> Result<Debug
     let [word, words @ ..] = words else {
         return Err(LineFault::Empty);
     };
-    if *word == b"goto".as_slice() {
-        goto_said(words)
-    } else if *word == b"break".as_slice() {
-        break_command_said(model, words)
-    } else if *word == b"value".as_slice() {
-        value_said(model, words)
-    } else if *word == b"status".as_slice() {
-        status_said(words)
-    } else {
-        plain_said(word, words)
-    }
+    let kind = command_kind_said(word)?;
+    command_of_kind(model, kind, words)
 }
 
 /// The command that the line says (ours): `step`, `back`, `goto N`, `run`, `clear`, `value OBJECT`, `status T`, `owed`,

@@ -1,19 +1,22 @@
-//! Where a line of an event or of a kept item is wrong, and what is expected there.
+//! Where a line of an event, a kept item, a seated event or a command to a debugger is wrong, and what is expected there.
 
 ghost use Rattle.std.specs.Prelude.{◌≡◌, ◌<◌, ◌≤◌, ◌+◌, ◌^◌, length, map, option_map, IfOk, IfSome};
 ghost use Rattle.std.specs.Result.{result_err};
 ghost use Rattle.acta_words.specs.Text.{words_of};
-ghost use Rattle.acta_script.specs.Diagnosis.{IsWrong, fault_of_word, is_fault, wrong_word, wrong_count, wrong_in, op_kind_in, operation_parts, parts_of, form_of, wrong_behind, wrong_event, wrong_return, lower_of, wrong_kept};
-ghost use Rattle.acta_script.specs.Reading.{operations_said, event_said, return_said, kept_said, event_of, kept_of};
+ghost use Rattle.acta_script.specs.Diagnosis.{IsWrong, fault_of_word, is_fault, wrong_word, wrong_count, wrong_in, op_kind_in, operation_parts, parts_of, form_of, wrong_event, wrong_return, lower_of, wrong_kept, wrong_seat, wrong_after_seat, wrong_seated, break_parts, wrong_break, command_parts, is_break, wrong_argument, wrong_command};
+ghost use Rattle.acta_script.specs.Commands.{command_of};
+ghost use Rattle.acta_script.specs.Reading.{operations_said, event_of, kept_of, seated_of};
 
+use crate::command_words::{BreakKind, CommandKind, break_kind_said, command_kind_said};
 use crate::fault::{LineError, LineFault};
 use crate::kept::sign_place;
 use crate::names::{class_said, kind_said, object_said};
-use crate::numbers::{integer_said, txn_said};
+use crate::numbers::{count_said, integer_said, txn_said};
 use crate::op_kind::{OpKind, op_kind_said};
 use crate::op_sets::operations_said;
 use crate::reading::event_kind_said;
 use crate::returns::return_word_said;
+use crate::seated::seat_said;
 use acta_table::{EventKind, Model};
 use acta_words::words_of;
 use std::alloc::{AllocError, Allocator};
@@ -39,6 +42,14 @@ pub enum LinePart {
     Object,
     /// A return, as `done` or a number.
     Return,
+    /// The number of a seat, from 1 to this number of seats.
+    Seat(u8),
+    /// A count, a number of 32 bits.
+    Count,
+    /// The kind of command to a debugger, as `goto`: the first word of a command.
+    Command,
+    /// The kind of break, as `txn`: the word after `break`.
+    Break,
 }
 
 /// What is expected where a line is wrong.
@@ -50,6 +61,10 @@ pub enum Expected {
     EventForm(EventKind),
     /// As many words as the form of this operation has (`OpKind::form`).
     OperationForm(OpKind),
+    /// As many words as the form of this command has (`CommandKind::form`).
+    CommandForm(CommandKind),
+    /// As many words as the form of a command that adds this break has (`BreakKind::form`).
+    BreakForm(BreakKind),
 }
 
 /// Where a line is wrong. Its words are numbered from 0.
@@ -115,6 +130,10 @@ fn fault_of_word<A: Allocator + Copy>(
         LinePart::Class => class_said(model, word).err(),
         LinePart::Object => object_said(model, word).err(),
         LinePart::Return => return_word_said(word).err(),
+        LinePart::Seat(seats) => seat_said(seats, word).err(),
+        LinePart::Count => count_said(word).err(),
+        LinePart::Command => command_kind_said(word).err(),
+        LinePart::Break => break_kind_said(word).err(),
     })
 }
 
@@ -257,18 +276,20 @@ fn form_of(kind: EventKind, op: Option<OpKind>) -> Expected
     }
 }
 
-// What is wrong with the words of an event.
+// What is wrong with the words of an event, of which the first has number n in its line.
 fn wrong_event<A: Allocator + Copy>(
     alloc: A,
     model: &Model<A>,
+    n: usize,
     words: &[&[u8]],
 ) -> Result<Option<Diagnostic>, AllocError>
-    ensures { IfOk result (λ found. found ≡ wrong_event model.now (map (λ word. word.now) words.now)) }
+    requires { n + length words.now < 2 ^ 64 }
+    ensures { IfOk result (λ found. found ≡ wrong_event model.now n (map (λ word. word.now) words.now)) }
 {
     let [word, words @ ..] = words else {
         return Ok(Some(Diagnostic {
             fault: LineFault::Empty,
-            place: WordPlace::Missing(0),
+            place: WordPlace::Missing(n),
             expected: Expected::Part(LinePart::Event),
         }));
     };
@@ -280,13 +301,13 @@ fn wrong_event<A: Allocator + Copy>(
                 model,
                 parts_of(kind, op),
                 form_of(kind, op),
-                1,
+                n + 1,
                 words,
             )
         }
         Err(fault) => Ok(Some(Diagnostic {
             fault,
-            place: WordPlace::Wrong(0),
+            place: WordPlace::Wrong(n),
             expected: Expected::Part(LinePart::Event),
         })),
     }
@@ -332,11 +353,168 @@ fn wrong_kept<A: Allocator + Copy>(
     ensures { IfOk result (λ found. found ≡ wrong_kept model.now (map (λ word. word.now) words.now)) }
 {
     let Some(at) = sign_place(words) else {
-        return wrong_event(alloc, model, words);
+        return wrong_event(alloc, model, 0, words);
     };
-    let event = wrong_event(alloc, model, &words[..at])?;
+    let event = wrong_event(alloc, model, 0, &words[..at])?;
     let ret = wrong_return(alloc, model, at + 1, &words[at + 1..])?;
     Ok(lower_of(event, ret))
+}
+
+// What is wrong with the word of a seat, one of this many, which is the first of its line.
+fn wrong_seat<A: Allocator + Copy>(
+    alloc: A,
+    model: &Model<A>,
+    seats: u8,
+    word: &[u8],
+) -> Result<Option<Diagnostic>, AllocError>
+    ensures { IfOk result (λ found. found ≡ wrong_seat model.now seats word.now) }
+{
+    let part = LinePart::Seat(seats);
+    wrong_in(alloc, model, &[part], Expected::Part(part), 0, &[word])
+}
+
+// What is wrong with the words after a seat.
+fn wrong_after_seat<A: Allocator + Copy>(
+    alloc: A,
+    model: &Model<A>,
+    words: &[&[u8]],
+) -> Result<Option<Diagnostic>, AllocError>
+    ensures { IfOk result (λ found. found ≡ wrong_after_seat model.now (map (λ word. word.now) words.now)) }
+{
+    if words.is_empty() {
+        return Ok(Some(Diagnostic {
+            fault: LineFault::Arity,
+            place: WordPlace::Missing(1),
+            expected: Expected::Part(LinePart::Event),
+        }));
+    }
+    wrong_event(alloc, model, 1, words)
+}
+
+// What is wrong with the words of a seated event.
+fn wrong_seated<A: Allocator + Copy>(
+    alloc: A,
+    model: &Model<A>,
+    seats: u8,
+    words: &[&[u8]],
+) -> Result<Option<Diagnostic>, AllocError>
+    ensures { IfOk result (λ found. found ≡ wrong_seated model.now seats (map (λ word. word.now) words.now)) }
+{
+    let [seat, words @ ..] = words else {
+        return Ok(Some(Diagnostic {
+            fault: LineFault::Empty,
+            place: WordPlace::Missing(0),
+            expected: Expected::Part(LinePart::Seat(seats)),
+        }));
+    };
+    let seat = wrong_seat(alloc, model, seats, seat)?;
+    let event = wrong_after_seat(alloc, model, words)?;
+    Ok(lower_of(seat, event))
+}
+
+// What the word after a kind of break stands for.
+fn break_parts(kind: BreakKind) -> &'static [LinePart]
+    ensures { result.now ≡ break_parts kind }
+{
+    match kind {
+        BreakKind::Kind => &[LinePart::Event],
+        BreakKind::Txn => &[LinePart::Transaction],
+        BreakKind::Object => &[LinePart::Object],
+        BreakKind::Owed => &[LinePart::Count],
+        BreakKind::Ended => &[LinePart::Transaction],
+    }
+}
+
+// What is wrong with the words after `break`.
+fn wrong_break<A: Allocator + Copy>(
+    alloc: A,
+    model: &Model<A>,
+    words: &[&[u8]],
+) -> Result<Option<Diagnostic>, AllocError>
+    ensures { IfOk result (λ found. found ≡ wrong_break model.now (map (λ word. word.now) words.now)) }
+{
+    let [word, words @ ..] = words else {
+        return Ok(Some(Diagnostic {
+            fault: LineFault::Arity,
+            place: WordPlace::Missing(1),
+            expected: Expected::Part(LinePart::Break),
+        }));
+    };
+    match break_kind_said(word) {
+        Ok(kind) => wrong_in(
+            alloc,
+            model,
+            break_parts(kind),
+            Expected::BreakForm(kind),
+            2,
+            words,
+        ),
+        Err(fault) => Ok(Some(Diagnostic {
+            fault,
+            place: WordPlace::Wrong(1),
+            expected: Expected::Part(LinePart::Break),
+        })),
+    }
+}
+
+// What the words after the first stand for in a command of this kind. Those of a break are another matter.
+fn command_parts(kind: CommandKind) -> &'static [LinePart]
+    ensures { result.now ≡ command_parts kind }
+{
+    match kind {
+        CommandKind::Goto => &[LinePart::Count],
+        CommandKind::Value => &[LinePart::Object],
+        CommandKind::Status => &[LinePart::Transaction],
+        _ => &[],
+    }
+}
+
+// Whether it is the kind of command that adds a break.
+fn is_break(kind: CommandKind) -> bool
+    ensures { result ≡ is_break kind }
+{
+    matches!(kind, CommandKind::Break)
+}
+
+// What is wrong with the words after the first of a command of this kind.
+fn wrong_argument<A: Allocator + Copy>(
+    alloc: A,
+    model: &Model<A>,
+    kind: CommandKind,
+    words: &[&[u8]],
+) -> Result<Option<Diagnostic>, AllocError>
+    ensures { IfOk result (λ found. found ≡ wrong_argument model.now kind (map (λ word. word.now) words.now)) }
+{
+    if is_break(kind) {
+        return wrong_break(alloc, model, words);
+    }
+    let parts = command_parts(kind);
+    wrong_in(alloc, model, parts, Expected::CommandForm(kind), 1, words)
+}
+
+// What is wrong with the words of a command.
+fn wrong_command<A: Allocator + Copy>(
+    alloc: A,
+    model: &Model<A>,
+    words: &[&[u8]],
+) -> Result<Option<Diagnostic>, AllocError>
+    ensures { IfOk result (λ found. found ≡ wrong_command model.now (map (λ word. word.now) words.now)) }
+{
+    let [word, words @ ..] = words else {
+        return Ok(Some(Diagnostic {
+            fault: LineFault::Empty,
+            place: WordPlace::Missing(0),
+            expected: Expected::Part(LinePart::Command),
+        }));
+    };
+    match command_kind_said(word) {
+        Ok(kind) => wrong_argument(alloc, model, kind, words),
+        Err(fault) => Ok(Some(Diagnostic {
+            fault,
+            place: WordPlace::Wrong(0),
+            expected: Expected::Part(LinePart::Command),
+        })),
+    }
 }
 
 /// What is wrong with a line of an event. `None` where `read_event` can read the line. The fault is the one that
@@ -348,12 +526,12 @@ pub fn diagnose_event<A: Allocator + Copy>(
     model: &Model<A>,
     line: &[u8],
 ) -> Result<Option<Diagnostic>, AllocError>
-    ensures found { IfOk result (λ found. found ≡ wrong_event model.now (words_of line.now)) }
+    ensures found { IfOk result (λ found. found ≡ wrong_event model.now 0 (words_of line.now)) }
     ensures fault { IfOk result (λ found. option_map (λ d. d.fault) found ≡ result_err (event_of model.now line.now)) }
     ensures wrong { IfOk result (λ found. IfSome found (IsWrong model.now (words_of line.now))) }
 {
     let words = words_of(alloc, line)?;
-    wrong_event(alloc, model, &words)
+    wrong_event(alloc, model, 0, &words)
 }
 
 /// What is wrong with a kept line. `None` where `read_kept` can read the line. The fault is the one that `read_kept`
@@ -370,4 +548,35 @@ pub fn diagnose_kept<A: Allocator + Copy>(
 {
     let words = words_of(alloc, line)?;
     wrong_kept(alloc, model, &words)
+}
+
+/// What is wrong with a seated line, where the seats are so many. `None` where `read_seated` can read the line. The fault
+/// is the one that `read_seated` answers, the lower of the seat's and the event's. Where both have the same, the place is
+/// the seat. A line with a seat alone lacks a word. `Err` where there is no memory.
+pub fn diagnose_seated<A: Allocator + Copy>(
+    alloc: A,
+    model: &Model<A>,
+    seats: u8,
+    line: &[u8],
+) -> Result<Option<Diagnostic>, AllocError>
+    ensures found { IfOk result (λ found. found ≡ wrong_seated model.now seats (words_of line.now)) }
+    ensures fault { IfOk result (λ found. option_map (λ d. d.fault) found ≡ result_err (seated_of model.now seats line.now)) }
+{
+    let words = words_of(alloc, line)?;
+    wrong_seated(alloc, model, seats, &words)
+}
+
+/// What is wrong with the line of a command to a debugger. `None` where `read_command` can read the line. The fault is the
+/// one that `read_command` answers, the lowest of the line, and the place is the first word that has it, as in the lines
+/// of events. `Err` where there is no memory.
+pub fn diagnose_command<A: Allocator + Copy>(
+    alloc: A,
+    model: &Model<A>,
+    line: &[u8],
+) -> Result<Option<Diagnostic>, AllocError>
+    ensures found { IfOk result (λ found. found ≡ wrong_command model.now (words_of line.now)) }
+    ensures fault { IfOk result (λ found. option_map (λ d. d.fault) found ≡ result_err (command_of model.now line.now)) }
+{
+    let words = words_of(alloc, line)?;
+    wrong_command(alloc, model, &words)
 }

@@ -15,12 +15,13 @@
 //! more, with the word `|` between two of them. An answer is `ok PLACE [RETURN]` or `no RULE [by N]`, a debt is
 //! `owed EDGE TXN commit` or `.. abort`, and a fault in a history is `fault AXIOM PLACE BY`. No line that is written
 //! ends in a line feed. What is written of an event or a kept item is read again as this event or item: it is a clause
-//! of `write_event` and `write_kept`. Where a line cannot be read, `diagnose_event` and `diagnose_kept` say which word is
-//! wrong, and what is expected in its place. Other crates write lines of their own with the words of statuses, sets,
-//! returns and events that are owed.
+//! of `write_event` and `write_kept`. Where a line of an event, a kept item, a seated event or a command cannot be read,
+//! `diagnose_event`, `diagnose_kept`, `diagnose_seated` and `diagnose_command` say which word is wrong, and what is expected
+//! in its place. Other crates write lines of their own with the words of statuses, sets, returns and events that are owed.
 #![tactic(auto)]
 
 mod answers;
+mod command_words;
 mod commands;
 mod diagnosis;
 mod event_words;
@@ -41,8 +42,12 @@ mod states;
 mod writing;
 
 pub use answers::{answer_line, fault_line, missing_word, owed_line};
+pub use command_words::{BreakKind, CommandKind};
 pub use commands::{BreakOn, DebugCommand, read_command};
-pub use diagnosis::{Diagnostic, Expected, LinePart, WordPlace, diagnose_event, diagnose_kept};
+pub use diagnosis::{
+    Diagnostic, Expected, LinePart, WordPlace, diagnose_command, diagnose_event, diagnose_kept,
+    diagnose_seated,
+};
 pub use event_words::{EVENT_KINDS, event_form, event_word};
 pub use fault::{LineError, LineFault};
 pub use kept::{read_kept, write_kept};
