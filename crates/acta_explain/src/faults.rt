@@ -11,8 +11,8 @@ use crate::put;
 use acta_io::{BadLine, refuse_line};
 use acta_machine::Handle;
 use acta_script::{
-    EVENT_KINDS, Expected, LineFault, LinePart, OpKind, RETURN_WORDS, WordPlace, diagnose_event,
-    diagnose_kept, event_form, event_word,
+    BreakKind, CommandKind, EVENT_KINDS, Expected, LineFault, LinePart, OpKind, RETURN_WORDS,
+    WordPlace, diagnose_event, diagnose_kept, event_form, event_word,
 };
 use acta_table::{Dep, Model};
 use acta_words::{Lines, word_span};
@@ -75,7 +75,13 @@ fn known_words<'a, A: Handle>(
         LinePart::Class => class_names(alloc, model),
         LinePart::Object => object_names(alloc, model),
         LinePart::Return => return_words(alloc),
-        LinePart::Transaction | LinePart::Integer | LinePart::Operations => Ok(Vec::new(alloc)),
+        LinePart::Command => command_words(alloc),
+        LinePart::Break => break_words(alloc),
+        LinePart::Transaction
+        | LinePart::Integer
+        | LinePart::Operations
+        | LinePart::Seat(_)
+        | LinePart::Count => Ok(Vec::new(alloc)),
     }
 }
 
@@ -106,6 +112,22 @@ fn operation_words<'a, A: Handle>(alloc: A) -> Result<Vec<&'a str, A>, AllocErro
 fn return_words<'a, A: Handle>(alloc: A) -> Result<Vec<&'a str, A>, AllocError> {
     let mut words = Vec::new(alloc);
     words.extend_from_slice(&RETURN_WORDS)?;
+    Ok(words)
+}
+
+fn command_words<'a, A: Handle>(alloc: A) -> Result<Vec<&'a str, A>, AllocError> {
+    let mut words = Vec::new(alloc);
+    for kind in CommandKind::ALL {
+        words.push(kind.word())?;
+    }
+    Ok(words)
+}
+
+fn break_words<'a, A: Handle>(alloc: A) -> Result<Vec<&'a str, A>, AllocError> {
+    let mut words = Vec::new(alloc);
+    for kind in BreakKind::ALL {
+        words.push(kind.word())?;
+    }
     Ok(words)
 }
 
@@ -183,6 +205,8 @@ fn put_expected<A: Handle>(
         Expected::Part(part) => put_part(prose, culprit, part, known),
         Expected::EventForm(kind) => put!(prose; "`", event_form(kind), "`"),
         Expected::OperationForm(kind) => put!(prose; "`", kind.form(), "`"),
+        Expected::CommandForm(kind) => put!(prose; "`", kind.form(), "`"),
+        Expected::BreakForm(kind) => put!(prose; "`", kind.form(), "`"),
     }
 }
 
@@ -207,6 +231,10 @@ fn put_part<A: Handle>(
         LinePart::Return => put_listed(prose.put("one word behind the `=`: "), known).put(
             " or a whole number",
         ),
+        LinePart::Seat(seats) => put!(prose; "the number of a seat, from 1 to ", seats),
+        LinePart::Count => prose.put("a count, digits up to 4294967295"),
+        LinePart::Command => put_either(prose.put("a command: "), known),
+        LinePart::Break => put_either(prose.put("a kind of break: "), known),
     }
 }
 

@@ -25,7 +25,7 @@ fn driven<R: Threads + Wait + Sync + Abort>(
     let text = Standard::Atomic.text().as_bytes();
     let mut output = Vec::new(alloc);
     let ended = serve(rt, &heap, &args, text, input.as_bytes(), &mut output);
-    holds(rt, ended == Outcome::Done, input);
+    holds(rt, ended == Ok(Outcome::Done), input);
     let output = made(rt, str::from_utf8(output.as_slice()), input);
     made(rt, String::from_str(alloc, output), input)
 }

@@ -101,7 +101,7 @@ fn refuse_one<R: Threads + Sync + Abort, B: Allocator + Send + Sync>(
         holds(rt, was_refused && output.is_empty(), input);
     } else {
         tells(rt, output.as_slice(), output_due, input);
-        ends(rt, ended, due, input);
+        ends(rt, Ok(ended), due, input);
     }
     was_refused
 }

@@ -7,7 +7,7 @@ use crate::expecting::{MOST, at_least, holds, made, tells};
 use acta_args::ModelName;
 use acta_io::{Metered, Outcome, ReadFault, Watched};
 use acta_locked::DriveError;
-use acta_tool::{Args, Command, drive_tool, exit_status, parse, run_tool};
+use acta_tool::{Args, Command, Failure, drive_tool, exit_status, parse, run_tool};
 use refusing::Refusing;
 use std::alloc::{Allocator, Global};
 use std::process::Abort;
@@ -22,12 +22,12 @@ pub fn serve<R: Threads + Wait + Sync, B: Allocator + Send + Sync>(
     model: &[u8],
     input: &[u8],
     output: &mut Vec<u8>,
-) -> Outcome {
+) -> Result<Outcome, DriveError> {
     let mut input = Metered::new(input);
     let mut output = Watched::new(output);
     match args.command {
         Command::Drive { .. } => drive_tool(rt, heap, args, model, &mut input, &mut output),
-        _ => run_tool(rt, heap, args, model, &mut input, &mut output),
+        _ => Ok(run_tool(rt, heap, args, model, &mut input, &mut output)),
     }
 }
 
@@ -49,11 +49,10 @@ fn model_of<'a>(args: &Args<'_>, row: &'a Row<'_>) -> &'a [u8] {
 }
 
 // Whether the run ended for want of memory or of a thread.
-fn is_short(ended: Outcome) -> bool {
+fn is_short(ended: Result<Outcome, DriveError>) -> bool {
     matches!(
         ended,
-        Outcome::Unread(ReadFault::Memory)
-            | Outcome::Undriven(DriveError::Memory | DriveError::NoThread)
+        Ok(Outcome::Unread(ReadFault::Memory)) | Err(DriveError::Memory | DriveError::NoThread)
     )
 }
 
@@ -86,14 +85,14 @@ fn refuse_one<R: Threads + Wait + Sync + Abort, B: Allocator + Send + Sync>(
         holds(rt, was_refused && output.is_empty(), row.command);
     } else {
         tells(rt, output.as_slice(), row.output.as_slice(), row.command);
-        ends(rt, ended, due, row.command);
+        ends(rt, ended.map_err(Failure::Undriven), due, row.command);
     }
     was_refused
 }
 
 /// Asserts that a run ends with this exit status.
-pub fn ends(rt: &impl Abort, ended: Outcome, due: &str, line: &str) {
-    let is_due = Some(exit_status(&Ok(ended))) == due.parse().ok();
+pub fn ends(rt: &impl Abort, ended: Result<Outcome, Failure>, due: &str, line: &str) {
+    let is_due = Some(exit_status(&ended)) == due.parse().ok();
     holds(rt, is_due, line);
 }
 
