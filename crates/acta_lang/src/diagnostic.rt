@@ -58,15 +58,15 @@ pub enum Expected {
     NewObject,
     /// A name that no class has.
     NewClass,
-    /// A line that stands outside a class; none is open.
+    /// A line that may stand outside a class, since none is open.
     Outside,
     /// An end of the class that is open, before the line.
     Ended,
-    /// A line that the class hasn't had yet.
+    /// A line of a part that the class has not said yet.
     Once,
     /// A whole number of 32 bits, with its sign.
     Number,
-    /// No more objects and classes than a model may have.
+    /// No more objects, or no more classes.
     Fewer,
     /// An end of the class that is open.
     ClassEnd,

@@ -262,7 +262,7 @@ impl<'a, A: Allocator + Copy> Draft<'a, A> {
         }
     }
 
-    // The line that begins a class of this name, the open one too.
+    // The line that begins a class of this name, closed or open.
     fn class_line(&self, name: &'a [u8]) -> Option<usize>
         ensures { result ≡ option_or (line_of name.now (noted self.now).classes) (current_line name.now (noted self.now).current) }
     {
@@ -282,7 +282,8 @@ impl<'a, A: Allocator + Copy> Draft<'a, A> {
         }
     }
 
-    /// The earlier line that the fault of this code has to do with, at a line of these words, of this form.
+    /// The earlier line that a fault of this code has to do with, at a line of these words, of this form: the line that
+    /// declares the name, or the line that has said the part.
     pub(crate) fn earlier(&self, words: &[&'a [u8]], said: &Form, code: Code) -> Option<usize>
         ensures { result ≡ earlier_noted (noted self.now) (map (λ word. word.now) words.now) said.now code }
     {
@@ -313,8 +314,8 @@ impl<'a, A: Allocator + Copy> Draft<'a, A> {
         }
     }
 
-    /// The class that is open before the line of this number, of these words and this form; and where the code says that
-    /// its end is missing, the class that is open behind the line.
+    /// The class that is open before the line of this number, of these words, of this form. Where the code is `MissingEnd`
+    /// it is the class that is open behind the line, which the line itself may begin.
     pub(crate) fn class_at(
         &self,
         number: usize,

@@ -5,14 +5,20 @@ ghost use Rattle.acta_lang.specs.Lines.{no_lines, part_line, with_line};
 
 use crate::form::Form;
 
-/// The line of each of the six parts of a class, from 1; `None` of one that no line has said.
+/// The line of each of the six parts of a class, from 1; `None` for a part that no line of the class has said.
 #[derive(Clone, Copy, PartialEq, Eq, Debug)]
 pub struct PartLines {
+    /// The line that begins with `starts`.
     pub starts: Option<usize>,
+    /// The line that begins with `may`.
     pub may: Option<usize>,
+    /// The line that begins with `scope`.
     pub scope: Option<usize>,
+    /// The line that begins with `policy`.
     pub policy: Option<usize>,
+    /// The line that begins with `commit`.
     pub commit: Option<usize>,
+    /// The line that begins with `delegation`.
     pub delegation: Option<usize>,
 }
 

@@ -20,7 +20,7 @@ use crate::words::{
 use acta_table::Dep;
 use std::alloc::Allocator;
 
-// The word at this place; none is the empty word.
+// The word at this place of the line, or the empty word where the line has none there.
 fn word_at<'a>(words: &[&'a [u8]], place: usize) -> &'a [u8]
     ensures { result.now ≡ word_at (map (λ word. word.now) words.now) place }
 {
@@ -30,7 +30,7 @@ fn word_at<'a>(words: &[&'a [u8]], place: usize) -> &'a [u8]
     }
 }
 
-// The place, if there is a word.
+// The place, if the line has a word there.
 fn place_if(words: &[&[u8]], place: usize) -> Option<usize>
     ensures { result ≡ place_if (map (λ word. word.now) words.now) place }
 {
@@ -48,7 +48,7 @@ fn is_policy_kind(word: &[u8]) -> bool
     matches!(dep_named(word), Some(Dep::Cd | Dep::Ad | Dep::Wd | Dep::Td))
 }
 
-// Whether the word may stand where this is expected, of what takes any number of words.
+// Whether the word may stand where this is expected, in lines that take any number of such words.
 fn may_stand(expected: Expected, word: &[u8]) -> bool
     ensures { result ≡ may_stand expected word.now }
 {
@@ -64,7 +64,7 @@ fn may_stand(expected: Expected, word: &[u8]) -> bool
     }
 }
 
-// The place of the first of these words that may not stand there.
+// The position of the first of these words that may not stand where this is expected.
 fn first_stray(expected: Expected, words: &[&[u8]]) -> Option<usize>
     ensures first { result ≡ position_from (λ word. not (may_stand expected word.now)) 0 words.now }
     ensures within { IfSome result (λ place. place < length words.now) }
@@ -72,7 +72,8 @@ fn first_stray(expected: Expected, words: &[&[u8]]) -> Option<usize>
     words.iter().position(|word| !may_stand(expected, word))
 }
 
-// The place in the line of the first of the words from this place on that may not stand there, and else 2.
+// The place in the line of the first word that may not stand where this is expected, of the words from place `from` on.
+// Where each may stand there, a word lacks at place 2, or is one too many.
 fn stray(expected: Expected, from: u8, words: &[&[u8]]) -> usize
     ensures { result ≡ stray expected from (map (λ word. word.now) words.now) }
 {
@@ -88,7 +89,8 @@ fn is_object_kind(word: &[u8]) -> bool
     word == REGISTER.as_bytes() || word == COUNTER.as_bytes() || word == SET.as_bytes()
 }
 
-// The place of an object's line that has no form, and what is expected there.
+// The place of the word at fault in an object's line that has no form, by the words behind `object`, and what is expected
+// there.
 fn bad_object(words: &[&[u8]]) -> (usize, Expected)
     ensures { result ≡ bad_object (map (λ word. word.now) words.now) }
 {
@@ -104,7 +106,8 @@ fn bad_object(words: &[&[u8]]) -> (usize, Expected)
     }
 }
 
-// The same of a policy's line.
+// The place of the word at fault in a policy's line that has no form, by the words behind `policy`, and what is expected
+// there.
 fn bad_policy(words: &[&[u8]]) -> (usize, Expected)
     ensures { result ≡ bad_policy (map (λ word. word.now) words.now) }
 {
@@ -126,7 +129,8 @@ fn is_edge_end(word: &[u8]) -> bool
     word == STARTER.as_bytes() || word == STARTED.as_bytes()
 }
 
-// The same of a line of an edge, of which this is expected: its first end, its kind and its other end.
+// The place of the word at fault in an edge's line that has no form, and what is expected there. The caller names what is
+// expected of its first end, its kind and its other end: an edge at a spawn and one at a split differ there.
 fn bad_edge(words: &[&[u8]], end: Expected, kind: Expected, other: Expected) -> (usize, Expected)
     ensures { result ≡ bad_edge end kind other (map (λ word. word.now) words.now) }
 {
@@ -143,7 +147,8 @@ fn bad_edge(words: &[&[u8]], end: Expected, kind: Expected, other: Expected) -> 
     }
 }
 
-// The same of a line with this first word, and these behind it.
+// The place of the word at fault in a line that has no form, of those with a list of words or one word behind the first,
+// and what is expected there.
 fn bad_class_line(first: &[u8], words: &[&[u8]]) -> (usize, Expected)
     ensures { result ≡ bad_class_line first.now (map (λ word. word.now) words.now) }
 {
@@ -196,7 +201,8 @@ fn bad_word(words: &[&[u8]]) -> (usize, Expected)
     }
 }
 
-// The place of the kind by which no class may depend, or else of that which a policy lacks.
+// The place of the first kind by which no class may depend, in a policy's line; and where all may, the place of the kind
+// that the policy lacks.
 fn policy_place(words: &[&[u8]]) -> usize
     ensures { result ≡ policy_place (map (λ word. word.now) words.now) }
 {
@@ -213,7 +219,7 @@ fn first_not_plain(line: &[u8]) -> Option<usize>
     line.iter().position(|b| !is_plain(*b))
 }
 
-// The same offset, and else 0.
+// The offset of the first byte that no line has, or 0 where the line has no such byte.
 fn stray_byte(line: &[u8]) -> usize
     ensures { result ≡ stray_byte line.now }
 {
