@@ -9,17 +9,22 @@ use Rattle.std.proofs.lemmas.List.{length-take, length-drop}
 use Rattle.acta_table.specs.declared.event.EventKind.{EventKind}
 use Rattle.acta_table.specs.declared.event.EventKind.TheVariants as event_kind
 use Rattle.acta_table.specs.declared.model.Parts.{Parts}
+use Rattle.acta_script.specs.declared.command_words.BreakKind.{BreakKind}
+use Rattle.acta_script.specs.declared.command_words.BreakKind.TheVariants as break_kind
+use Rattle.acta_script.specs.declared.command_words.CommandKind.{CommandKind}
+use Rattle.acta_script.specs.declared.command_words.CommandKind.TheVariants as command_kind
 use Rattle.acta_script.specs.declared.diagnosis.Diagnostic.{Diagnostic}
 use Rattle.acta_script.specs.declared.diagnosis.Expected.{Expected}
-use Rattle.acta_script.specs.declared.diagnosis.Expected.TheVariants.{Part}
+use Rattle.acta_script.specs.declared.diagnosis.Expected.TheVariants.{Part, CommandForm, BreakForm}
 use Rattle.acta_script.specs.declared.diagnosis.LinePart.{LinePart}
 use Rattle.acta_script.specs.declared.diagnosis.LinePart.TheVariants as part
 use Rattle.acta_script.specs.declared.diagnosis.WordPlace.TheVariants.{Wrong, Missing}
 use Rattle.acta_script.specs.declared.fault.LineFault.{LineFault}
 use Rattle.acta_script.specs.declared.fault.LineFault.TheVariants.{Empty, Word, Arity, Number, Name}
-use Rattle.acta_script.specs.Diagnosis.{fault_of_word, is_fault, wrong_word, wrong_count, wrong_in, IsWrong, op_kind_in, parts_of, form_of, wrong_behind, wrong_event, wrong_return, lower_of, wrong_kept}
+use Rattle.acta_script.specs.Diagnosis.{fault_of_word, is_fault, wrong_word, wrong_count, wrong_in, IsWrong, op_kind_in, parts_of, form_of, wrong_behind, wrong_event, wrong_return, lower_of, wrong_kept, wrong_after_seat, wrong_seated, break_parts, wrong_break_of, wrong_break, command_parts, is_break, wrong_command_of, wrong_command}
+use Rattle.acta_script.specs.Commands.{break_kind_said, command_kind_said}
 use Rattle.acta_script.specs.Reading.{fault_number, event_kind_said, is_equals}
-use Rattle.acta_script.specs.Words.{event_word}
+use Rattle.acta_script.specs.Words.{break_word, command_word, event_word}
 use Rattle.acta_script.proofs.Signs.{any-first}
 
 same_fault : (f g : LineFault) → (fault_number f == fault_number g) ≡ true → f ≡ g
@@ -53,23 +58,26 @@ found_fault : (fault : LineFault) (o : Option LineFault) → is_fault fault o �
 found_fault fault None is = absurd (true≢false (sym is))
 found_fault fault (Some f) is = ap Some (same_fault f fault is)
 
--- a first word that is no event has the fault of an unknown word
-no_kind : (a b c d e f g h i j : Bool) (fault : LineFault) → (cond a (Ok event_kind.Begin) (cond b (Ok event_kind.Spawn) (cond c (Ok event_kind.Split) (cond d (Ok event_kind.Join) (cond e (Ok event_kind.Delegate) (cond f (Ok event_kind.Form) (cond g (Ok event_kind.Operate) (cond h (Ok event_kind.Commit) (cond i (Ok event_kind.Abort) (cond j (Ok event_kind.Permit) (Err Word))))))))))) ≡ Err fault → fault ≡ Word
-no_kind true b c d e f g h i j fault is = absurd (cc)
-no_kind false true c d e f g h i j fault is = absurd (cc)
-no_kind false false true d e f g h i j fault is = absurd (cc)
-no_kind false false false true e f g h i j fault is = absurd (cc)
-no_kind false false false false true f g h i j fault is = absurd (cc)
-no_kind false false false false false true g h i j fault is = absurd (cc)
-no_kind false false false false false false true h i j fault is = absurd (cc)
-no_kind false false false false false false false true i j fault is = absurd (cc)
-no_kind false false false false false false false false true j fault is = absurd (cc)
-no_kind false false false false false false false false false true fault is = absurd (cc)
-no_kind false false false false false false false false false false fault is = cc
+-- a word that has a fault among kinds, asked for one after another, is not the first one's
+unless : {A : Type 0} (b : Bool) (x : A) (r : Result A LineFault) (fault : LineFault) → cond b (Ok x) r ≡ Err fault → r ≡ Err fault
+unless true x r fault is = absurd (cc)
+unless false x r fault is = is
+
+past : {A : Type 0} (word : List ℕ) (word_of : A → List ℕ) (kind : A) (r : Result A LineFault) (fault : LineFault) → cond (bytes_eq word (word_of kind)) (Ok kind) r ≡ Err fault → r ≡ Err fault
+past word word_of kind r fault = unless (bytes_eq word (word_of kind)) kind r fault
+
+-- where it is none's, it is an unknown word
+unknown : {A : Type 0} (r : Result A LineFault) (fault : LineFault) → r ≡ Err Word → r ≡ Err fault → fault ≡ Word
+unknown r fault none is = cc
 
 no_event_kind : (word : List ℕ) (fault : LineFault) → event_kind_said word ≡ Err fault → fault ≡ Word
-no_event_kind word fault is =
-    no_kind (bytes_eq word (event_word event_kind.Begin)) (bytes_eq word (event_word event_kind.Spawn)) (bytes_eq word (event_word event_kind.Split)) (bytes_eq word (event_word event_kind.Join)) (bytes_eq word (event_word event_kind.Delegate)) (bytes_eq word (event_word event_kind.Form)) (bytes_eq word (event_word event_kind.Operate)) (bytes_eq word (event_word event_kind.Commit)) (bytes_eq word (event_word event_kind.Abort)) (bytes_eq word (event_word event_kind.Permit)) fault is
+no_event_kind word fault is = unknown _ fault refl (past word event_word event_kind.Permit _ fault (past word event_word event_kind.Abort _ fault (past word event_word event_kind.Commit _ fault (past word event_word event_kind.Operate _ fault (past word event_word event_kind.Form _ fault (past word event_word event_kind.Delegate _ fault (past word event_word event_kind.Join _ fault (past word event_word event_kind.Split _ fault (past word event_word event_kind.Spawn _ fault (past word event_word event_kind.Begin _ fault is))))))))))
+
+no_command_kind : (word : List ℕ) (fault : LineFault) → command_kind_said word ≡ Err fault → fault ≡ Word
+no_command_kind word fault is = unknown _ fault refl (past word command_word command_kind.Owed _ fault (past word command_word command_kind.Status _ fault (past word command_word command_kind.Value _ fault (past word command_word command_kind.Clear _ fault (past word command_word command_kind.Break _ fault (past word command_word command_kind.Run _ fault (past word command_word command_kind.Goto _ fault (past word command_word command_kind.Back _ fault (past word command_word command_kind.Step _ fault is)))))))))
+
+no_break_kind : (word : List ℕ) (fault : LineFault) → break_kind_said word ≡ Err fault → fault ≡ Word
+no_break_kind word fault is = unknown _ fault refl (past word break_word break_kind.Ended _ fault (past word break_word break_kind.Owed _ fault (past word break_word break_kind.Object _ fault (past word break_word break_kind.Txn _ fault (past word break_word break_kind.Kind _ fault is)))))
 
 -- the words are words of the line, of which the first has number n
 pub record AreAt (n : ℕ) (words all : List (List ℕ)) : Type 0 where
@@ -132,13 +140,16 @@ module _ {A : Type 0} (m : Parts A) (all : List (List ℕ)) where
       (either _ _ (wrong_as (wrong_word m Number n parts words) Number (word_wrong Number n parts words at) (λ n part is. is))
       (wrong_as (wrong_word m Name n parts words) Name (word_wrong Name n parts words at) (λ n part is. is))))
 
+  -- the word of this number is none of those that may stand there
+  first_wrong : (part : LinePart) (n : ℕ) (word : List ℕ) (words : List (List ℕ)) → AreAt n (word ∷ words) all → (fault : LineFault) → fault ≡ Word → fault_of_word m part word ≡ Some fault → IsWrong m all (record { fault = fault; place = Wrong n; expected = Part part })
+  first_wrong part n word words at fault none is =
+      let here : slice_get all n ≡ Some word = ap (slice_get all) (sym (nothing n)) ∙ at.each 0 word refl in
+      subst (λ (f : LineFault). IsWrong m all (record { fault = f; place = Wrong n; expected = Part part })) (sym none)
+      (ap (option_and_then (λ word. fault_of_word m part word)) here ∙ is ∙ ap Some none)
+
   behind_wrong : (n : ℕ) (word : List ℕ) (words : List (List ℕ)) → AreAt n (word ∷ words) all → (r : Result EventKind LineFault) → event_kind_said word ≡ r → IfSome (wrong_behind m n r words) (IsWrong m all)
   behind_wrong n word words at (Ok kind) is = wrong_there (parts_of kind (op_kind_in words)) (form_of kind (op_kind_in words)) (n + 1) words (next_at n word words all at)
-  behind_wrong n word words at (Err fault) is =
-      let unknown : fault ≡ Word = no_event_kind word fault is in
-      let here : slice_get all n ≡ Some word = ap (slice_get all) (sym (nothing n)) ∙ at.each 0 word refl in
-      subst (λ (f : LineFault). IsWrong m all (record { fault = f; place = Wrong n; expected = Part part.Event })) (sym unknown)
-      (ap (option_and_then (λ word. fault_of_word m part.Event word)) here ∙ ap result_err is ∙ ap Some unknown)
+  behind_wrong n word words at (Err fault) is = first_wrong part.Event n word words at fault (no_event_kind word fault is) (ap result_err is)
 
   pub event_wrong : (words : List (List ℕ)) → AreAt 0 words all → IfSome (wrong_event m 0 words) (IsWrong m all)
   event_wrong [] at = refl
@@ -186,6 +197,44 @@ module _ {A : Type 0} (m : Parts A) (all : List (List ℕ)) where
 
   pub kept_wrong : IfSome (wrong_kept m all) (IsWrong m all)
   kept_wrong = with_sign (list_any is_equals all) refl
+
+-- of a seated event
+after_seat_wrong : {A : Type 0} (m : Parts A) (seat : List ℕ) (words : List (List ℕ)) → IfSome (wrong_after_seat m words) (IsWrong m (seat ∷ words))
+after_seat_wrong m seat [] = omega arith
+after_seat_wrong m seat (word ∷ words) =
+    let all : List (List ℕ) = seat ∷ (word ∷ words) in
+    behind_wrong m all 1 word words (next_at 0 seat (word ∷ words) all (all_at all)) (event_kind_said word) refl
+
+pub seated_wrong : {A : Type 0} (m : Parts A) (seats : ℕ) (all : List (List ℕ)) → IfSome (wrong_seated m seats all) (IsWrong m all)
+seated_wrong m seats [] = refl
+seated_wrong m seats (seat ∷ words) =
+    let all : List (List ℕ) = seat ∷ words in
+    lower_wrong m all _ _ (wrong_there m all (part.Seat seats ∷ []) (Part (part.Seat seats)) 0 (seat ∷ []) (front_at 1 all)) (after_seat_wrong m seat words)
+
+-- of a command
+break_wrong : {A : Type 0} (m : Parts A) (all : List (List ℕ)) (word : List ℕ) (words : List (List ℕ)) → AreAt 1 (word ∷ words) all → (r : Result BreakKind LineFault) → break_kind_said word ≡ r → IfSome (wrong_break_of m r words) (IsWrong m all)
+break_wrong m all word words at (Ok kind) is = wrong_there m all (break_parts kind) (BreakForm kind) 2 words (next_at 1 word words all at)
+break_wrong m all word words at (Err fault) is = first_wrong m all part.Break 1 word words at fault (no_break_kind word fault is) (ap result_err is)
+
+break_words_wrong : {A : Type 0} (m : Parts A) (all words : List (List ℕ)) → AreAt 1 words all → IfSome (wrong_break m words) (IsWrong m all)
+break_words_wrong m all [] at = omega (arith, at.within)
+break_words_wrong m all (word ∷ words) at = break_wrong m all word words at (break_kind_said word) refl
+
+argument_wrong : {A : Type 0} (m : Parts A) (all words : List (List ℕ)) → AreAt 1 words all → (kind : CommandKind) (b : Bool) → IfSome (cond b (wrong_break m words) (wrong_in m (command_parts kind) (CommandForm kind) 1 words)) (IsWrong m all)
+argument_wrong m all words at kind true = break_words_wrong m all words at
+argument_wrong m all words at kind false = wrong_there m all (command_parts kind) (CommandForm kind) 1 words at
+
+kind_wrong : {A : Type 0} (m : Parts A) (word : List ℕ) (words : List (List ℕ)) (r : Result CommandKind LineFault) → command_kind_said word ≡ r → IfSome (wrong_command_of m r words) (IsWrong m (word ∷ words))
+kind_wrong m word words (Ok kind) is =
+    let all : List (List ℕ) = word ∷ words in
+    argument_wrong m all words (next_at 0 word words all (all_at all)) kind (is_break kind)
+kind_wrong m word words (Err fault) is =
+    let all : List (List ℕ) = word ∷ words in
+    first_wrong m all part.Command 0 word words (all_at all) fault (no_command_kind word fault is) (ap result_err is)
+
+pub command_wrong : {A : Type 0} (m : Parts A) (all : List (List ℕ)) → IfSome (wrong_command m all) (IsWrong m all)
+command_wrong m [] = refl
+command_wrong m (word ∷ words) = kind_wrong m word words (command_kind_said word) refl
 
 -- a diagnosis, where memory suffices for it
 pub wrong_if : {E : Type 0} {A : Type 0} (m : Parts A) (all : List (List ℕ)) (r : Result (Option Diagnostic) E) (d : Option Diagnostic) → IfOk r (λ found. found ≡ d) → IfSome d (IsWrong m all) → IfOk r (λ found. IfSome found (IsWrong m all))

@@ -561,6 +561,7 @@ pub fn diagnose_seated<A: Allocator + Copy>(
 ) -> Result<Option<Diagnostic>, AllocError>
     ensures found { IfOk result (λ found. found ≡ wrong_seated model.now seats (words_of line.now)) }
     ensures fault { IfOk result (λ found. option_map (λ d. d.fault) found ≡ result_err (seated_of model.now seats line.now)) }
+    ensures wrong { IfOk result (λ found. IfSome found (IsWrong model.now (words_of line.now))) }
 {
     let words = words_of(alloc, line)?;
     wrong_seated(alloc, model, seats, &words)
@@ -576,6 +577,7 @@ pub fn diagnose_command<A: Allocator + Copy>(
 ) -> Result<Option<Diagnostic>, AllocError>
     ensures found { IfOk result (λ found. found ≡ wrong_command model.now (words_of line.now)) }
     ensures fault { IfOk result (λ found. option_map (λ d. d.fault) found ≡ result_err (command_of model.now line.now)) }
+    ensures wrong { IfOk result (λ found. IfSome found (IsWrong model.now (words_of line.now))) }
 {
     let words = words_of(alloc, line)?;
     wrong_command(alloc, model, &words)
