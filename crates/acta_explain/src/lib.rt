@@ -34,7 +34,7 @@ mod words;
 pub use advice::{Advice, advice_for};
 pub use args::{Asked, ExplainLine};
 pub use debts::put_prospect;
-pub use faults::{Stop, put_stop};
+pub use faults::{LineForm, Stop, put_stop};
 pub use images::{Field, field_at};
 pub use layout::{digits, put_barred};
 pub use listing::{first_listed, put_more};
