@@ -17,7 +17,7 @@ use acta_args::{
 use acta_compare::{CompareLine, compare_tool};
 use acta_draw::{DrawLine, Screen, draw_tool};
 use acta_explain::{Advice, Asked, ExplainLine, advice_for, explain_tool, write_words};
-use acta_io::{Metered, Outcome, ReadFault, Watched, read_all, read_within};
+use acta_io::{LineKind, Metered, Outcome, ReadFault, Watched, read_all, read_within};
 use acta_models::Standard;
 use acta_programs::{ExploreLine, explore_tool};
 use acta_serialize::{SerializeLine, serialize_tool};
@@ -72,17 +72,16 @@ fn model_bytes<R: Files + AllocGlobal>(rt: &R, name: ModelName<'_>) -> Result<Ve
 
 // Names the command that shows the fault for which an input was refused, if there is one.
 fn hint_at_explain<R: Eprint>(rt: &R, command: Command) {
-    let _ = match command {
-        Command::Run { .. } | Command::Trace => {
-            eprintln!(rt; "hint: `acta explain` with the same model and input shows the fault")
-        }
-        Command::Judge => {
-            eprintln!(rt;
-                "hint: `acta explain --judge` with the same model and input shows the fault"
-            )
-        }
-        _ => Ok(()),
+    let (flag, limit) = match command {
+        Command::Run { .. } | Command::Trace => ("", ""),
+        Command::Judge => (" --judge", ""),
+        Command::Debug => (" --debug", ""),
+        Command::Drive { .. } => (" --drive", ", unless a seat has no worker"),
+        _ => return,
     };
+    let _ = eprintln!(rt;
+        "hint: `acta explain{flag}` with the same model and input shows the fault{limit}"
+    );
 }
 
 // Says what a verdict suggests.
@@ -153,7 +152,12 @@ fn serve_run<R: Eprint + Files + Input + Print + AllocGlobal + Threads + Wait + 
     match args.command {
         Command::Drive { .. } => {
             match drive_tool(rt, rt.alloc(), args, model, &mut input, &mut output) {
-                Ok(outcome) => Ok(outcome),
+                Ok(outcome) => {
+                    if is_terminal && outcome == Outcome::Refused {
+                        hint_at_explain(rt, args.command);
+                    }
+                    Ok(outcome)
+                }
                 Err(e) => Err(Failure::Undriven(e)),
             }
         }
@@ -167,10 +171,10 @@ fn serve_run<R: Eprint + Files + Input + Print + AllocGlobal + Threads + Wait + 
     }
 }
 
-// Explains the lines of the standard input on the model of this name.
+// Explains the lines of the standard input, which are of this kind, on the model of this name.
 fn explain_by<R: Files + Input + Print + AllocGlobal + Threads + Sync>(
     rt: &R,
-    is_judged: bool,
+    kind: LineKind,
     name: ModelName<'_>,
 ) -> Outcome {
     let model = match model_bytes(rt, name) {
@@ -180,7 +184,7 @@ fn explain_by<R: Files + Input + Print + AllocGlobal + Threads + Sync>(
     explain_tool(
         rt,
         rt.alloc(),
-        is_judged,
+        kind,
         name,
         model.as_slice(),
         &mut Metered::new(rt.reader()),
@@ -194,8 +198,7 @@ fn serve_explain<R: Files + Input + Print + AllocGlobal + Threads + Sync>(
     words: &[String],
 ) -> Result<Outcome, UsageFault> {
     Ok(match parse::<ExplainLine>(rt.alloc(), words)? {
-        Asked::Run(name) => explain_by(rt, false, name),
-        Asked::Judged(name) => explain_by(rt, true, name),
+        Asked::Lines(kind, name) => explain_by(rt, kind, name),
         Asked::Words(told) => write_words(told, &mut Watched::new(io::writer(rt))),
     })
 }
@@ -300,7 +303,7 @@ fn models_named<'a, R: AllocGlobal>(
     Ok(match command {
         "draw" => [Some(parse::<DrawLine>(rt.alloc(), words)?.model), None],
         "explain" => match parse::<ExplainLine>(rt.alloc(), words)? {
-            Asked::Run(name) | Asked::Judged(name) => [Some(name), None],
+            Asked::Lines(_, name) => [Some(name), None],
             Asked::Words(_) => [None, None],
         },
         "explore" => [Some(parse::<ExploreLine>(rt.alloc(), words)?.model), None],

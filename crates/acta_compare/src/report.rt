@@ -18,11 +18,11 @@ use acta_args::ModelName;
 use acta_explain::{Prose, name_text, put, put_model_name};
 use acta_explore::{ExploreError, Explored, Watch, explore};
 use acta_io::{
-    BadLine, ModelError, NoModel, Outcome, ProgramLines, ReadFault, Report, Sink, Source,
-    read_lines, read_model, read_within, refuse_model, write_report,
+    BadLine, MOST_SEATS, ModelError, NoModel, Outcome, ProgramLines, ReadFault, Report, Sink,
+    Source, read_lines, read_model, read_within, refuse_model, write_report,
 };
 use acta_machine::Handle;
-use acta_programs::{MOST_SEATS, explain_incomplete};
+use acta_programs::explain_incomplete;
 use acta_script::ProgramLine;
 use acta_table::Model;
 use std::alloc::AllocError;

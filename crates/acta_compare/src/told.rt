@@ -2,7 +2,8 @@
 
 use crate::side::Side;
 use acta_explain::{
-    Prose, Refused, RunTrace, Spoken, Stop, put_barred, put_line, put_model_name, put_stop,
+    LineForm, Prose, Refused, RunTrace, Spoken, Stop, put_barred, put_line, put_model_name,
+    put_stop,
 };
 use acta_explore::Debt;
 use acta_hope::{Hope, why_and_hope};
@@ -95,7 +96,7 @@ impl<'a, A: Handle> Told<'a, A> {
                     line: line.line,
                     bytes: line.bytes,
                     fault,
-                    is_kept: false,
+                    form: LineForm::Event,
                 };
                 put_stop(prose, alloc, self.side.model, &stop)
             }

@@ -7,6 +7,7 @@ use acta_args::{
     CommandLine, ModelName, UsageFault, flag, model_arg, model_named, nearest, option, usage,
     with_arg,
 };
+use acta_io::LineKind;
 use clap::error::ErrorKind;
 use clap::{ArgAction, ArgMatches, Command};
 use std::alloc::{AllocError, Global};
@@ -14,10 +15,8 @@ use std::alloc::{AllocError, Global};
 /// What is to be explained.
 #[derive(Drop)]
 pub enum Asked<'a> {
-    /// The run of the event lines of the standard input on a model.
-    Run(ModelName<'a>),
-    /// The verdict on the kept lines of the standard input.
-    Judged(ModelName<'a>),
+    /// The lines of the standard input, which are of this kind, on a model.
+    Lines(LineKind, ModelName<'a>),
     /// Nothing of a model: this text is the answer.
     Words(String),
 }
@@ -80,11 +79,34 @@ fn words_asked<'a>(
     Ok(Asked::Words(prose.done()?))
 }
 
+// The kind of the lines of the standard input, by the flags that name one. `None` where several do.
+fn kind_named(matches: &ArgMatches<'_>) -> Option<LineKind> {
+    let flags = (
+        matches.get_flag("judge"),
+        matches.get_flag("drive"),
+        matches.get_flag("debug"),
+    );
+    match flags {
+        (false, false, false) => Some(LineKind::Events),
+        (true, false, false) => Some(LineKind::Kept),
+        (false, true, false) => Some(LineKind::Seated),
+        (false, false, true) => Some(LineKind::Script),
+        _ => None,
+    }
+}
+
 // What is asked of a model.
-fn model_asked(model: &str, is_judged: bool) -> Result<Asked<'_>, UsageFault> {
+fn model_asked<'a>(
+    surface: &mut Command<'a>,
+    model: &'a str,
+    kind: Option<LineKind>,
+) -> Result<Asked<'a>, UsageFault> {
+    let Some(kind) = kind else {
+        let said = "at most one of --judge, --drive and --debug is wanted";
+        return Err(usage(surface, ErrorKind::ArgumentConflict, said));
+    };
     match model_named(model) {
-        Some(name) if is_judged => Ok(Asked::Judged(name)),
-        Some(name) => Ok(Asked::Run(name)),
+        Some(name) => Ok(Asked::Lines(kind, name)),
         None => Err(UsageFault::UnknownModel),
     }
 }
@@ -99,9 +121,9 @@ fn asked_by<'a>(
     let rule = matches.get_str("rule");
     let axiom = matches.get_str("axiom");
     let codes = matches.get_strs("code");
-    let is_judged = matches.get_flag("judge");
+    let kind = kind_named(matches);
     let words = u8::from(rule.is_some()) + u8::from(axiom.is_some()) + u8::from(codes.is_some());
-    if words + u8::from(model.is_some()) != 1 || is_judged && words > 0 {
+    if words + u8::from(model.is_some()) != 1 || words > 0 && kind != Some(LineKind::Events) {
         let said = "a model is wanted, or one of --rule, --axiom and --code without a model";
         return Err(usage(surface, ErrorKind::MissingRequiredArgument, said));
     }
@@ -114,7 +136,7 @@ fn asked_by<'a>(
     if let Some(words) = codes {
         return words_asked(alloc, surface, &CODES, words);
     }
-    model_asked(model.unwrap_or(""), is_judged)
+    model_asked(surface, model.unwrap_or(""), kind)
 }
 
 /// The command line of `explain`.
@@ -130,6 +152,11 @@ impl<'a> CommandLine<'a> for ExplainLine {
         let command = command.arg(model_arg(alloc));
         let help = "Judges kept lines, as `judge` reads them, and tells each fault of the verdict";
         let command = with_arg(command, flag(alloc, "judge", help));
+        let help =
+            "Explains the events of seated lines, as `drive` reads them, in the order of the lines";
+        let command = with_arg(command, flag(alloc, "drive", help));
+        let help = "Explains the events of a debug script, and a faulty line of it";
+        let command = with_arg(command, flag(alloc, "debug", help));
         let help = "Tells what a rule means, by its number or its name";
         let command = with_arg(command, option(alloc, "rule", "RULE", help));
         let help = "Tells what an axiom means, by its number or its name";

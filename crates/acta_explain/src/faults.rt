@@ -8,15 +8,29 @@ use crate::phrases::name_text;
 use crate::placed::put_shown;
 use crate::prose::Prose;
 use crate::put;
-use acta_io::{BadLine, refuse_line};
+use acta_io::{BadLine, MOST_SEATS, refuse_line};
 use acta_machine::Handle;
 use acta_script::{
-    BreakKind, CommandKind, EVENT_KINDS, Expected, LineFault, LinePart, OpKind, RETURN_WORDS,
-    WordPlace, diagnose_event, diagnose_kept, event_form, event_word,
+    BreakKind, CommandKind, Diagnostic, EVENT_KINDS, Expected, LineFault, LinePart, OpKind,
+    RETURN_WORDS, WordPlace, diagnose_command, diagnose_event, diagnose_kept, diagnose_seated,
+    event_form, event_word,
 };
 use acta_table::{Dep, Model};
 use acta_words::{Lines, word_span};
 use std::alloc::AllocError;
+
+/// What a line should have been.
+#[derive(Clone, Copy, PartialEq, Eq)]
+pub enum LineForm {
+    /// An event.
+    Event,
+    /// A kept item.
+    Kept,
+    /// A seated event, with a seat from 1 to `MOST_SEATS`.
+    Seated,
+    /// A command to a debugger.
+    Command,
+}
 
 /// A line that says nothing, by which a run stops.
 #[derive(Clone, Copy)]
@@ -27,13 +41,13 @@ pub struct Stop<'a> {
     pub bytes: &'a [u8],
     /// The lowest of its faults.
     pub fault: LineFault,
-    /// Whether it should have been a kept line.
-    pub is_kept: bool,
+    /// What it should have been.
+    pub form: LineForm,
 }
 
 impl<'a> Stop<'a> {
     /// The faulty line of this input.
-    pub fn of(input: &'a [u8], bad: BadLine, is_kept: bool) -> Stop<'a> {
+    pub fn of(input: &'a [u8], bad: BadLine, form: LineForm) -> Stop<'a> {
         let bytes = Lines::of(input)
             .nth(bad.line.saturating_sub(1))
             .unwrap_or(b"".as_slice());
@@ -41,7 +55,7 @@ impl<'a> Stop<'a> {
             line: bad.line,
             bytes,
             fault: bad.fault,
-            is_kept,
+            form,
         }
     }
 
@@ -153,31 +167,29 @@ fn object_names<'a, A: Handle>(
     Ok(names)
 }
 
-// A word of the line that is wrong, or the column in which one is missing.
+// A word of the line that is wrong, or the column in which one is missing, and what the line should have been.
 #[derive(Clone, Copy)]
 struct Culprit<'a> {
+    form: LineForm,
     column: usize,
     word: Option<&'a [u8]>,
 }
 
 // The wrong word of the line at this place. One that is missing has the column behind the word before it, and the
 // first one that of the line's first word.
-fn culprit_at(line: &[u8], place: WordPlace) -> Culprit<'_> {
-    match place {
+fn culprit_at<'a>(stop: &Stop<'a>, place: WordPlace) -> Culprit<'a> {
+    let line = stop.bytes;
+    let (column, word) = match place {
         WordPlace::Wrong(place) => match word_span(line, place) {
-            Some(span) => Culprit {
-                column: span.from.saturating_add(1),
-                word: line.get(span.from..span.to),
-            },
-            None => Culprit {
-                column: 1,
-                word: None,
-            },
+            Some(span) => (span.from.saturating_add(1), line.get(span.from..span.to)),
+            None => (1, None),
         },
-        WordPlace::Missing(place) => Culprit {
-            column: column_of_missing(line, place),
-            word: None,
-        },
+        WordPlace::Missing(place) => (column_of_missing(line, place), None),
+    };
+    Culprit {
+        form: stop.form,
+        column,
+        word,
     }
 }
 
@@ -231,22 +243,28 @@ fn put_part<A: Handle>(
         LinePart::Return => put_listed(prose.put("one word behind the `=`: "), known).put(
             " or a whole number",
         ),
-        LinePart::Seat(seats) => put!(prose; "the number of a seat, from 1 to ", seats),
+        LinePart::Seat(seats) => put!(prose; "the number of a seat, digits from 1 to ", seats),
         LinePart::Count => prose.put("a count, digits up to 4294967295"),
         LinePart::Command => put_either(prose.put("a command: "), known),
         LinePart::Break => put_either(prose.put("a kind of break: "), known),
     }
 }
 
-// Adds the events where the first word is none, and the form of an operation where it is the word of one.
+// Adds the events where a word is none, and the form of an operation where it is the word of one. A command names a kind
+// of event, and no operation.
 fn put_event<A: Handle>(prose: Prose<A>, culprit: Culprit<'_>, known: &[&str]) -> Prose<A> {
     let Some(word) = culprit.word else {
-        return prose.put("an event before the `=`");
+        return prose.put(match culprit.form {
+            LineForm::Seated => "an event behind the seat",
+            _ => "an event before the `=`",
+        });
     };
     let prose = put_either(prose.put("an event: "), known);
     match OpKind::of_word(word) {
-        Some(kind) => put!(prose; "\nan operation is written `", kind.form(), "`"),
-        None => prose,
+        Some(kind) if culprit.form != LineForm::Command => {
+            put!(prose; "\nan operation is written `", kind.form(), "`")
+        }
+        _ => prose,
     }
 }
 
@@ -281,6 +299,20 @@ fn put_culprit<A: Handle>(
     }
 }
 
+// What is wrong with the line.
+fn diagnosis_of<A: Handle>(
+    alloc: A,
+    model: &Model<A>,
+    stop: &Stop<'_>,
+) -> Result<Option<Diagnostic>, AllocError> {
+    match stop.form {
+        LineForm::Event => diagnose_event(alloc, model, stop.bytes),
+        LineForm::Kept => diagnose_kept(alloc, model, stop.bytes),
+        LineForm::Seated => diagnose_seated(alloc, model, MOST_SEATS, stop.bytes),
+        LineForm::Command => diagnose_command(alloc, model, stop.bytes),
+    }
+}
+
 // What is wrong with the line, in lines.
 fn stop_text<A: Handle>(
     alloc: A,
@@ -288,15 +320,11 @@ fn stop_text<A: Handle>(
     stop: &Stop<'_>,
 ) -> Result<String<A>, AllocError> {
     let name = Prose::new(alloc).put(stop.fault.name());
-    let found = if stop.is_kept {
-        diagnose_kept(alloc, model, stop.bytes)?
-    } else {
-        diagnose_event(alloc, model, stop.bytes)?
-    };
+    let found = diagnosis_of(alloc, model, stop)?;
     let Some(found) = found else {
         return name.done();
     };
-    let culprit = culprit_at(stop.bytes, found.place);
+    let culprit = culprit_at(stop, found.place);
     let known = known_words(alloc, model, found.expected)?;
     put_culprit(name, alloc, culprit, found.expected, &known).done()
 }

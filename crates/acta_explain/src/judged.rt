@@ -7,7 +7,7 @@ ghost use Rattle.acta_table.specs.declared.limits.TheConstants.{MOST_EVENTS};
 ghost use Rattle.acta_io.specs.Refusals.{refuses_kept_on};
 ghost use Rattle.acta_io.specs.Input.{said_in};
 
-use crate::faults::{Stop, put_lines, put_stop};
+use crate::faults::{LineForm, Stop, put_lines, put_stop};
 use crate::phrases::{
     class_at, name_text, put_formed_edge, put_line, put_line_text, put_may, put_operation,
     put_return, put_starts,
@@ -411,7 +411,7 @@ pub fn explain_judged<A: Handle + Send + Sync, R: Threads + Sync>(
 {
     let read = read_lines(alloc, &KeptLines { alloc, model }, input)?;
     match read.stop {
-        Some(bad) => stopped(alloc, model, &Stop::of(input, bad, true)),
+        Some(bad) => stopped(alloc, model, &Stop::of(input, bad, LineForm::Kept)),
         None => {
             let lines = spoken_in(alloc, input)?;
             explain_kept(rt, alloc, model, read.said.as_slice(), lines.as_slice())

@@ -33,7 +33,7 @@ mod words;
 pub use advice::{Advice, advice_for};
 pub use args::{Asked, ExplainLine};
 pub use debts::put_prospect;
-pub use faults::{Stop, put_stop};
+pub use faults::{LineForm, Stop, put_stop};
 pub use layout::{digits, put_barred};
 pub use listing::{first_listed, put_more};
 pub use phrases::{name_text, put_lacking, put_line, put_return, put_standing};

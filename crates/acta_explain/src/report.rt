@@ -11,12 +11,12 @@ use crate::judged::explain_judged;
 use crate::phrases::name_text;
 use crate::prose::Prose;
 use crate::put;
-use crate::run::explain_run;
+use crate::run::{explain_run, explain_script, explain_seated};
 use crate::texts::put_text_fault;
 use acta_args::ModelName;
 use acta_io::{
-    ModelError, NoModel, Outcome, ReadFault, Report, Sink, Source, read_model, read_within,
-    refuse_model, write_report,
+    LineKind, ModelError, NoModel, Outcome, ReadFault, Report, Sink, Source, read_model,
+    read_within, refuse_model, write_report,
 };
 use acta_machine::Handle;
 use acta_table::Model;
@@ -75,33 +75,34 @@ fn explain_no_model<A: Handle>(
 fn explain_on<A: Handle + Send + Sync, R: Threads + Sync>(
     rt: &R,
     alloc: A,
-    is_judged: bool,
+    kind: LineKind,
     model: Model<A>,
     input: &[u8],
 ) -> Result<Report<A>, AllocError>
-    ensures { IfOk result (λ report. report.is_refused ≡ refuses is_judged (Ok model) input.now) }
+    ensures { IfOk result (λ report. report.is_refused ≡ refuses kind (Ok model) input.now) }
 {
-    if is_judged {
-        explain_judged(rt, alloc, &model, input)
-    } else {
-        explain_run(alloc, model, input)
+    match kind {
+        LineKind::Events => explain_run(alloc, model, input),
+        LineKind::Kept => explain_judged(rt, alloc, &model, input),
+        LineKind::Seated => explain_seated(alloc, model, input),
+        LineKind::Script => explain_script(alloc, model, input),
     }
 }
 
-/// What is told for the bytes of a model of this name and of an input: of its events, or, where `is_judged`, of its kept
-/// lines. The input is refused where `run`, or `judge`, refuses it. `Err` where there is no memory.
+/// What is told for the bytes of a model of this name and of an input, whose lines are of this kind. The input is refused
+/// where the model or a line is faulty; so is one of more kept lines than can be judged. `Err` where there is no memory.
 pub fn explain<A: Handle + Send + Sync, R: Threads + Sync>(
     rt: &R,
     alloc: A,
-    is_judged: bool,
+    kind: LineKind,
     name: ModelName<'_>,
     model: &[u8],
     input: &[u8],
 ) -> Result<Report<A>, AllocError>
-    ensures { IfOk result (λ report. report.is_refused ≡ refuses {A = A} is_judged (of_either model.now) input.now) }
+    ensures { IfOk result (λ report. report.is_refused ≡ refuses {A = A} kind (of_either model.now) input.now) }
 {
     match read_model(alloc, model) {
-        Ok(model) => explain_on(rt, alloc, is_judged, model, input),
+        Ok(model) => explain_on(rt, alloc, kind, model, input),
         Err(ModelError::Fault(fault)) => explain_no_model(alloc, name, model, fault),
         Err(ModelError::Memory) => Err(AllocError),
     }
@@ -112,13 +113,13 @@ pub fn explain<A: Handle + Send + Sync, R: Threads + Sync>(
 pub fn explain_tool<A: Handle + Send + Sync, R: Threads + Sync, S: Source, W: Sink>(
     rt: &R,
     alloc: A,
-    is_judged: bool,
+    kind: LineKind,
     name: ModelName<'_>,
     model: &[u8],
     input: &mut S,
     output: &mut W,
 ) -> Outcome
-    ensures status { IfSome (S.remaining input.old) (λ bytes. EndsAs result (refuses {A = A} is_judged (of_either model.now) bytes)) }
+    ensures status { IfSome (S.remaining input.old) (λ bytes. EndsAs result (refuses {A = A} kind (of_either model.now) bytes)) }
     ensures unread { KeepsUnread result (W.contents output.old) (W.contents output.new) }
     ensures written { WritesBy result (W.has_failed output.old) (W.has_failed output.new) }
     ensures reads { S.reads input.new ≤ S.reads input.old + 16777217 }
@@ -129,7 +130,7 @@ pub fn explain_tool<A: Handle + Send + Sync, R: Threads + Sync, S: Source, W: Si
         Ok(bytes) => bytes,
         Err(reason) => return Outcome::Unread(reason),
     };
-    match explain(rt, alloc, is_judged, name, model, bytes.as_slice()) {
+    match explain(rt, alloc, kind, name, model, bytes.as_slice()) {
         Ok(report) => write_report(&report, output),
         Err(_) => Outcome::Unread(ReadFault::Memory),
     }

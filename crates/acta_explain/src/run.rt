@@ -1,14 +1,16 @@
-//! The run of an input, told line by line: the answer to each event, what it formed or why it is refused, and in the end
-//! what is owed.
+//! The run of the events of an input, told line by line: the answer to each event, what it formed or why it is refused,
+//! and in the end what is owed.
 
 ghost use Rattle.std.specs.Prelude.{◌≡◌, IfOk, is_some};
 ghost use Rattle.acta_script.specs.Answers.{answer_line};
-ghost use Rattle.acta_script.specs.Reading.{event_of};
+ghost use Rattle.acta_script.specs.Reading.{event_of, seated_of};
 ghost use Rattle.acta_io.specs.Input.{said_in};
+ghost use Rattle.acta_io.specs.Refusals.{refuses_script_on};
+ghost use Rattle.acta_io.specs.declared.input.TheConstants.{MOST_SEATS};
 
 use crate::deadlocks::put_deadlocks;
 use crate::debts::put_prospect;
-use crate::faults::{Stop, put_stop};
+use crate::faults::{LineForm, Stop, put_stop};
 use crate::layout::{Columns, Row, put_barred, put_debt, put_row};
 use crate::phrases::{name_text, put_numbered_edge, put_standing};
 use crate::prose::Prose;
@@ -17,9 +19,11 @@ use crate::run_trace::{MOST_TOLD, RunTrace};
 use crate::spoken::{Spoken, spoken_in};
 use crate::told::StepText;
 use acta_hope::never_begin;
-use acta_io::{BadLine, EventLines, Input, Report, read_lines};
+use acta_io::{
+    EventLines, Input, MOST_SEATS, Report, Script, SeatedLines, read_lines, read_script,
+};
 use acta_machine::Handle;
-use acta_script::{answer_line, owed_line};
+use acta_script::{Seated, answer_line, owed_line};
 use acta_table::{Event, Model, Owed};
 use acta_trace::Step;
 use std::alloc::AllocError;
@@ -117,13 +121,13 @@ fn put_step<A: Handle>(
     if has_failed { prose.fail() } else { prose }
 }
 
-// Adds the whole of what is told. `stop` is the faulty line of the input.
+// Adds the whole of what is told. `stop` is the faulty line of the input. Behind a faulty command the debts are told,
+// since all events stand before the commands.
 fn put_told<A: Handle>(
     mut prose: Prose<A>,
     alloc: A,
     told: &RunTrace<A>,
-    input: &[u8],
-    stop: Option<BadLine>,
+    stop: Option<Stop<'_>>,
 ) -> Prose<A> {
     let Ok(columns) = columns_of(alloc, told) else {
         return prose.fail();
@@ -136,15 +140,13 @@ fn put_told<A: Handle>(
         prose = put!(prose; "and ", untold, " refused events more: the first ", MOST_TOLD,
             " are told\n");
     }
+    if stop.is_none_or(|stop| stop.form == LineForm::Command) {
+        prose = put_debts(prose, alloc, told, columns);
+        prose = put_deadlocks(prose, alloc, told, columns.indent().saturating_sub(2));
+    }
     match stop {
-        Some(bad) => {
-            let stop = Stop::of(input, bad, false);
-            put_stop(prose, alloc, told.machine().model(), &stop)
-        }
-        None => {
-            let prose = put_debts(prose, alloc, told, columns);
-            put_deadlocks(prose, alloc, told, columns.indent().saturating_sub(2))
-        }
+        Some(stop) => put_stop(prose, alloc, told.machine().model(), &stop),
+        None => prose,
     }
 }
 
@@ -166,16 +168,33 @@ fn run_text<A: Handle>(
     model: Model<A>,
     events: Vec<Event<A>, A>,
     input: &[u8],
-    stop: Option<BadLine>,
+    stop: Option<Stop<'_>>,
 ) -> Result<String<A>, AllocError> {
     let lines = spoken_in(alloc, input)?;
     let mut told = RunTrace::new(alloc, model)?;
     let text = match take_all(&mut told, events, lines) {
-        Ok(()) => put_told(Prose::new(alloc), alloc, &told, input, stop).done(),
+        Ok(()) => put_told(Prose::new(alloc), alloc, &told, stop).done(),
         Err(e) => Err(e),
     };
     drop(told);
     text
+}
+
+// What is told of a run of these events, as a report. The input is refused where it has a faulty line.
+fn run_report<A: Handle>(
+    alloc: A,
+    model: Model<A>,
+    events: Vec<Event<A>, A>,
+    input: &[u8],
+    stop: Option<Stop<'_>>,
+) -> Result<Report<A>, AllocError>
+    ensures { IfOk result (λ report. report.is_refused ≡ is_some stop) }
+{
+    let text = run_text(alloc, model, events, input, stop)?;
+    Ok(Report {
+        text: text.into_bytes(),
+        is_refused: stop.is_some(),
+    })
 }
 
 /// What is told of a run of the event lines of the input, which is refused where a line is faulty. `Err` where there is
@@ -192,9 +211,62 @@ pub fn explain_run<A: Handle>(
         model: &model,
     };
     let Input { said, stop } = read_lines(alloc, &reader, input)?;
-    let text = run_text(alloc, model, said, input, stop)?;
-    Ok(Report {
-        text: text.into_bytes(),
-        is_refused: stop.is_some(),
-    })
+    let stop = match stop {
+        Some(bad) => Some(Stop::of(input, bad, LineForm::Event)),
+        None => None,
+    };
+    run_report(alloc, model, said, input, stop)
+}
+
+// The events of seated events.
+fn events_of<A: Handle>(
+    alloc: A,
+    seated: Vec<Seated<A>, A>,
+) -> Result<Vec<Event<A>, A>, AllocError> {
+    let mut events = Vec::new(alloc);
+    for Seated { event, .. } in seated.into_iter() {
+        events.push(event)?;
+    }
+    Ok(events)
+}
+
+/// What is told of a run of the events of the seated lines of the input, in the order of the lines. It is refused where a
+/// line is faulty; the seats are numbered from 1 to `MOST_SEATS`. `Err` where there is no memory.
+pub fn explain_seated<A: Handle>(
+    alloc: A,
+    model: Model<A>,
+    input: &[u8],
+) -> Result<Report<A>, AllocError>
+    ensures { IfOk result (λ report. report.is_refused ≡ is_some (said_in (seated_of model MOST_SEATS) input.now).stop) }
+{
+    let reader = SeatedLines {
+        alloc,
+        model: &model,
+        seats: MOST_SEATS,
+    };
+    let Input { said, stop } = read_lines(alloc, &reader, input)?;
+    let events = events_of(alloc, said)?;
+    let stop = match stop {
+        Some(bad) => Some(Stop::of(input, bad, LineForm::Seated)),
+        None => None,
+    };
+    run_report(alloc, model, events, input, stop)
+}
+
+/// What is told of a debug script: of a run of its events, and of its first faulty line. It is refused where a line of the
+/// events is faulty, or a command is; commands are read, and not carried out. `Err` where there is no memory.
+pub fn explain_script<A: Handle>(
+    alloc: A,
+    model: Model<A>,
+    input: &[u8],
+) -> Result<Report<A>, AllocError>
+    ensures { IfOk result (λ report. report.is_refused ≡ refuses_script_on model input.now) }
+{
+    let Script { events, commands } = read_script(alloc, &model, input)?;
+    let stop = match (events.stop, commands.stop) {
+        (Some(bad), _) => Some(Stop::of(input, bad, LineForm::Event)),
+        (None, Some(bad)) => Some(Stop::of(input, bad, LineForm::Command)),
+        (None, None) => None,
+    };
+    run_report(alloc, model, events.said, input, stop)
 }

@@ -1,3 +1,4 @@
+pub mod DebugScripts
 pub mod ImageLines
 pub mod Lines
 pub mod Turns

@@ -3,4 +3,5 @@ pub mod Models
 pub mod Outcome
 pub mod Refusals
 pub mod Reports
+pub mod Sections
 pub mod inside

@@ -3,11 +3,15 @@ use Rattle.std.specs.Prelude.{◌≡◌, ⊤, ℕ, Bool, true, false, ◌||◌, 
 use Rattle.acta_table.specs.declared.event.Kept.{Kept}
 use Rattle.acta_table.specs.declared.limits.TheConstants.{MOST_EVENTS}
 use Rattle.acta_table.specs.declared.model.Parts.{Parts}
-use Rattle.acta_script.specs.Reading.{event_of, kept_of}
+use Rattle.acta_script.specs.Reading.{event_of, kept_of, seated_of}
+use Rattle.acta_io.specs.declared.input.LineKind.{LineKind}
+use Rattle.acta_io.specs.declared.input.LineKind.TheVariants as lines
+use Rattle.acta_io.specs.declared.input.TheConstants.{MOST_SEATS}
 use Rattle.acta_io.specs.declared.models.NoModel.{NoModel}
 use Rattle.acta_io.specs.declared.outcome.Outcome.{Outcome}
 use Rattle.acta_io.specs.declared.outcome.Outcome.TheVariants.{Done, Refused, Unread, Unwritten}
 use Rattle.acta_io.specs.Input.{Said, said_in}
+use Rattle.acta_io.specs.Sections.{script_commands, script_events}
 
 -- event lines are refused if the model is faulty or a line is
 abbrev pub refuses_events : {A : Type 0} → Result (Parts A) NoModel → List ℕ → Bool
@@ -23,10 +27,26 @@ abbrev pub refuses_kept : {A : Type 0} → Result (Parts A) NoModel → List ℕ
 refuses_kept (Err fault) input = true
 refuses_kept (Ok m) input = refuses_kept_on (said_in (kept_of m) input)
 
--- the one or the other: kept lines, or else event lines
-abbrev pub refuses : {A : Type 0} → Bool → Result (Parts A) NoModel → List ℕ → Bool
-refuses true found input = refuses_kept found input
-refuses false found input = refuses_events found input
+-- seated lines are refused if the model is faulty or a line is, where there are as many seats as there may be
+abbrev pub refuses_seated : {A : Type 0} → Result (Parts A) NoModel → List ℕ → Bool
+refuses_seated (Err fault) input = true
+refuses_seated (Ok m) input = is_some (said_in (seated_of m MOST_SEATS) input).stop
+
+-- a debug script is refused if a line of its events is faulty, or a command is
+abbrev pub refuses_script_on : {A : Type 0} → Parts A → List ℕ → Bool
+refuses_script_on m input = is_some (script_events m input).stop || is_some (script_commands m input).stop
+
+-- and if the model is faulty
+abbrev pub refuses_script : {A : Type 0} → Result (Parts A) NoModel → List ℕ → Bool
+refuses_script (Err fault) input = true
+refuses_script (Ok m) input = refuses_script_on m input
+
+-- whether an input is refused whose lines are of this kind
+abbrev pub refuses : {A : Type 0} → LineKind → Result (Parts A) NoModel → List ℕ → Bool
+refuses lines.Events found input = refuses_events found input
+refuses lines.Kept found input = refuses_kept found input
+refuses lines.Seated found input = refuses_seated found input
+refuses lines.Script found input = refuses_script found input
 
 -- if the input was answered, the outcome says whether it was refused
 abbrev pub EndsAs : Outcome → Bool → Type 0

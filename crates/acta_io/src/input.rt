@@ -15,6 +15,22 @@ use acta_table::{Event, Kept, Model};
 use acta_words::{Lines, has_words};
 use std::alloc::{AllocError, Allocator};
 
+/// The seats of programs, and of seated lines for which no number of seats is given, are numbered from 1 to this.
+pub const MOST_SEATS: u8 = 16;
+
+/// What the lines of an input are.
+#[derive(Clone, Copy, PartialEq, Eq, Debug)]
+pub enum LineKind {
+    /// Events.
+    Events,
+    /// Kept items.
+    Kept,
+    /// Seated events, with seats from 1 to `MOST_SEATS`.
+    Seated,
+    /// A debug script: events, and behind the first line `--` commands to a debugger.
+    Script,
+}
+
 /// How a line is read, as an X.
 pub trait LineReader<X> {
     // What a line says, and what holds of it.

@@ -10,16 +10,18 @@ mod input;
 mod models;
 mod outcome;
 mod reports;
+mod sections;
 mod sink;
 mod source;
 
 pub use faults::{push_no_model, push_stop};
 pub use input::{
-    BadLine, CommandLines, EventLines, Input, KeptLines, LineReader, ProgramLines, SeatedLines,
-    numbers_of_lines, read_left, read_lines,
+    BadLine, CommandLines, EventLines, Input, KeptLines, LineKind, LineReader, MOST_SEATS,
+    ProgramLines, SeatedLines, numbers_of_lines, read_left, read_lines,
 };
 pub use models::{ModelError, NoModel, read_image, read_model, read_text};
 pub use outcome::Outcome;
 pub use reports::{Report, refuse_by, refuse_line, refuse_model, write_report};
+pub use sections::{Script, read_script};
 pub use sink::{Sink, Watched};
 pub use source::{MOST_BYTES, Metered, ReadFault, Source, read_all, read_within};

@@ -17,5 +17,5 @@ mod waiting;
 pub use args::{Asked, ExploreLine, Form, MOST_POINTS, most_option};
 pub use ends::{explain_incomplete, put_count, put_end};
 pub use programs::Programs;
-pub use report::{MOST_SEATS, explore_tool, explored};
+pub use report::{explore_tool, explored};
 pub use waiting::put_debts;

@@ -17,16 +17,13 @@ use acta_ends::{Condition, ConditionError, read_condition};
 use acta_explain::spoken_in;
 use acta_explore::{ExploreError, Explored, Plan, Watch, explore};
 use acta_io::{
-    ModelError, Outcome, ProgramLines, ReadFault, Report, Sink, Source, numbers_of_lines,
-    read_lines, read_model, read_within, refuse_line, refuse_model, write_report,
+    MOST_SEATS, ModelError, Outcome, ProgramLines, ReadFault, Report, Sink, Source,
+    numbers_of_lines, read_lines, read_model, read_within, refuse_line, refuse_model, write_report,
 };
 use acta_machine::Handle;
 use acta_script::ProgramLine;
 use acta_table::Model;
 use std::alloc::AllocError;
-
-/// The seats of programs are numbered from 1 to this.
-pub const MOST_SEATS: u8 = 16;
 
 // The ends in words.
 fn explain_explored<A: Handle>(

@@ -7,7 +7,7 @@ use acta_args::ModelName;
 use acta_compare::{Asked as AskedModels, Compared, compare_tool};
 use acta_draw::{Choice, Drawing, Form, Screen, draw_tool};
 use acta_explain::{RunTrace, Spoken, explain_tool};
-use acta_io::{Metered, Outcome, ReadFault, Watched};
+use acta_io::{LineKind, Metered, Outcome, ReadFault, Watched};
 use acta_lang::assemble;
 use acta_models::Standard;
 use acta_order::Orders;
@@ -22,8 +22,7 @@ use std::thread::Threads;
 // A command, on the model of recoverable transactions.
 #[derive(Clone, Copy, PartialEq, Eq, Debug)]
 enum Ask {
-    Explain,
-    Judge,
+    Explain(LineKind),
     Draw,
     DrawSvg,
     Explore(Ends, Option<&'static str>),
@@ -44,9 +43,8 @@ fn serve<R: Threads + Sync, B: Allocator + Send + Sync>(
     let mut input = Metered::new(input.as_bytes());
     let mut output = Watched::new(output);
     let form = match ask {
-        Ask::Explain | Ask::Judge => {
-            let is_judged = ask == Ask::Judge;
-            return explain_tool(rt, heap, is_judged, name, model, &mut input, &mut output);
+        Ask::Explain(kind) => {
+            return explain_tool(rt, heap, kind, name, model, &mut input, &mut output);
         }
         Ask::Explore(form, condition) => {
             let asked = Asked {
@@ -144,6 +142,22 @@ do 1 x read = 9
 const FAULTY: &str = "\
 begin 1 loose
 begn 2 loose
+";
+
+// The third line has a seat that is none.
+const SEATED: &str = "\
+1 begin 1 loose
+2 begin 2 loose
+x commit 1
+";
+
+// The second command is faulty.
+const SCRIPT: &str = "\
+begin 1 loose
+do 1 x write 5
+--
+break object x
+break txn
 ";
 
 // Each of two transactions sees what the other did, so that each waits for the other to end.
@@ -250,20 +264,54 @@ fn compared(rt: HostRuntime) {
 #[test]
 fn explained(rt: HostRuntime) {
     let heap = Refusing::new(rt.alloc());
-    refuse_run(&rt, (&heap, rt.alloc()), (Ask::Explain, EVENTS), ("0", 50));
+    refuse_run(
+        &rt,
+        (&heap, rt.alloc()),
+        (Ask::Explain(LineKind::Events), EVENTS),
+        ("0", 50),
+    );
 }
 
 #[test]
 fn judged(rt: HostRuntime) {
     let heap = Refusing::new(rt.alloc());
-    refuse_run(&rt, (&heap, rt.alloc()), (Ask::Judge, KEPT), ("0", 20));
-    refuse_run(&rt, (&heap, rt.alloc()), (Ask::Judge, FAULTY), ("1", 20));
+    refuse_run(
+        &rt,
+        (&heap, rt.alloc()),
+        (Ask::Explain(LineKind::Kept), KEPT),
+        ("0", 20),
+    );
+    refuse_run(
+        &rt,
+        (&heap, rt.alloc()),
+        (Ask::Explain(LineKind::Kept), FAULTY),
+        ("1", 20),
+    );
+}
+
+#[test]
+fn seated(rt: HostRuntime) {
+    let heap = Refusing::new(rt.alloc());
+    let asked = (Ask::Explain(LineKind::Seated), SEATED);
+    refuse_run(&rt, (&heap, rt.alloc()), asked, ("1", 20));
+}
+
+#[test]
+fn scripted(rt: HostRuntime) {
+    let heap = Refusing::new(rt.alloc());
+    let asked = (Ask::Explain(LineKind::Script), SCRIPT);
+    refuse_run(&rt, (&heap, rt.alloc()), asked, ("1", 20));
 }
 
 #[test]
 fn faults(rt: HostRuntime) {
     let heap = Refusing::new(rt.alloc());
-    refuse_run(&rt, (&heap, rt.alloc()), (Ask::Explain, FAULTY), ("1", 20));
+    refuse_run(
+        &rt,
+        (&heap, rt.alloc()),
+        (Ask::Explain(LineKind::Events), FAULTY),
+        ("1", 20),
+    );
     refuse_run(&rt, (&heap, rt.alloc()), (Ask::Draw, FAULTY), ("1", 20));
 }
 

@@ -5,7 +5,6 @@ pub mod Named
 pub mod Outputs
 pub mod Seats
 pub mod SeatsInTurn
-pub mod Sections
 pub mod Serials
 pub mod Tasks
 mod TraceLines

@@ -1,11 +1,10 @@
 -- The texts of commands to a debugger.
-use Rattle.std.specs.Prelude.{ℕ, Bool, false, List, [], ◌∷◌, ◌++◌, length, map, codes, decimal, Result, Ok, Err}
+use Rattle.std.specs.Prelude.{ℕ, List, [], ◌∷◌, ◌++◌, length, map, codes, decimal, Result, Ok, Err}
 use Rattle.std.specs.Fmt.{signed_decimal}
 use Rattle.std.specs.Option.{option_map_or}
-use Rattle.std.specs.Str.{bytes_eq}
 use Rattle.acta_table.specs.declared.event.ObjId.{ObjId}
 use Rattle.acta_table.specs.declared.event.TxnId.{TxnId}
-use Rattle.acta_words.specs.Text.{line_of, words_of}
+use Rattle.acta_words.specs.Text.{line_of}
 use Rattle.acta_objects.specs.declared.state.ObjectState.{ObjectState}
 use Rattle.acta_objects.specs.declared.state.ObjectState.TheVariants.{Register, Counter, Elements}
 use Rattle.acta_machine.specs.Table.{State, debts_in, status_in, value_in}
@@ -25,15 +24,6 @@ use Rattle.acta_script.specs.declared.commands.BreakOn.{BreakOn}
 use Rattle.acta_script.specs.declared.commands.BreakOn.TheVariants as on
 use Rattle.acta_script.specs.declared.commands.DebugCommand.{DebugCommand}
 use Rattle.acta_script.specs.declared.commands.DebugCommand.TheVariants as command
-
--- whether these words are `--` alone
-abbrev pub is_sign : List (List ℕ) → Bool
-is_sign (word ∷ []) = bytes_eq word (codes "--")
-is_sign _ = false
-
--- whether a line has the word `--` and no other: the first such line ends the events, and commands stand behind it
-abbrev pub ends_events : List ℕ → Bool
-ends_events line = is_sign (words_of line)
 
 -- the break that a command says
 abbrev pub break_of : BreakOn → Break

@@ -30,7 +30,6 @@ use Rattle.acta_axioms.specs.Serial.{is_strict}
 use Rattle.acta_judge.specs.declared.verdict.Verdict.{Verdict}
 use Rattle.acta_judge.specs.Verdicts.{verdict}
 use Rattle.acta_script.specs.Answers.{answer_line, fault_line, owed_line}
-use Rattle.acta_script.specs.Commands.{command_of}
 use Rattle.acta_script.specs.Reading.{fault_number, event_of, kept_of}
 use Rattle.acta_script.specs.Writing.{event_line, kept_line}
 use Rattle.acta_tool.specs.declared.args.Command.{Command}
@@ -38,7 +37,8 @@ use Rattle.acta_tool.specs.declared.args.Command.TheVariants.{Assemble, CheckIma
 use Rattle.acta_io.specs.declared.models.NoModel.{NoModel}
 use Rattle.acta_io.specs.declared.models.NoModel.TheVariants.{Text, Image}
 use Rattle.acta_io.specs.declared.input.BadLine.{BadLine}
-use Rattle.acta_tool.specs.Debugging.{ends_events, texts_of}
+use Rattle.acta_tool.specs.Debugging.{texts_of}
+use Rattle.acta_io.specs.Sections.{script_commands, script_events}
 use Rattle.acta_tool.specs.Models.{model_by}
 use Rattle.acta_debug.specs.Sessions.{opened}
 use Rattle.acta_machine.specs.Table.{State, fresh, answer_to, after, op_added, edges_in, run_answers, run_state, debts_in}
@@ -154,10 +154,8 @@ debugged_unless (Some b) m events commands = record { is_refused = true; text = 
 -- the output of `debug` on a model: events stand before the first line `--`, and commands behind it
 unfoldable pub debug_on : {A : Type 0} → Parts A → List ℕ → Output
 debug_on m input =
-    let lines = lines_of input in
-    let events = said_from (event_of m) 1 (before_first ends_events lines) in
-    let first_command = position_or_len ends_events lines + 2 in
-    debugged_unless events.stop m events.said (said_from (command_of m) first_command (after_first ends_events lines))
+    let events = script_events m input in
+    debugged_unless events.stop m events.said (script_commands m input)
 
 -- the output of a command on a model: its image in the version that is written, for the model of a text and for that
 -- of an image; its canonical text, a run of the input's events, the verdict on its kept items, a debugging run, or the

@@ -1,4 +1,3 @@
 -- Words of the code's own contracts, and what is proved of words: nothing here is needed to read a promise.
 pub mod Reports
-pub mod Sections
 pub mod Spelling

@@ -1,13 +1,25 @@
-use Rattle.std.proofs.Common.{sym, ◌∙◌}
-use Rattle.std.specs.Prelude.{false}
-use Rattle.acta_tool.proofs.DebugOutputs.{without_commands}
+use Rattle.std.proofs.Common.{◌≡◌, sym, subst, ◌∙◌}
+use Rattle.std.specs.Prelude.{IfNone, IfOk, Option}
+use Rattle.acta_io.specs.declared.input.BadLine.{BadLine}
+use Rattle.acta_io.specs.declared.reports.Report.{Report}
+use Rattle.acta_io.specs.Reports.{Output}
+use Rattle.acta_io.specs.Sections.{script_commands}
+use Rattle.acta_io.specs.inside.Reports.{output_of}
+use Rattle.acta_io.specs.inside.Sections.{said_of}
+use Rattle.acta_tool.specs.Output.{debugged_on}
+use Rattle.acta_tool.proofs.DebugOutputs.{told_faulty, told_whole}
 use Rattle.acta_tool.proofs.debugging.debug_model.Goals as goal
 
-pub debug_behind-requires : goal.debug_behind-requires
-debug_behind-requires g c =
-    c.in_ok-read.ensures.said ∙ (λ i. record { said = sym c.as_slice.ensures.value i; stop = c.in-Some.is i })
+pub returns-in-Some : goal.returns-in-Some
+returns-in-Some g c =
+    subst (λ (out : Output). IfOk c.refuse_line.result (λ (report : Report _). output_of report ≡ out))
+    (sym (told_faulty c.args.model c.args.input.now (said_of c.in_ok-script.script.events) c.in_ok-script.ensures.events c.in-Some.stop c.in-Some.is))
+    c.refuse_line.ensures
 
 pub returns-in-None : goal.returns-in-None
 returns-in-None g c =
-    (λ i. record { is_refused = false; text = c.new-text.ensures.items i })
-    ∙ without_commands c.args.model c.args.input.now c.in_ok-read.read.said.items (c.in_ok-read.ensures.said ∙ (λ i. record { said = c.in_ok-read.read.said.items; stop = c.in-None.is i }))
+    let commands = subst (λ (o : Option BadLine). IfNone o (said_of c.in_ok-script.script.commands ≡ script_commands c.args.model c.args.input.now)) c.in-None.is c.in_ok-script.ensures.commands in
+    subst (λ (out : Output). IfOk c.report_commands.result (λ (report : Report _). output_of report ≡ out))
+    ((λ i. debugged_on c.args.model (c.as_slice.ensures.value i) (said_of c.in_ok-script.script.commands))
+    ∙ sym (told_whole c.args.model c.args.input.now (said_of c.in_ok-script.script.events) c.in_ok-script.ensures.events (said_of c.in_ok-script.script.commands) c.in-None.is commands))
+    c.report_commands.ensures

@@ -1,5 +1,5 @@
 use Rattle.std.proofs.Common.{◌∙◌}
-use Rattle.acta_tool.specs.inside.Sections.{said_of}
+use Rattle.acta_io.specs.inside.Sections.{said_of}
 use Rattle.acta_tool.proofs.DebugOutputs.{whole}
 use Rattle.acta_tool.proofs.debugging.report_commands.Goals as goal
 

@@ -1,12 +1,22 @@
 -- Lines up to the first that is faulty, where some line that says nothing is no fault but ends them.
-use Rattle.std.proofs.Common.{◌≡◌, ℕ, zero, suc, ◌+◌, ◌<◌, ◌≤◌, List, [], ◌∷◌, length, take, drop, cond, not, sym, ap, ◌∙◌, refl, arith}
-use Rattle.std.specs.Prelude.{Bool, true, false, Option, Some, None, Result, Ok, Err}
+use Rattle.std.proofs.Common.{◌≡◌, ℕ, zero, suc, ◌+◌, ◌-◌, ◌<◌, ◌≤◌, List, [], ◌∷◌, length, take, drop, cond, not, sym, ap, ◌∙◌, refl, arith}
+use Rattle.std.specs.Prelude.{Bool, true, false, ◌==◌, codes, Option, Some, None, Result, Ok, Err}
 use Rattle.std.specs.List.{position_or_len}
 use Rattle.std.specs.Option.{option_map_or}
+use Rattle.std.proofs.lemmas.List.{drop-drop, drop_all, take_all}
+use Rattle.std.proofs.lemmas.Slice.Eq.{bytes_eq-Decides}
+use Rattle.acta_table.specs.declared.event.Event.{Event}
+use Rattle.acta_table.specs.declared.model.Parts.{Parts}
+use Rattle.acta_words.specs.Text.{lines_of, words_of}
+use Rattle.acta_script.specs.Commands.{command_of}
+use Rattle.acta_script.specs.Reading.{event_of, event_said}
+use Rattle.acta_script.specs.declared.commands.DebugCommand.{DebugCommand}
 use Rattle.acta_script.specs.declared.fault.LineFault.{LineFault}
 use Rattle.acta_script.specs.declared.fault.LineFault.TheVariants.{Word}
 use Rattle.acta_io.specs.declared.input.BadLine.{BadLine}
-use Rattle.acta_io.specs.Input.{Said, said_by, said_from, with_line}
+use Rattle.acta_io.specs.Input.{Said, said_by, said_from, said_in, with_line}
+use Rattle.acta_io.specs.Sections.{ends_events, is_sign, script_commands, script_events}
+use Rattle.acta_io.specs.inside.Sections.{commands_from}
 
 -- the number of a line, if one stopped
 abbrev number_or : ℕ → Option BadLine → ℕ
@@ -112,3 +122,103 @@ module _ {X : Type 0} (read : List ℕ → Result X LineFault) (ends : List ℕ 
       let lt : n < b.line = omega (arith, at) in
       let next = goes_past (n + 1) i xs b (later n r (said_by read x) b h lt) (omega (arith, at)) failing in
       ap (λ (k : ℕ). said_from read n (take k (x ∷ xs))) (first_behind x xs (fails n x r b h lt)) ∙ ap (with_line n (said_by read x)) next
+
+-- the word `--` is no event
+no_event : {A : Type 0} (m : Parts A) (words : List (List ℕ)) → is_sign words ≡ true → cond (length words == 0) None (Some (event_said m words)) ≡ Some (Err Word)
+unfolding event_said
+no_event m [] is = cc
+no_event m (word ∷ []) is =
+    let same : word ≡ codes "--" = (bytes_eq-Decides word (codes "--")).0 is in
+    ap (λ (w : List ℕ). Some (event_said m (w ∷ []))) same
+no_event m (word ∷ other ∷ words) is = cc
+
+strange : {A : Type 0} (m : Parts A) (line : List ℕ) → ends_events line ≡ true → said_by (event_of m) line ≡ Some (Err Word)
+strange m line is = no_event m (words_of line) is
+
+module _ {A : Type 0} (m : Parts A) (input : List ℕ) (events : List (Event A)) where
+  abbrev lines : List (List ℕ)
+  lines = lines_of input
+
+  -- the place of the line that ends the events, or of the end
+  abbrev end : ℕ
+  end = position_or_len ends_events lines
+
+  -- no line stops the events: so none ends them, and there are no commands
+  module _ (said : said_in (event_of m) input ≡ record { said = events; stop = None }) where
+    none : end ≡ length lines
+    unfolding said_in
+    none = none_ends (event_of m) ends_events (strange m) 1 lines (ap (λ (s : Said (Event A)). s.stop) said)
+
+    pub all_events : record { said = events; stop = None } ≡ script_events m input
+    unfolding said_in script_events
+    all_events =
+        let front : take end lines ≡ lines = ap (λ (k : ℕ). take k lines) none ∙ take_all (length lines) lines (omega arith) in
+        sym (ap (said_from (event_of m) 1) front ∙ said)
+
+    pub no_commands : record { said = []; stop = None } ≡ script_commands m input
+    unfolding script_commands
+    no_commands =
+        let behind : drop (end + 1) lines ≡ [] = ap (λ (k : ℕ). drop (k + 1) lines) none ∙ drop_all (length lines + 1) lines (omega arith) in
+        sym (ap (said_from (command_of m) (end + 2)) behind)
+
+  -- a line stops the events
+  module _ (b : BadLine) (said : said_in (event_of m) input ≡ record { said = events; stop = Some b }) where
+    stops : (said_from (event_of m) 1 lines).stop ≡ Some b
+    unfolding said_in
+    stops = ap (λ (s : Said (Event A)). s.stop) said
+
+    events_are : (said_from (event_of m) 1 lines).said ≡ events
+    unfolding said_in
+    events_are = ap (λ (s : Said (Event A)). s.said) said
+
+    pub has_number : 1 ≤ b.line
+    has_number = numbered (event_of m) ends_events (strange m) 1 lines b stops
+
+    place : b.line ≡ 1 + (b.line - 1)
+    place = let one = has_number in omega (arith, one)
+
+    -- it doesn't end them: so it is faulty
+    refused : begins_with ends_events (drop (b.line - 1) lines) ≡ false → record { said = events; stop = Some b } ≡ script_events m input
+    unfolding said_in script_events
+    refused failing =
+        sym (goes_past (event_of m) ends_events (strange m) 1 (b.line - 1) lines b stops place failing ∙ said)
+
+    -- it does
+    module _ (line : List ℕ) (rest : List (List ℕ)) (is : drop (b.line - 1) lines ≡ line ∷ rest) (passes : ends_events line ≡ true) where
+      abbrev found : (end ≡ b.line - 1) × (said_from (event_of m) 1 (take end lines) ≡ record { said = (said_from (event_of m) 1 lines).said; stop = None })
+      found = ends_here (event_of m) ends_events (strange m) 1 (b.line - 1) lines line rest b stops place is passes
+
+      ended_events : record { said = events; stop = None } ≡ script_events m input
+      unfolding script_events
+      ended_events = sym (found.1 ∙ (λ i. record { said = events_are i; stop = None }))
+
+      ended_commands : said_from (command_of m) (b.line + 1) rest ≡ script_commands m input
+      unfolding script_commands
+      ended_commands =
+          let at : end + 2 ≡ b.line + 1 = let first = found.0 in let one = has_number in omega (arith, first, one) in
+          let behind : drop (end + 1) lines ≡ rest = ap (λ (k : ℕ). drop (k + 1) lines) found.0 ∙ sym (drop-drop 1 (b.line - 1) lines) ∙ ap (drop 1) is in
+          sym (λ i. said_from (command_of m) (at i) (behind i))
+
+    -- by the lines that are left, no commands were found: so the line is faulty
+    pub faulty_events : (left : List (List ℕ)) → drop (b.line - 1) lines ≡ left → commands_from m b.line left ≡ None → record { said = events; stop = Some b } ≡ script_events m input
+    faulty_events [] is found = refused (ap (begins_with ends_events) is)
+    faulty_events (line ∷ rest) is found = by_sign (ends_events line) refl found
+      where
+        by_sign : (p : Bool) → ends_events line ≡ p → cond p (Some (said_from (command_of m) (b.line + 1) rest)) None ≡ None → record { said = events; stop = Some b } ≡ script_events m input
+        by_sign true passes found = cc
+        by_sign false failing found = refused (ap (begins_with ends_events) is ∙ failing)
+
+    -- by them commands were found
+    pub found_commands : (commands : Said DebugCommand) (left : List (List ℕ)) → drop (b.line - 1) lines ≡ left → commands_from m b.line left ≡ Some commands
+        → (record { said = events; stop = None } ≡ script_events m input) × (commands ≡ script_commands m input)
+    found_commands commands [] is found = cc
+    found_commands commands (line ∷ rest) is found = by_sign (ends_events line) refl found
+      where
+        by_sign : (p : Bool) → ends_events line ≡ p → cond p (Some (said_from (command_of m) (b.line + 1) rest)) None ≡ Some commands
+            → (record { said = events; stop = None } ≡ script_events m input) × (commands ≡ script_commands m input)
+        by_sign false failing found = cc
+        by_sign true passes found =
+            let same : said_from (command_of m) (b.line + 1) rest ≡ commands = cc in (
+              ended_events line rest is passes,
+              sym same ∙ ended_commands line rest is passes,
+            )

@@ -4,7 +4,7 @@ use Rattle.acta_table.specs.declared.model.Parts.{Parts}
 use Rattle.acta_script.specs.Commands.{command_of}
 use Rattle.acta_script.specs.declared.commands.DebugCommand.{DebugCommand}
 use Rattle.acta_io.specs.declared.input.Input.{Input}
-use Rattle.acta_tool.specs.Debugging.{ends_events}
+use Rattle.acta_io.specs.Sections.{ends_events}
 use Rattle.acta_io.specs.Input.{Said, said_from}
 
 -- what was read, as the definitions see it
