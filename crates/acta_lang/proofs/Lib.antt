@@ -11,5 +11,6 @@ pub mod ReadAgain
 pub mod Sound
 pub mod Tidy
 pub mod Turns
+pub mod Whole
 pub mod WordLists
 pub mod Writing

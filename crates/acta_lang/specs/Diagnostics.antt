@@ -1,6 +1,6 @@
 -- Where a text is wrong: the fault that it means, the place of the word at fault, what is expected there, and the earlier
 -- lines that the fault has to do with.
-use Rattle.std.specs.Prelude.{ℕ, ◌+◌, ◌-◌, List, [], length, take, slice_get, if◌then◌else◌, Option, Some, None, option_and_then, option_map, unwrap_or}
+use Rattle.std.specs.Prelude.{◌≡◌, ℕ, ◌+◌, true, is_some, ◌-◌, List, [], length, take, slice_get, if◌then◌else◌, Option, Some, None, option_and_then, option_map, unwrap_or}
 use Rattle.std.specs.Result.{result_err}
 use Rattle.acta_words.specs.Text.{lines_of, words_of}
 use Rattle.acta_lang.specs.declared.diagnostic.ClassLines.{ClassLines}
@@ -12,7 +12,8 @@ use Rattle.acta_lang.specs.declared.fault.AsmError.{AsmError}
 use Rattle.acta_lang.specs.declared.fault.AsmError.TheVariants as error
 use Rattle.acta_lang.specs.declared.fault.AsmFault.{AsmFault}
 use Rattle.acta_lang.specs.declared.fault.Code.{Code}
-use Rattle.acta_lang.specs.declared.fault.Code.TheVariants.{DuplicateName, WrongPlace, MissingEnd}
+use Rattle.acta_lang.specs.declared.diagnostic.Expected.TheVariants as want
+use Rattle.acta_lang.specs.declared.fault.Code.TheVariants.{DuplicateName, WrongPlace, MissingEnd, HeirWithoutSpawn}
 use Rattle.acta_lang.specs.declared.form.Form.{Form}
 use Rattle.acta_lang.specs.Drafts.{Draft, declared}
 use Rattle.acta_lang.specs.Faults.{is_class, is_object}
@@ -78,6 +79,14 @@ diagnostic_of A before line code =
       earlier = earlier_line A before words said code;
       class = class_of A before words said code;
     }
+
+-- the diagnostic has the lines that it tells of: a name that is declared again has the earlier line; a part that is said
+-- again has the line and the class; a class that lacks its end, or the parents of its transactions, is there
+pub record IsWhole (d : Diagnostic) : Type 0 where
+  pub named : d.code ≡ DuplicateName → is_some d.earlier ≡ true
+  pub again : d.code ≡ WrongPlace → d.expected ≡ want.Once → (is_some d.earlier ≡ true) × (is_some d.class ≡ true)
+  pub unended : d.code ≡ MissingEnd → is_some d.class ≡ true
+  pub orphaned : d.code ≡ HeirWithoutSpawn → is_some d.class ≡ true
 
 -- the lines of the text before the one of this number, and that line
 abbrev pub lines_before : List ℕ → ℕ → List (List ℕ)

@@ -1,8 +1,8 @@
 //! From a text to the model that it means, or to what is wrong with it.
 
-ghost use Rattle.std.specs.Prelude.{◌≡◌, Ok, IfOk, IfErr, option_map};
+ghost use Rattle.std.specs.Prelude.{◌≡◌, Ok, IfOk, IfErr, IfSome, option_map};
 ghost use Rattle.std.specs.Result.{result_err};
-ghost use Rattle.acta_lang.specs.Diagnostics.{diagnosed, fault_of, told};
+ghost use Rattle.acta_lang.specs.Diagnostics.{IsWhole, diagnosed, fault_of, told};
 ghost use Rattle.acta_lang.specs.Meaning.{IsWhy, meaning};
 
 use crate::declare::declare_all;
@@ -33,6 +33,7 @@ pub fn diagnose<A: Allocator + Copy>(
     text: &[u8],
 ) -> Result<Option<TextDiagnostic<'_>>, AllocError>
     ensures diagnostic { IfOk result (λ found. option_map told found ≡ diagnosed A text.now) }
+    ensures whole { IfOk result (λ found. IfSome found (λ d. IsWhole (told d))) }
     ensures fault { IfOk result (λ found. option_map (λ d. fault_of (told d)) found ≡ result_err (meaning {A = A} text.now)) }
 {
     match declare_all(alloc, text) {

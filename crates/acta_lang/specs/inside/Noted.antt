@@ -1,5 +1,5 @@
 -- The lines that the code notes while it reads a text.
-use Rattle.std.specs.Prelude.{◌≡◌, ℕ, ◌+◌, List, [], ◌∷◌, ◌++◌, map, if◌then◌else◌, Option, Some, None, option_and_then, option_map}
+use Rattle.std.specs.Prelude.{◌≡◌, ℕ, ◌+◌, List, [], ◌∷◌, ◌++◌, map, if◌then◌else◌, Option, Some, None, is_some, option_and_then, option_map, ⊤}
 use Rattle.std.specs.Option.{option_or}
 use Rattle.std.specs.Str.{bytes_eq}
 use Rattle.acta_words.specs.Text.{words_of}
@@ -12,7 +12,8 @@ use Rattle.acta_lang.specs.declared.fault.Code.TheVariants.{DuplicateName, Wrong
 use Rattle.acta_lang.specs.declared.form.Form.{Form}
 use Rattle.acta_lang.specs.declared.form.Form.TheVariants as form
 use Rattle.acta_lang.specs.Diagnostics.{Diagnostic}
-use Rattle.acta_lang.specs.Drafts.{Draft}
+use Rattle.acta_lang.specs.declared.parts.PartLines.{PartLines}
+use Rattle.acta_lang.specs.Drafts.{Draft, OpenClass}
 use Rattle.acta_lang.specs.Faults.{is_class, is_object}
 use Rattle.acta_lang.specs.Forms.{form_of, name_in}
 use Rattle.acta_lang.specs.Lines.{ClassAt, begun, declares, first_line, last_class, part_line, with_line}
@@ -108,6 +109,20 @@ diagnosis d x number line code =
       earlier = earlier_noted x words said code;
       class = class_noted x number words said code;
     }
+
+-- a class has said the parts whose lines are noted
+pub record AreSaid (c : OpenClass) (lines : PartLines) : Type 0 where
+  pub starts : is_some lines.starts ≡ is_some c.starts
+  pub may : is_some lines.may ≡ is_some c.may
+  pub scope : is_some lines.scope ≡ is_some c.scope
+  pub policy : is_some lines.policy ≡ is_some c.policy
+  pub commit : is_some lines.commit ≡ is_some c.at_commit
+  pub delegation : is_some lines.delegation ≡ is_some c.extent
+
+abbrev pub IsSaid : Option OpenClass → Option ClassAt → Type 0
+IsSaid None None = ⊤
+IsSaid (Some c) (Some k) = AreSaid c k.parts
+IsSaid _ _ = ⊥
 
 -- what is noted is what these lines say
 pub record IsNoted (before : List (List ℕ)) (x : Noted) : Type 0 where

@@ -1,17 +1,18 @@
-use Rattle.std.proofs.Common.{ℕ, ◌+◌, ◌==◌, List, [], length, take, Ok, Err, option_map, refl, sym, ap, subst, ◌∙◌, arith}
+use Rattle.std.proofs.Common.{ℕ, ◌+◌, ◌==◌, List, Option, [], length, take, Ok, Err, option_map, refl, sym, ap, subst, ◌∙◌, arith}
 use Rattle.acta_words.specs.Text.{lines_of, words_of}
 use Rattle.acta_words.specs.inside.LinesToCome.{lines_to_come}
-use Rattle.acta_lang.specs.Diagnostics.{diagnostic_in, fault_of, told}
-use Rattle.acta_lang.specs.Drafts.{extended_by}
+use Rattle.acta_lang.specs.Diagnostics.{IsWhole, diagnostic_in, fault_of, told}
+use Rattle.acta_lang.specs.Drafts.{Draft, OpenClass, extended_by}
 use Rattle.acta_lang.specs.Faults.{code_at}
 use Rattle.acta_lang.specs.Forms.{form_of}
-use Rattle.acta_lang.specs.inside.Noted.{IsNoted, Noted, diagnosis, noted, noted_by}
+use Rattle.acta_lang.specs.inside.Noted.{IsNoted, IsSaid, Noted, diagnosis, noted, noted_by}
 use Rattle.acta_lang.specs.inside.Shown.{shown}
 use Rattle.acta_lang.proofs.Diagnosing.{at_line, declares-next, mapped-none, mapped-some, next, none_open, one_name}
 use Rattle.acta_lang.proofs.NoCodes.{no_test}
 use Rattle.acta_lang.proofs.Noting.{noted-next}
 use Rattle.acta_lang.proofs.Sound.{faultless_at, keeps, current_is_new}
 use Rattle.acta_lang.proofs.Turns.{meaning_from, behind_is_from, turn, ends, stops, goes_by}
+use Rattle.acta_lang.proofs.Whole.{is_whole, line-next}
 use Rattle.acta_lang.proofs.declare.declare_all.Goals as goal
 
 pub overflow_add-number : goal.overflow_add-number
@@ -36,7 +37,7 @@ returns-in-Some-2-clause-fault g c =
     (turn (n + 1) d line (lines_to_come c.loop-line.lines) rest _ c.in-Some.ensures.steps c.loop-line.invariant.means) in
     let placed = at_line c.args.text.now n d x line rest code.0 c.loop-line.invariant.declares c.loop-line.invariant.notes (one_name c.loop-line.draft.current) (c.loop-line.invariant.left ∙ c.in-Some.ensures.steps) in (
       means ∙ ap (λ f. Err f) (sym fault),
-      code.2 ∙ placed ∙ ap (diagnostic_in _ c.args.text.now) (sym fault),
+      (code.2 ∙ placed ∙ ap (diagnostic_in _ c.args.text.now) (sym fault), subst IsWhole (sym code.2) (is_whole c.loop-line.draft (n + 1) (length rest == 0) line code.0 c.loop-line.invariant.said code.1)),
     )
 
 pub loop-line-preserved : goal.loop-line-preserved
@@ -67,6 +68,9 @@ loop-line-preserved g c =
           let it = next n (lines_of c.args.text.now) line rest left in
           let here = noted-next (take n (lines_of c.args.text.now)) line x c.loop-line.invariant.notes (n + 1) (ap (λ k. k + 1) (sym it.1.1.1)) (none_open d c.loop-line.draft.current (form_of words) refl fits.place) in
           subst (λ (y : Noted). IsNoted (take (n + 1) (lines_of c.args.text.now)) y) (sym (c.read_line.ensures.noted was)) (subst (λ (lines : List (List ℕ)). IsNoted lines (noted_by (n + 1) words (form_of words) x)) (sym it.1.0) here);
+      said =
+          subst (λ (o : Option OpenClass). IsSaid o (noted c.read_line.new.draft).current) (sym (ap (λ (e : Draft _). e.current) added))
+          (subst (λ (y : Noted). IsSaid (extended_by d line).current y.current) (sym (c.read_line.ensures.noted was)) (line-next (n + 1) words (form_of words) d x c.loop-line.invariant.said));
       left = (next n (lines_of c.args.text.now) line rest left).1.1.0;
     }
 

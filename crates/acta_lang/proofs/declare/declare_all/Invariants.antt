@@ -2,7 +2,7 @@ use Rattle.std.proofs.Common.{◌≡◌, ◌≤◌, ◌+◌, length, take, drop}
 use Rattle.acta_words.specs.Text.{lines_of}
 use Rattle.acta_words.specs.inside.LinesToCome.{lines_to_come}
 use Rattle.acta_lang.specs.Drafts.{declared, nothing_yet}
-use Rattle.acta_lang.specs.inside.Noted.{IsNoted, noted}
+use Rattle.acta_lang.specs.inside.Noted.{IsNoted, IsSaid, noted}
 use Rattle.acta_lang.specs.inside.Shown.{shown}
 use Rattle.acta_lang.proofs.Sound.{IsFaultless}
 use Rattle.acta_lang.proofs.Turns.{meaning_from}
@@ -17,6 +17,7 @@ invariant-loop-line g l = record {
   faultless : IsFaultless (shown l.draft);
   declares : shown l.draft ≡ declared (take l.number (lines_of l.text));
   notes : IsNoted (take l.number (lines_of l.text)) (noted l.draft);
+  said : IsSaid (shown l.draft).current (noted l.draft).current;
   left : drop l.number (lines_of l.text) ≡ lines_to_come l.lines;
 }
 
