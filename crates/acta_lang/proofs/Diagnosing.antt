@@ -8,7 +8,7 @@ use Rattle.acta_lang.specs.declared.fault.Code.{Code}
 use Rattle.acta_lang.specs.declared.fault.Code.TheVariants.{NotAscii, BadWord, BadName, DuplicateName, WrongPlace, BadNumber, TooMany, MissingEnd, MissingPart, BeginKindAtStart, HeirWithoutSpawn, BadPolicyKind}
 use Rattle.acta_lang.specs.declared.form.Form.{Form}
 use Rattle.acta_lang.specs.declared.form.Form.TheVariants as form
-use Rattle.acta_lang.specs.Diagnostics.{class_of, diagnostic_in, diagnostic_of, earlier_line, line_at, lines_before, open_class}
+use Rattle.acta_lang.specs.Diagnostics.{class_of, diagnostic_in, diagnostic_of, earlier_line, open_class}
 use Rattle.acta_lang.specs.Drafts.{Draft, OpenClass, declared, extended_by}
 use Rattle.acta_lang.specs.Faults.{is_class, is_object, wrong_place}
 use Rattle.acta_lang.specs.Forms.{form_of, name_in}

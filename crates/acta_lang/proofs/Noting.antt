@@ -1,6 +1,6 @@
 -- What the code notes of the lines that it reads is what they say.
-use Rattle.std.proofs.Common.{◌≡◌, ℕ, zero, suc, ◌+◌, ◌≤◌, ◌<◌, Bool, true, false, cond, ltb, ◌&&◌, List, [], ◌∷◌, ◌++◌, length, refl, sym, ap, subst, ◌∙◌, arith, true≢false}
-use Rattle.std.specs.Prelude.{Option, Some, None, option_and_then, option_map, unwrap_or}
+use Rattle.std.proofs.Common.{◌≡◌, ℕ, suc, ◌+◌, ◌≤◌, ◌<◌, Bool, true, false, cond, ◌&&◌, List, [], ◌∷◌, ◌++◌, length, refl, sym, ap, subst, ◌∙◌, arith}
+use Rattle.std.specs.Prelude.{Option, Some, None, option_map, unwrap_or}
 use Rattle.std.specs.List.{position_from}
 use Rattle.std.specs.Option.{option_or}
 use Rattle.std.specs.Str.{bytes_eq}
@@ -10,7 +10,7 @@ use Rattle.acta_lang.specs.declared.form.Form.{Form}
 use Rattle.acta_lang.specs.declared.form.Form.TheVariants as form
 use Rattle.acta_lang.specs.Faults.{is_class, is_object}
 use Rattle.acta_lang.specs.Forms.{form_of, name_in}
-use Rattle.acta_lang.specs.Lines.{ClassAt, begun, behind, class_since, declares, first_line, is_starts, is_may, is_scope, is_policy, is_commit, is_delegation, last_class, last_line, no_lines, parts_behind, says, with_line}
+use Rattle.acta_lang.specs.Lines.{ClassAt, begun, behind, class_since, declares, first_line, is_starts, is_may, is_scope, is_policy, is_commit, is_delegation, last_class, last_line, says, with_line}
 use Rattle.acta_lang.specs.inside.Noted.{IsNoted, Noted, NotedName, closed_noted, current_line, line_of, noted_by, object_noted, said_more, said_noted}
 
 some-is : {X : Type 0} (x y : X) → Some x ≡ Some y → x ≡ y

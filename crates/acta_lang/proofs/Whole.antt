@@ -1,5 +1,5 @@
 -- A diagnostic has the lines that it tells of.
-use Rattle.std.proofs.Common.{◌≡◌, ℕ, ◌+◌, Bool, true, false, cond, not, ◌&&◌, ◌||◌, List, [], ◌∷◌, map, Bor, refl, sym, ap, subst, ◌∙◌, true≢false}
+use Rattle.std.proofs.Common.{◌≡◌, ℕ, Bool, true, false, cond, ◌&&◌, ◌||◌, List, [], ◌∷◌, map, Bor, refl, sym, ap, subst, ◌∙◌, true≢false}
 use Rattle.std.specs.Prelude.{Option, Some, None, is_some, option_and_then, option_map}
 use Rattle.std.specs.List.{list_any}
 use Rattle.std.specs.Map.{keys_of}
@@ -7,7 +7,6 @@ use Rattle.std.specs.Option.{option_map_or, option_or}
 use Rattle.std.specs.Str.{bytes_eq}
 use Rattle.acta_table.specs.Faults.{lacks_parents}
 use Rattle.acta_words.specs.Text.{is_word_among, words_of}
-use Rattle.acta_lang.specs.declared.diagnostic.Expected.{Expected}
 use Rattle.acta_lang.specs.declared.diagnostic.Expected.TheVariants as want
 use Rattle.acta_lang.specs.declared.draft.ClassDraft.{ClassDraft}
 use Rattle.acta_lang.specs.declared.draft.Draft as held
@@ -16,13 +15,13 @@ use Rattle.acta_lang.specs.declared.fault.Code.TheVariants.{NotAscii, BadWord, B
 use Rattle.acta_lang.specs.declared.form.Form.{Form}
 use Rattle.acta_lang.specs.declared.form.Form.TheVariants as form
 use Rattle.acta_lang.specs.Diagnostics.{IsWhole}
-use Rattle.acta_lang.specs.Drafts.{Draft, OpenClass, closed, extended, has_said, opened, with_closed, with_said}
+use Rattle.acta_lang.specs.Drafts.{Draft, OpenClass, closed, extended, has_said, with_closed, with_said}
 use Rattle.acta_lang.specs.Faults.{class_names, code_at, code_if, duplicate_name, heir_without_spawn, is_class, is_end, is_object, lowest_of, missing_end, missing_part, object_names, not_ascii, bad_word, bad_name, wrong_place, bad_number, too_many, begin_kind_at_start, bad_policy_kind}
 use Rattle.acta_lang.specs.Forms.{form_of, name_in}
 use Rattle.acta_lang.specs.Lines.{ClassAt, begun, part_line, with_line}
 use Rattle.acta_lang.specs.Places.{wrongly_placed}
-use Rattle.acta_lang.specs.inside.Noted.{AreSaid, IsSaid, Noted, class_noted, closed_at, closed_noted, current_at, current_line, diagnosis, earlier_noted, line_of, noted, noted_by, object_at, said_more}
-use Rattle.acta_lang.specs.inside.Shown.{current_shown, closed_shown, shown}
+use Rattle.acta_lang.specs.inside.Noted.{AreSaid, IsSaid, Noted, class_noted, closed_noted, current_at, current_line, diagnosis, earlier_noted, line_of, noted, noted_by, said_more}
+use Rattle.acta_lang.specs.inside.Shown.{current_shown, shown}
 use Rattle.acta_lang.proofs.Held.{among_classes, object_names-shown}
 
 -- ---- a code is that of a test that passes

@@ -15,7 +15,7 @@ use Rattle.acta_lang.specs.declared.fault.Code.{Code}
 use Rattle.acta_lang.specs.declared.diagnostic.Expected.TheVariants as want
 use Rattle.acta_lang.specs.declared.fault.Code.TheVariants.{DuplicateName, WrongPlace, MissingEnd, HeirWithoutSpawn}
 use Rattle.acta_lang.specs.declared.form.Form.{Form}
-use Rattle.acta_lang.specs.Drafts.{Draft, declared}
+use Rattle.acta_lang.specs.Drafts.{declared}
 use Rattle.acta_lang.specs.Faults.{is_class, is_object}
 use Rattle.acta_lang.specs.Forms.{form_of, name_in}
 use Rattle.acta_lang.specs.Lines.{ClassAt, begun, declares, first_line, last_class, part_line}

@@ -1,5 +1,5 @@
 -- The place of the word at fault in a faulty line, from 0, and what is expected there.
-use Rattle.std.specs.Prelude.{ℕ, ◌+◌, Bool, true, false, not, ◌||◌, List, [], ◌∷◌, length, map, nat_lt, if◌then◌else◌, codes, slice_get, Option, Some, None, is_some, is_none, unwrap_or}
+use Rattle.std.specs.Prelude.{ℕ, ◌+◌, Bool, false, not, ◌||◌, List, [], ◌∷◌, length, map, nat_lt, if◌then◌else◌, codes, slice_get, Option, Some, None, is_some, is_none, unwrap_or}
 use Rattle.std.specs.List.{position_from}
 use Rattle.std.specs.Option.{option_map_or}
 use Rattle.std.specs.Str.{bytes_eq}
