@@ -6,7 +6,8 @@ use acta_image::{load, upgrade, write_image};
 use acta_lang::{assemble, print_model};
 use acta_models::{Standard, load_all};
 use acta_script::{
-    answer_line, fault_line, owed_line, read_event, read_kept, write_event, write_kept,
+    WordPlace, answer_line, diagnose_event, diagnose_kept, fault_line, owed_line, read_event,
+    read_kept, write_event, write_kept,
 };
 use acta_table::{Answer, EdgeNo, Missing, Model, Owed, Ret, Rule, TxnId};
 use refusing::{Case, Refusing};
@@ -68,6 +69,25 @@ fn kept_again<A: Allocator + Copy>(alloc: A, model: &Model<A>, line: &[u8]) -> O
     line.ok()
 }
 
+// Writes the number of the fault of a line, and the number of its wrong word.
+fn diagnosed<A: Allocator + Copy>(
+    alloc: A,
+    model: &Model<A>,
+    line: &[u8],
+    is_kept: bool,
+) -> Option<Vec<u8, A>> {
+    let found = if is_kept {
+        diagnose_kept(alloc, model, line)
+    } else {
+        diagnose_event(alloc, model, line)
+    };
+    let found = found.ok()??;
+    let WordPlace::Wrong(place) = found.place else {
+        return None;
+    };
+    fault_line(alloc, found.fault.number(), 0, place as u64).ok()
+}
+
 // Writes the line of an answer, a refusal, a debt or a fault.
 fn line_of<A: Allocator + Copy>(alloc: A, call: &str) -> Result<Vec<u8, A>, AllocError> {
     match call {
@@ -121,6 +141,8 @@ impl<'a, R: Abort, A: Allocator + Copy> Case for Calling<'a, R, A> {
             "upgrade" => upgrade(alloc, bytes).ok(),
             "event" => event_again(alloc, self.on.model, bytes),
             "kept" => kept_again(alloc, self.on.model, bytes),
+            "diagnose_event" => diagnosed(alloc, self.on.model, bytes, false),
+            "diagnose_kept" => diagnosed(alloc, self.on.model, bytes, true),
             call => line_of(alloc, call).ok(),
         }
     }
@@ -164,6 +186,10 @@ kept permit 1 2 x -- permit 1 2 x
 kept split 1 2 part 4,7 -- split 1 2 part 4,7
 kept do 1 x write 5 = done -- do 1 x write 5 = done
 kept begin 1 part -- begin 1 part
+diagnose_event delegate 1 1 1,,9 -- fault 4 0 3
+diagnose_event split 1 2 parts 4,7 -- fault 5 0 3
+diagnose_kept join 1 1 1 = done done -- fault 3 0 3
+diagnose_kept do 1 x write 5 = maybe -- fault 4 0 6
 answer -- ok 65536 -9223372036854775808
 refusal -- no 28 by 4294967295
 debt -- owed 16384 16383 abort
