@@ -38,9 +38,6 @@ front-short m h n t within front few = record {
   kept = front.kept ∙ sym (take-take (length t.kept) n h few);
 }
 
-take-short : {X : Type 0} (xs ys : List X) (n : ℕ) → n ≡ length (xs ++ ys) → take n (xs ++ ys) ≡ xs ++ ys
-take-short xs ys n counted = take_all n (xs ++ ys) (omega (arith, counted))
-
 -- the machine s of a debugger has taken an event and is now t
 module _ {A : Type 0} (s t : State A) (h : List (Kept A)) (at : ℕ) (bs : List Break) (e : Event A) (inside : IsInside s h at) (goes : t ≡ after s e) where
   by-state : taken (session_of s h at bs) e ≡ behind (session_of s h at bs) t

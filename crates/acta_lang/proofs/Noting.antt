@@ -237,7 +237,3 @@ module _ (before : List (List ℕ)) (line : List ℕ) (x : Noted) (h : IsNoted b
       → IsNoted (before ++ line ∷ []) (noted_by n (words_of line) (form_of (words_of line)) x)
   noted-next n is none =
       subst (λ (k : ℕ). IsNoted (before ++ line ∷ []) (noted_by k (words_of line) (form_of (words_of line)) x)) (sym is) (by_form (form_of (words_of line)) refl none)
-
--- before any line nothing is noted
-pub nothing-noted : (x : Noted) → x ≡ record { objects = []; classes = []; current = None } → IsNoted [] x
-nothing-noted x is = subst (λ (y : Noted). IsNoted [] y) (sym is) (record { objects = λ word. refl; classes = λ word. refl; current = λ c opened. absurd cc })

@@ -1,5 +1,4 @@
 mod Examples
-mod WrongLines
 pub mod Again
 pub mod Alternatives
 pub mod Ascending
