@@ -76,7 +76,7 @@ fn hint_at_explain<R: Eprint>(rt: &R, command: Command) {
         Command::Run { .. } | Command::Trace => ("", ""),
         Command::Judge => (" --judge", ""),
         Command::Debug => (" --debug", ""),
-        Command::Drive { .. } => (" --drive", ", unless a seat has no worker"),
+        Command::Drive { .. } => (" --drive", ", unless a seat has no worker or there are too many lines"),
         _ => return,
     };
     let _ = eprintln!(rt;
