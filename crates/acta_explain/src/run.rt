@@ -1,7 +1,7 @@
 //! The run of the events of an input, told line by line: the answer to each event, what it formed or why it is refused,
 //! and in the end what is owed.
 
-ghost use Rattle.std.specs.Prelude.{◌≡◌, IfOk, is_some};
+ghost use Rattle.std.specs.Prelude.{◌≡◌, ◌||◌, IfOk, is_some};
 ghost use Rattle.acta_script.specs.Answers.{answer_line};
 ghost use Rattle.acta_script.specs.Reading.{event_of, seated_of};
 ghost use Rattle.acta_io.specs.Input.{said_in};
@@ -20,7 +20,7 @@ use crate::spoken::{Spoken, spoken_in};
 use crate::told::StepText;
 use acta_hope::never_begin;
 use acta_io::{
-    EventLines, Input, MOST_SEATS, Report, Script, SeatedLines, read_lines, read_script,
+    BadLine, EventLines, Input, MOST_SEATS, Report, Script, SeatedLines, read_lines, read_script,
 };
 use acta_machine::Handle;
 use acta_script::{Seated, answer_line, owed_line};
@@ -197,6 +197,16 @@ fn run_report<A: Handle>(
     })
 }
 
+// The faulty line of the input, if there is one, which should have been this.
+fn stop_at<'a>(input: &'a [u8], bad: Option<BadLine>, form: LineForm) -> Option<Stop<'a>>
+    ensures { is_some result ≡ is_some bad }
+{
+    match bad {
+        Some(bad) => Some(Stop::of(input, bad, form)),
+        None => None,
+    }
+}
+
 /// What is told of a run of the event lines of the input, which is refused where a line is faulty. `Err` where there is
 /// no memory.
 pub fn explain_run<A: Handle>(
@@ -211,11 +221,13 @@ pub fn explain_run<A: Handle>(
         model: &model,
     };
     let Input { said, stop } = read_lines(alloc, &reader, input)?;
-    let stop = match stop {
-        Some(bad) => Some(Stop::of(input, bad, LineForm::Event)),
-        None => None,
-    };
-    run_report(alloc, model, said, input, stop)
+    run_report(
+        alloc,
+        model,
+        said,
+        input,
+        stop_at(input, stop, LineForm::Event),
+    )
 }
 
 // The events of seated events.
@@ -246,11 +258,27 @@ pub fn explain_seated<A: Handle>(
     };
     let Input { said, stop } = read_lines(alloc, &reader, input)?;
     let events = events_of(alloc, said)?;
-    let stop = match stop {
-        Some(bad) => Some(Stop::of(input, bad, LineForm::Seated)),
-        None => None,
-    };
-    run_report(alloc, model, events, input, stop)
+    run_report(
+        alloc,
+        model,
+        events,
+        input,
+        stop_at(input, stop, LineForm::Seated),
+    )
+}
+
+// The first faulty line of a script: of its events, or else of its commands.
+fn script_stop<'a>(
+    input: &'a [u8],
+    events: Option<BadLine>,
+    commands: Option<BadLine>,
+) -> Option<Stop<'a>>
+    ensures { is_some result ≡ (is_some events || is_some commands) }
+{
+    match events {
+        Some(bad) => Some(Stop::of(input, bad, LineForm::Event)),
+        None => stop_at(input, commands, LineForm::Command),
+    }
 }
 
 /// What is told of a debug script: of a run of its events, and of its first faulty line. It is refused where a line of the
@@ -263,10 +291,6 @@ pub fn explain_script<A: Handle>(
     ensures { IfOk result (λ report. report.is_refused ≡ refuses_script_on model input.now) }
 {
     let Script { events, commands } = read_script(alloc, &model, input)?;
-    let stop = match (events.stop, commands.stop) {
-        (Some(bad), _) => Some(Stop::of(input, bad, LineForm::Event)),
-        (None, Some(bad)) => Some(Stop::of(input, bad, LineForm::Command)),
-        (None, None) => None,
-    };
+    let stop = script_stop(input, events.stop, commands.stop);
     run_report(alloc, model, events.said, input, stop)
 }
