@@ -53,6 +53,39 @@ fn image_again<A: Allocator + Copy>(alloc: A, image: &[u8]) -> Option<Vec<u8, A>
     image.ok()
 }
 
+// Writes the line, the code and the place of the word at fault of a faulty text, a byte each.
+fn text_fault<A: Allocator>(alloc: A, line: usize, code: u8, place: usize) -> Option<Vec<u8, A>> {
+    let line = u8::try_from(line).ok()?;
+    let place = u8::try_from(place).ok()?;
+    Vec::from_slice(alloc, [line, code, place].as_slice()).ok()
+}
+
+// Writes what is wrong with a faulty text.
+fn text_diagnosed<A: Allocator + Copy>(alloc: A, text: &[u8]) -> Option<Vec<u8, A>> {
+    match acta_lang::diagnose(alloc, text) {
+        Ok(Some(found)) => {
+            text_fault(
+                alloc,
+                found.line,
+                found.code.number(),
+                found.place.unwrap_or(0),
+            )
+        }
+        _ => None,
+    }
+}
+
+// Writes the fault of a faulty image, and the offset of the field that has it, a byte each.
+fn image_diagnosed<A: Allocator + Copy>(alloc: A, image: &[u8]) -> Option<Vec<u8, A>> {
+    match acta_image::diagnose(alloc, image) {
+        Ok(Some(found)) => {
+            let offset = u8::try_from(found.offset).ok()?;
+            Vec::from_slice(alloc, [found.fault.number(), offset].as_slice()).ok()
+        }
+        _ => None,
+    }
+}
+
 // Writes the event that a line has.
 fn event_again<A: Allocator + Copy>(alloc: A, model: &Model<A>, line: &[u8]) -> Option<Vec<u8, A>> {
     let event = read_event(alloc, model, line).ok()?;
@@ -139,6 +172,8 @@ impl<'a, R: Abort, A: Allocator + Copy> Case for Calling<'a, R, A> {
             "texts" => all_printed(alloc),
             "image" => image_again(alloc, bytes),
             "upgrade" => upgrade(alloc, bytes).ok(),
+            "faulty text" => text_diagnosed(alloc, bytes),
+            "faulty image" => image_diagnosed(alloc, bytes),
             "event" => event_again(alloc, self.on.model, bytes),
             "kept" => kept_again(alloc, self.on.model, bytes),
             "diagnose_event" => diagnosed(alloc, self.on.model, bytes, false),
@@ -215,6 +250,9 @@ fn all_texts(rt: &impl Abort, alloc: Global) -> Vec<u8> {
     all
 }
 
+// A text whose line 5 declares an object again, which line 2 declares: code 4, the word at place 1.
+const FAULTY: &str = "object y set\nobject x set\nclass a\nstarts begin\nobject x set\n";
+
 fn refuse_texts<R: Abort, A: Allocator + Copy, B: Allocator>(
     on: &Setting<'_, R, A>,
     heap: &Refusing<B>,
@@ -229,6 +267,17 @@ fn refuse_texts<R: Abort, A: Allocator + Copy, B: Allocator>(
     let (image, same) = (image.as_slice(), image.as_slice());
     refuse_call(on, heap, ("image", 10), (image, same));
     refuse_call(on, heap, ("upgrade", 10), (image, same));
+    let last = image.len().wrapping_sub(1);
+    let shorter = image.get(..last).unwrap_or(b"".as_slice());
+    let due = [3, u8::try_from(last).unwrap_or(0)];
+    refuse_call(on, heap, ("faulty image", 5), (shorter, due.as_slice()));
+    let due = [5, 4, 1];
+    refuse_call(
+        on,
+        heap,
+        ("faulty text", 5),
+        (FAULTY.as_bytes(), due.as_slice()),
+    );
 }
 
 // Refuses each allocation of the calls on lines, or of those on texts and images. The lines name a class and objects of
