@@ -125,7 +125,9 @@ fn operation_words<'a, A: Handle>(alloc: A) -> Result<Vec<&'a str, A>, AllocErro
 
 fn return_words<'a, A: Handle>(alloc: A) -> Result<Vec<&'a str, A>, AllocError> {
     let mut words = Vec::new(alloc);
-    words.extend_from_slice(&RETURN_WORDS)?;
+    for word in RETURN_WORDS {
+        words.push(word)?;
+    }
     Ok(words)
 }
 
