@@ -188,7 +188,7 @@ fn run_report<A: Handle>(
     input: &[u8],
     stop: Option<Stop<'_>>,
 ) -> Result<Report<A>, AllocError>
-    ensures { IfOk result (λ report. report.is_refused ≡ is_some stop) }
+    ensures { IfOk result (λ report. report.is_refused ≡ is_some stop.entry) }
 {
     let text = run_text(alloc, model, events, input, stop)?;
     Ok(Report {
