@@ -1,6 +1,5 @@
 -- What the program writes for the bytes of a model and of an input, where it answers them.
 use Rattle.std.specs.Prelude.{ℕ, ◌+◌, Bool, true, false, not, ◌==◌, List, [], ◌∷◌, ◌++◌, map, drop, get_or, length, codes, decimal, nat_lt, if◌then◌else◌, Option, Some, None, is_some, Result, Ok, Err}
-use Rattle.std.specs.List.{after_first, before_first, position_or_len}
 use Rattle.std.specs.Option.{option_map_or}
 use Rattle.acta_table.specs.declared.answer.Answer.{Answer}
 use Rattle.acta_table.specs.declared.event.Event.{Event}
@@ -11,18 +10,10 @@ use Rattle.acta_table.specs.declared.event.OpNo.{OpNo}
 use Rattle.acta_table.specs.declared.limits.TheConstants.{MOST_EVENTS}
 use Rattle.acta_table.specs.declared.model.Parts.{Parts}
 use Rattle.acta_table.specs.Dependencies.{word_of}
-use Rattle.acta_table.specs.Numbered.{numbers_where}
-use Rattle.acta_table.specs.Numbers.{model_fault_number}
-use Rattle.acta_words.specs.Text.{lines_of, words_of, line_of, text_of}
-use Rattle.acta_lang.specs.declared.fault.AsmFault.{AsmFault}
-use Rattle.acta_image.specs.declared.fault.ImageFault.{ImageFault}
-use Rattle.acta_image.specs.declared.fault.ImageFault.TheVariants.{Magic, Version, Truncated, BadField, Trailing, Model}
-use Rattle.acta_image.specs.Claims.{image_fault_number}
+use Rattle.acta_words.specs.Text.{line_of, text_of}
 use Rattle.acta_image.specs.Spelling.{image}
 use Rattle.acta_lang.specs.Canonical.{canonical}
-use Rattle.acta_lang.specs.Meaning.{code_number}
 use Rattle.acta_script.specs.declared.commands.DebugCommand.{DebugCommand}
-use Rattle.acta_script.specs.declared.fault.LineFault.{LineFault}
 use Rattle.acta_axioms.specs.Axioms.{axiom_number}
 use Rattle.acta_axioms.specs.declared.serial.SerialItem.{SerialItem}
 use Rattle.acta_axioms.specs.SerialItems.{serial_items}
@@ -30,14 +21,15 @@ use Rattle.acta_axioms.specs.Serial.{is_strict}
 use Rattle.acta_judge.specs.declared.verdict.Verdict.{Verdict}
 use Rattle.acta_judge.specs.Verdicts.{verdict}
 use Rattle.acta_script.specs.Answers.{answer_line, fault_line, owed_line}
-use Rattle.acta_script.specs.Reading.{fault_number, event_of, kept_of}
+use Rattle.acta_script.specs.Reading.{event_of, kept_of}
 use Rattle.acta_script.specs.Writing.{event_line, kept_line}
 use Rattle.acta_tool.specs.declared.args.Command.{Command}
 use Rattle.acta_tool.specs.declared.args.Command.TheVariants.{Assemble, CheckImage, Upgrade, Run, Trace, Judge, Debug, Serial, Drive}
 use Rattle.acta_io.specs.declared.models.NoModel.{NoModel}
-use Rattle.acta_io.specs.declared.models.NoModel.TheVariants.{Text, Image}
 use Rattle.acta_io.specs.declared.input.BadLine.{BadLine}
 use Rattle.acta_tool.specs.Debugging.{texts_of}
+use Rattle.acta_io.specs.Input.{Said, line_numbers, said_in}
+use Rattle.acta_io.specs.Reports.{Output, refused_model, stop_line}
 use Rattle.acta_io.specs.Sections.{script_commands, script_events}
 use Rattle.acta_tool.specs.Models.{model_by}
 use Rattle.acta_debug.specs.Sessions.{opened}
