@@ -76,7 +76,10 @@ fn hint_at_explain<R: Eprint>(rt: &R, command: Command) {
         Command::Run { .. } | Command::Trace => ("", ""),
         Command::Judge => (" --judge", ""),
         Command::Debug => (" --debug", ""),
-        Command::Drive { .. } => (" --drive", ", unless a seat has no worker or there are too many lines"),
+        Command::Drive { .. } => (
+            " --drive",
+            ", unless a seat has no worker or there are too many lines",
+        ),
         _ => return,
     };
     let _ = eprintln!(rt;
@@ -291,42 +294,71 @@ fn serve_serialize<R: Files + Input + Print + AllocGlobal>(
     ))
 }
 
+// The models that a command line names, which are two at most.
+struct Named<'a> {
+    model: Option<ModelName<'a>>,
+    other: Option<ModelName<'a>>,
+}
+
+impl<'a> Named<'a> {
+    fn one(model: ModelName<'a>) -> Named<'a> {
+        Named {
+            model: Some(model),
+            other: None,
+        }
+    }
+}
+
 // The models that the words name, which are a command line.
-fn models_named<'a, R: AllocGlobal>(
-    rt: &R,
-    words: &'a [String],
-) -> Result<[Option<ModelName<'a>>; 2], UsageFault> {
+fn models_named<'a, R: AllocGlobal>(rt: &R, words: &'a [String]) -> Result<Named<'a>, UsageFault> {
     let command = match words.get(1) {
         Some(command) => command.as_str(),
         None => "",
     };
     Ok(match command {
-        "draw" => [Some(parse::<DrawLine>(rt.alloc(), words)?.model), None],
+        "draw" => Named::one(parse::<DrawLine>(rt.alloc(), words)?.model),
         "explain" => match parse::<ExplainLine>(rt.alloc(), words)? {
-            Asked::Lines(_, name) => [Some(name), None],
-            Asked::Words(_) => [None, None],
+            Asked::Lines(_, name) => Named::one(name),
+            Asked::Words(_) => Named {
+                model: None,
+                other: None,
+            },
         },
-        "explore" => [Some(parse::<ExploreLine>(rt.alloc(), words)?.model), None],
+        "explore" => Named::one(parse::<ExploreLine>(rt.alloc(), words)?.model),
         "compare" => {
             let asked = parse::<CompareLine>(rt.alloc(), words)?;
-            [Some(asked.model), Some(asked.other)]
+            Named {
+                model: Some(asked.model),
+                other: Some(asked.other),
+            }
         }
-        "serialize" => [Some(parse::<SerializeLine>(rt.alloc(), words)?.model), None],
-        _ => [Some(acta_tool::parse(rt.alloc(), words)?.model), None],
+        "serialize" => Named::one(parse::<SerializeLine>(rt.alloc(), words)?.model),
+        _ => Named::one(acta_tool::parse(rt.alloc(), words)?.model),
     })
+}
+
+// Tells the path of a model, if it has one, in a line.
+fn tell_path<R: Print>(rt: &R, model: Option<ModelName<'_>>) -> Outcome {
+    let Some(name) = model else {
+        return Outcome::Done;
+    };
+    let ModelName::Path(path) = name else {
+        return Outcome::Done;
+    };
+    match println!(rt; "{path}") {
+        Ok(()) => Outcome::Done,
+        Err(_) => Outcome::Unwritten,
+    }
 }
 
 // Tells the paths of the models that the words after `--models` name, a line each. The script `acta` asks for them where
 // the program has ended with status 3.
 fn tell_models<R: Print + AllocGlobal>(rt: &R, words: &[String]) -> Result<Outcome, UsageFault> {
-    for model in models_named(rt, words)? {
-        if let Some(ModelName::Path(path)) = model {
-            if println!(rt; "{path}").is_err() {
-                return Ok(Outcome::Unwritten);
-            }
-        }
-    }
-    Ok(Outcome::Done)
+    let Named { model, other } = models_named(rt, words)?;
+    Ok(match tell_path(rt, model) {
+        Outcome::Done => tell_path(rt, other),
+        ended => ended,
+    })
 }
 
 // Tells the version.
