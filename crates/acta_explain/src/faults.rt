@@ -221,6 +221,7 @@ fn put_expected<A: Handle>(
         Expected::OperationForm(kind) => put!(prose; "`", kind.form(), "`"),
         Expected::CommandForm(kind) => put!(prose; "`", kind.form(), "`"),
         Expected::BreakForm(kind) => put!(prose; "`", kind.form(), "`"),
+        Expected::ShellForm(kind) => put!(prose; "`", kind.form(), "`"),
     }
 }
 

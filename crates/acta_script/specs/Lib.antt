@@ -3,6 +3,7 @@ pub mod Commands
 pub mod Diagnosis
 pub mod Laws
 pub mod Reading
+pub mod Shell
 pub mod Words
 pub mod Writing
 pub mod inside

@@ -1,4 +1,4 @@
--- The words of events, operations, returns, and commands to a debugger, and the forms of their lines.
+-- The words of events, operations, returns, commands to a debugger and commands of a session, and the forms of their lines.
 use Rattle.std.specs.Prelude.{ℕ, Bool, true, false, List, codes}
 use Rattle.acta_table.specs.declared.event.EventKind.{EventKind}
 use Rattle.acta_table.specs.declared.event.EventKind.TheVariants.{Begin, Spawn, Split, Join, Delegate, Form, Operate, Commit, Abort, Permit}
@@ -8,6 +8,8 @@ use Rattle.acta_script.specs.declared.command_words.CommandKind.{CommandKind}
 use Rattle.acta_script.specs.declared.command_words.CommandKind.TheVariants as command_kind
 use Rattle.acta_script.specs.declared.op_kind.OpKind.{OpKind}
 use Rattle.acta_script.specs.declared.op_kind.OpKind.TheVariants as op_kind
+use Rattle.acta_script.specs.declared.shell_words.ShellKind.{ShellKind}
+use Rattle.acta_script.specs.declared.shell_words.ShellKind.TheVariants as shell_kind
 
 -- the first word of an event's line
 abbrev pub event_word : EventKind → List ℕ
@@ -115,3 +117,49 @@ break_form break_kind.Txn = codes "break txn T"
 break_form break_kind.Object = codes "break object OBJECT"
 break_form break_kind.Owed = codes "break owed N"
 break_form break_kind.Ended = codes "break ended T"
+
+-- the first word of a command of a session
+abbrev pub shell_word : ShellKind → List ℕ
+shell_word shell_kind.Undo = codes "undo"
+shell_word shell_kind.Redo = codes "redo"
+shell_word shell_kind.Goto = codes "goto"
+shell_word shell_kind.State = codes "state"
+shell_word shell_kind.Status = codes "status"
+shell_word shell_kind.Value = codes "value"
+shell_word shell_kind.Held = codes "held"
+shell_word shell_kind.Conflicts = codes "conflicts"
+shell_word shell_kind.Edges = codes "edges"
+shell_word shell_kind.Permits = codes "permits"
+shell_word shell_kind.Owed = codes "owed"
+shell_word shell_kind.History = codes "history"
+shell_word shell_kind.Events = codes "events"
+shell_word shell_kind.Draw = codes "draw"
+shell_word shell_kind.Why = codes "why"
+shell_word shell_kind.Next = codes "next"
+shell_word shell_kind.Help = codes "help"
+shell_word shell_kind.Quit = codes "quit"
+
+-- the form of its line, with a word in capitals for each that varies, in brackets if it may be left out
+abbrev pub shell_form : ShellKind → List ℕ
+shell_form shell_kind.Undo = codes "undo [N]"
+shell_form shell_kind.Redo = codes "redo [N]"
+shell_form shell_kind.Goto = codes "goto N"
+shell_form shell_kind.State = codes "state"
+shell_form shell_kind.Status = codes "status T"
+shell_form shell_kind.Value = codes "value OBJECT"
+shell_form shell_kind.Held = codes "held T"
+shell_form shell_kind.Conflicts = codes "conflicts T"
+shell_form shell_kind.Edges = codes "edges [T]"
+shell_form shell_kind.Permits = codes "permits"
+shell_form shell_kind.Owed = codes "owed"
+shell_form shell_kind.History = codes "history"
+shell_form shell_kind.Events = codes "events"
+shell_form shell_kind.Draw = codes "draw"
+shell_form shell_kind.Why = codes "why [N]"
+shell_form shell_kind.Next = codes "next [T]"
+shell_form shell_kind.Help = codes "help [COMMAND]"
+shell_form shell_kind.Quit = codes "quit"
+
+-- the word before an event that is asked about
+abbrev pub can_word : List ℕ
+can_word = codes "can"

@@ -17,6 +17,7 @@ use crate::op_sets::operations_said;
 use crate::reading::event_kind_said;
 use crate::returns::return_word_said;
 use crate::seated::seat_said;
+use crate::shell_words::ShellKind;
 use acta_table::{EventKind, Model};
 use acta_words::words_of;
 use std::alloc::{AllocError, Allocator};
@@ -65,6 +66,8 @@ pub enum Expected {
     CommandForm(CommandKind),
     /// As many words as the form of a command that adds this break has (`BreakKind::form`).
     BreakForm(BreakKind),
+    /// As many words as the form of this command of a session has (`ShellKind::form`).
+    ShellForm(ShellKind),
 }
 
 /// Where a line is wrong. Its words are numbered from 0.
@@ -276,8 +279,8 @@ fn form_of(kind: EventKind, op: Option<OpKind>) -> Expected
     }
 }
 
-// What is wrong with the words of an event, of which the first has number n in its line.
-fn wrong_event<A: Allocator + Copy>(
+/// What is wrong with the words of an event, of which the first has number n in its line.
+pub(crate) fn wrong_event<A: Allocator + Copy>(
     alloc: A,
     model: &Model<A>,
     n: usize,
@@ -373,8 +376,8 @@ fn wrong_seat<A: Allocator + Copy>(
     wrong_in(alloc, model, &[part], Expected::Part(part), 0, &[word])
 }
 
-// What is wrong with the words after a seat.
-fn wrong_after_seat<A: Allocator + Copy>(
+/// What is wrong with the words after a seat, or after another word that an event must follow.
+pub(crate) fn wrong_after_seat<A: Allocator + Copy>(
     alloc: A,
     model: &Model<A>,
     words: &[&[u8]],

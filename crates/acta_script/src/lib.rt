@@ -38,6 +38,8 @@ mod reading;
 mod returns;
 mod seated;
 mod sentences;
+mod shell_lines;
+mod shell_words;
 mod states;
 mod writing;
 
@@ -57,5 +59,7 @@ pub use programs::{ProgramLine, read_program_line};
 pub use reading::read_event;
 pub use returns::{RETURN_WORDS, push_return, return_said};
 pub use seated::{Seated, read_seated};
+pub use shell_lines::{ShellCommand, ShellFault, ShellLine, Topic, read_shell_line};
+pub use shell_words::{CAN_FORM, CAN_WORD, ShellKind};
 pub use states::{push_elements, status_word};
 pub use writing::write_event;
