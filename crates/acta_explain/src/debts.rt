@@ -1,12 +1,13 @@
 //! Whether what is owed can still be paid.
 
-use crate::phrases::{event_word, first_named, put_formed_edge, put_standing};
+use crate::phrases::{first_named, put_formed_edge, put_standing};
 use crate::prose::Prose;
 use crate::put;
 use crate::reasons::Refused;
 use crate::run_trace::RunTrace;
 use acta_hope::{Hope, why_and_hope};
 use acta_machine::Handle;
+use acta_script::event_word;
 use acta_table::{Event, Missing, TxnId};
 
 // Adds that the debtor never begins, by the edge of this number.

@@ -5,9 +5,9 @@ use crate::hints::put_hint;
 use crate::layout::put_barred;
 use crate::listing::{put_either, put_listed, put_quoted};
 use crate::phrases::name_text;
-use crate::placed::put_shown;
 use crate::prose::Prose;
 use crate::put;
+use crate::shown::{column_of_missing, put_shown};
 use acta_io::{BadLine, MOST_SEATS, refuse_line};
 use acta_machine::Handle;
 use acta_script::{
@@ -66,11 +66,6 @@ impl<'a> Stop<'a> {
             fault: self.fault,
         }
     }
-}
-
-/// Whether the word is one of these.
-pub fn is_among(word: &[u8], words: &[&str]) -> bool {
-    words.contains(&name_text(word))
 }
 
 // The words that would do at a place, as far as they can be listed.
@@ -171,7 +166,7 @@ fn object_names<'a, A: Handle>(
 
 // A word of the line that is wrong, or the column in which one is missing, and what the line should have been.
 #[derive(Clone, Copy)]
-struct Culprit<'a> {
+struct WrongWord<'a> {
     form: LineForm,
     column: usize,
     word: Option<&'a [u8]>,
@@ -179,7 +174,7 @@ struct Culprit<'a> {
 
 // The wrong word of the line at this place. One that is missing has the column behind the word before it, and the
 // first one that of the line's first word.
-fn culprit_at<'a>(stop: &Stop<'a>, place: WordPlace) -> Culprit<'a> {
+fn wrong_word_at<'a>(stop: &Stop<'a>, place: WordPlace) -> WrongWord<'a> {
     let line = stop.bytes;
     let (column, word) = match place {
         WordPlace::Wrong(place) => match word_span(line, place) {
@@ -188,18 +183,10 @@ fn culprit_at<'a>(stop: &Stop<'a>, place: WordPlace) -> Culprit<'a> {
         },
         WordPlace::Missing(place) => (column_of_missing(line, place), None),
     };
-    Culprit {
+    WrongWord {
         form: stop.form,
         column,
         word,
-    }
-}
-
-fn column_of_missing(line: &[u8], place: usize) -> usize {
-    match word_span(line, place.saturating_sub(1)) {
-        Some(span) if place == 0 => span.from.saturating_add(1),
-        Some(span) => span.to.saturating_add(1),
-        None => 1,
     }
 }
 
@@ -207,16 +194,16 @@ fn column_of_missing(line: &[u8], place: usize) -> usize {
 const CARRIAGE_RETURN: &str =
     "\nthe line ends in CR LF; here a line ends in LF alone, and the CR belongs to the last word";
 
-// Adds what should stand in the place of the culprit, where these are the words that would do.
+// Adds what should stand in the place of the wrong word, where these are the words that would do.
 fn put_expected<A: Handle>(
     prose: Prose<A>,
-    culprit: Culprit<'_>,
+    wrong: WrongWord<'_>,
     expected: Expected,
     known: &[&str],
 ) -> Prose<A> {
     let prose = prose.put("\nexpected ");
     match expected {
-        Expected::Part(part) => put_part(prose, culprit, part, known),
+        Expected::Part(part) => put_part(prose, wrong, part, known),
         Expected::EventForm(kind) => put!(prose; "`", event_form(kind), "`"),
         Expected::OperationForm(kind) => put!(prose; "`", kind.form(), "`"),
         Expected::CommandForm(kind) => put!(prose; "`", kind.form(), "`"),
@@ -227,12 +214,12 @@ fn put_expected<A: Handle>(
 // Adds what a word must be that stands for this, where these are the words that would do.
 fn put_part<A: Handle>(
     prose: Prose<A>,
-    culprit: Culprit<'_>,
+    wrong: WrongWord<'_>,
     part: LinePart,
     known: &[&str],
 ) -> Prose<A> {
     match part {
-        LinePart::Event => put_event(prose, culprit, known),
+        LinePart::Event => put_event(prose, wrong, known),
         LinePart::Transaction => prose.put("the number of a transaction, digits up to 65535"),
         LinePart::Integer => prose.put("a whole number from -2147483648 to 2147483647"),
         LinePart::Operations => prose.put(
@@ -254,16 +241,16 @@ fn put_part<A: Handle>(
 
 // Adds the events where a word is none, and the form of an operation where it is the word of one. A command names a kind
 // of event, and no operation.
-fn put_event<A: Handle>(prose: Prose<A>, culprit: Culprit<'_>, known: &[&str]) -> Prose<A> {
-    let Some(word) = culprit.word else {
-        return prose.put(match culprit.form {
+fn put_event<A: Handle>(prose: Prose<A>, wrong: WrongWord<'_>, known: &[&str]) -> Prose<A> {
+    let Some(word) = wrong.word else {
+        return prose.put(match wrong.form {
             LineForm::Seated => "an event behind the seat",
             _ => "an event before the `=`",
         });
     };
     let prose = put_either(prose.put("an event: "), known);
     match OpKind::of_word(word) {
-        Some(kind) if culprit.form != LineForm::Command => {
+        Some(kind) if wrong.form != LineForm::Command => {
             put!(prose; "\nan operation is written `", kind.form(), "`")
         }
         _ => prose,
@@ -279,21 +266,21 @@ fn put_names<A: Handle>(prose: Prose<A>, names: &[&str]) -> Prose<A> {
     }
 }
 
-// Adds what is told of the culprit, in lines, where these are the words that would do.
-fn put_culprit<A: Handle>(
+// Adds what is told of the wrong word, in lines, where these are the words that would do.
+fn put_wrong_word<A: Handle>(
     prose: Prose<A>,
     alloc: A,
-    culprit: Culprit<'_>,
+    wrong: WrongWord<'_>,
     expected: Expected,
     known: &[&str],
 ) -> Prose<A> {
-    let prose = put!(prose; ", at column ", culprit.column);
-    let Some(word) = culprit.word else {
+    let prose = put!(prose; ", at column ", wrong.column);
+    let Some(word) = wrong.word else {
         let prose = prose.put(", where the line lacks a word");
-        return put_expected(prose, culprit, expected, known);
+        return put_expected(prose, wrong, expected, known);
     };
     let prose = put_shown(prose.put(": `"), word).put("`");
-    let prose = put_expected(prose, culprit, expected, known);
+    let prose = put_expected(prose, wrong, expected, known);
     if word.last() == Some(&b'\r') {
         prose.put(CARRIAGE_RETURN)
     } else {
@@ -326,9 +313,9 @@ fn stop_text<A: Handle>(
     let Some(found) = found else {
         return name.done();
     };
-    let culprit = culprit_at(stop, found.place);
+    let wrong = wrong_word_at(stop, found.place);
     let known = known_words(alloc, model, found.expected)?;
-    put_culprit(name, alloc, culprit, found.expected, &known).done()
+    put_wrong_word(name, alloc, wrong, found.expected, &known).done()
 }
 
 /// Adds the line that says nothing, as `run` does, and behind it what is wrong with it.

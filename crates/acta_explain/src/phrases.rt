@@ -3,6 +3,7 @@
 use crate::prose::Prose;
 use crate::put;
 use crate::told::{LineIndex, LineText};
+use acta_script::{OpKind, RETURN_WORDS, event_word};
 use acta_table::{
     Class, ClassId, Edge, Event, EventKind, Kind, Kinds, Model, ObjId, Op, OpNo, Ret, Starts,
     Status, TxnId,
@@ -33,22 +34,6 @@ pub fn object_text<A: Allocator>(model: &Model<A>, object: ObjId) -> &str {
     }
 }
 
-/// The word with which the line of such an event begins.
-pub fn event_word(kind: EventKind) -> &'static str {
-    match kind {
-        EventKind::Begin => "begin",
-        EventKind::Spawn => "spawn",
-        EventKind::Split => "split",
-        EventKind::Join => "join",
-        EventKind::Delegate => "delegate",
-        EventKind::Form => "form",
-        EventKind::Operate => "do",
-        EventKind::Commit => "commit",
-        EventKind::Abort => "abort",
-        EventKind::Permit => "permit",
-    }
-}
-
 /// The word by which a class allows events of this kind, in its `starts` or its `may`.
 pub fn allowing_word(kind: EventKind) -> &'static str {
     match kind {
@@ -57,17 +42,17 @@ pub fn allowing_word(kind: EventKind) -> &'static str {
     }
 }
 
-// The word of an operation.
-fn operation_word(op: Op) -> &'static str {
+// The kind of an operation.
+fn operation_kind(op: Op) -> OpKind {
     match op {
-        Op::Read => "read",
-        Op::Write(_) => "write",
-        Op::Get => "get",
-        Op::Add(_) => "add",
-        Op::Insert(_) => "insert",
-        Op::Remove(_) => "remove",
-        Op::Has(_) => "has",
-        Op::Size => "size",
+        Op::Read => OpKind::Read,
+        Op::Write(_) => OpKind::Write,
+        Op::Get => OpKind::Get,
+        Op::Add(_) => OpKind::Add,
+        Op::Insert(_) => OpKind::Insert,
+        Op::Remove(_) => OpKind::Remove,
+        Op::Has(_) => OpKind::Has,
+        Op::Size => OpKind::Size,
     }
 }
 
@@ -87,7 +72,7 @@ pub fn put_lacking<A: Allocator>(
     object: ObjId,
     op: Op,
 ) -> Prose<A> {
-    let word = operation_word(op);
+    let word = operation_kind(op).word();
     match model.object(object) {
         Some(found) => {
             let (kind, has) = kind_words(found.kind);
@@ -100,10 +85,11 @@ pub fn put_lacking<A: Allocator>(
 
 /// Adds the word of a return.
 pub fn put_return<A: Allocator>(prose: Prose<A>, ret: Ret) -> Prose<A> {
+    let [done, yes, no] = RETURN_WORDS;
     match ret {
-        Ret::Done => prose.put("done"),
-        Ret::Flag(true) => prose.put("yes"),
-        Ret::Flag(false) => prose.put("no"),
+        Ret::Done => prose.put(done),
+        Ret::Flag(true) => prose.put(yes),
+        Ret::Flag(false) => prose.put(no),
         Ret::Value(value) => prose.put(value),
     }
 }

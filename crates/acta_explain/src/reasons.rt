@@ -3,7 +3,7 @@
 
 use crate::listing::{put_chain, put_operations};
 use crate::phrases::{
-    allowing_word, class_at, class_text, event_word, first_named, name_text, object_text, put_edge,
+    allowing_word, class_at, class_text, first_named, name_text, object_text, put_edge,
     put_formed_edge, put_lacking, put_line_text, put_may, put_operation, put_standing, put_starts,
 };
 use crate::prose::Prose;
@@ -11,6 +11,7 @@ use crate::put;
 use crate::told::LineIndex;
 use acta_hope::{Hope, Release, endless_wait, heir, is_ancestor, lets_go, operation_at};
 use acta_machine::{Barring, Clash, FormFault, Handle, Lack, Machine, NumberedOp, Reason};
+use acta_script::event_word;
 use acta_table::{
     ClassId, Dep, Edge, Event, EventKind, Fate, Missing, ObjId, Op, OpNo, Rule, Status, TxnId,
 };

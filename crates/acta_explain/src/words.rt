@@ -128,11 +128,6 @@ pub const IMAGE_FAULTS: [ImageFault; 6] = [
     ImageFault::Model(ModelFault::NoClass),
 ];
 
-/// The short names of the kinds of dependency, by code.
-pub const KIND_WORDS: [&str; 12] = [
-    "CD", "SCD", "AD", "WD", "TD", "ED", "CMD", "BD", "SD", "BCD", "BAD", "WCD",
-];
-
 const TRANSACTION: &str = "a transaction";
 
 const OPERATION: &str = "an operation";
