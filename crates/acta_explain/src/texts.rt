@@ -1,7 +1,7 @@
 //! What is wrong with a text of a model: where, with which word, what stands there in a good text, and which word was
 //! perhaps meant.
 
-use crate::hints::put_hint;
+use crate::faults::put_hint;
 use crate::phrases::name_text;
 use crate::prose::Prose;
 use crate::put;
@@ -83,7 +83,7 @@ impl<'a, A: Handle> BadText<'a, A> {
         put_shown(self.put_column(prose).put(": `"), self.word_text()).put("`\n")
     }
 
-    // Adds what is told of the word at fault: the word, what is expected in its place, and a hint.
+    // Adds the word at fault, what is expected in its place, and a hint.
     fn put_word(&self, prose: Prose<A>) -> Prose<A> {
         let expected = self.found.expected;
         let prose = self.put_column(prose);
@@ -160,7 +160,7 @@ impl<'a, A: Handle> BadText<'a, A> {
         }
     }
 
-    // Adds what is told of the line.
+    // Adds what is wrong with the line.
     fn put_found(&self, prose: Prose<A>) -> Prose<A> {
         match (self.found.expected, self.found.class) {
             (Expected::Printable(offset), _) => self.put_byte(prose, offset),
