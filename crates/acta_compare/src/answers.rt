@@ -6,7 +6,7 @@ use crate::differences::{Comparison, Difference};
 use crate::owed::owed_only;
 use crate::side::Side;
 use crate::told::Told;
-use acta_explain::{Prose, Spoken, first_listed, put, put_more, spoken_in};
+use acta_explain::{NonBlankLine, Prose, first_listed, non_blank_lines, put, put_more};
 use acta_io::Report;
 use acta_machine::Handle;
 use std::alloc::AllocError;
@@ -26,7 +26,7 @@ fn put_first<A: Handle>(
     alloc: A,
     one: &Told<'_, A>,
     other: &Told<'_, A>,
-    line: Spoken<'_>,
+    line: NonBlankLine<'_>,
 ) -> Prose<A> {
     let prose = put!(prose; "the answers differ first at line ", line.line, ": ");
     let prose = line.put_words(prose, alloc).put("\n");
@@ -50,7 +50,7 @@ fn put_later<A: Handle>(prose: Prose<A>, later: &[Difference]) -> Prose<A> {
 }
 
 // The place of the first line at which the answers differ; the number of lines if there is none.
-fn first_place(differences: &[Difference], lines: &[Spoken<'_>]) -> usize {
+fn first_place(differences: &[Difference], lines: &[NonBlankLine<'_>]) -> usize {
     if let Some(first) = differences.first() {
         for (place, line) in lines.iter().enumerate() {
             if line.line == first.line {
@@ -67,7 +67,7 @@ fn differences_text<A: Handle>(
     one: &mut Told<'_, A>,
     other: &mut Told<'_, A>,
     comparison: &Comparison<A>,
-    lines: &[Spoken<'_>],
+    lines: &[NonBlankLine<'_>],
     at: usize,
 ) -> Result<Prose<A>, AllocError> {
     let before = lines.get(..at).unwrap_or(&[]);
@@ -89,7 +89,7 @@ fn owed_text<A: Handle>(
     one: &mut Told<'_, A>,
     other: &mut Told<'_, A>,
     comparison: &Comparison<A>,
-    lines: &[Spoken<'_>],
+    lines: &[NonBlankLine<'_>],
     at: usize,
 ) -> Result<Prose<A>, AllocError> {
     let owed = owed_only(alloc, &comparison.one.machine, &comparison.other.machine)?;
@@ -111,7 +111,7 @@ fn comparison_text<A: Handle>(
     one: &mut Told<'_, A>,
     other: &mut Told<'_, A>,
     comparison: &Comparison<A>,
-    lines: &[Spoken<'_>],
+    lines: &[NonBlankLine<'_>],
 ) -> Result<String<A>, AllocError> {
     let at = first_place(comparison.differences.as_slice(), lines);
     let prose = differences_text(alloc, one, other, comparison, lines, at)?;
@@ -132,7 +132,7 @@ fn text_on<A: Handle>(
     comparison: &Comparison<A>,
     input: &[u8],
 ) -> Result<String<A>, AllocError> {
-    let lines = spoken_in(alloc, input)?;
+    let lines = non_blank_lines(alloc, input)?;
     let mut first = Told::new(alloc, one)?;
     let mut second = Told::new(alloc, other)?;
     comparison_text(alloc, &mut first, &mut second, comparison, lines.as_slice())

@@ -6,7 +6,7 @@ ghost use Rattle.acta_compare.specs.OnlyIn.{HasOutcomes};
 
 use crate::only::only_in;
 use crate::side::Side;
-use acta_explain::{Prose, Spoken, put, put_model_name, spoken_in};
+use acta_explain::{NonBlankLine, Prose, non_blank_lines, put, put_model_name};
 use acta_explore::{Explored, Plan};
 use acta_io::{Report, numbers_of_lines};
 use acta_machine::Handle;
@@ -28,7 +28,7 @@ fn put_only<A: Handle>(
     alloc: A,
     ends: &Ends<'_, A>,
     numbers: &[usize],
-    texts: &[Spoken<'_>],
+    texts: &[NonBlankLine<'_>],
     places: &[usize],
 ) -> Result<Prose<A>, AllocError> {
     let plan = Plan::of(alloc, ends.lines)?;
@@ -69,7 +69,7 @@ fn ends_text<A: Handle>(
             .done();
     }
     let numbers = numbers_of_lines(alloc, input)?;
-    let texts = spoken_in(alloc, input)?;
+    let texts = non_blank_lines(alloc, input)?;
     let (numbers, texts) = (numbers.as_slice(), texts.as_slice());
     let prose = put_only(prose, alloc, one, numbers, texts, ours.as_slice())?;
     put_only(

@@ -2,7 +2,7 @@
 
 use crate::side::Side;
 use acta_explain::{
-    LineForm, Prose, Refused, RunTrace, Spoken, Stop, put_barred, put_line, put_model_name,
+    LineForm, NonBlankLine, Prose, Refused, RunTrace, Stop, put_barred, put_line, put_model_name,
     put_stop,
 };
 use acta_explore::Debt;
@@ -42,7 +42,11 @@ impl<'a, A: Handle> Told<'a, A> {
     }
 
     /// Takes the events of the lines that the model can read.
-    pub(crate) fn take_lines(&mut self, alloc: A, lines: &[Spoken<'_>]) -> Result<(), AllocError> {
+    pub(crate) fn take_lines(
+        &mut self,
+        alloc: A,
+        lines: &[NonBlankLine<'_>],
+    ) -> Result<(), AllocError> {
         for line in lines {
             match read_event(alloc, self.side.model, line.bytes) {
                 Ok(event) => {
@@ -87,7 +91,7 @@ impl<'a, A: Handle> Told<'a, A> {
     }
 
     /// Adds what the model answers to the line that comes next, and why.
-    pub(crate) fn put_answer(&self, prose: Prose<A>, alloc: A, line: Spoken<'_>) -> Prose<A> {
+    pub(crate) fn put_answer(&self, prose: Prose<A>, alloc: A, line: NonBlankLine<'_>) -> Prose<A> {
         let prose = put_model_name(prose.put("  "), self.side.name).put(": ");
         match read_event(alloc, self.side.model, line.bytes) {
             Ok(event) => self.put_event(prose, alloc, &event),

@@ -2,6 +2,7 @@
 
 use crate::choice::Choice;
 use crate::layout::{LEAST_WIDTH, MOST_WIDTH};
+use crate::marks::has_lane;
 use acta_args::{
     CommandLine, ModelName, UsageFault, flag, model_arg, model_named, option, usage, with_arg,
 };
@@ -65,7 +66,7 @@ fn txns_listed(alloc: Global, list: &str) -> Result<Option<Vec<TxnId>>, AllocErr
     let mut txns: Vec<TxnId> = Vec::new(alloc);
     for word in list.split(',') {
         match read_u16(word.as_bytes()) {
-            Some(number) if crate::marks::has_lane(TxnId(number)) => {
+            Some(number) if has_lane(TxnId(number)) => {
                 if !txns.contains(&TxnId(number)) {
                     txns.push(TxnId(number))?;
                 }
@@ -76,12 +77,7 @@ fn txns_listed(alloc: Global, list: &str) -> Result<Option<Vec<TxnId>>, AllocErr
     Ok(Some(txns))
 }
 
-// The number of an option, where it was given.
-fn number_given(matches: &ArgMatches<'_>, id: &str) -> Option<u32> {
-    matches.get_one::<u32>(id)
-}
-
-// The transactions that are asked for; nothing where none are named.
+// The transactions that are asked for; `None` if no list names any.
 fn txns_asked(
     alloc: Global,
     surface: &mut Command<'_>,
@@ -90,32 +86,13 @@ fn txns_asked(
     let Some(list) = list else {
         return Ok(None);
     };
-    match txns_listed(alloc, list)? {
-        Some(txns) => Ok(Some(txns)),
-        None => Err(usage(
-            surface,
-            ErrorKind::InvalidValue,
-            "--txns takes numbers of transactions, from 1 to 16383, with commas between them",
-        )),
+    let txns = txns_listed(alloc, list)?;
+    if txns.is_none() {
+        let fault =
+            "--txns takes numbers of transactions, from 1 to 16383, with commas between them";
+        return Err(usage(surface, ErrorKind::InvalidValue, fault));
     }
-}
-
-// Which lanes and places the matches ask for.
-fn choice_asked(
-    alloc: Global,
-    surface: &mut Command<'_>,
-    matches: &ArgMatches<'_>,
-) -> Result<Choice, UsageFault> {
-    let txns = txns_asked(alloc, surface, matches.get_str("txns"))?;
-    let from = number_given(matches, "from").unwrap_or(1);
-    let to = number_given(matches, "to");
-    match to {
-        Some(to) if to < from => {
-            let said = "--to is a place before --from";
-            Err(usage(surface, ErrorKind::InvalidValue, said))
-        },
-        _ => Ok(Choice { txns, from, to }),
-    }
+    Ok(txns)
 }
 
 // What the matches ask for.
@@ -124,23 +101,27 @@ fn asked_by<'a>(
     surface: &mut Command<'a>,
     matches: &ArgMatches<'a>,
 ) -> Result<Asked<'a>, UsageFault> {
-    let choice = choice_asked(alloc, surface, matches)?;
+    let txns = txns_asked(alloc, surface, matches.get_str("txns"))?;
+    let from = matches.get_one::<u32>("from").unwrap_or(1);
+    let to = matches.get_one::<u32>("to");
+    if to.is_some_and(|to| to < from) {
+        let fault = "--to is a place before --from";
+        return Err(usage(surface, ErrorKind::InvalidValue, fault));
+    }
     let form = if matches.get_flag("svg") {
         Form::Svg
     } else {
-        let width = match number_given(matches, "width") {
-            Some(width) => Some(width as usize),
-            None => None,
-        };
-        Form::Text { width }
-    };
-    match model_named(matches.get_str("MODEL").unwrap_or("@")) {
-        Some(model) => {
-            let drawing = Drawing { form, choice };
-            Ok(Asked { drawing, model })
+        let width = matches.get_one::<u32>("width");
+        Form::Text {
+            width: width.map(|width| width as usize),
         }
-        None => Err(UsageFault::UnknownModel),
-    }
+    };
+    let Some(model) = model_named(matches.get_str("MODEL").unwrap_or("@")) else {
+        return Err(UsageFault::UnknownModel);
+    };
+    let choice = Choice { txns, from, to };
+    let drawing = Drawing { form, choice };
+    Ok(Asked { drawing, model })
 }
 
 /// The command line of `draw`.

@@ -3,8 +3,8 @@
 use crate::lanes::{Lanes, Row};
 use crate::marks::has_lane;
 use acta_machine::Handle;
-use acta_table::{Edge, TABLE_SIZE, TxnId};
-use std::alloc::{AllocError, Allocator};
+use acta_table::{Edge, LAST_TXN, Owed, TABLE_SIZE, TxnId};
+use std::alloc::AllocError;
 
 /// Which transactions and which places are wanted.
 #[derive(Drop)]
@@ -27,14 +27,12 @@ impl Choice {
 
     // Whether a row at this place is wanted. A refused event is at the place that it would have had.
     fn has_place(&self, place: u32) -> bool {
-        match self.to {
-            Some(to) => self.from <= place && place <= to,
-            None => self.from <= place,
-        }
+        self.from <= place && place <= self.to.unwrap_or(u32::MAX)
     }
 
-    // Whether what stands behind the last of so many places is wanted.
-    fn has_end(&self, places: usize) -> bool {
+    // Whether what follows the last row of the lanes is wanted.
+    fn has_end<A: Handle>(&self, lanes: &Lanes<A>) -> bool {
+        let places = lanes.run.machine().history().len();
         match self.to {
             Some(to) => places <= to as usize,
             None => true,
@@ -44,7 +42,7 @@ impl Choice {
 
 /// The lanes and the rows that are drawn.
 #[derive(Drop)]
-pub struct Picked<A: Allocator> {
+pub struct Selection<A: Handle> {
     /// The lanes, from the left.
     pub lanes: Vec<TxnId, A>,
     /// The numbers of the rows, in order.
@@ -57,169 +55,136 @@ pub struct Picked<A: Allocator> {
     columns: Vec<Option<usize>, A>,
 }
 
-// The transactions that are named so far.
-#[derive(Drop)]
-struct Named<A: Allocator> {
-    is_named: Vec<bool, A>,
-}
-
-impl<A: Allocator> Named<A> {
-    fn add(&mut self, t: TxnId) {
-        if let Some(named) = self.is_named.get_mut(usize::from(t.0)) {
-            *named = true;
-        }
-    }
-
-    // Adds those that the row names, and those between whom it formed edges.
-    fn add_row(&mut self, row: &Row, formed: &[Edge]) {
-        self.add(row.deed.actor());
-        if row.is_admitted() {
-            if let Some(other) = row.deed.partner() {
-                self.add(other);
-            }
-        }
-        for edge in formed {
-            self.add(edge.j);
-            self.add(edge.i);
-        }
-    }
-
-    // Those that are named and can have a lane, by number.
-    fn list<B: Allocator>(&self, alloc: B) -> Result<Vec<TxnId, B>, AllocError> {
-        let mut txns = Vec::new(alloc);
-        for number in 1u16.. {
-            match self.is_named.get(usize::from(number)) {
-                Some(true) => txns.push(TxnId(number))?,
-                Some(false) => {}
-                None => break,
-            }
-        }
-        Ok(txns)
+// Notes that something is drawn of the transaction.
+fn name(named: &mut [bool], t: TxnId) {
+    if let Some(is_named) = named.get_mut(usize::from(t.0)) {
+        *is_named = true;
     }
 }
 
-// All transactions that something is drawn of, by number.
+// Notes the transactions of a row, and those between which it formed edges.
+fn name_row<A: Handle>(named: &mut [bool], row: &Row<'_, A>) {
+    name(named, row.figure.actor.txn);
+    if let Some((partner, _)) = row.figure.partner {
+        name(named, partner.txn);
+    }
+    for edge in row.formed {
+        name(named, edge.j);
+        name(named, edge.i);
+    }
+}
+
+// All transactions of which something is drawn, by number.
 fn all_named<A: Handle>(lanes: &Lanes<A>, choice: &Choice) -> Result<Vec<TxnId, A>, AllocError> {
-    let alloc = lanes.allocator();
-    let mut named = Named {
-        is_named: vec![in alloc; false; TABLE_SIZE]?,
-    };
-    for row in lanes.rows() {
-        if choice.has_place(row.place) {
-            named.add_row(row, lanes.formed(row));
+    let alloc = lanes.run.allocator();
+    let mut named = vec![in alloc; false; TABLE_SIZE]?;
+    for (number, place) in lanes.places.iter().enumerate() {
+        if !choice.has_place(*place) {
+            continue;
+        }
+        if let Some(row) = lanes.row(number) {
+            name_row(&mut named, &row);
         }
     }
-    if choice.has_end(places(lanes)) {
-        for owed in lanes.owed() {
-            named.add(owed.txn);
+    if choice.has_end(lanes) {
+        for owed in lanes.owed.iter() {
+            name(&mut named, owed.txn);
         }
     }
-    named.list(alloc)
-}
-
-// How many places the history has.
-fn places<A: Handle>(lanes: &Lanes<A>) -> usize {
-    match lanes.rows().last() {
-        Some(row) if row.is_admitted() => row.place as usize,
-        Some(row) => (row.place as usize).saturating_sub(1),
-        None => 0,
+    let mut txns = Vec::new(alloc);
+    for number in 1..=LAST_TXN {
+        if named.get(usize::from(number)) == Some(&true) {
+            txns.push(TxnId(number))?;
+        }
     }
+    Ok(txns)
 }
 
-// The transactions that are wanted, each once.
-fn wanted<A: Handle>(lanes: &Lanes<A>, choice: &Choice) -> Result<Vec<TxnId, A>, AllocError> {
-    match &choice.txns {
-        Some(txns) => Ok(Vec::from_slice(lanes.allocator(), txns.as_slice())?),
-        None => all_named(lanes, choice),
-    }
-}
-
-impl<A: Handle> Picked<A> {
-    /// The lanes and the rows of the choice, at most so many lanes. `Err` where there is no memory.
-    pub fn of(lanes: &Lanes<A>, choice: &Choice, most: usize) -> Result<Picked<A>, AllocError> {
-        let alloc = lanes.allocator();
-        let mut picked = Picked {
+impl<A: Handle> Selection<A> {
+    /// The lanes and the rows of the choice, at most so many lanes.
+    pub fn of(lanes: &Lanes<A>, choice: &Choice, most: usize) -> Result<Selection<A>, AllocError> {
+        let alloc = lanes.run.allocator();
+        let nowhere: Option<usize> = None;
+        let mut selection = Selection {
             lanes: Vec::new(alloc),
             rows: Vec::new(alloc),
-            has_end: choice.has_end(places(lanes)),
+            has_end: choice.has_end(lanes),
             wanted: 0,
-            columns: Vec::new(alloc),
+            columns: vec![in alloc; nowhere; TABLE_SIZE]?,
         };
-        match picked.pick(lanes, choice, most) {
-            Ok(()) => Ok(picked),
-            Err(e) => {
-                drop(picked);
-                Err(e)
+        match &choice.txns {
+            Some(txns) => selection.add_lanes(txns.as_slice(), most)?,
+            None => selection.add_lanes(all_named(lanes, choice)?.as_slice(), most)?,
+        }
+        selection.add_rows(lanes, choice)?;
+        Ok(selection)
+    }
+
+    // Adds a lane for each transaction that has none, as long as there is room.
+    fn add_lanes(&mut self, txns: &[TxnId], most: usize) -> Result<(), AllocError> {
+        for txn in txns {
+            if !has_lane(*txn) || self.column(*txn).is_some() {
+                continue;
             }
-        }
-    }
-
-    // Picks the lanes, at most so many, and the rows.
-    fn pick(&mut self, lanes: &Lanes<A>, choice: &Choice, most: usize) -> Result<(), AllocError> {
-        let nowhere: Option<usize> = None;
-        self.columns = vec![in lanes.allocator(); nowhere; TABLE_SIZE]?;
-        let all = wanted(lanes, choice)?;
-        for txn in all.as_slice() {
-            self.add_lane(*txn, most)?;
-        }
-        self.pick_rows(lanes, choice)
-    }
-
-    // Gives the transaction a lane behind the others, where it has none and there is room.
-    fn add_lane(&mut self, txn: TxnId, most: usize) -> Result<(), AllocError> {
-        if !has_lane(txn) || self.column(txn).is_some() {
-            return Ok(());
-        }
-        self.wanted = self.wanted.saturating_add(1);
-        if self.lanes.len() < most {
+            self.wanted = self.wanted.saturating_add(1);
             let column = self.lanes.len();
-            if let Some(place) = self.columns.get_mut(usize::from(txn.0)) {
-                *place = Some(column);
-            }
-            self.lanes.push(txn)?;
-        }
-        Ok(())
-    }
-
-    // Picks the rows at the places that are wanted, and of the lanes.
-    fn pick_rows(&mut self, lanes: &Lanes<A>, choice: &Choice) -> Result<(), AllocError> {
-        for (number, row) in lanes.rows().iter().enumerate() {
-            if choice.has_place(row.place) && self.touches(row, lanes.formed(row)) {
-                self.rows.push(number)?;
+            if column < most {
+                if let Some(place) = self.columns.get_mut(usize::from(txn.0)) {
+                    *place = Some(column);
+                }
+                self.lanes.push(*txn)?;
             }
         }
         Ok(())
     }
 
-    // Whether something of the row is on a lane. One that no transaction can do is of no lane, and is drawn.
-    fn touches(&self, row: &Row, formed: &[Edge]) -> bool {
-        let actor = row.deed.actor();
+    // Adds the rows at the places that are wanted, and of the lanes.
+    fn add_rows(&mut self, lanes: &Lanes<A>, choice: &Choice) -> Result<(), AllocError> {
+        for (number, place) in lanes.places.iter().enumerate() {
+            if !choice.has_place(*place) {
+                continue;
+            }
+            if let Some(row) = lanes.row(number) {
+                if self.touches(&row) {
+                    self.rows.push(number)?;
+                }
+            }
+        }
+        Ok(())
+    }
+
+    // Whether something of the row is on a lane. A row of a number that no transaction can have is on no lane, and is drawn.
+    fn touches(&self, row: &Row<'_, A>) -> bool {
+        let actor = row.figure.actor.txn;
         if !has_lane(actor) || self.column(actor).is_some() {
             return true;
         }
-        match row.deed.partner() {
-            Some(partner) if row.is_admitted() && self.column(partner).is_some() => true,
-            _ => self.has_edge(formed),
-        }
-    }
-
-    // Whether one of the edges is of a transaction that has a lane.
-    fn has_edge(&self, edges: &[Edge]) -> bool {
-        for edge in edges {
-            if self.column(edge.i).is_some() || self.column(edge.j).is_some() {
+        if let Some((partner, _)) = row.figure.partner {
+            if self.column(partner.txn).is_some() {
                 return true;
             }
         }
-        false
+        row.formed.iter().any(|edge| self.column(edge.i).is_some() || self.column(edge.j).is_some())
     }
-}
 
-impl<A: Allocator> Picked<A> {
     /// Which lane the transaction has, from the left and from 0, where one of it is drawn.
     pub fn column(&self, t: TxnId) -> Option<usize> {
-        match self.columns.get(usize::from(t.0)) {
-            Some(Some(column)) => Some(*column),
-            _ => None,
+        *self.columns.get(usize::from(t.0))?
+    }
+
+    /// Whether both lanes of the edge are drawn.
+    pub fn has_edge(&self, edge: &Edge) -> bool {
+        self.column(edge.j).is_some() && self.column(edge.i).is_some()
+    }
+
+    /// The debts that are drawn: those of the lanes, where the end is drawn.
+    pub fn debts(&self, lanes: &Lanes<A>) -> Result<Vec<Owed, A>, AllocError> {
+        let mut debts = Vec::new(lanes.run.allocator());
+        for owed in lanes.owed.iter() {
+            if self.has_end && self.column(owed.txn).is_some() {
+                debts.push(*owed)?;
+            }
         }
+        Ok(debts)
     }
 }

@@ -2,15 +2,15 @@
 
 ghost use Rattle.std.specs.Prelude.{◌<◌};
 
-use crate::marks::Mark;
+use crate::marks::{Mark, Marked};
 use crate::markup::{put_circle, put_text};
-use crate::sheet::MARGIN;
 use crate::svg::put_mark;
+use crate::svg_layout::MARGIN;
 use acta_explain::{Prose, put};
 use acta_machine::Handle;
 use acta_table::{OpNo, TxnId};
 
-// What stands in the place of a mark in an entry.
+// What an entry explains.
 #[derive(Clone, Copy)]
 enum Sign {
     Mark(Mark),
@@ -37,7 +37,7 @@ const ENTRY: usize = 176;
 
 const LINE: usize = 26;
 
-// How many entries stand side by side in a picture of the width.
+// How many entries are side by side in a picture of the width.
 fn beside(width: usize) -> usize
     ensures { 0 < result }
 {
@@ -59,8 +59,9 @@ pub fn height(width: usize) -> usize {
 fn put_sign<A: Handle>(out: Prose<A>, sign: Sign, x: usize, y: usize) -> Prose<A> {
     let from = x.saturating_sub(12);
     let to = x.saturating_add(12);
+    let txn = TxnId(1);
     let (class, head, out) = match sign {
-        Sign::Mark(mark) => return put_mark(out, mark, TxnId(1), x, y),
+        Sign::Mark(mark) => return put_mark(out, Marked { txn, mark }, x, y),
         Sign::Tie => ("tie", "tie", out),
         Sign::Permit => ("permit", "tie", out),
         Sign::Edge => ("edge", "edge", put_circle(out, "foot", from, y, 3)),
@@ -74,9 +75,15 @@ pub fn put_legend<A: Handle>(mut out: Prose<A>, width: usize, top: usize) -> Pro
     let right = width.saturating_sub(MARGIN + ENTRY);
     let mut x = MARGIN;
     let mut y = top;
-    for (sign, says) in ENTRIES {
+    for (sign, meaning) in ENTRIES {
         out = put_sign(out, sign, x.saturating_add(14), y);
-        out = put_text(out, "note", x.saturating_add(34), y.saturating_add(4), says);
+        out = put_text(
+            out,
+            "note",
+            x.saturating_add(34),
+            y.saturating_add(4),
+            meaning,
+        );
         if x.saturating_add(ENTRY) <= right {
             x = x.saturating_add(ENTRY);
         } else {

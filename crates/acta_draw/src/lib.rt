@@ -2,8 +2,8 @@
 //! is a text for a terminal or an SVG for a browser.
 //!
 //! Nothing here decides anything: what is admitted, what it forms and why an event is refused is asked of the machine,
-//! and is drawn. The lanes are made once (`Lanes`), a choice of transactions and places is made of them (`Picked`), and
-//! each form of picture is a walk over the rows that are picked.
+//! and is drawn. The lanes are made once (`Lanes`), a choice of transactions and places selects some of them (`Selection`), and
+//! each form of picture is a walk over the rows of the selection. A call that allocates returns `Err` if memory runs out.
 #![tactic(auto)]
 
 mod args;
@@ -18,14 +18,12 @@ mod markup;
 mod picture;
 mod screen;
 mod sentences;
-mod sheet;
 mod svg;
+mod svg_layout;
 mod text;
 mod wrapping;
 
 pub use args::{Asked, DrawLine, Drawing, Form};
-pub use choice::{Choice, Picked};
-pub use lanes::{Lanes, Row};
-pub use marks::{Deed, Figure, Mark, Marked, Tie};
+pub use choice::Choice;
 pub use picture::{draw, draw_tool};
 pub use screen::Screen;

@@ -1,130 +1,16 @@
-//! What an event is on the lanes: a mark on the lane of the one that does it, perhaps one on the lane of its partner,
+//! What an event is on the lanes: a mark on the lane of the transaction that does it, perhaps one on the lane of its partner,
 //! and a tie between the two.
 
-use acta_table::{Answer, Event, LAST_TXN, OpNo, TxnId};
+use crate::canvas::Ink;
+use acta_explain::first_named;
+use acta_table::{Event, LAST_TXN, OpNo, TxnId};
+use acta_trace::Step;
 use std::alloc::Allocator;
-
-/// What happens at an event, by the transactions that it names.
-#[derive(Clone, Copy, PartialEq, Eq, Debug)]
-pub enum Deed {
-    /// It begins.
-    Begins(TxnId),
-    /// The first spawns the second.
-    Spawns(TxnId, TxnId),
-    /// The first splits off the second, and hands it operations.
-    Splits(TxnId, TxnId),
-    /// The first ends, and hands all that it holds to the second.
-    Joins(TxnId, TxnId),
-    /// The first hands operations to the second.
-    Delegates(TxnId, TxnId),
-    /// The first permits the second to work beside it.
-    Permits(TxnId, TxnId),
-    /// The first comes to depend on the second.
-    Depends(TxnId, TxnId),
-    /// It does an operation.
-    Operates(TxnId),
-    /// It commits.
-    Commits(TxnId),
-    /// The first commits, and the second, its parent, holds from then on what it held.
-    CommitsTo(TxnId, TxnId),
-    /// It aborts.
-    Aborts(TxnId),
-}
-
-impl Deed {
-    /// What happens at the event; `parent` is the one to whom a commit leaves what is held.
-    pub fn of<A: Allocator>(event: &Event<A>, parent: Option<TxnId>) -> Deed {
-        match event {
-            Event::Begin(t, _) => Deed::Begins(*t),
-            Event::Spawn(t, c, _) => Deed::Spawns(*t, *c),
-            Event::Split(t, u, _, _) => Deed::Splits(*t, *u),
-            Event::Join(t, u) => Deed::Joins(*t, *u),
-            Event::Delegate(t, u, _) => Deed::Delegates(*t, *u),
-            Event::Permit(t, u, _) => Deed::Permits(*t, *u),
-            Event::Form(_, j, i) => Deed::Depends(*j, *i),
-            Event::Operate(t, _, _) => Deed::Operates(*t),
-            Event::Commit(t) => match parent {
-                Some(parent) => Deed::CommitsTo(*t, parent),
-                None => Deed::Commits(*t),
-            },
-            Event::Abort(t) => Deed::Aborts(*t),
-        }
-    }
-
-    /// The one that does it, begins or comes to depend.
-    pub fn actor(self) -> TxnId {
-        match self {
-            Deed::Begins(t)
-            | Deed::Spawns(t, _)
-            | Deed::Splits(t, _)
-            | Deed::Joins(t, _)
-            | Deed::Delegates(t, _)
-            | Deed::Permits(t, _)
-            | Deed::Depends(t, _)
-            | Deed::Operates(t)
-            | Deed::Commits(t)
-            | Deed::CommitsTo(t, _)
-            | Deed::Aborts(t) => t,
-        }
-    }
-
-    /// The other one, where there is one.
-    pub fn partner(self) -> Option<TxnId> {
-        match self {
-            Deed::Spawns(_, u)
-            | Deed::Splits(_, u)
-            | Deed::Joins(_, u)
-            | Deed::Delegates(_, u)
-            | Deed::Permits(_, u)
-            | Deed::Depends(_, u)
-            | Deed::CommitsTo(_, u) => Some(u),
-            Deed::Begins(_) | Deed::Operates(_) | Deed::Commits(_) | Deed::Aborts(_) => None,
-        }
-    }
-
-    // How the two are tied to one another.
-    fn tie(self) -> Option<Tie> {
-        match self {
-            Deed::Spawns(_, _) | Deed::Splits(_, _) => Some(Tie::Starts),
-            Deed::Joins(_, _) | Deed::Delegates(_, _) | Deed::CommitsTo(_, _) => Some(Tie::Hands),
-            Deed::Permits(_, _) => Some(Tie::Permits),
-            Deed::Depends(_, _) => Some(Tie::Depends),
-            Deed::Begins(_) | Deed::Operates(_) | Deed::Commits(_) | Deed::Aborts(_) => None,
-        }
-    }
-
-    // The mark of the one that does it.
-    fn mark(self, op: Option<OpNo>) -> Mark {
-        match self {
-            Deed::Begins(_) => Mark::Start,
-            Deed::Joins(_, _) => Mark::Joined,
-            Deed::Operates(_) => match op {
-                Some(op) => Mark::Operation(op),
-                None => Mark::Point,
-            },
-            Deed::Commits(_) | Deed::CommitsTo(_, _) => Mark::Committed,
-            Deed::Aborts(_) => Mark::Aborted,
-            Deed::Spawns(_, _)
-            | Deed::Splits(_, _)
-            | Deed::Delegates(_, _)
-            | Deed::Permits(_, _)
-            | Deed::Depends(_, _) => Mark::Point,
-        }
-    }
-
-    // The mark of the other one.
-    fn other_mark(self) -> Mark {
-        match self {
-            Deed::Spawns(_, _) | Deed::Splits(_, _) => Mark::Start,
-            _ => Mark::Met,
-        }
-    }
-}
 
 /// A mark on a lane.
 #[derive(Clone, Copy, PartialEq, Eq, Debug)]
 pub enum Mark {
-    /// It starts.
+    /// The transaction starts.
     Start,
     /// It does this operation.
     Operation(OpNo),
@@ -144,16 +30,34 @@ pub enum Mark {
     Owes,
 }
 
-/// How two lanes are tied to one another, from the one that does it to the other.
+impl Mark {
+    /// How the mark looks: its character and colour in a text, and its class in an SVG. The number of an operation follows the
+    /// character.
+    pub fn look(self) -> (char, Ink, &'static str) {
+        match self {
+            Mark::Start => ('o', Ink::Plain, "start"),
+            Mark::Operation(_) => ('*', Ink::Plain, "operation"),
+            Mark::Point => ('*', Ink::Plain, "point"),
+            Mark::Met => ('|', Ink::Faint, "met"),
+            Mark::Committed => ('C', Ink::Good, "committed"),
+            Mark::Aborted => ('A', Ink::Bad, "aborted"),
+            Mark::Joined => ('J', Ink::Plain, "joined"),
+            Mark::Refused => ('x', Ink::Bad, "cross"),
+            Mark::Owes => ('!', Ink::Bad, "owes"),
+        }
+    }
+}
+
+/// How two lanes are tied to one another, from the transaction that does the event to the other.
 #[derive(Clone, Copy, PartialEq, Eq, Debug)]
 pub enum Tie {
-    /// The one starts the other.
+    /// The first starts the second.
     Starts,
-    /// The one hands operations to the other.
+    /// The first transfers operations to the second.
     Hands,
-    /// The one permits the other something.
+    /// The first permits the second something.
     Permits,
-    /// The one depends on the other.
+    /// The first depends on the second.
     Depends,
 }
 
@@ -168,38 +72,59 @@ pub struct Marked {
 #[derive(Clone, Copy, PartialEq, Eq, Debug)]
 pub struct Figure {
     pub actor: Marked,
-    /// The other one, and how the two are tied.
+    /// The partner, and how the two are tied.
     pub partner: Option<(Marked, Tie)>,
 }
 
-/// What an event is on the lanes: a refused one is a cross on the lane of the one that was to do it.
-pub fn figure_of(deed: Deed, answer: &Answer, op: Option<OpNo>) -> Figure {
-    let txn = deed.actor();
-    if let Answer::Refused { .. } = answer {
-        return Figure {
-            actor: Marked {
-                txn,
-                mark: Mark::Refused,
-            },
-            partner: None,
-        };
+// A mark that is tied to no other lane.
+fn alone(txn: TxnId, mark: Mark) -> Figure {
+    Figure {
+        actor: Marked { txn, mark },
+        partner: None,
     }
-    let partner = match (deed.partner(), deed.tie()) {
-        (Some(other), Some(tie)) => Some((
+}
+
+// A mark that is tied to the lane of a partner.
+fn tied(txn: TxnId, mark: Mark, tie: Tie, partner: TxnId) -> Figure {
+    let other = match tie {
+        Tie::Starts => Mark::Start,
+        Tie::Hands | Tie::Permits | Tie::Depends => Mark::Met,
+    };
+    Figure {
+        actor: Marked { txn, mark },
+        partner: Some((
             Marked {
-                txn: other,
-                mark: deed.other_mark(),
+                txn: partner,
+                mark: other,
             },
             tie,
         )),
-        _ => None,
-    };
-    Figure {
-        actor: Marked {
-            txn,
-            mark: deed.mark(op),
+    }
+}
+
+/// What a step is on the lanes. A refused event is a cross on the lane of the transaction that was to do it. `heir` is the
+/// parent to which a commit transfers what its child held.
+pub fn figure_of<A: Allocator>(step: &Step<A>, heir: Option<TxnId>) -> Figure {
+    if !step.is_admitted() {
+        return alone(first_named(&step.event), Mark::Refused);
+    }
+    match &step.event {
+        Event::Begin(t, _) => alone(*t, Mark::Start),
+        Event::Spawn(t, u, _) => tied(*t, Mark::Point, Tie::Starts, *u),
+        Event::Split(t, u, _, _) => tied(*t, Mark::Point, Tie::Starts, *u),
+        Event::Join(t, u) => tied(*t, Mark::Joined, Tie::Hands, *u),
+        Event::Delegate(t, u, _) => tied(*t, Mark::Point, Tie::Hands, *u),
+        Event::Permit(t, u, _) => tied(*t, Mark::Point, Tie::Permits, *u),
+        Event::Form(_, j, i) => tied(*j, Mark::Point, Tie::Depends, *i),
+        Event::Operate(t, _, _) => match step.op {
+            Some(op) => alone(*t, Mark::Operation(op)),
+            None => alone(*t, Mark::Point),
         },
-        partner,
+        Event::Commit(t) => match heir {
+            Some(parent) => tied(*t, Mark::Committed, Tie::Hands, parent),
+            None => alone(*t, Mark::Committed),
+        },
+        Event::Abort(t) => alone(*t, Mark::Aborted),
     }
 }
 

@@ -44,19 +44,10 @@ pub const END_OF_TEXT: &str = "</text>\n";
 /// What ends a picture.
 pub const END: &str = "</svg>\n";
 
-// Whether something in the text has a meaning in markup.
-fn has_markup(text: &str) -> bool {
-    for byte in text.as_bytes() {
-        if matches!(*byte, b'&' | b'<' | b'>' | b'"') {
-            return true;
-        }
-    }
-    false
-}
-
 /// Adds a text with what has a meaning in markup escaped.
 pub fn put_escaped<A: Allocator>(mut out: Prose<A>, text: &str) -> Prose<A> {
-    if !has_markup(text) {
+    let mut bytes = text.as_bytes().iter();
+    if bytes.all(|byte| !matches!(*byte, b'&' | b'<' | b'>' | b'"')) {
         return out.put(text);
     }
     for c in text.chars() {

@@ -10,9 +10,9 @@ ghost use Rattle.acta_io.specs.Input.{said_in};
 use crate::args::{Drawing, Form};
 use crate::lanes::Lanes;
 use crate::screen::Screen;
-use crate::sentences::line_text;
 use crate::svg::{draw_svg, draw_words};
 use crate::text::draw_text;
+use acta_explain::name_text;
 use acta_io::{
     EventLines, ModelError, NoModel, Outcome, ReadFault, Report, Sink, Source, read_lines,
     read_model, read_within, refuse_line, refuse_model, write_report,
@@ -21,29 +21,18 @@ use acta_machine::Handle;
 use acta_table::Model;
 use std::alloc::AllocError;
 
-// The picture of the lanes, and behind it the line that is faulty, where one is.
+// The picture of the lanes, and after it the line that is faulty, if one is.
 fn picture<A: Handle>(
     alloc: A,
     lanes: &Lanes<A>,
     drawing: &Drawing,
     screen: Screen,
 ) -> Result<String<A>, AllocError> {
-    match lanes.stop() {
-        Some(stop) => {
-            let report = refuse_line(alloc, stop)?;
-            picture_to(lanes, drawing, screen, line_text(report.text.as_slice()))
-        }
-        None => picture_to(lanes, drawing, screen, ""),
-    }
-}
-
-// The picture of the lanes, and this line behind it.
-fn picture_to<A: Handle>(
-    lanes: &Lanes<A>,
-    drawing: &Drawing,
-    screen: Screen,
-    stop: &str,
-) -> Result<String<A>, AllocError> {
+    let stop = match lanes.stop {
+        Some(stop) => refuse_line(alloc, stop)?.text,
+        None => Vec::new(alloc),
+    };
+    let stop = name_text(stop.as_slice());
     match drawing.form {
         Form::Svg => draw_svg(lanes, &drawing.choice, stop),
         Form::Text { width } => {
@@ -56,7 +45,7 @@ fn picture_to<A: Handle>(
     }
 }
 
-// What is told of bytes that mean no model.
+// What is drawn for bytes that mean no model.
 fn no_model<A: Handle>(alloc: A, drawing: &Drawing, fault: NoModel) -> Result<Report<A>, AllocError>
     ensures { IfOk result (λ report. report.is_refused ≡ true) }
 {
@@ -64,9 +53,9 @@ fn no_model<A: Handle>(alloc: A, drawing: &Drawing, fault: NoModel) -> Result<Re
     match drawing.form {
         Form::Text { .. } => Ok(report),
         Form::Svg => {
-            let told = line_text(report.text.as_slice());
+            let words = name_text(report.text.as_slice());
             Ok(Report {
-                text: draw_words(alloc, told)?.into_bytes(),
+                text: draw_words(alloc, words)?.into_bytes(),
                 is_refused: true,
             })
         }
@@ -116,7 +105,7 @@ pub fn draw<A: Handle>(
     }
 }
 
-/// Reads the whole input, and writes in one go what is drawn of it on the model of these bytes. `Unread` and
+/// Reads the whole input, and writes in one go what is drawn of it on the model of these bytes. The outcome is `Unread` or
 /// `Unwritten` as for the other commands: where the input can't be read, nothing is written.
 pub fn draw_tool<A: Handle, S: Source, W: Sink>(
     alloc: A,

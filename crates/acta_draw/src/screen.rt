@@ -32,15 +32,15 @@ impl Screen {
 
 // The number of columns that the environment tells.
 fn columns<R: Env + AllocGlobal>(rt: &R) -> Option<usize> {
-    let told = env::var(rt, "COLUMNS").ok()?;
-    let columns = told.parse::<usize>().ok()?;
+    let columns = env::var(rt, "COLUMNS").ok()?;
+    let columns = columns.parse::<usize>().ok()?;
     Some(columns.clamp(LEAST_WIDTH, MOST_WIDTH))
 }
 
 // Whether the variable is set, and to something.
 fn is_set<R: Env + AllocGlobal>(rt: &R, name: &str) -> bool {
     match env::var(rt, name) {
-        Ok(told) => !told.is_empty(),
+        Ok(value) => !value.is_empty(),
         Err(_) => false,
     }
 }

@@ -1,76 +1,34 @@
-//! What is said of a row beside its marks: what it formed, why it was refused, and each of its marks in words.
+//! What is written of a row beside its marks: what it formed, why it was refused, and what its event does in words.
 
-use crate::choice::Picked;
-use crate::lanes::{Lanes, Row, RowText};
-use crate::marks::{Deed, Mark};
-use acta_explain::{MOST_TOLD, Prose, digits, put, put_return};
+use crate::choice::Selection;
+use crate::lanes::{Lanes, Row, returned};
+use acta_explain::{MOST_RENDERED, Prose, put, put_edges, put_numbered_edge, put_return};
 use acta_machine::Handle;
-use acta_table::{Edge, Missing, Owed, Ret, TxnId};
-use std::alloc::Allocator;
-use unicode_width::UnicodeWidthStr;
+use acta_table::{Event, Missing, Owed, TxnId};
+use std::alloc::{AllocError, Allocator};
 
 // The most edges that a note names.
 const MOST_NAMED: usize = 8;
 
-/// Adds an edge in words: its kind, the one that depends and the one on which it depends.
-pub fn put_edge<A: Allocator>(prose: Prose<A>, number: u64, edge: &Edge) -> Prose<A> {
-    put!(prose; "edge ", number, " (", edge.kind.word(), " ", edge.j.0, " on ", edge.i.0, ")")
-}
-
-/// A line of the program, as text.
-pub fn line_text(line: &[u8]) -> &str {
-    std::str::from_utf8(line).unwrap_or("")
-}
-
-// The words of a line behind so many.
-fn words_behind(line: &str, count: usize) -> &str {
-    let mut rest = line;
-    for _ in 0..count {
-        match rest.split_once(' ') {
-            Some((_, others)) => rest = others,
-            None => return "",
-        }
-    }
-    rest
-}
-
-/// Adds the event of a row; after an operation, and a `=`, what it returned.
-pub fn put_event<A: Allocator>(prose: Prose<A>, row: &Row, told: RowText<'_>) -> Prose<A> {
-    let prose = prose.put(told.event);
-    match row.returned() {
-        Some(ret) => put_return(prose.put(" = "), ret),
-        None => prose,
+/// The event of a row. After an operation follow a `=` and what it returned.
+pub fn event_text<A: Handle>(lanes: &Lanes<A>, row: &Row<'_, A>) -> Result<String<A>, AllocError> {
+    let prose = Prose::new(lanes.run.allocator()).put(row.text.event.as_str());
+    match returned(&row.step.answer) {
+        Some(ret) => put_return(prose.put(" = "), ret).done(),
+        None => prose.done(),
     }
 }
 
-// The width of what an operation returned.
-fn return_width(ret: Ret) -> usize {
-    match ret {
-        Ret::Done => 4,
-        Ret::Flag(true) => 3,
-        Ret::Flag(false) => 2,
-        Ret::Value(value) => {
-            let sign = if value < 0 { 1 } else { 0 };
-            digits(value.unsigned_abs() as usize).saturating_add(sign)
-        }
-    }
-}
-
-/// The width of that text.
-pub fn event_width(row: &Row, told: RowText<'_>) -> usize {
-    let event = told.event.width();
-    match row.returned() {
-        Some(ret) => event.saturating_add(return_width(ret)).saturating_add(3),
-        None => event,
-    }
-}
-
-/// Adds what is said where not all is drawn: how much is, and how more is chosen.
-pub fn put_left_out<A: Handle>(prose: Prose<A>, lanes: &Lanes<A>, picked: &Picked<A>) -> Prose<A> {
-    let rows = picked.rows.len();
-    let all = lanes.rows().len();
-    let fit = picked.lanes.len();
-    let wanted = picked.wanted;
+/// Adds how much is drawn where not all is, and how more is chosen.
+pub fn put_left_out<A: Handle>(
+    prose: Prose<A>,
+    lanes: &Lanes<A>,
+    selection: &Selection<A>,
+) -> Prose<A> {
+    let rows = selection.rows.len();
+    let all = lanes.places.len();
+    let fit = selection.lanes.len();
+    let wanted = selection.wanted;
     let prose = if fit < wanted {
         put!(prose; fit, " of ", wanted, " transactions fit, and ", rows, " of ", all,
             " events are of them; --txns 1,2,7 or --from N --to M (places) choose others.")
@@ -79,51 +37,31 @@ pub fn put_left_out<A: Handle>(prose: Prose<A>, lanes: &Lanes<A>, picked: &Picke
     } else {
         prose
     };
-    let untold = lanes.untold();
-    if untold == 0 {
+    let skipped = lanes.run.skipped();
+    if skipped == 0 {
         return prose;
     }
     let gap = if prose.is_empty() { "" } else { " " };
-    put!(prose; gap, untold, " refused events more are not drawn: the first ", MOST_TOLD, " are.")
+    put!(prose; gap, skipped, " refused events more are not drawn: the first ", MOST_RENDERED, " are.")
 }
 
-// Adds the edges that a row formed, by their numbers.
-fn put_formed<A: Handle>(mut prose: Prose<A>, lanes: &Lanes<A>, row: &Row) -> Prose<A> {
-    let formed = lanes.formed(row);
-    let mut number = row.edges_before as u64;
-    let mut gap = "";
-    for edge in formed.get(..MOST_NAMED).unwrap_or(formed) {
-        number = number.saturating_add(1);
-        prose = put_edge(prose.put(gap), number, edge);
-        gap = "; ";
-    }
-    let more = formed.len().saturating_sub(MOST_NAMED);
-    if more > 0 {
-        put!(prose; "; and ", more, " more")
+/// Adds what follows the event of a row: the edges that it formed, or why it was refused.
+pub fn put_note<A: Handle>(prose: Prose<A>, row: &Row<'_, A>) -> Prose<A> {
+    if !row.step.is_admitted() {
+        let reason = row.text.reason.lines().next().unwrap_or("");
+        put!(prose; "refused: ", reason)
+    } else if row.formed.is_empty() && row.is_form() {
+        prose.put("in force already")
     } else {
-        prose
+        put_edges(prose, row.step.edges_before, row.formed, MOST_NAMED)
     }
-}
-
-/// Adds what is told of a row behind its event: the edges that it formed, or why it was refused.
-pub fn put_note<A: Handle>(prose: Prose<A>, lanes: &Lanes<A>, number: usize) -> Prose<A> {
-    let (Some(row), Some(told)) = (lanes.rows().get(number), lanes.told(number)) else {
-        return prose;
-    };
-    if !row.is_admitted() {
-        return put!(prose; "refused: ", told.reason.lines().next().unwrap_or(""));
-    }
-    if lanes.formed(row).is_empty() && matches!(row.deed, Deed::Depends(_, _)) {
-        return prose.put("in force already");
-    }
-    put_formed(prose, lanes, row)
 }
 
 /// Adds by which edge something is owed.
 pub fn put_debt_note<A: Handle>(prose: Prose<A>, lanes: &Lanes<A>, owed: &Owed) -> Prose<A> {
     let number = owed.edge.0;
     match lanes.edge(number) {
-        Some(edge) => put_edge(prose.put("by "), number, edge),
+        Some(edge) => put_numbered_edge(prose.put("by "), number, edge),
         None => prose,
     }
 }
@@ -145,49 +83,53 @@ fn put_class<A: Handle>(prose: Prose<A>, lanes: &Lanes<A>, t: TxnId) -> Prose<A>
     }
 }
 
-// Adds what an admitted row does, in words.
-fn put_deed<A: Handle>(
-    prose: Prose<A>,
-    lanes: &Lanes<A>,
-    row: &Row,
-    told: RowText<'_>,
-) -> Prose<A> {
-    let event = told.event;
-    match row.deed {
-        Deed::Begins(t) => put_class(put!(prose; t.0, " begins"), lanes, t),
-        Deed::Spawns(t, c) => put_class(put!(prose; t.0, " spawns ", c.0), lanes, c),
-        Deed::Splits(t, u) => {
-            let prose = put_class(put!(prose; t.0, " splits off ", u.0), lanes, u);
-            put_operations(prose, " and the operations ", words_behind(event, 4))
+// The words of an event after so many.
+fn words_after(event: &str, count: usize) -> &str {
+    event
+        .splitn(count.saturating_add(1), ' ')
+        .nth(count)
+        .unwrap_or("")
+}
+
+// Adds what an admitted event does, in words.
+fn put_doing<A: Handle>(prose: Prose<A>, lanes: &Lanes<A>, row: &Row<'_, A>) -> Prose<A> {
+    let event = row.text.event.as_str();
+    let t = row.figure.actor.txn.0;
+    match &row.step.event {
+        Event::Begin(u, _) => put_class(put!(prose; t, " begins"), lanes, *u),
+        Event::Spawn(_, u, _) => put_class(put!(prose; t, " spawns ", u.0), lanes, *u),
+        Event::Split(_, u, _, _) => {
+            let prose = put_class(put!(prose; t, " splits off ", u.0), lanes, *u);
+            put_operations(prose, " and the operations ", words_after(event, 4))
         }
-        Deed::Joins(t, u) => {
-            put!(prose; t.0, " joins ", u.0, ", has ended by it, and leaves it all that it held in progress")
+        Event::Join(_, u) => {
+            put!(prose; t, " joins ", u.0, ", has ended by it, and leaves it all that it held in progress")
         }
-        Deed::Delegates(t, u) => {
-            let prose = put!(prose; t.0, " delegates to ", u.0);
-            put_operations(prose, " the operations ", words_behind(event, 3))
+        Event::Delegate(_, u, _) => {
+            let prose = put!(prose; t, " delegates to ", u.0);
+            put_operations(prose, " the operations ", words_after(event, 3))
         }
-        Deed::Permits(t, u) => {
-            put!(prose; t.0, " permits ", u.0, " to work on ", words_behind(event, 3), " beside it")
+        Event::Permit(_, u, _) => {
+            put!(prose; t, " permits ", u.0, " to work on ", words_after(event, 3), " beside it")
         }
-        Deed::Depends(j, i) => put!(prose; j.0, " comes to depend on ", i.0),
-        Deed::Operates(t) => {
-            let number = match row.op {
-                Some(op) => op.0,
-                None => 0,
-            };
-            let prose = put!(prose; "operation ", number, ": ", t.0, " does ",
-                words_behind(event, 2), ", which returns ");
-            match row.returned() {
+        Event::Form(_, _, i) => put!(prose; t, " comes to depend on ", i.0),
+        Event::Operate(_, _, _) => {
+            let number = row.step.op.map_or(0, |op| op.0);
+            let prose = put!(prose; "operation ", number, ": ", t, " does ", words_after(event, 2),
+                ", which returns ");
+            match returned(&row.step.answer) {
                 Some(ret) => put_return(prose, ret),
                 None => prose.put("nothing"),
             }
         }
-        Deed::Commits(t) => put!(prose; t.0, " commits"),
-        Deed::CommitsTo(t, parent) => {
-            put!(prose; t.0, " commits, and leaves its parent ", parent.0, " all that it held in progress")
-        }
-        Deed::Aborts(t) => put!(prose; t.0, " aborts"),
+        Event::Commit(_) => match row.figure.partner {
+            Some((parent, _)) => {
+                put!(prose; t, " commits, and leaves its parent ", parent.txn.0,
+                    " all that it held in progress")
+            }
+            None => put!(prose; t, " commits"),
+        },
+        Event::Abort(_) => put!(prose; t, " aborts"),
     }
 }
 
@@ -199,31 +141,15 @@ fn put_operations<A: Allocator>(prose: Prose<A>, front: &str, operations: &str) 
     }
 }
 
-/// Adds what a row is, in words: what happens, or what was refused and why, in lines.
-pub fn put_title<A: Handle>(
-    prose: Prose<A>,
-    lanes: &Lanes<A>,
-    row: &Row,
-    told: RowText<'_>,
-) -> Prose<A> {
-    if row.is_admitted() {
-        let prose = put!(prose; "place ", row.place, " (line ", told.line, "): ");
-        put_deed(prose, lanes, row, told)
+/// What a row is, in words: what happens, or what was refused and why, in lines.
+pub fn title_of<A: Handle>(lanes: &Lanes<A>, row: &Row<'_, A>) -> Result<String<A>, AllocError> {
+    let prose = Prose::new(lanes.run.allocator());
+    let line = row.step.line;
+    if row.step.is_admitted() {
+        let prose = put!(prose; "place ", row.place, " (line ", line, "): ");
+        put_doing(prose, lanes, row).done()
     } else {
-        put!(prose; "refused (line ", told.line, "): ", told.event, "\n", told.reason)
-    }
-}
-
-/// The character of a mark in a text. An operation's number stands behind it.
-pub fn glyph(mark: Mark) -> char {
-    match mark {
-        Mark::Start => 'o',
-        Mark::Operation(_) | Mark::Point => '*',
-        Mark::Met => '|',
-        Mark::Committed => 'C',
-        Mark::Aborted => 'A',
-        Mark::Joined => 'J',
-        Mark::Refused => 'x',
-        Mark::Owes => '!',
+        let (event, reason) = (row.text.event.as_str(), row.text.reason.as_str());
+        put!(prose; "refused (line ", line, "): ", event, "\n", reason).done()
     }
 }

@@ -1,74 +1,58 @@
 //! A picture as a text for a terminal.
 
 use crate::canvas::{Canvas, Ink};
-use crate::choice::{Choice, Picked};
-use crate::lanes::{Lanes, Row, RowText};
+use crate::choice::{Choice, Selection};
+use crate::lanes::{Lanes, Row};
 use crate::layout::{Layout, PLACE, most_lanes};
 use crate::marks::{Mark, Marked, Tie, has_lane};
 use crate::screen::Screen;
-use crate::sentences::{
-    event_width, glyph, line_text, put_debt_note, put_event, put_left_out, put_note,
-};
-use crate::wrapping::{put_cut, put_list, wrapped};
-use acta_explain::{Prose, digits, put};
+use crate::sentences::{event_text, put_debt_note, put_left_out, put_note};
+use crate::wrapping::{put_cut, wrapped};
+use acta_explain::{Prose, digits, name_text, put};
 use acta_machine::Handle;
 use acta_script::owed_line;
-use acta_table::{Edge, Owed, TxnId};
+use acta_table::{Owed, TxnId};
 use std::alloc::AllocError;
 use unicode_width::UnicodeWidthStr;
 
 // What a text is a picture of, and the line that is put together.
 #[derive(Drop)]
 struct Page<'a, A: Handle> {
+    alloc: A,
     lanes: &'a Lanes<A>,
-    picked: &'a Picked<A>,
+    selection: &'a Selection<A>,
     layout: Layout,
-    width: usize,
     is_colored: bool,
     canvas: Canvas<A>,
 }
 
-// The colour of a mark.
-fn ink(mark: Mark) -> Ink {
-    match mark {
-        Mark::Committed => Ink::Good,
-        Mark::Aborted | Mark::Refused | Mark::Owes => Ink::Bad,
-        Mark::Met => Ink::Faint,
-        Mark::Start | Mark::Operation(_) | Mark::Point | Mark::Joined => Ink::Plain,
-    }
-}
-
-// The character of a tie, and its colour.
-fn stroke(tie: Tie) -> (char, Ink) {
-    match tie {
-        Tie::Starts | Tie::Hands => ('-', Ink::Tie),
-        Tie::Permits => ('.', Ink::Tie),
-        Tie::Depends => ('~', Ink::Edge),
-    }
+// What follows the lanes of a line: an event, and a note on it in this colour.
+#[derive(Clone, Copy)]
+struct Words<'a> {
+    // The number of the row.
+    row: usize,
+    event: &'a str,
+    note: &'a str,
+    // Whether the note is a list, which is split only between its items.
+    is_list: bool,
+    ink: Ink,
 }
 
 // The lanes and what is put on them.
 impl<'a, A: Handle> Page<'a, A> {
     // At which character of the line the lane of the transaction is.
     fn column(&self, t: TxnId) -> Option<usize> {
-        Some(self.picked.column(t)?.saturating_mul(self.layout.lane))
+        Some(self.selection.column(t)?.saturating_mul(self.layout.lane))
     }
 
-    // Puts a bar on each lane that is open just behind the row, or at it.
-    fn put_open(&mut self, row: usize, is_behind: bool) {
+    // Puts a bar on each lane that is open at the row, or after it.
+    fn put_open(&mut self, row: usize, is_after: bool) {
         self.canvas.clear();
-        let mut column = 0usize;
-        for t in self.picked.lanes.iter() {
-            let reach = self.lanes.reach(*t);
-            let is_open = if is_behind {
-                reach.is_open_behind(row)
-            } else {
-                reach.is_open_at(row)
-            };
-            if is_open {
+        for (lane, t) in self.selection.lanes.iter().enumerate() {
+            if self.lanes.is_open(*t, row, is_after) {
+                let column = lane.saturating_mul(self.layout.lane);
                 self.canvas.put(column, '|', Ink::Faint);
             }
-            column = column.saturating_add(self.layout.lane);
         }
     }
 
@@ -77,29 +61,13 @@ impl<'a, A: Handle> Page<'a, A> {
         let Some(column) = self.column(marked.txn) else {
             return;
         };
-        let ink = ink(marked.mark);
-        match marked.mark {
-            Mark::Met => {}
-            Mark::Operation(op) => {
-                self.canvas.put(column, '*', ink);
-                self.canvas.put_number(column.saturating_add(1), op.0, ink);
-            }
-            mark => self.canvas.put(column, glyph(mark), ink),
+        let (glyph, ink, _) = marked.mark.look();
+        if marked.mark != Mark::Met {
+            self.canvas.put(column, glyph, ink);
         }
-    }
-
-    // Puts a tie between two lanes, with its head at the second.
-    fn put_tie(&mut self, from: TxnId, to: TxnId, tie: Tie, has_head: bool) {
-        let (Some(from), Some(to)) = (self.column(from), self.column(to)) else {
-            return;
-        };
-        let (glyph, ink) = stroke(tie);
-        if has_head {
-            self.put_head(from, to, ink);
+        if let Mark::Operation(op) = marked.mark {
+            self.canvas.put_number(column.saturating_add(1), op.0, ink);
         }
-        let left = from.min(to);
-        let right = from.max(to);
-        self.canvas.fill(left, right, glyph, ink);
     }
 
     // Puts the head of an arrow beside the lane to which it goes.
@@ -111,14 +79,34 @@ impl<'a, A: Handle> Page<'a, A> {
         }
     }
 
-    // Puts an arrow for each edge of the one that does an operation, on those who hold what conflicts.
-    fn put_edges(&mut self, t: TxnId, formed: &[Edge]) {
-        let Some(from) = self.column(t) else {
+    // Puts a tie to the lane of the partner, with a head there unless it starts the partner.
+    fn put_tie(&mut self, from: TxnId, partner: Marked, tie: Tie) {
+        let to = self.column(partner.txn);
+        let (glyph, ink) = match tie {
+            Tie::Starts | Tie::Hands => ('-', Ink::Tie),
+            Tie::Permits => ('.', Ink::Tie),
+            Tie::Depends => ('~', Ink::Edge),
+        };
+        if let (Tie::Depends, Some(to)) = (tie, to) {
+            // (the lane may not have begun)
+            self.canvas.put(to, '*', Ink::Plain);
+        }
+        if let (Some(from), Some(to)) = (self.column(from), to) {
+            if tie != Tie::Starts {
+                self.put_head(from, to, ink);
+            }
+            self.canvas.fill(from.min(to), from.max(to), glyph, ink);
+        }
+    }
+
+    // Puts an arrow for each edge of the transaction, on the lane of the one on which it depends.
+    fn put_edges(&mut self, row: &Row<'_, A>) {
+        let Some(from) = self.column(row.figure.actor.txn) else {
             return;
         };
         let mut left = from;
         let mut right = from;
-        for edge in formed {
+        for edge in row.formed {
             if let Some(to) = self.column(edge.i) {
                 self.put_head(from, to, Ink::Edge);
                 left = left.min(to);
@@ -129,99 +117,69 @@ impl<'a, A: Handle> Page<'a, A> {
     }
 
     // Puts all that a row is on the lanes.
-    fn put_row(&mut self, number: usize, row: &Row) {
-        self.put_open(number, false);
-        let figure = row.figure();
-        self.put_mark(figure.actor);
-        match figure.partner {
+    fn put_row(&mut self, row: &Row<'_, A>) {
+        self.put_open(row.number, false);
+        self.put_mark(row.figure.actor);
+        match row.figure.partner {
             Some((partner, tie)) => {
                 self.put_mark(partner);
-                let has_head = matches!(partner.mark, Mark::Met);
-                if has_head && matches!(tie, Tie::Depends) {
-                    self.put_end(partner.txn);
-                }
-                self.put_tie(figure.actor.txn, partner.txn, tie, has_head);
+                self.put_tie(row.figure.actor.txn, partner, tie);
             }
-            None => self.put_edges(figure.actor.txn, self.lanes.formed(row)),
-        }
-    }
-
-    // Puts the end of an arrow on a lane that may not have begun.
-    fn put_end(&mut self, t: TxnId) {
-        if let Some(column) = self.column(t) {
-            self.canvas.put(column, '*', Ink::Plain);
+            None => self.put_edges(row),
         }
     }
 }
 
 // The lines.
 impl<'a, A: Handle> Page<'a, A> {
-    // Adds the label of a line, and the lanes behind it.
+    // Adds the label of a line, so wide, and the lanes after it.
     fn put_front(&self, text: Prose<A>, label: &str) -> Prose<A> {
         let front = PLACE.saturating_sub(2);
         let text = text.pad(front.saturating_sub(label.width()));
         self.canvas.put_to(put!(text; label, "  "), self.is_colored)
     }
 
-    // Adds the rest of a line, in this colour, and ends it.
-    fn put_rest(&self, text: Prose<A>, rest: &str, ink: Ink) -> Prose<A> {
-        if self.is_colored && ink != Ink::Plain {
-            put!(text; ink.escape(), rest, Ink::Plain.escape(), "\n")
-        } else {
-            put!(text; rest, "\n")
-        }
-    }
-
-    // Adds an event and what is told behind it, at the line whose lanes are put; what doesn't fit stands below, beside
-    // the lanes that are open behind the row.
-    fn put_told(
-        &mut self,
-        text: Prose<A>,
-        row: usize,
-        event: &str,
-        note: &str,
-        ink: Ink,
-    ) -> Prose<A> {
+    // Adds the words of a line whose lanes are put. What doesn't fit follows in lines beside the lanes that are open after the
+    // row.
+    fn put_words(&mut self, text: Prose<A>, words: Words<'_>) -> Prose<A> {
         let layout = self.layout;
-        if note.is_empty() {
-            return put_cut(text, event, layout.told).put("\n");
+        let text = put_cut(text, words.event, layout.words);
+        if words.note.is_empty() {
+            return text.put("\n");
         }
-        let wide = event.width().min(layout.told);
-        let is_beside = layout.note > 0 && wide <= layout.event;
-        let (width, indent) = if is_beside {
-            (layout.note, layout.event.saturating_add(2))
+        let wide = words.event.width().min(layout.words);
+        if layout.note > 0 && wide <= layout.event {
+            let indent = layout.event.saturating_add(2);
+            let text = text.pad(indent.saturating_sub(wide));
+            self.put_note(text, words, layout.note, indent, true)
         } else {
-            (layout.told.saturating_sub(2), 2)
-        };
-        let text = put_cut(text, event, layout.told);
-        let text = if is_beside {
-            text.pad(indent.saturating_sub(wide))
-        } else {
-            text.put("\n")
-        };
-        match wrapped(self.lanes.allocator(), note, width) {
-            Ok(notes) => self.put_notes(text, row, notes.as_slice(), (is_beside, indent), ink),
-            Err(_) => text.fail(),
+            let width = layout.words.saturating_sub(2);
+            self.put_note(text.put("\n"), words, width, 2, false)
         }
     }
 
-    // Adds the lines of what is told behind an event, so far from the lanes; the first may stand beside the event.
-    fn put_notes(
+    // Adds the note in lines, at most so wide and so far from the lanes. The first may be beside the event.
+    fn put_note(
         &mut self,
         mut text: Prose<A>,
-        row: usize,
-        notes: &[String<A>],
-        (is_beside, indent): (bool, usize),
-        ink: Ink,
+        words: Words<'_>,
+        width: usize,
+        indent: usize,
+        is_beside: bool,
     ) -> Prose<A> {
-        let mut is_first = is_beside;
-        for line in notes {
-            if !is_first {
-                self.put_open(row, true);
+        let Ok(lines) = wrapped(self.alloc, words.note, width, words.is_list) else {
+            return text.fail();
+        };
+        for (number, line) in lines.iter().enumerate() {
+            if number > 0 || !is_beside {
+                self.put_open(words.row, true);
                 text = self.put_front(text, "").pad(indent);
             }
-            is_first = false;
-            text = self.put_rest(text, line.as_str(), ink);
+            text = if self.is_colored {
+                put!(text; words.ink.escape(), line.as_str(), Ink::Plain.escape(), "\n")
+            } else {
+                put!(text; line.as_str(), "\n")
+            };
         }
         text
     }
@@ -229,179 +187,155 @@ impl<'a, A: Handle> Page<'a, A> {
     // Adds the line of the numbers of the lanes.
     fn put_header(&mut self, text: Prose<A>) -> Prose<A> {
         self.canvas.clear();
-        let mut column = 0usize;
-        for t in self.picked.lanes.iter() {
+        for (lane, t) in self.selection.lanes.iter().enumerate() {
+            let column = lane.saturating_mul(self.layout.lane);
             self.canvas.put_number(column, u32::from(t.0), Ink::Plain);
-            column = column.saturating_add(self.layout.lane);
         }
         self.put_front(text, "place").put("event\n")
     }
 
     // Adds a row.
-    fn put_line(&mut self, text: Prose<A>, number: usize) -> Prose<A> {
-        let lanes = self.lanes;
-        let (Some(row), Some(told)) = (lanes.rows().get(number), lanes.told(number)) else {
-            return text;
-        };
-        self.put_row(number, row);
-        let text = self.put_place(text, row);
-        match words_of(lanes, number, row, told) {
-            Ok((event, note)) => {
-                let ink = if row.is_admitted() {
-                    Ink::Edge
-                } else {
-                    Ink::Bad
-                };
-                self.put_told(text, number, event.as_str(), note.as_str(), ink)
-            }
-            Err(_) => text.fail(),
-        }
-    }
-
-    // Adds the place of a row, and the lanes behind it.
-    fn put_place(&self, text: Prose<A>, row: &Row) -> Prose<A> {
-        if row.is_admitted() {
-            let front = PLACE.saturating_sub(2);
-            let text = text.pad(front.saturating_sub(digits(row.place as usize)));
-            self.canvas
-                .put_to(put!(text; row.place, "  "), self.is_colored)
-        } else if has_lane(row.deed.actor()) {
-            self.put_front(text, "-")
+    fn put_line(&mut self, text: Prose<A>, row: &Row<'_, A>) -> Prose<A> {
+        self.put_row(row);
+        let is_admitted = row.step.is_admitted();
+        let label = Prose::new(self.alloc);
+        let label = if is_admitted {
+            label.put(row.place)
+        } else if has_lane(row.figure.actor.txn) {
+            label.put("-")
         } else {
-            // (a number that no transaction has is of no lane)
-            self.put_front(text, "x -")
-        }
+            // (a number that no transaction can have is on no lane)
+            label.put("x -")
+        };
+        let Ok(label) = label.done() else {
+            return text.fail();
+        };
+        let text = self.put_front(text, label.as_str());
+        let Ok(event) = event_text(self.lanes, row) else {
+            return text.fail();
+        };
+        let Ok(note) = put_note(Prose::new(self.alloc), row).done() else {
+            return text.fail();
+        };
+        let words = Words {
+            row: row.number,
+            event: event.as_str(),
+            note: note.as_str(),
+            is_list: is_admitted,
+            ink: if is_admitted { Ink::Edge } else { Ink::Bad },
+        };
+        self.put_words(text, words)
     }
 
     // Adds a debt.
     fn put_debt(&mut self, text: Prose<A>, owed: &Owed) -> Prose<A> {
-        let lanes = self.lanes;
-        let alloc = lanes.allocator();
-        if self.column(owed.txn).is_none() {
-            return text;
-        }
-        let last = lanes.rows().len();
-        self.put_open(last, true);
+        let row = self.lanes.places.len();
+        self.put_open(row, true);
         self.put_mark(Marked {
             txn: owed.txn,
             mark: Mark::Owes,
         });
         let text = self.put_front(text, "");
-        let Ok(line) = owed_line(alloc, owed) else {
+        let Ok(line) = owed_line(self.alloc, owed) else {
             return text.fail();
         };
-        match put_debt_note(Prose::new(alloc), lanes, owed).done() {
-            Ok(note) => {
-                self.put_told(
-                    text,
-                    last,
-                    line_text(line.as_slice()),
-                    note.as_str(),
-                    Ink::Edge,
-                )
-            }
-            Err(_) => text.fail(),
-        }
+        let Ok(note) = put_debt_note(Prose::new(self.alloc), self.lanes, owed).done() else {
+            return text.fail();
+        };
+        let words = Words {
+            row,
+            event: name_text(line.as_slice()),
+            note: note.as_str(),
+            is_list: false,
+            ink: Ink::Edge,
+        };
+        self.put_words(text, words)
     }
 
-    // Adds what stands behind the rows: what is owed, and what was left out.
-    fn put_ending(&mut self, mut text: Prose<A>) -> Prose<A> {
-        if self.picked.has_end {
-            for owed in self.lanes.owed() {
-                text = self.put_debt(text, owed);
+    // Adds all rows, and what is owed.
+    fn put_lines(&mut self, mut text: Prose<A>) -> Prose<A> {
+        let (lanes, selection) = (self.lanes, self.selection);
+        for number in selection.rows.iter() {
+            if let Some(row) = lanes.row(*number) {
+                text = self.put_line(text, &row);
             }
         }
-        match left_out(self.lanes, self.picked, self.width) {
-            Ok(lines) => {
-                for line in lines.iter() {
-                    text = put!(text; line.as_str(), "\n");
-                }
-                text
-            }
-            Err(_) => text.fail(),
+        let Ok(debts) = selection.debts(lanes) else {
+            return text.fail();
+        };
+        for owed in debts.iter() {
+            text = self.put_debt(text, owed);
         }
+        text
     }
 }
 
-// The event of a row, and what is told behind it, in which no edge is parted.
-fn words_of<A: Handle>(
+// Adds how much was left out, in lines of at most this width.
+fn put_ending<A: Handle>(
+    mut text: Prose<A>,
     lanes: &Lanes<A>,
-    number: usize,
-    row: &Row,
-    told: RowText<'_>,
-) -> Result<(String<A>, String<A>), AllocError> {
-    let alloc = lanes.allocator();
-    let note = put_note(Prose::new(alloc), lanes, number).done()?;
-    let (event, lacks_event) = put_event(Prose::new(alloc), row, told).parts();
-    let (note, lacks_note) = if row.is_admitted() {
-        put_list(Prose::new(alloc), note.as_str()).parts()
-    } else {
-        (note, false)
-    };
-    if lacks_event || lacks_note {
-        Err(AllocError)
-    } else {
-        Ok((event, note))
-    }
-}
-
-// The lines that say what was left out, of at most this width.
-fn left_out<A: Handle>(
-    lanes: &Lanes<A>,
-    picked: &Picked<A>,
+    selection: &Selection<A>,
     width: usize,
-) -> Result<Vec<String<A>, A>, AllocError> {
-    let alloc = lanes.allocator();
-    let said = put_left_out(Prose::new(alloc), lanes, picked).done()?;
-    if said.is_empty() {
-        return Ok(Vec::new(alloc));
+) -> Prose<A> {
+    let alloc = lanes.run.allocator();
+    let Ok(left_out) = put_left_out(Prose::new(alloc), lanes, selection).done() else {
+        return text.fail();
+    };
+    if left_out.is_empty() {
+        return text;
     }
-    wrapped(alloc, said.as_str(), width)
+    let Ok(lines) = wrapped(alloc, left_out.as_str(), width, false) else {
+        return text.fail();
+    };
+    for line in lines.iter() {
+        text = put!(text; line.as_str(), "\n");
+    }
+    text
 }
 
-// The width of the widest event of the rows that are picked.
-fn longest<A: Handle>(lanes: &Lanes<A>, picked: &Picked<A>) -> usize {
+// The width of the widest event of the rows that are drawn, and of what is owed.
+fn longest<A: Handle>(lanes: &Lanes<A>, selection: &Selection<A>) -> Result<usize, AllocError> {
     let mut longest = "event".len();
-    for number in picked.rows.iter() {
-        if let (Some(row), Some(told)) = (lanes.rows().get(*number), lanes.told(*number)) {
-            let width = event_width(row, told);
-            longest = longest.max(width);
+    for number in selection.rows.iter() {
+        if let Some(row) = lanes.row(*number) {
+            longest = longest.max(event_text(lanes, &row)?.as_str().width());
         }
     }
-    if picked.has_end {
-        for owed in lanes.owed() {
+    if selection.has_end {
+        for owed in lanes.owed.iter() {
             // (`owed EDGE TXN commit`)
-            let numbers = digits(owed.edge.0 as usize).saturating_add(digits(usize::from(
-                owed.txn.0,
-            )));
-            longest = longest.max(numbers.saturating_add("owed   commit".len()));
+            let edge = digits(owed.edge.0 as usize);
+            let txn = digits(usize::from(owed.txn.0));
+            longest = longest.max(
+                edge.saturating_add(txn)
+                    .saturating_add("owed   commit".len()),
+            );
         }
     }
-    longest
+    Ok(longest)
 }
 
-/// The picture of the lanes that are chosen, as a text, with the line behind it that stopped the run, if one did. `Err`
-/// where there is no memory.
+/// The picture of the lanes that are chosen, as a text, and after it the line that stopped the run, if one did.
 pub fn draw_text<A: Handle>(
     lanes: &Lanes<A>,
     choice: &Choice,
     screen: Screen,
     stop: &str,
 ) -> Result<String<A>, AllocError> {
-    let alloc = lanes.allocator();
-    let picked = Picked::of(lanes, choice, most_lanes(lanes, screen.width))?;
-    let layout = Layout::of(lanes, &picked, screen.width, longest(lanes, &picked));
+    let alloc = lanes.run.allocator();
+    let selection = Selection::of(lanes, choice, most_lanes(lanes, screen.width))?;
+    let layout = Layout::of(lanes, &selection, screen.width, longest(lanes, &selection)?);
     let mut page = Page {
+        alloc,
         lanes,
-        picked: &picked,
+        selection: &selection,
         layout,
-        width: screen.width,
         is_colored: screen.is_colored,
         canvas: Canvas::new(alloc, layout.lanes)?,
     };
-    let mut text = page.put_header(Prose::new(alloc));
-    for number in picked.rows.iter() {
-        text = page.put_line(text, *number);
-    }
-    page.put_ending(text).put(stop).done()
+    let text = page.put_header(Prose::new(alloc));
+    let text = page.put_lines(text);
+    put_ending(text, lanes, &selection, screen.width)
+        .put(stop)
+        .done()
 }

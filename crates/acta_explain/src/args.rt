@@ -21,8 +21,8 @@ pub enum Asked<'a> {
     Words(String),
 }
 
-// The names of the entries of the tables.
-fn names_of(alloc: Global, tables: &[Table]) -> Result<Vec<&'static str>, AllocError> {
+// That no entry of the tables has this number or name, and which name was perhaps meant.
+fn unknown(alloc: Global, tables: &[Table], word: &str) -> Result<String, AllocError> {
     let mut names = Vec::new(alloc);
     for table in tables {
         for place in 0..MOST_ENTRIES {
@@ -31,32 +31,16 @@ fn names_of(alloc: Global, tables: &[Table]) -> Result<Vec<&'static str>, AllocE
             }
         }
     }
-    Ok(names)
-}
-
-// That no entry of the tables has this number or name, and which name was perhaps meant.
-fn unknown(alloc: Global, tables: &[Table], word: &str) -> Result<String, AllocError> {
-    let names = names_of(alloc, tables)?;
     let title = match tables {
         [one] => one.title(),
         _ => "code",
     };
     let prose = put!(Prose::new(alloc); "no ", title, " has the number or the name ",
         format_args!("{word:?}"));
-    let prose = match nearest(alloc, word.as_bytes(), &names) {
-        Ok(Some(meant)) => put!(prose; ": did you mean ", format_args!("{meant:?}?")),
-        Ok(None) => prose,
-        Err(_) => prose.fail(),
-    };
-    prose.done()
-}
-
-// Adds what the tables say by the word.
-fn put_told(mut prose: Prose<Global>, tables: &[Table], word: &str) -> Prose<Global> {
-    for table in tables {
-        prose = put_meant(prose, *table, word);
+    match nearest(alloc, word.as_bytes(), &names)? {
+        Some(meant) => put!(prose; ": did you mean ", format_args!("{meant:?}?")).done(),
+        None => prose.done(),
     }
-    prose
 }
 
 // What the tables say by each of the words.
@@ -66,15 +50,18 @@ fn words_asked<'a>(
     tables: &[Table],
     words: &[&str],
 ) -> Result<Asked<'a>, UsageFault> {
-    for word in words {
-        if put_told(Prose::new(alloc), tables, word).done()?.is_empty() {
-            let said = unknown(alloc, tables, word)?;
-            return Err(usage(surface, ErrorKind::InvalidValue, said.as_str()));
-        }
-    }
     let mut prose = Prose::new(alloc);
     for word in words {
-        prose = put_told(prose, tables, word);
+        let mut found = Prose::new(alloc);
+        for table in tables {
+            found = put_meant(found, *table, word);
+        }
+        let found = found.done()?;
+        if found.is_empty() {
+            let fault = unknown(alloc, tables, word)?;
+            return Err(usage(surface, ErrorKind::InvalidValue, fault.as_str()));
+        }
+        prose = prose.put(found.as_str());
     }
     Ok(Asked::Words(prose.done()?))
 }
@@ -95,22 +82,6 @@ fn kind_named(matches: &ArgMatches<'_>) -> Option<LineKind> {
     }
 }
 
-// What is asked of a model.
-fn model_asked<'a>(
-    surface: &mut Command<'a>,
-    model: &'a str,
-    kind: Option<LineKind>,
-) -> Result<Asked<'a>, UsageFault> {
-    let Some(kind) = kind else {
-        let said = "at most one of --judge, --drive and --debug is wanted";
-        return Err(usage(surface, ErrorKind::ArgumentConflict, said));
-    };
-    match model_named(model) {
-        Some(name) => Ok(Asked::Lines(kind, name)),
-        None => Err(UsageFault::UnknownModel),
-    }
-}
-
 // What the matches ask for.
 fn asked_by<'a>(
     alloc: Global,
@@ -124,8 +95,8 @@ fn asked_by<'a>(
     let kind = kind_named(matches);
     let words = u8::from(rule.is_some()) + u8::from(axiom.is_some()) + u8::from(codes.is_some());
     if words + u8::from(model.is_some()) != 1 || words > 0 && kind != Some(LineKind::Events) {
-        let said = "a model is wanted, or one of --rule, --axiom and --code without a model";
-        return Err(usage(surface, ErrorKind::MissingRequiredArgument, said));
+        let fault = "a model is wanted, or one of --rule, --axiom and --code without a model";
+        return Err(usage(surface, ErrorKind::MissingRequiredArgument, fault));
     }
     if let Some(word) = rule {
         return words_asked(alloc, surface, &[Table::Rules], &[word]);
@@ -136,7 +107,14 @@ fn asked_by<'a>(
     if let Some(words) = codes {
         return words_asked(alloc, surface, &CODES, words);
     }
-    model_asked(surface, model.unwrap_or(""), kind)
+    let Some(kind) = kind else {
+        let fault = "at most one of --judge, --drive and --debug is wanted";
+        return Err(usage(surface, ErrorKind::ArgumentConflict, fault));
+    };
+    match model_named(model.unwrap_or("")) {
+        Some(name) => Ok(Asked::Lines(kind, name)),
+        None => Err(UsageFault::UnknownModel),
+    }
 }
 
 /// The command line of `explain`.

@@ -1,41 +1,34 @@
 //! Whether what is owed can still be paid.
 
-use crate::phrases::{event_word, first_named, put_formed_edge, put_standing};
+use crate::phrases::{first_named, put_formed_edge, put_standing};
 use crate::prose::Prose;
 use crate::put;
 use crate::reasons::Refused;
 use crate::run_trace::RunTrace;
 use acta_hope::{Hope, why_and_hope};
 use acta_machine::Handle;
+use acta_script::event_word;
 use acta_table::{Event, Missing, TxnId};
 
 // Adds that the debtor never begins, by the edge of this number.
-fn put_lost<A: Handle>(
-    prose: Prose<A>,
-    told: &RunTrace<A>,
-    debtor: TxnId,
-    number: u32,
-) -> Prose<A> {
-    let machine = told.machine();
+fn put_lost<A: Handle>(prose: Prose<A>, run: &RunTrace<A>, debtor: TxnId, number: u32) -> Prose<A> {
+    let (lines, number) = (run.lines(), u64::from(number));
     let prose = put!(prose; "It can't be paid any more: ", debtor.0, " never begins");
-    match machine.edges().get((number as usize).wrapping_sub(1)) {
-        Some(edge) => {
-            let lines = told.lines();
-            let prose = put_formed_edge(prose.put(", by "), lines, u64::from(number), edge);
-            let prose = put!(prose; "\n", edge.i.0, " ");
-            put_standing(prose, lines, edge.i, machine.status(edge.i)).put(".")
-        }
-        None => prose.put("."),
-    }
+    let Some(edge) = lines.edge(number) else {
+        return prose.put(".");
+    };
+    let prose = put_formed_edge(prose.put(", by "), lines, number);
+    let prose = put!(prose; "\n", edge.i.0, " ");
+    put_standing(prose, lines, edge.i, run.machine().status(edge.i)).put(".")
 }
 
 // Adds whether the event that pays would be admitted, or why it is refused, for now or for ever.
-fn put_payment<A: Handle>(prose: Prose<A>, told: &RunTrace<A>, payment: &Event<A>) -> Prose<A> {
-    let machine = told.machine();
+fn put_payment<A: Handle>(prose: Prose<A>, run: &RunTrace<A>, payment: &Event<A>) -> Prose<A> {
+    let machine = run.machine();
     let (word, debtor) = (event_word(payment.kind()), first_named(payment).0);
     let refused = Refused {
         machine,
-        lines: told.lines(),
+        lines: run.lines(),
         event: payment,
     };
     match why_and_hope(machine, payment) {
@@ -58,17 +51,17 @@ fn put_payment<A: Handle>(prose: Prose<A>, told: &RunTrace<A>, payment: &Event<A
 /// `acta_hope` says of the machine.
 pub fn put_prospect<A: Handle>(
     prose: Prose<A>,
-    told: &RunTrace<A>,
+    run: &RunTrace<A>,
     lost: &[u32],
     debtor: TxnId,
     missing: Missing,
 ) -> Prose<A> {
     match lost.get(debtor.0 as usize) {
-        Some(number) if *number != 0 => return put_lost(prose, told, debtor, *number),
+        Some(number) if *number != 0 => return put_lost(prose, run, debtor, *number),
         _ => {}
     }
     match missing {
-        Missing::Commit => put_payment(prose, told, &Event::Commit(debtor)),
-        Missing::Abort => put_payment(prose, told, &Event::Abort(debtor)),
+        Missing::Commit => put_payment(prose, run, &Event::Commit(debtor)),
+        Missing::Abort => put_payment(prose, run, &Event::Abort(debtor)),
     }
 }

@@ -1,13 +1,13 @@
 //! What is wrong with a line of an input: where, with which word, what stands there in a good line, and which word was
 //! perhaps meant.
 
-use crate::hints::put_hint;
 use crate::layout::put_barred;
-use crate::listing::{put_either, put_listed, put_quoted};
+use crate::listing::{put_either, put_joined};
 use crate::phrases::name_text;
-use crate::placed::put_shown;
 use crate::prose::Prose;
 use crate::put;
+use crate::shown::{column_of_missing, put_shown};
+use acta_args::nearest;
 use acta_io::{BadLine, MOST_SEATS, refuse_line};
 use acta_machine::Handle;
 use acta_script::{
@@ -58,71 +58,9 @@ impl<'a> Stop<'a> {
             form,
         }
     }
-
-    // Its number and its fault, as other commands tell them.
-    fn bad_line(&self) -> BadLine {
-        BadLine {
-            line: self.line,
-            fault: self.fault,
-        }
-    }
 }
 
-/// Whether the word is one of these.
-pub fn is_among(word: &[u8], words: &[&str]) -> bool {
-    words.contains(&name_text(word))
-}
-
-// The words that would do at a place, as far as they can be listed.
-fn known_words<'a, A: Handle>(
-    alloc: A,
-    model: &'a Model<A>,
-    expected: Expected,
-) -> Result<Vec<&'a str, A>, AllocError> {
-    let Expected::Part(part) = expected else {
-        return Ok(Vec::new(alloc));
-    };
-    match part {
-        LinePart::Event => event_words(alloc),
-        LinePart::Kind => kind_words(alloc),
-        LinePart::Operation => operation_words(alloc),
-        LinePart::Class => class_names(alloc, model),
-        LinePart::Object => object_names(alloc, model),
-        LinePart::Return => return_words(alloc),
-        LinePart::Command => command_words(alloc),
-        LinePart::Break => break_words(alloc),
-        LinePart::Transaction
-        | LinePart::Integer
-        | LinePart::Operations
-        | LinePart::Seat(_)
-        | LinePart::Count => Ok(Vec::new(alloc)),
-    }
-}
-
-fn event_words<'a, A: Handle>(alloc: A) -> Result<Vec<&'a str, A>, AllocError> {
-    let mut words = Vec::new(alloc);
-    for kind in EVENT_KINDS {
-        words.push(event_word(kind))?;
-    }
-    Ok(words)
-}
-
-fn kind_words<'a, A: Handle>(alloc: A) -> Result<Vec<&'a str, A>, AllocError> {
-    let mut words = Vec::new(alloc);
-    for kind in Dep::ALL {
-        words.push(kind.word())?;
-    }
-    Ok(words)
-}
-
-fn operation_words<'a, A: Handle>(alloc: A) -> Result<Vec<&'a str, A>, AllocError> {
-    let mut words = Vec::new(alloc);
-    for kind in OpKind::ALL {
-        words.push(kind.word())?;
-    }
-    Ok(words)
-}
-
+// The words of returns.
 fn return_words<'a, A: Handle>(alloc: A) -> Result<Vec<&'a str, A>, AllocError> {
     let mut words = Vec::new(alloc);
     for word in RETURN_WORDS {
@@ -131,47 +69,60 @@ fn return_words<'a, A: Handle>(alloc: A) -> Result<Vec<&'a str, A>, AllocError> 
     Ok(words)
 }
 
-fn command_words<'a, A: Handle>(alloc: A) -> Result<Vec<&'a str, A>, AllocError> {
-    let mut words = Vec::new(alloc);
-    for kind in CommandKind::ALL {
-        words.push(kind.word())?;
-    }
-    Ok(words)
-}
-
-fn break_words<'a, A: Handle>(alloc: A) -> Result<Vec<&'a str, A>, AllocError> {
-    let mut words = Vec::new(alloc);
-    for kind in BreakKind::ALL {
-        words.push(kind.word())?;
-    }
-    Ok(words)
-}
-
-fn class_names<'a, A: Handle>(
+// The words that would do at a place, as far as they can be listed.
+fn known_words<'a, A: Handle>(
     alloc: A,
     model: &'a Model<A>,
+    expected: Expected,
 ) -> Result<Vec<&'a str, A>, AllocError> {
-    let mut names = Vec::new(alloc);
-    for class in model.classes() {
-        names.push(name_text(class.name.as_slice()))?;
+    if let Expected::Part(LinePart::Return) = expected {
+        return return_words(alloc);
     }
-    Ok(names)
-}
-
-fn object_names<'a, A: Handle>(
-    alloc: A,
-    model: &'a Model<A>,
-) -> Result<Vec<&'a str, A>, AllocError> {
-    let mut names = Vec::new(alloc);
-    for object in model.objects() {
-        names.push(name_text(object.name.as_slice()))?;
+    let mut words = Vec::new(alloc);
+    match expected {
+        Expected::Part(LinePart::Event) => {
+            for kind in EVENT_KINDS {
+                words.push(event_word(kind))?;
+            }
+        }
+        Expected::Part(LinePart::Kind) => {
+            for kind in Dep::ALL {
+                words.push(kind.word())?;
+            }
+        }
+        Expected::Part(LinePart::Operation) => {
+            for kind in OpKind::ALL {
+                words.push(kind.word())?;
+            }
+        }
+        Expected::Part(LinePart::Command) => {
+            for kind in CommandKind::ALL {
+                words.push(kind.word())?;
+            }
+        }
+        Expected::Part(LinePart::Break) => {
+            for kind in BreakKind::ALL {
+                words.push(kind.word())?;
+            }
+        }
+        Expected::Part(LinePart::Class) => {
+            for class in model.classes() {
+                words.push(name_text(class.name.as_slice()))?;
+            }
+        }
+        Expected::Part(LinePart::Object) => {
+            for object in model.objects() {
+                words.push(name_text(object.name.as_slice()))?;
+            }
+        }
+        _ => {}
     }
-    Ok(names)
+    Ok(words)
 }
 
 // A word of the line that is wrong, or the column in which one is missing, and what the line should have been.
 #[derive(Clone, Copy)]
-struct Culprit<'a> {
+struct WrongWord<'a> {
     form: LineForm,
     column: usize,
     word: Option<&'a [u8]>,
@@ -179,7 +130,7 @@ struct Culprit<'a> {
 
 // The wrong word of the line at this place. One that is missing has the column behind the word before it, and the
 // first one that of the line's first word.
-fn culprit_at<'a>(stop: &Stop<'a>, place: WordPlace) -> Culprit<'a> {
+fn wrong_word_at<'a>(stop: &Stop<'a>, place: WordPlace) -> WrongWord<'a> {
     let line = stop.bytes;
     let (column, word) = match place {
         WordPlace::Wrong(place) => match word_span(line, place) {
@@ -188,35 +139,27 @@ fn culprit_at<'a>(stop: &Stop<'a>, place: WordPlace) -> Culprit<'a> {
         },
         WordPlace::Missing(place) => (column_of_missing(line, place), None),
     };
-    Culprit {
+    WrongWord {
         form: stop.form,
         column,
         word,
     }
 }
 
-fn column_of_missing(line: &[u8], place: usize) -> usize {
-    match word_span(line, place.saturating_sub(1)) {
-        Some(span) if place == 0 => span.from.saturating_add(1),
-        Some(span) => span.to.saturating_add(1),
-        None => 1,
-    }
-}
-
-// What is told where a line ends in a carriage return.
+// What is written where a line ends in a carriage return.
 const CARRIAGE_RETURN: &str =
     "\nthe line ends in CR LF; here a line ends in LF alone, and the CR belongs to the last word";
 
-// Adds what should stand in the place of the culprit, where these are the words that would do.
+// Adds what is expected in the place of the wrong word, where these are the words that would do.
 fn put_expected<A: Handle>(
     prose: Prose<A>,
-    culprit: Culprit<'_>,
+    wrong: WrongWord<'_>,
     expected: Expected,
     known: &[&str],
 ) -> Prose<A> {
     let prose = prose.put("\nexpected ");
     match expected {
-        Expected::Part(part) => put_part(prose, culprit, part, known),
+        Expected::Part(part) => put_part(prose, wrong, part, known),
         Expected::EventForm(kind) => put!(prose; "`", event_form(kind), "`"),
         Expected::OperationForm(kind) => put!(prose; "`", kind.form(), "`"),
         Expected::CommandForm(kind) => put!(prose; "`", kind.form(), "`"),
@@ -225,15 +168,15 @@ fn put_expected<A: Handle>(
     }
 }
 
-// Adds what a word must be that stands for this, where these are the words that would do.
+// Adds what a word in this place must be, where these are the words that would do.
 fn put_part<A: Handle>(
     prose: Prose<A>,
-    culprit: Culprit<'_>,
+    wrong: WrongWord<'_>,
     part: LinePart,
     known: &[&str],
 ) -> Prose<A> {
     match part {
-        LinePart::Event => put_event(prose, culprit, known),
+        LinePart::Event => put_event(prose, wrong, known),
         LinePart::Transaction => prose.put("the number of a transaction, digits up to 65535"),
         LinePart::Integer => prose.put("a whole number from -2147483648 to 2147483647"),
         LinePart::Operations => prose.put(
@@ -243,9 +186,10 @@ fn put_part<A: Handle>(
         LinePart::Operation => put_either(prose.put("an operation: "), known),
         LinePart::Class => put_names(prose.put("a class of the model"), known),
         LinePart::Object => put_names(prose.put("an object of the model"), known),
-        LinePart::Return => put_listed(prose.put("one word behind the `=`: "), known).put(
-            " or a whole number",
-        ),
+        LinePart::Return => {
+            let prose = put_joined(prose.put("one word behind the `=`: "), known, ", ");
+            prose.put(" or a whole number")
+        }
         LinePart::Seat(seats) => put!(prose; "the number of a seat, digits from 1 to ", seats),
         LinePart::Count => prose.put("a count, digits up to 4294967295"),
         LinePart::Command => put_either(prose.put("a command: "), known),
@@ -255,16 +199,16 @@ fn put_part<A: Handle>(
 
 // Adds the events where a word is none, and the form of an operation where it is the word of one. A command names a kind
 // of event, and no operation.
-fn put_event<A: Handle>(prose: Prose<A>, culprit: Culprit<'_>, known: &[&str]) -> Prose<A> {
-    let Some(word) = culprit.word else {
-        return prose.put(match culprit.form {
+fn put_event<A: Handle>(prose: Prose<A>, wrong: WrongWord<'_>, known: &[&str]) -> Prose<A> {
+    let Some(word) = wrong.word else {
+        return prose.put(match wrong.form {
             LineForm::Seated => "an event behind the seat",
             _ => "an event before the `=`",
         });
     };
     let prose = put_either(prose.put("an event: "), known);
     match OpKind::of_word(word) {
-        Some(kind) if culprit.form != LineForm::Command => {
+        Some(kind) if wrong.form != LineForm::Command => {
             put!(prose; "\nan operation is written `", kind.form(), "`")
         }
         _ => prose,
@@ -276,25 +220,25 @@ fn put_names<A: Handle>(prose: Prose<A>, names: &[&str]) -> Prose<A> {
     if names.is_empty() {
         prose
     } else {
-        put_quoted(prose.put(": "), names)
+        put!(put_joined(prose.put(": `"), names, "`, `"); "`")
     }
 }
 
-// Adds what is told of the culprit, in lines, where these are the words that would do.
-fn put_culprit<A: Handle>(
+// Adds the wrong word and what is expected in its place, in lines, where these are the words that would do.
+fn put_wrong_word<A: Handle>(
     prose: Prose<A>,
     alloc: A,
-    culprit: Culprit<'_>,
+    wrong: WrongWord<'_>,
     expected: Expected,
     known: &[&str],
 ) -> Prose<A> {
-    let prose = put!(prose; ", at column ", culprit.column);
-    let Some(word) = culprit.word else {
+    let prose = put!(prose; ", at column ", wrong.column);
+    let Some(word) = wrong.word else {
         let prose = prose.put(", where the line lacks a word");
-        return put_expected(prose, culprit, expected, known);
+        return put_expected(prose, wrong, expected, known);
     };
     let prose = put_shown(prose.put(": `"), word).put("`");
-    let prose = put_expected(prose, culprit, expected, known);
+    let prose = put_expected(prose, wrong, expected, known);
     if word.last() == Some(&b'\r') {
         prose.put(CARRIAGE_RETURN)
     } else {
@@ -316,35 +260,35 @@ fn diagnosis_of<A: Handle>(
     }
 }
 
-// What is wrong with the line, in lines.
+// The fault of the line and what is wrong with it, in lines.
 fn stop_text<A: Handle>(
     alloc: A,
     model: &Model<A>,
     stop: &Stop<'_>,
 ) -> Result<String<A>, AllocError> {
     let name = Prose::new(alloc).put(stop.fault.name());
-    let found = diagnosis_of(alloc, model, stop)?;
-    let Some(found) = found else {
+    let Some(found) = diagnosis_of(alloc, model, stop)? else {
         return name.done();
     };
-    let culprit = culprit_at(stop, found.place);
+    let wrong = wrong_word_at(stop, found.place);
     let known = known_words(alloc, model, found.expected)?;
-    put_culprit(name, alloc, culprit, found.expected, &known).done()
+    put_wrong_word(name, alloc, wrong, found.expected, &known).done()
 }
 
-/// Adds the line that says nothing, as `run` does, and behind it what is wrong with it.
+/// Adds the faulty line, as `run` does, and after it what is wrong with it.
 pub fn put_stop<A: Handle>(
     prose: Prose<A>,
     alloc: A,
     model: &Model<A>,
     stop: &Stop<'_>,
 ) -> Prose<A> {
-    match (
-        refuse_line(alloc, stop.bad_line()),
-        stop_text(alloc, model, stop),
-    ) {
-        (Ok(report), Ok(told)) => {
-            put_lines(prose.put(name_text(report.text.as_slice())), told.as_str())
+    let bad = BadLine {
+        line: stop.line,
+        fault: stop.fault,
+    };
+    match (refuse_line(alloc, bad), stop_text(alloc, model, stop)) {
+        (Ok(report), Ok(text)) => {
+            put_lines(prose.put(name_text(report.text.as_slice())), text.as_str())
         }
         _ => prose.fail(),
     }
@@ -353,4 +297,13 @@ pub fn put_stop<A: Handle>(
 /// Adds lines, each behind a bar.
 pub fn put_lines<A: Handle>(prose: Prose<A>, lines: &str) -> Prose<A> {
     put_barred(prose, 4, lines)
+}
+
+/// Adds the hint at the known word that was perhaps meant, as a line, if there is one.
+pub fn put_hint<A: Handle>(prose: Prose<A>, alloc: A, word: &[u8], known: &[&str]) -> Prose<A> {
+    match nearest(alloc, word, known) {
+        Ok(Some(meant)) => put!(prose; "\ndid you mean `", meant, "`?"),
+        Ok(None) => prose,
+        Err(_) => prose.fail(),
+    }
 }

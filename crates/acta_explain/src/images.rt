@@ -5,57 +5,57 @@ use crate::put;
 use acta_image::{Field, ImageDiagnostic, ImageFault, diagnose};
 use acta_machine::Handle;
 
-// What the field is, and what it may hold.
-fn field_words(field: Field) -> (&'static str, &'static str) {
-    match field {
-        Field::Magic => ("the magic", "the four bytes `ACTA`"),
-        Field::Version => ("the version", "1 or 2"),
-        Field::Classes => ("how many classes there are", "1 to 16, in one byte"),
-        Field::Objects => ("how many objects there are", "0 to 256, in two bytes"),
-        Field::ObjectNameLength => ("the length of an object's name", "1 to 32, in one byte"),
-        Field::ObjectName => {
-            (
-                "an object's name",
-                "a letter first, then letters, digits or underscores",
-            )
-        }
-        Field::ObjectKind => ("an object's kind", "0 a register, 1 a counter, 2 a set"),
-        Field::FirstValue => ("an object's first value", "any four bytes; 0 for a set"),
-        Field::ClassNameLength => ("the length of a class's name", "1 to 32, in one byte"),
-        Field::ClassName => {
-            (
-                "a class's name",
-                "a letter first, then letters, digits or underscores",
-            )
-        }
-        Field::Starts => {
-            (
-                "how a class's transactions start",
-                "1 by a begin, 2 spawned, 4 split off, added up",
-            )
-        }
-        Field::May => (
-            "what a class's transactions may do",
-            "1 spawn, 2 split, 4 join, 8 delegate, 16 form, 32 operate, 64 commit, 128 abort, and in version 2 256 permit, added up, in two bytes",
-        ),
-        Field::Scope => ("a class's scope", "0 others, 1 all but ancestors"),
-        Field::Policy => ("a class's policy", "0 refuse, 1 depend"),
-        Field::PolicyKinds => (
-            "the kinds by which a class depends",
-            "0 where it refuses; else 2 to the power of each kind's code, added up, at most 4,095, in two bytes",
-        ),
-        Field::Commit => ("what becomes at a commit", "0 keeps, 1 to the parent"),
-        Field::Delegation => ("how much is handed over", "0 the whole, 1 any part"),
-        Field::SpawnEdges => ("how many edges a spawn forms", "0 to 24, in one byte"),
-        Field::SpawnEdge => ("an edge that a spawn forms", EDGE),
-        Field::SplitEdges => ("how many edges a split forms", "0 to 24, in one byte"),
-        Field::SplitEdge => ("an edge that a split forms", EDGE),
-        Field::End => ("behind the last field", "nothing"),
-    }
-}
+// For each field what it is, and what it may hold.
+#[rattlefmt::skip]
+const FIELDS: [(Field, &str, &str); 22] = [
+    (Field::Magic, "the magic", "the four bytes `ACTA`"),
+    (Field::Version, "the version", "1 or 2"),
+    (Field::Classes, "how many classes there are", "1 to 16, in one byte"),
+    (Field::Objects, "how many objects there are", "0 to 256, in two bytes"),
+    (Field::ObjectNameLength, "the length of an object's name", NAME_LENGTH),
+    (Field::ObjectName, "an object's name", NAME),
+    (Field::ObjectKind, "an object's kind", "0 a register, 1 a counter, 2 a set"),
+    (Field::FirstValue, "an object's first value", "any four bytes; 0 for a set"),
+    (Field::ClassNameLength, "the length of a class's name", NAME_LENGTH),
+    (Field::ClassName, "a class's name", NAME),
+    (Field::Starts, "how a class's transactions start", STARTS),
+    (Field::May, "what a class's transactions may do", MAY),
+    (Field::Scope, "a class's scope", "0 others, 1 all but ancestors"),
+    (Field::Policy, "a class's policy", "0 refuse, 1 depend"),
+    (Field::PolicyKinds, "the kinds by which a class depends", KINDS),
+    (Field::Commit, "what becomes at a commit", "0 keeps, 1 to the parent"),
+    (Field::Delegation, "how much is handed over", "0 the whole, 1 any part"),
+    (Field::SpawnEdges, "how many edges a spawn forms", "0 to 24, in one byte"),
+    (Field::SpawnEdge, "an edge that a spawn forms", EDGE),
+    (Field::SplitEdges, "how many edges a split forms", "0 to 24, in one byte"),
+    (Field::SplitEdge, "an edge that a split forms", EDGE),
+    (Field::End, "behind the last field", "nothing"),
+];
+
+const NAME_LENGTH: &str = "1 to 32, in one byte";
+
+const NAME: &str = "a letter first, then letters, digits or underscores";
+
+const STARTS: &str = "1 by a begin, 2 spawned, 4 split off, added up";
+
+const MAY: &str =
+    "1 spawn, 2 split, 4 join, 8 delegate, 16 form, 32 operate, 64 commit, 128 abort, and in version 2 256 permit, added up, in two bytes";
+
+const KINDS: &str =
+    "0 where it refuses; else 2 to the power of each kind's code, added up, at most 4,095, in two bytes";
 
 const EDGE: &str =
     "two bytes: the code of a kind, 0 to 11, and 0 where the starter depends or 1 where the started does; each edge behind the one before it, by code, and of one kind the starter's first";
+
+// What the field is, and what it may hold.
+fn field_words(field: Field) -> (&'static str, &'static str) {
+    for (known, what, holds) in FIELDS {
+        if known == field {
+            return (what, holds);
+        }
+    }
+    ("", "")
+}
 
 // Adds the field at fault: its offset, what it is and what it may hold; and of how many bytes the image is, where it
 // ends too early.

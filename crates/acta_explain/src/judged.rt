@@ -1,4 +1,4 @@
-//! The verdict on kept lines, told in words: each fault with its axiom, its line and what breaks the axiom there, and
+//! The verdict on kept lines, in words: each fault with its axiom, its line and what breaks the axiom there, and
 //! then what is owed.
 
 ghost use Rattle.std.specs.Prelude.{◌≡◌, ◌≤◌, length, nat_lt, true, IfOk};
@@ -8,15 +8,14 @@ ghost use Rattle.acta_io.specs.Refusals.{refuses_kept_on};
 ghost use Rattle.acta_io.specs.Input.{said_in};
 
 use crate::faults::{LineForm, Stop, put_lines, put_stop};
+use crate::lines::{LineIndex, LineText, NonBlankLine, StepText, non_blank_lines};
 use crate::phrases::{
-    class_at, name_text, put_formed_edge, put_line, put_line_text, put_may, put_operation,
-    put_return, put_starts,
+    class_at, put_formed_edge, put_line, put_line_text, put_may, put_operation, put_return,
+    put_starts,
 };
-use crate::prose::Prose;
+use crate::prose::{Prose, report_of};
 use crate::put;
-use crate::run_trace::MOST_TOLD;
-use crate::spoken::{Spoken, spoken_in};
-use crate::told::{LineIndex, LineText, StepText};
+use crate::run_trace::MOST_RENDERED;
 use acta_axioms::{Axiom, Fault, Walk};
 use acta_io::{KeptLines, Report, read_lines};
 use acta_judge::{Verdict, judge};
@@ -71,12 +70,12 @@ fn due_next<A: Handle>(walk: &Walk<'_, A>) -> Result<Option<Ret>, AllocError> {
     }
 }
 
-// Goes along the list.
+// Goes along the list, whose items these lines say.
 fn scene_of<'a, A: Handle>(
     alloc: A,
     model: &'a Model<A>,
     kept: &'a [Kept<A>],
-    lines: &[Spoken<'_>],
+    lines: &[NonBlankLine<'_>],
     faults: &[Fault],
 ) -> Result<Scene<'a, A>, AllocError>
     requires { length kept.now ≤ MOST_EVENTS }
@@ -89,67 +88,51 @@ fn scene_of<'a, A: Handle>(
         texts: Vec::new(alloc),
         due: Vec::new(alloc),
     };
-    match scene.walk_along(lines, faults) {
-        Ok(()) => Ok(scene),
-        Err(e) => {
-            drop(scene);
-            Err(e)
+    let mut place = 0u32;
+    let mut operations = 0u32;
+    for (item, line) in kept.iter().zip(lines) {
+        place = place.saturating_add(1);
+        if let Event::Operate(_, _, _) = item.event {
+            operations = operations.saturating_add(1);
         }
+        if is_off(faults, place) {
+            let ret = due_next(&scene.walk)?;
+            scene.due.push(Due { place, ret })?;
+        }
+        scene.add(item, *line, place, operations)?;
     }
+    Ok(scene)
 }
 
 impl<'a, A: Handle> Scene<'a, A> {
-    // Notes what the items are, of which the lines say each, as a walk along them goes.
-    fn walk_along(&mut self, lines: &[Spoken<'_>], faults: &[Fault]) -> Result<(), AllocError> {
-        let mut place = 0u32;
-        let mut operations = 0u32;
-        for (item, line) in self.kept.iter().zip(lines) {
-            place = place.saturating_add(1);
-            let op = match item.event {
-                Event::Operate(_, _, _) => {
-                    operations = operations.saturating_add(1);
-                    Some(OpNo(operations))
-                }
+    // Adds the item of a place, up to which there are so many operations. The walk goes on to the next place.
+    fn add(
+        &mut self,
+        item: &Kept<A>,
+        line: NonBlankLine<'_>,
+        place: u32,
+        operations: u32,
+    ) -> Result<(), AllocError> {
+        let edges_before = self.walk.edges().len();
+        if !self.walk.ahead().is_empty() {
+            self.walk.step()?;
+        }
+        self.steps.push(Step {
+            line: line.line,
+            event: item.event.copy()?,
+            answer: Answer::Admitted {
+                place,
+                ret: item.ret,
+            },
+            op: match item.event {
+                Event::Operate(_, _, _) => Some(OpNo(operations)),
                 _ => None,
-            };
-            let edges_before = self.walk.edges().len();
-            self.step(is_off(faults, place), place)?;
-            self.steps.push(Step {
-                line: line.line,
-                event: item.event.copy()?,
-                answer: Answer::Admitted {
-                    place,
-                    ret: item.ret,
-                },
-                op,
-                edges_before,
-                edges_after: self.walk.edges().len(),
-            })?;
-            self.push_text(*line)?;
-        }
-        Ok(())
-    }
-
-    // Goes one place further, and notes what its operation should return, where it returns something else.
-    fn step(&mut self, is_off: bool, place: u32) -> Result<(), AllocError> {
-        if is_off {
-            let ret = due_next(&self.walk)?;
-            self.due.push(Due { place, ret })?;
-        }
-        if self.walk.ahead().is_empty() {
-            Ok(())
-        } else {
-            self.walk.step()
-        }
-    }
-
-    // Adds the words of a kept line.
-    fn push_text(&mut self, line: Spoken<'_>) -> Result<(), AllocError> {
-        let event = line.put_words(Prose::new(self.alloc), self.alloc).done()?;
-        self.texts.push(StepText {
-            event,
-            reason: String::new(self.alloc),
+            },
+            edges_before,
+            edges_after: self.walk.edges().len(),
         })?;
+        let text = StepText::of(self.alloc, line, String::new(self.alloc))?;
+        self.texts.push(text)?;
         Ok(())
     }
 
@@ -158,6 +141,7 @@ impl<'a, A: Handle> Scene<'a, A> {
         LineIndex {
             steps: &self.steps,
             texts: self.texts.as_slice(),
+            edges: self.walk.edges(),
         }
     }
 
@@ -170,14 +154,6 @@ impl<'a, A: Handle> Scene<'a, A> {
     // The line of a place.
     fn at(&self, place: u32) -> Option<LineText<'_>> {
         self.lines().at((place as usize).checked_sub(1)?)
-    }
-
-    // Adds an edge, with its number and the line that forms it.
-    fn put_edge(&self, prose: Prose<A>, number: u64) -> Prose<A> {
-        match self.walk.edges().get((number as usize).wrapping_sub(1)) {
-            Some(edge) => put_formed_edge(prose, self.lines(), number, edge),
-            None => put!(prose; "edge ", number),
-        }
     }
 
     // Adds a transaction, with the lines by which it first began and ended.
@@ -197,23 +173,14 @@ impl<'a, A: Handle> Scene<'a, A> {
         }
     }
 
-    // What the operation of a place should return.
-    fn due(&self, place: u32) -> Option<Ret> {
-        for due in self.due.iter() {
-            if due.place == place {
-                return due.ret;
-            }
-        }
-        None
-    }
-
     // Adds what the operation of a place returns, and should.
     fn put_off(&self, prose: Prose<A>, fault: &Fault) -> Prose<A> {
         if fault.by == 0 {
             return prose.put("a return of an event that is no operation");
         }
         let prose = put!(prose; "operation ", fault.by);
-        match self.due(fault.place) {
+        let due = self.due.iter().find(|due| due.place == fault.place);
+        match due.and_then(|due| due.ret) {
             Some(ret) => put_return(prose.put(", which should return "), ret),
             None => prose,
         }
@@ -224,7 +191,7 @@ impl<'a, A: Handle> Scene<'a, A> {
         let prose = prose.put("\nby ");
         match fault.broken {
             Axiom::Return => self.put_off(prose, fault),
-            Axiom::Dependency(_) => self.put_edge(prose, fault.by),
+            Axiom::Dependency(_) => put_formed_edge(prose, self.lines(), fault.by),
             Axiom::Responsible | Axiom::HandsWhole | Axiom::Conflict => {
                 let op = OpNo(u32::try_from(fault.by).unwrap_or(0));
                 put_operation(prose, self.lines(), op)
@@ -248,11 +215,7 @@ impl<'a, A: Handle> Scene<'a, A> {
     // Adds the `may` line of the class with which the transaction first began.
     fn put_may_of(&self, prose: Prose<A>, t: TxnId) -> Prose<A> {
         match self.walk.class(t) {
-            Some(class) => {
-                let name = name_text(class.name.as_slice());
-                let prose = put!(prose; "\nclass `", name, "` of ", t.0, " has `");
-                put_may(prose, class.may).put("`")
-            }
+            Some(class) => put_may(prose.put("\n"), class, t).put("`"),
             None => prose,
         }
     }
@@ -260,10 +223,7 @@ impl<'a, A: Handle> Scene<'a, A> {
     // Adds what the classes allow that the event is of.
     fn put_allowed(&self, prose: Prose<A>, event: &Event<A>) -> Prose<A> {
         let prose = match class_at(self.walk.model(), event.class()) {
-            Some(class) => {
-                let name = name_text(class.name.as_slice());
-                put_starts(put!(prose; "\nclass `", name, "` has `"), class.starts).put("`")
-            }
+            Some(class) => put_starts(prose.put("\n"), class).put("`"),
             None => prose,
         };
         let prose = match event.acting() {
@@ -276,8 +236,8 @@ impl<'a, A: Handle> Scene<'a, A> {
         }
     }
 
-    // Adds what is told of a fault, in lines.
-    fn put_told(&self, prose: Prose<A>, fault: &Fault) -> Prose<A> {
+    // Adds the words of a fault, in lines.
+    fn put_fault_words(&self, prose: Prose<A>, fault: &Fault) -> Prose<A> {
         let prose = prose.put(fault.broken.name());
         let prose = match self.at(fault.place) {
             Some(line) => put_line_text(prose.put(", broken at "), line),
@@ -292,12 +252,12 @@ impl<'a, A: Handle> Scene<'a, A> {
         put!(prose; "\n", fault.broken.sentence())
     }
 
-    // Adds a fault of a verdict, and what is told of it.
+    // Adds a fault of a verdict, and its words.
     fn put_fault(&self, prose: Prose<A>, fault: &Fault) -> Prose<A> {
         let line = fault_line(self.alloc, fault.broken.number(), fault.place, fault.by);
         let prose = put_line(prose, line).put("\n");
-        match self.put_told(Prose::new(self.alloc), fault).done() {
-            Ok(told) => put_lines(prose, told.as_str()),
+        match self.put_fault_words(Prose::new(self.alloc), fault).done() {
+            Ok(words) => put_lines(prose, words.as_str()),
             Err(_) => prose.fail(),
         }
     }
@@ -305,42 +265,32 @@ impl<'a, A: Handle> Scene<'a, A> {
     // Adds a debt, and by which edge it is owed.
     fn put_debt(&self, prose: Prose<A>, owed: &Owed) -> Prose<A> {
         let prose = put_line(prose, owed_line(self.alloc, owed)).put("  by ");
-        self.put_edge(prose, owed.edge.0).put("\n")
+        put_formed_edge(prose, self.lines(), owed.edge.0).put("\n")
     }
 
-    // All that is told of a verdict. Of its faults the first are: a list can have one for each two of its operations.
-    fn verdict(&self, verdict: &Verdict<A>) -> Result<String<A>, AllocError> {
-        let mut prose = Prose::new(self.alloc);
+    // Adds a verdict: the first of its faults, since a list can have one for each two of its operations, and its debts.
+    fn put_verdict(&self, mut prose: Prose<A>, verdict: &Verdict<A>) -> Prose<A> {
         let faults = verdict.faults.as_slice();
-        for fault in faults.iter().take(MOST_TOLD) {
+        for fault in faults.iter().take(MOST_RENDERED) {
             prose = self.put_fault(prose, fault);
         }
-        let untold = faults.len().saturating_sub(MOST_TOLD);
-        if untold > 0 {
+        let skipped = faults.len().saturating_sub(MOST_RENDERED);
+        if skipped > 0 {
             prose =
-                put!(prose; "and ", untold, " faults more: the first ", MOST_TOLD, " are told\n");
+                put!(prose; "and ", skipped, " faults more: the first ", MOST_RENDERED, " are told\n");
         }
         for owed in verdict.owed.as_slice() {
             prose = self.put_debt(prose, owed);
         }
         if prose.is_empty() {
-            prose = prose.put("no fault, and nothing is owed\n");
+            prose.put("no fault, and nothing is owed\n")
+        } else {
+            prose
         }
-        prose.done()
     }
 }
 
-// A text that refuses the input.
-fn refusal<A: Handle>(text: String<A>) -> Report<A>
-    ensures { result.is_refused ≡ true }
-{
-    Report {
-        text: text.into_bytes(),
-        is_refused: true,
-    }
-}
-
-// What is told where the lines are too many.
+// What is written if there are too many lines.
 fn too_long<A: Handle>(alloc: A) -> Result<Report<A>, AllocError>
     ensures { IfOk result (λ report. report.is_refused ≡ true) }
 {
@@ -348,39 +298,38 @@ fn too_long<A: Handle>(alloc: A) -> Result<Report<A>, AllocError>
         Prose::new(alloc).put("judge fault 1\n"),
         "the lines that say something are more than 65,536, the most that are judged",
     );
-    Ok(refusal(prose.done()?))
+    report_of(prose, true)
 }
 
-// What is told of a line that is faulty.
+// What is written of a line that is faulty.
 fn stopped<A: Handle>(alloc: A, model: &Model<A>, stop: &Stop<'_>) -> Result<Report<A>, AllocError>
     ensures { IfOk result (λ report. report.is_refused ≡ true) }
 {
-    Ok(refusal(put_stop(Prose::new(alloc), alloc, model, stop).done()?))
+    report_of(put_stop(Prose::new(alloc), alloc, model, stop), true)
 }
 
-// What is told of the verdict on kept items, and of the lines that say them.
+// The verdict on kept items, in words. The lines of the input say the items.
 fn verdict_text<A: Handle>(
     alloc: A,
     model: &Model<A>,
     kept: &[Kept<A>],
-    lines: &[Spoken<'_>],
+    input: &[u8],
     verdict: &Verdict<A>,
-) -> Result<String<A>, AllocError>
+) -> Result<Prose<A>, AllocError>
     requires { length kept.now ≤ MOST_EVENTS }
 {
-    let scene = scene_of(alloc, model, kept, lines, verdict.faults.as_slice())?;
-    let text = scene.verdict(verdict);
-    drop(scene);
-    text
+    let lines = non_blank_lines(alloc, input)?;
+    let scene = scene_of(alloc, model, kept, &lines, verdict.faults.as_slice())?;
+    Ok(scene.put_verdict(Prose::new(alloc), verdict))
 }
 
-// What is told of kept items, and of the lines that say them.
+// What is written of kept items, which the lines of the input say.
 fn explain_kept<A: Handle + Send + Sync, R: Threads + Sync>(
     rt: &R,
     alloc: A,
     model: &Model<A>,
     kept: &[Kept<A>],
-    lines: &[Spoken<'_>],
+    input: &[u8],
 ) -> Result<Report<A>, AllocError>
     ensures { IfOk result (λ report. report.is_refused ≡ nat_lt MOST_EVENTS (length kept.now)) }
 {
@@ -388,19 +337,12 @@ fn explain_kept<A: Handle + Send + Sync, R: Threads + Sync>(
         return too_long(alloc);
     }
     match judge(rt, alloc, model, kept) {
-        Ok(verdict) => {
-            let text = verdict_text(alloc, model, kept, lines, &verdict);
-            drop(verdict);
-            Ok(Report {
-                text: text?.into_bytes(),
-                is_refused: false,
-            })
-        }
+        Ok(verdict) => report_of(verdict_text(alloc, model, kept, input, &verdict)?, false),
         Err(_) => Err(AllocError),
     }
 }
 
-/// What is told of the kept lines of the input, which is refused where `judge` refuses it. `Err` where there is no memory.
+/// What is written of the kept lines of the input, which is refused where `judge` refuses it.
 pub fn explain_judged<A: Handle + Send + Sync, R: Threads + Sync>(
     rt: &R,
     alloc: A,
@@ -412,9 +354,6 @@ pub fn explain_judged<A: Handle + Send + Sync, R: Threads + Sync>(
     let read = read_lines(alloc, &KeptLines { alloc, model }, input)?;
     match read.stop {
         Some(bad) => stopped(alloc, model, &Stop::of(input, bad, LineForm::Kept)),
-        None => {
-            let lines = spoken_in(alloc, input)?;
-            explain_kept(rt, alloc, model, read.said.as_slice(), lines.as_slice())
-        }
+        None => explain_kept(rt, alloc, model, read.said.as_slice(), input),
     }
 }

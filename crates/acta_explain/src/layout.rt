@@ -1,24 +1,8 @@
-//! How the steps of a run are laid out: the number of the line, the event, the answer and what it formed, in columns, and
-//! below them the reason, each of its lines behind a bar.
+//! How the steps of a run are laid out: the number of the line, the event, the answer and what it formed, in columns.
 
 use crate::prose::Prose;
 use crate::put;
 use std::alloc::Allocator;
-
-/// A step in words.
-#[derive(Clone, Copy)]
-pub struct Row<'a> {
-    /// The number of its line in the input, from 1.
-    pub line: usize,
-    /// The event, as the input has it.
-    pub event: &'a str,
-    /// The answer to it, as other commands print it.
-    pub answer: &'a str,
-    /// What it formed.
-    pub formed: &'a str,
-    /// Why it is refused, in lines.
-    pub reason: &'a str,
-}
 
 /// The widths of the columns.
 #[derive(Clone, Copy)]
@@ -74,9 +58,33 @@ impl Columns {
         }
     }
 
-    /// How far in the lines are that stand below a row.
+    /// How far in the lines are that follow a row.
     pub fn indent(self) -> usize {
         self.number.saturating_add(4)
+    }
+
+    /// Adds a row: the number of its line, its event, the answer to it, and what it formed.
+    pub fn put_row<A: Allocator>(
+        self,
+        prose: Prose<A>,
+        line: usize,
+        event: &str,
+        answer: &str,
+        formed: &str,
+    ) -> Prose<A> {
+        let prose = prose.pad(self.number.saturating_sub(digits(line)));
+        let prose = put_cell(put!(prose; line, "  "), event, self.event);
+        if formed.is_empty() {
+            put!(prose; answer, "\n")
+        } else {
+            put!(put_cell(prose, answer, self.answer); formed, "\n")
+        }
+    }
+
+    /// Adds a debt below the events. By what it is owed comes next.
+    pub fn put_debt<A: Allocator>(self, prose: Prose<A>, debt: &str) -> Prose<A> {
+        let prose = prose.pad(self.number.saturating_add(2));
+        put_cell(prose, debt, self.event.max(DEBT))
     }
 }
 
@@ -94,22 +102,4 @@ pub fn put_barred<A: Allocator>(mut prose: Prose<A>, indent: usize, lines: &str)
         prose = put!(prose.pad(indent); "| ", line, "\n");
     }
     prose
-}
-
-/// Adds a row, and its reason below it.
-pub fn put_row<A: Allocator>(prose: Prose<A>, columns: Columns, row: Row<'_>) -> Prose<A> {
-    let prose = prose.pad(columns.number.saturating_sub(digits(row.line)));
-    let prose = put_cell(put!(prose; row.line, "  "), row.event, columns.event);
-    let prose = if row.formed.is_empty() {
-        prose.put(row.answer)
-    } else {
-        put_cell(prose, row.answer, columns.answer).put(row.formed)
-    };
-    put_barred(prose.put("\n"), columns.indent(), row.reason)
-}
-
-/// Adds a debt below the events. By what it is owed comes next.
-pub fn put_debt<A: Allocator>(prose: Prose<A>, columns: Columns, debt: &str) -> Prose<A> {
-    let prose = prose.pad(columns.number.saturating_add(2));
-    put_cell(prose, debt, columns.event.max(DEBT))
 }

@@ -1,10 +1,10 @@
-//! The runs of histories, told in words. For each event there is its answer, and what it formed or why it is refused:
+//! The runs of histories, in words. For each event there is its answer, and what it formed or why it is refused:
 //! the rule, what of the machine breaks it, and what has to be so before it can be admitted. For a faulty line, text or
 //! image there is where the fault is, what stands there in a good one, and which word was perhaps meant. And each rule,
-//! axiom and code is told by its name.
+//! axiom and code is explained by its name.
 //!
 //! Nothing here decides anything: what is admitted, why an event is refused, what hope there is and what a history lacks is
-//! asked of the layers below, and is put into sentences.
+//! asked of the layers below, and is put into sentences. A call that allocates returns `Err` if memory runs out.
 #![tactic(auto)]
 
 mod advice;
@@ -12,39 +12,33 @@ mod args;
 mod deadlocks;
 mod debts;
 mod faults;
-mod hints;
 mod images;
 mod judged;
 mod layout;
+mod lines;
 mod listing;
 mod phrases;
-mod placed;
 mod prose;
 mod reasons;
 mod report;
 mod run;
 mod run_trace;
-mod spoken;
+mod shown;
 mod tables;
 mod texts;
-mod told;
-mod words;
 
 pub use advice::{Advice, advice_for};
 pub use args::{Asked, ExplainLine};
 pub use debts::put_prospect;
 pub use faults::{LineForm, Stop, put_stop};
 pub use layout::{digits, put_barred};
+pub use lines::{LineIndex, NonBlankLine, StepText, non_blank_lines};
 pub use listing::{first_listed, put_more};
-pub use phrases::{name_text, put_lacking, put_line, put_return, put_standing};
-pub use prose::Prose;
+pub use phrases::{
+    first_named, name_text, put_edges, put_lacking, put_line, put_numbered_edge, put_return,
+    put_standing,
+};
+pub use prose::{Prose, report_of};
 pub use reasons::Refused;
 pub use report::{explain, explain_tool, put_model_name, write_words};
-pub use run_trace::{MOST_TOLD, RunTrace};
-pub use spoken::{Spoken, spoken_in};
-pub use tables::Table;
-pub use told::{LineIndex, LineText, StepText};
-pub use words::{
-    AXIOMS, Entry, IMAGE_FAULTS, LINE_CODES, MODEL_FAULTS, RULES, TEXT_CODES, axiom_entry,
-    image_entry, line_entry, model_entry, rule_entry, text_entry,
-};
+pub use run_trace::{MOST_RENDERED, RunTrace};

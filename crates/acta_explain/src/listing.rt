@@ -5,30 +5,20 @@ use crate::put;
 use acta_table::{OpNo, TxnId};
 use std::alloc::Allocator;
 
-/// The most items of a list that are told one by one.
+/// The most items of a list that are named one by one.
 pub const MOST_LISTED: usize = 12;
 
-/// The first items of a list, those that are told one by one.
+/// The first items of a list, which are named one by one.
 pub fn first_listed<T>(items: &[T]) -> &[T] {
     items.get(..MOST_LISTED).unwrap_or(items)
 }
 
-/// Adds the words in backquotes, with `, ` between them.
-pub fn put_quoted<A: Allocator>(mut prose: Prose<A>, words: &[&str]) -> Prose<A> {
-    let mut gap = "`";
+/// Adds the words, with this between each two.
+pub fn put_joined<A: Allocator>(mut prose: Prose<A>, words: &[&str], gap: &str) -> Prose<A> {
+    let mut before = "";
     for word in words {
-        prose = put!(prose; gap, *word, "`");
-        gap = ", `";
-    }
-    prose
-}
-
-/// Adds the words with `, ` between them.
-pub fn put_listed<A: Allocator>(mut prose: Prose<A>, words: &[&str]) -> Prose<A> {
-    let mut gap = "";
-    for word in words {
-        prose = put!(prose; gap, *word);
-        gap = ", ";
+        prose = put!(prose; before, *word);
+        before = gap;
     }
     prose
 }
@@ -38,7 +28,7 @@ pub fn put_either<A: Allocator>(prose: Prose<A>, words: &[&str]) -> Prose<A> {
     match words {
         [] => prose,
         [one] => prose.put(*one),
-        [others @ .., last] => put!(put_listed(prose, others); " or ", *last),
+        [others @ .., last] => put!(put_joined(prose, others, ", "); " or ", *last),
     }
 }
 
@@ -62,7 +52,7 @@ pub fn put_chain<A: Allocator>(mut prose: Prose<A>, txns: &[TxnId]) -> Prose<A> 
     put_more(prose, " -> .. and ", txns.len())
 }
 
-/// Adds how many items more a list has than are told, where it has so many.
+/// Adds how many more items a list has than are named, if it has more.
 pub fn put_more<A: Allocator>(prose: Prose<A>, front: &str, items: usize) -> Prose<A> {
     if items > MOST_LISTED {
         put!(prose; front, items - MOST_LISTED, " more")

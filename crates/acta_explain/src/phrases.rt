@@ -1,52 +1,21 @@
 //! How transactions, classes, operations and edges are named in a sentence.
 
+use crate::lines::{LineIndex, LineText};
 use crate::prose::Prose;
 use crate::put;
-use crate::told::{LineIndex, LineText};
+use acta_machine::Handle;
+use acta_script::{EVENT_KINDS, OpKind, RETURN_WORDS, event_word};
 use acta_table::{
-    Class, ClassId, Edge, Event, EventKind, Kind, Kinds, Model, ObjId, Op, OpNo, Ret, Starts,
-    Status, TxnId,
+    Class, ClassId, Edge, Event, EventKind, Kind, Model, ObjId, Op, OpNo, Ret, Status, TxnId,
 };
 use std::alloc::{AllocError, Allocator};
 
-/// The most characters of an event that are told inside a sentence.
+/// The most characters of an event inside a sentence.
 const MOST_OF_EVENT: usize = 60;
 
 /// A name of a model, as text.
 pub fn name_text(name: &[u8]) -> &str {
     std::str::from_utf8(name).unwrap_or("?")
-}
-
-/// The name of the class of this number.
-pub fn class_text<A: Allocator>(model: &Model<A>, class: ClassId) -> &str {
-    match model.class(class) {
-        Some(class) => name_text(class.name.as_slice()),
-        None => "?",
-    }
-}
-
-/// The name of the object of this number.
-pub fn object_text<A: Allocator>(model: &Model<A>, object: ObjId) -> &str {
-    match model.object(object) {
-        Some(object) => name_text(object.name.as_slice()),
-        None => "?",
-    }
-}
-
-/// The word with which the line of such an event begins.
-pub fn event_word(kind: EventKind) -> &'static str {
-    match kind {
-        EventKind::Begin => "begin",
-        EventKind::Spawn => "spawn",
-        EventKind::Split => "split",
-        EventKind::Join => "join",
-        EventKind::Delegate => "delegate",
-        EventKind::Form => "form",
-        EventKind::Operate => "do",
-        EventKind::Commit => "commit",
-        EventKind::Abort => "abort",
-        EventKind::Permit => "permit",
-    }
 }
 
 /// The word by which a class allows events of this kind, in its `starts` or its `may`.
@@ -57,17 +26,17 @@ pub fn allowing_word(kind: EventKind) -> &'static str {
     }
 }
 
-// The word of an operation.
-fn operation_word(op: Op) -> &'static str {
+// The kind of an operation.
+fn operation_kind(op: Op) -> OpKind {
     match op {
-        Op::Read => "read",
-        Op::Write(_) => "write",
-        Op::Get => "get",
-        Op::Add(_) => "add",
-        Op::Insert(_) => "insert",
-        Op::Remove(_) => "remove",
-        Op::Has(_) => "has",
-        Op::Size => "size",
+        Op::Read => OpKind::Read,
+        Op::Write(_) => OpKind::Write,
+        Op::Get => OpKind::Get,
+        Op::Add(_) => OpKind::Add,
+        Op::Insert(_) => OpKind::Insert,
+        Op::Remove(_) => OpKind::Remove,
+        Op::Has(_) => OpKind::Has,
+        Op::Size => OpKind::Size,
     }
 }
 
@@ -87,7 +56,7 @@ pub fn put_lacking<A: Allocator>(
     object: ObjId,
     op: Op,
 ) -> Prose<A> {
-    let word = operation_word(op);
+    let word = operation_kind(op).word();
     match model.object(object) {
         Some(found) => {
             let (kind, has) = kind_words(found.kind);
@@ -100,47 +69,39 @@ pub fn put_lacking<A: Allocator>(
 
 /// Adds the word of a return.
 pub fn put_return<A: Allocator>(prose: Prose<A>, ret: Ret) -> Prose<A> {
+    let [done, yes, no] = RETURN_WORDS;
     match ret {
-        Ret::Done => prose.put("done"),
-        Ret::Flag(true) => prose.put("yes"),
-        Ret::Flag(false) => prose.put("no"),
+        Ret::Done => prose.put(done),
+        Ret::Flag(true) => prose.put(yes),
+        Ret::Flag(false) => prose.put(no),
         Ret::Value(value) => prose.put(value),
     }
 }
 
-const MAY: [EventKind; 9] = [
-    EventKind::Spawn,
-    EventKind::Split,
-    EventKind::Join,
-    EventKind::Delegate,
-    EventKind::Form,
-    EventKind::Operate,
-    EventKind::Commit,
-    EventKind::Abort,
-    EventKind::Permit,
-];
-
-/// Adds the `may` line of a class that may do these kinds of event.
-pub fn put_may<A: Allocator>(prose: Prose<A>, may: Kinds) -> Prose<A> {
-    let mut prose = prose.put("may");
-    for kind in MAY {
-        if may.has(kind) {
+/// Adds the `may` line of the class of this transaction, and no quote after it.
+pub fn put_may<A: Allocator>(prose: Prose<A>, class: &Class<A>, t: TxnId) -> Prose<A> {
+    let name = name_text(class.name.as_slice());
+    let mut prose = put!(prose; "class `", name, "` of ", t.0, " has `may");
+    // (a begin is in no `may`)
+    for kind in EVENT_KINDS {
+        if class.may.has(kind) {
             prose = put!(prose; " ", allowing_word(kind));
         }
     }
     prose
 }
 
-/// Adds the `starts` line of a class whose transactions start so.
-pub fn put_starts<A: Allocator>(prose: Prose<A>, starts: Starts) -> Prose<A> {
-    let begin = if starts.begin { " begin" } else { "" };
-    let spawned = if starts.spawned { " spawned" } else { "" };
-    let split = if starts.split { " split" } else { "" };
-    put!(prose; "starts", begin, spawned, split)
+/// Adds the `starts` line of a class, and no quote after it.
+pub fn put_starts<A: Allocator>(prose: Prose<A>, class: &Class<A>) -> Prose<A> {
+    let begin = if class.starts.begin { " begin" } else { "" };
+    let spawned = if class.starts.spawned { " spawned" } else { "" };
+    let split = if class.starts.split { " split" } else { "" };
+    let name = name_text(class.name.as_slice());
+    put!(prose; "class `", name, "` has `starts", begin, spawned, split)
 }
 
-/// How a transaction stands, where it is told without a line.
-pub fn status_words(status: Status) -> &'static str {
+// How a transaction stands.
+fn status_words(status: Status) -> &'static str {
     match status {
         Status::NotBegun => "has not begun",
         Status::InProgress => "is in progress",
@@ -150,11 +111,6 @@ pub fn status_words(status: Status) -> &'static str {
     }
 }
 
-/// Whether one that stands so has ended.
-pub fn has_ended(status: Status) -> bool {
-    matches!(status, Status::Committed | Status::Aborted | Status::Joined)
-}
-
 /// Adds an edge in words: its kind, the one that depends, and the one on which it depends.
 pub fn put_edge<A: Allocator>(prose: Prose<A>, edge: &Edge) -> Prose<A> {
     put!(prose; edge.kind.word(), " ", edge.j.0, " on ", edge.i.0)
@@ -162,18 +118,15 @@ pub fn put_edge<A: Allocator>(prose: Prose<A>, edge: &Edge) -> Prose<A> {
 
 /// Adds a line, as a sentence refers to it: its number, and as much of its event as a sentence tells.
 pub fn put_line_text<A: Allocator>(prose: Prose<A>, line: LineText<'_>) -> Prose<A> {
-    let mut prose = put!(prose; "line ", line.line, ": ");
-    if line.event.len() <= MOST_OF_EVENT {
-        return prose.put(line.event);
+    let prose = put!(prose; "line ", line.line, ": ");
+    match line.event.char_indices().nth(MOST_OF_EVENT) {
+        Some((end, _)) => put!(prose; line.event.get(..end).unwrap_or(""), " .."),
+        None => prose.put(line.event),
     }
-    for c in line.event.chars().take(MOST_OF_EVENT) {
-        prose = prose.put(c);
-    }
-    prose.put(" ..")
 }
 
 /// Adds how the transaction stands, with the line by which it ended.
-pub fn put_standing<A: Allocator>(
+pub fn put_standing<A: Handle>(
     prose: Prose<A>,
     lines: LineIndex<'_, A>,
     t: TxnId,
@@ -181,13 +134,15 @@ pub fn put_standing<A: Allocator>(
 ) -> Prose<A> {
     let prose = prose.put(status_words(status));
     match lines.end(t) {
-        Some(line) if has_ended(status) => put!(prose; " (line ", line.line, ")"),
+        Some(line) if !matches!(status, Status::NotBegun | Status::InProgress) => {
+            put!(prose; " (line ", line.line, ")")
+        }
         _ => prose,
     }
 }
 
 /// Adds the operation of this number, with the line by which it was done.
-pub fn put_operation<A: Allocator>(prose: Prose<A>, lines: LineIndex<'_, A>, op: OpNo) -> Prose<A> {
+pub fn put_operation<A: Handle>(prose: Prose<A>, lines: LineIndex<'_, A>, op: OpNo) -> Prose<A> {
     let prose = put!(prose; "operation ", op.0);
     match lines.operation(op) {
         Some(line) => put_line_text(prose.put(" ("), line).put(")"),
@@ -200,21 +155,44 @@ pub fn put_numbered_edge<A: Allocator>(prose: Prose<A>, number: u64, edge: &Edge
     put_edge(put!(prose; "edge ", number, " ("), edge).put(")")
 }
 
-/// Adds the edge, with its number and the line by which it was formed.
-pub fn put_formed_edge<A: Allocator>(
+/// Adds the edge of this number, with the line by which it was formed.
+pub fn put_formed_edge<A: Handle>(
     prose: Prose<A>,
     lines: LineIndex<'_, A>,
     number: u64,
-    edge: &Edge,
 ) -> Prose<A> {
-    let prose = put_numbered_edge(prose, number, edge);
-    match lines.edge(number) {
+    let prose = match lines.edge(number) {
+        Some(edge) => put_numbered_edge(prose, number, edge),
+        None => put!(prose; "edge ", number),
+    };
+    match lines.edge_line(number) {
         Some(line) => put_line_text(prose.put(", formed at "), line),
         None => prose,
     }
 }
 
-/// The class of this number, where there is one.
+/// Adds the edges that follow so many others, each with its number; of a long list the first, and how many more there are.
+pub fn put_edges<A: Allocator>(
+    mut prose: Prose<A>,
+    before: usize,
+    edges: &[Edge],
+    most: usize,
+) -> Prose<A> {
+    let mut number = before as u64;
+    for edge in edges.iter().take(most) {
+        number = number.saturating_add(1);
+        let gap = if prose.is_empty() { "" } else { "; " };
+        prose = put_numbered_edge(prose.put(gap), number, edge);
+    }
+    let more = edges.len().saturating_sub(most);
+    if more > 0 {
+        put!(prose; "; and ", more, " more")
+    } else {
+        prose
+    }
+}
+
+/// The class of this number, if there is one.
 pub fn class_at<A: Allocator>(model: &Model<A>, class: Option<ClassId>) -> Option<&Class<A>> {
     model.class(class?)
 }

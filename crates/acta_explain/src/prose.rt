@@ -1,6 +1,9 @@
 //! A text that is put together piece by piece. It remembers that memory ran out, so whoever writes a sentence has no way
 //! out at each piece, where the text so far would be dropped.
 
+ghost use Rattle.std.specs.Prelude.{◌≡◌, IfOk};
+
+use acta_io::Report;
 use std::alloc::{AllocError, Allocator};
 use std::fmt::Display;
 
@@ -69,6 +72,16 @@ impl<A: Allocator> Prose<A> {
             Ok(text)
         }
     }
+}
+
+/// The text as a report, which says whether the input is refused.
+pub fn report_of<A: Allocator>(prose: Prose<A>, is_refused: bool) -> Result<Report<A>, AllocError>
+    ensures { IfOk result (λ report. report.is_refused ≡ is_refused) }
+{
+    Ok(Report {
+        text: prose.done()?.into_bytes(),
+        is_refused,
+    })
 }
 
 /// Adds pieces to a text, in order: `put!(prose; "edge ", number)`.

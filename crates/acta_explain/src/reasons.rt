@@ -1,19 +1,18 @@
 //! Why an event is refused, in words: the rule, what of the machine breaks it, and what hope there is. A reason is one line
 //! or a few, with line feeds between them.
 
+use crate::lines::LineIndex;
 use crate::listing::{put_chain, put_operations};
 use crate::phrases::{
-    allowing_word, class_at, class_text, event_word, first_named, name_text, object_text, put_edge,
-    put_formed_edge, put_lacking, put_line_text, put_may, put_operation, put_standing, put_starts,
+    allowing_word, class_at, first_named, name_text, put_edge, put_formed_edge, put_lacking,
+    put_line_text, put_may, put_operation, put_standing, put_starts,
 };
 use crate::prose::Prose;
 use crate::put;
-use crate::told::LineIndex;
 use acta_hope::{Hope, Release, endless_wait, heir, is_ancestor, lets_go, operation_at};
 use acta_machine::{Barring, Clash, FormFault, Handle, Lack, Machine, NumberedOp, Reason};
-use acta_table::{
-    ClassId, Dep, Edge, Event, EventKind, Fate, Missing, ObjId, Op, OpNo, Rule, Status, TxnId,
-};
+use acta_script::{event_word, object_name};
+use acta_table::{Class, Dep, Edge, Event, EventKind, Fate, OpNo, Rule, Status, TxnId};
 
 /// An event that a machine refuses, and the lines of its run so far.
 #[derive(Clone, Copy)]
@@ -23,62 +22,26 @@ pub struct Refused<'a, A: Handle> {
     pub event: &'a Event<A>,
 }
 
-// How one that names itself is told.
-fn of_itself(kind: EventKind) -> &'static str {
+// Of an event of this kind: what a transaction does that names itself, what happens to its partner, and how a transaction
+// starts by it.
+fn kind_phrases(kind: EventKind) -> (&'static str, &'static str, &'static str) {
     match kind {
-        EventKind::Spawn => "spawns itself",
-        EventKind::Split => "splits off itself",
-        EventKind::Join => "joins itself",
-        EventKind::Delegate => "delegates to itself",
-        EventKind::Permit => "permits itself anything",
-        _ => "depends on itself",
+        EventKind::Spawn => ("spawns itself", "", "by being spawned"),
+        EventKind::Split => ("splits off itself", "", "by being split off"),
+        EventKind::Join => ("joins itself", "joined", ""),
+        EventKind::Delegate => ("delegates to itself", "delegated to", ""),
+        EventKind::Permit => ("permits itself anything", "permitted anything", ""),
+        _ => ("depends on itself", "", "by a begin"),
     }
 }
 
-// How what happens to the partner of such an event is told.
-fn to_partner(kind: EventKind) -> &'static str {
+// By an edge of this kind: what of the transaction on which the other depends has it owe something, and what it then owes.
+fn debt_phrases(kind: Dep) -> (&'static str, &'static str) {
     match kind {
-        EventKind::Join => "joined",
-        EventKind::Delegate => "delegated to",
-        _ => "permitted anything",
-    }
-}
-
-// How a transaction starts by such an event.
-fn by_start(kind: EventKind) -> &'static str {
-    match kind {
-        EventKind::Spawn => "by being spawned",
-        EventKind::Split => "by being split off",
-        _ => "by a begin",
-    }
-}
-
-// The event that an edge of the kind owes, where it comes to owe one.
-fn payment(kind: Dep) -> Missing {
-    match kind {
-        Dep::Scd | Dep::Cmd => Missing::Commit,
-        _ => Missing::Abort,
-    }
-}
-
-// The word of an event that is owed.
-fn missing_word(missing: Missing) -> &'static str {
-    match missing {
-        Missing::Commit => "commit",
-        Missing::Abort => "abort",
-    }
-}
-
-// The article of a word for what is owed.
-fn article(missing: &str) -> &'static str {
-    if missing == "abort" { "an" } else { "a" }
-}
-
-// What of the one on which it depends brings an edge of the kind to owe something.
-fn cause_noun(kind: Dep) -> &'static str {
-    match kind {
-        Dep::Scd | Dep::Ed => "a commit",
-        _ => "an abort",
+        Dep::Scd => ("a commit", "a commit"),
+        Dep::Cmd => ("an abort", "a commit"),
+        Dep::Ed => ("a commit", "an abort"),
+        _ => ("an abort", "an abort"),
     }
 }
 
@@ -115,22 +78,18 @@ fn put_bad_set<A: Handle>(prose: Prose<A>, number: OpNo, operations: usize) -> P
     }
 }
 
-// Adds whom a transaction waits for, where some wait for one another there.
-fn put_waits<A: Handle>(prose: Prose<A>, machine: &Machine<A>, t: TxnId) -> Prose<A> {
-    match endless_wait(machine, t) {
+// Adds for which transactions the one that depends waits, where an edge bars its end and some wait for one another.
+fn put_waits_of<A: Handle>(prose: Prose<A>, machine: &Machine<A>, reason: &Reason) -> Prose<A> {
+    let Reason::Barred(barring) = reason else {
+        return prose;
+    };
+    if !matches!(barring.rule, Rule::TerminationDep) {
+        return prose;
+    }
+    match endless_wait(machine, barring.by.edge.j) {
         Ok(Some(waits)) => put_closed(prose, waits.as_slice()),
         Ok(None) => prose,
         Err(_) => prose.fail(),
-    }
-}
-
-// Adds whom the one that depends waits for, where an edge bars its end.
-fn put_waits_of<A: Handle>(prose: Prose<A>, machine: &Machine<A>, reason: &Reason) -> Prose<A> {
-    match reason {
-        Reason::Barred(barring) if matches!(barring.rule, Rule::TerminationDep) => {
-            put_waits(prose, machine, barring.by.edge.j)
-        }
-        _ => prose,
     }
 }
 
@@ -180,28 +139,25 @@ impl<'a, A: Handle> Refused<'a, A> {
 
     // Adds what hope there is, as a line of its own; nothing where nothing is known.
     fn put_hope(&self, prose: Prose<A>, hope: Hope) -> Prose<A> {
-        if matches!(hope, Hope::Unknown) {
-            return prose;
-        }
-        if matches!(hope, Hope::Never) {
-            return prose.put("\nNo later event can admit it.");
-        }
-        let prose = prose.put("\nIt can be admitted only once ");
+        let once = "\nIt can be admitted only once ";
         match hope {
-            Hope::OnceBegun(t) => put!(prose; t.0, " has begun."),
-            Hope::OnceHeld(t, op) => put!(prose; t.0, " holds operation ", op.0, "."),
-            Hope::OnceCommitted(t) => put!(prose; t.0, " has committed."),
-            Hope::OnceAborted(t) => put!(prose; t.0, " has aborted."),
-            Hope::OnceDecided(t) => put!(prose; t.0, " has committed or aborted."),
+            Hope::Unknown => prose,
+            Hope::Never => prose.put("\nNo later event can admit it."),
+            Hope::OnceBegun(t) => put!(prose; once, t.0, " has begun."),
+            Hope::OnceHeld(t, op) => put!(prose; once, t.0, " holds operation ", op.0, "."),
+            Hope::OnceCommitted(t) => put!(prose; once, t.0, " has committed."),
+            Hope::OnceAborted(t) => put!(prose; once, t.0, " has aborted."),
+            Hope::OnceDecided(t) => put!(prose; once, t.0, " has committed or aborted."),
             Hope::OnceFree(op) => {
-                let prose = put!(prose; "operation ", op.0, " no longer stands in its way");
+                let prose = put!(prose; once, "operation ", op.0, " no longer stands in its way");
                 self.put_releases(prose, op).put(".")
             }
-            Hope::OnceLetGo(t, op) => put!(prose; t.0, " no longer holds operation ", op.0, "."),
-            Hope::OnceFewer => {
-                prose.put("one of those who hold what conflicts with it no longer does.")
+            Hope::OnceLetGo(t, op) => {
+                put!(prose; once, t.0, " no longer holds operation ", op.0, ".")
             }
-            Hope::Never | Hope::Unknown => prose,
+            Hope::OnceFewer => {
+                put!(prose; once, "one of those who hold what conflicts with it no longer does.")
+            }
         }
     }
 
@@ -213,35 +169,42 @@ impl<'a, A: Handle> Refused<'a, A> {
             }
             Reason::EdgesFull => put!(prose; "EdgesFull: ", self.machine.edges().len(),
                 " edges are in force, and with those that it forms there would be more than 16,384. None goes away."),
-            Reason::PartialDelegation(op) => self.put_partial_delegation(prose, op),
-            Reason::Barred(barring) => self.put_barred(prose, &barring),
-            _ => self.put_other(prose, reason),
-        }
-    }
-
-    // Adds why it is refused, where the machine isn't asked for more.
-    fn put_other(&self, prose: Prose<A>, reason: &Reason) -> Prose<A> {
-        match *reason {
             Reason::Form(fault) => self.put_form(prose, fault),
             Reason::NotInProgress { txn, status } => {
-                self.put_stands(prose.put("NotInProgress: "), txn, status)
-                    .put(".")
+                let prose = self.put_stands(prose.put("NotInProgress: "), txn, status);
+                prose.put(".")
             }
             Reason::AlreadyBegun { txn, status } => self.put_already_begun(prose, txn, status),
             Reason::NotInModel(lack) => self.put_not_in_model(prose, lack),
             Reason::PartnerNotInProgress { txn, status } => {
                 let prose = self.put_stands(prose.put("PartnerNotInProgress: "), txn, status);
-                let partner = to_partner(self.event.kind());
+                let (_, partner, _) = kind_phrases(self.event.kind());
                 put!(prose; ", and only one in progress is ", partner, ".")
             }
             Reason::NotResponsible(op) => self.put_not_responsible(prose, op),
+            Reason::PartialDelegation(op) => {
+                let prose = put_operation(prose.put("PartialDelegation: "), self.lines, op.number);
+                let prose = self.put_class(prose.put(" isn't named, and class `"));
+                prose.put(" has `delegation whole`.")
+            }
             Reason::BadSet { number, operations } => put_bad_set(prose, number, operations),
-            Reason::Conflict(op) => self.put_conflict(prose, op),
+            Reason::Conflict(op) => {
+                let prose = put_operation(prose.put("Conflict: "), self.lines, op.number);
+                put!(prose; " is in progress, held by ", op.held.holder.0,
+                    ", and conflicts with it.")
+            }
             Reason::FormTooLate { txn, status } => self.put_form_too_late(prose, txn, status),
+            Reason::Barred(barring) => self.put_barred(prose, &barring),
             Reason::Clash(clash) => self.put_clash(prose, &clash),
             Reason::NoHeir { parent, status } => self.put_no_heir(prose, parent, status),
-            _ => prose,
         }
+    }
+
+    fn put_no_heir(&self, prose: Prose<A>, parent: TxnId, status: Status) -> Prose<A> {
+        let prose = self.put_class(prose.put("NoHeir: class `"));
+        let prose = put!(prose; " has `commit toparent`, so its parent ", parent.0,
+            " would get what ", first_named(self.event).0, " holds, and ");
+        self.put_stands(prose, parent, status).put(".")
     }
 
     // Adds how a transaction stands.
@@ -249,12 +212,19 @@ impl<'a, A: Handle> Refused<'a, A> {
         put_standing(put!(prose; t.0, " "), self.lines, t, status)
     }
 
-    // The name of the class with which the transaction began.
-    fn class_name(&self, t: TxnId) -> &str {
-        match class_at(self.machine.model(), self.machine.class(t)) {
+    // The class with which the transaction began.
+    fn class_of(&self, t: TxnId) -> Option<&Class<A>> {
+        class_at(self.machine.model(), self.machine.class(t))
+    }
+
+    // Adds the name of the class of the transaction that does the event, the quote after it, and of whom it is the class.
+    fn put_class(&self, prose: Prose<A>) -> Prose<A> {
+        let t = first_named(self.event);
+        let name = match self.class_of(t) {
             Some(class) => name_text(class.name.as_slice()),
             None => "?",
-        }
+        };
+        put!(prose; name, "` of ", t.0)
     }
 
     fn put_form(&self, prose: Prose<A>, fault: FormFault) -> Prose<A> {
@@ -270,17 +240,13 @@ impl<'a, A: Handle> Refused<'a, A> {
                 put!(prose; "BadObject: the model has no object at position ", object.0, ".")
             }
             FormFault::BadOperation(object, op) => {
-                let prose = put_lacking(
-                    prose.put("BadOperation: "),
-                    self.machine.model(),
-                    object,
-                    op,
-                );
-                put!(prose; ".")
+                let model = self.machine.model();
+                put_lacking(prose.put("BadOperation: "), model, object, op).put(".")
             }
             FormFault::SameTransaction(txn) => {
+                let (itself, _, _) = kind_phrases(self.event.kind());
                 put!(prose; "SameTransaction: ", txn.0, " is named twice, and no transaction ",
-                    of_itself(self.event.kind()), ".")
+                    itself, ".")
             }
         }
     }
@@ -291,50 +257,33 @@ impl<'a, A: Handle> Refused<'a, A> {
             Some(line) => put_line_text(prose.put("began ("), line).put("), and "),
             None => prose,
         };
-        let prose = put_standing(prose, self.lines, txn, status);
-        put!(prose; ". Each transaction starts once.")
+        put_standing(prose, self.lines, txn, status).put(". Each transaction starts once.")
     }
 
     fn put_not_in_model(&self, prose: Prose<A>, lack: Lack) -> Prose<A> {
-        match lack {
-            Lack::Start { class, kind } => self.put_no_start(prose, class, by_start(kind)),
-            Lack::Doing { txn, class, kind } => {
-                self.put_may_not(prose, txn, class, allowing_word(kind))
-            }
-            Lack::Forming =>
-                put!(prose; "NotInModel: no class of the model has `form` in its `may`, so no edge is formed by an event of its own."),
-        }
-    }
-
-    // Adds that no transaction of the class starts so.
-    fn put_no_start(&self, prose: Prose<A>, class: ClassId, start: &str) -> Prose<A> {
-        let name = class_text(self.machine.model(), class);
-        let prose = match self.machine.model().class(class) {
-            Some(class) => {
-                let prose = put!(prose; "NotInModel: class `", name, "` has `");
-                put_starts(prose, class.starts).put("`, so no transaction of it starts ")
-            }
-            None => put!(prose; "NotInModel: no transaction of class `", name, "` starts "),
-        };
-        put!(prose; start, ".")
-    }
-
-    // Adds that the class of the transaction doesn't have the word in its `may`.
-    fn put_may_not(
-        &self,
-        prose: Prose<A>,
-        txn: TxnId,
-        class: Option<ClassId>,
-        word: &str,
-    ) -> Prose<A> {
         let prose = prose.put("NotInModel: ");
-        match class_at(self.machine.model(), class) {
-            Some(class) => {
-                let name = name_text(class.name.as_slice());
-                let prose = put!(prose; "class `", name, "` of ", txn.0, " has `");
-                put!(put_may(prose, class.may); "`, and no `", word, "`.")
+        let model = self.machine.model();
+        match lack {
+            Lack::Start { class, kind } => {
+                let (_, _, start) = kind_phrases(kind);
+                let prose = match model.class(class) {
+                    Some(class) => {
+                        put_starts(prose, class).put("`, so no transaction of it starts ")
+                    }
+                    None => prose.put("no transaction of class `?` starts "),
+                };
+                put!(prose; start, ".")
             }
-            None => put!(prose; txn.0, " has no class that has `", word, "` in its `may`."),
+            Lack::Doing { txn, class, kind } => {
+                let word = allowing_word(kind);
+                let Some(class) = class_at(model, class) else {
+                    return put!(prose; txn.0, " has no class that has `", word, "` in its `may`.");
+                };
+                put!(put_may(prose, class, txn); "`, and no `", word, "`.")
+            }
+            Lack::Forming => prose.put(
+                "no class of the model has `form` in its `may`, so no edge is formed by an event of its own.",
+            ),
         }
     }
 
@@ -350,13 +299,6 @@ impl<'a, A: Handle> Refused<'a, A> {
             Fate::Aborted => "aborted",
         };
         put!(prose; " is ", ended, ", and ", t, " hands over only what it holds in progress.")
-    }
-
-    fn put_partial_delegation(&self, prose: Prose<A>, op: NumberedOp) -> Prose<A> {
-        let t = first_named(self.event);
-        let prose = put_operation(prose.put("PartialDelegation: "), self.lines, op.number);
-        put!(prose; " isn't named, and class `", self.class_name(t), "` of ", t.0,
-            " has `delegation whole`.")
     }
 
     // Adds what has to be named.
@@ -392,28 +334,16 @@ impl<'a, A: Handle> Refused<'a, A> {
             put!(put_edge(prose, &edge); " is formed only before either of the two ends.")
         }
     }
-
-    fn put_no_heir(&self, prose: Prose<A>, parent: TxnId, status: Status) -> Prose<A> {
-        let t = first_named(self.event);
-        let prose = put!(prose; "NoHeir: class `", self.class_name(t), "` of ", t.0,
-            " has `commit toparent`, so its parent ", parent.0, " would get what ", t.0, " holds, and ");
-        self.put_stands(prose, parent, status).put(".")
-    }
 }
 
 // Conflicts.
 impl<'a, A: Handle> Refused<'a, A> {
-    fn put_conflict(&self, prose: Prose<A>, op: NumberedOp) -> Prose<A> {
-        let prose = put_operation(prose.put("Conflict: "), self.lines, op.number);
-        put!(prose; " is in progress, held by ", op.held.holder.0, ", and conflicts with it.")
-    }
-
     // Adds why an operation that conflicts refuses the event.
     fn put_policy(&self, prose: Prose<A>, holder: TxnId) -> Prose<A> {
-        let t = first_named(self.event);
-        let prose =
-            put!(prose; "\nClass `", self.class_name(t), "` of ", t.0, " has `policy refuse`");
-        if is_ancestor(self.machine, t, holder) {
+        let prose = self
+            .put_class(prose.put("\nClass `"))
+            .put(" has `policy refuse`");
+        if is_ancestor(self.machine, first_named(self.event), holder) {
             put!(prose; ", and `scope others`, by which what its ancestor ", holder.0, " holds counts too.")
         } else {
             prose.put(".")
@@ -426,7 +356,7 @@ impl<'a, A: Handle> Refused<'a, A> {
             return prose;
         };
         let t = first_named(self.event);
-        let object = object_text(self.machine.model(), op.ob);
+        let object = name_text(object_name(self.machine.model(), op.ob));
         let ways = RELEASES.map(|way| lets_go(self.machine, self.event, number, way));
         let mut left = ways.iter().filter(|is_open| **is_open).count();
         if left == 0 {
@@ -449,9 +379,10 @@ impl<'a, A: Handle> Refused<'a, A> {
     // Adds who holds the operation after a commit of its holder, where that doesn't let it go.
     fn put_heir(&self, prose: Prose<A>, op: NumberedOp) -> Prose<A> {
         let holder = op.held.holder;
-        if lets_go(self.machine, self.event, op.number, Release::Commit)
-            || !self.may_commit(holder)
-        {
+        let may_commit = self
+            .class_of(holder)
+            .is_some_and(|class| class.may.has(EventKind::Commit));
+        if lets_go(self.machine, self.event, op.number, Release::Commit) || !may_commit {
             return prose;
         }
         match heir(self.machine, holder) {
@@ -461,14 +392,6 @@ impl<'a, A: Handle> Refused<'a, A> {
             None => prose,
         }
     }
-
-    // Whether the class of the transaction has `commit` in its `may`.
-    fn may_commit(&self, t: TxnId) -> bool {
-        match class_at(self.machine.model(), self.machine.class(t)) {
-            Some(class) => class.may.has(EventKind::Commit),
-            None => false,
-        }
-    }
 }
 
 // Dependencies.
@@ -476,7 +399,7 @@ impl<'a, A: Handle> Refused<'a, A> {
     fn put_barred(&self, prose: Prose<A>, barring: &Barring) -> Prose<A> {
         let number = u64::from(barring.by.number);
         let prose = put!(prose; barring.rule.name(), ", by ");
-        let prose = put_formed_edge(prose, self.lines, number, &barring.by.edge).put("\n");
+        let prose = put_formed_edge(prose, self.lines, number).put("\n");
         match barring.rule {
             Rule::BeginDep
             | Rule::SerialDep
@@ -499,8 +422,8 @@ impl<'a, A: Handle> Refused<'a, A> {
 
     fn put_owes(&self, prose: Prose<A>, barring: &Barring) -> Prose<A> {
         let edge = barring.by.edge;
-        let missing = missing_word(payment(edge.kind));
-        let prose = put!(prose; edge.j.0, " owes ", article(missing), " ", missing, ", since ");
+        let (_, debt) = debt_phrases(edge.kind);
+        let prose = put!(prose; edge.j.0, " owes ", debt, ", since ");
         let prose = self.put_stands(prose, edge.i, barring.i);
         put!(prose; ", and so may not ", event_word(self.event.kind()), ".")
     }
@@ -524,9 +447,9 @@ impl<'a, A: Handle> Refused<'a, A> {
 
     fn put_unpayable(&self, prose: Prose<A>, barring: &Barring) -> Prose<A> {
         let edge = barring.by.edge;
-        let missing = missing_word(payment(edge.kind));
-        let prose = put!(prose; "By ", cause_noun(edge.kind), " of ", edge.i.0, ", ", edge.j.0,
-            " would owe ", article(missing), " ", missing, ", which it can't do any more: ");
+        let (cause, debt) = debt_phrases(edge.kind);
+        let prose = put!(prose; "By ", cause, " of ", edge.i.0, ", ", edge.j.0, " would owe ", debt,
+            ", which it can't do any more: ");
         put!(self.put_stands(prose, edge.j, barring.j); ".")
     }
 
@@ -535,11 +458,12 @@ impl<'a, A: Handle> Refused<'a, A> {
         let j = commit.edge.j.0;
         let prose =
             put!(prose; "Clash: ", j, " would owe both a commit and an abort:\na commit by ");
-        let number = u64::from(commit.number);
-        let prose = put_formed_edge(prose, self.lines, number, &commit.edge);
-        let number = u64::from(abort.number);
-        let prose = prose.put("\nan abort by ");
-        put_formed_edge(prose, self.lines, number, &abort.edge)
+        let prose = put_formed_edge(prose, self.lines, u64::from(commit.number));
+        put_formed_edge(
+            prose.put("\nan abort by "),
+            self.lines,
+            u64::from(abort.number),
+        )
     }
 }
 

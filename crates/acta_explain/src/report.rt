@@ -9,7 +9,7 @@ use crate::faults::put_lines;
 use crate::images::put_image_fault;
 use crate::judged::explain_judged;
 use crate::phrases::name_text;
-use crate::prose::Prose;
+use crate::prose::{Prose, report_of};
 use crate::put;
 use crate::run::{explain_run, explain_script, explain_seated};
 use crate::texts::put_text_fault;
@@ -31,27 +31,7 @@ pub fn put_model_name<A: Handle>(prose: Prose<A>, name: ModelName<'_>) -> Prose<
     }
 }
 
-// What is wrong with bytes that mean no model, in lines.
-fn fault_text<A: Handle>(
-    alloc: A,
-    name: ModelName<'_>,
-    bytes: &[u8],
-    fault: NoModel,
-) -> Result<String<A>, AllocError> {
-    let prose = Prose::new(alloc);
-    let prose = match fault {
-        NoModel::Text(fault) => put!(prose; fault.code.name(), ", at "),
-        NoModel::Image(fault) => put!(prose; fault.name(), " in "),
-    };
-    let prose = put_model_name(prose, name);
-    let prose = match fault {
-        NoModel::Text(_) => put_text_fault(prose, alloc, bytes),
-        NoModel::Image(_) => put_image_fault(prose, alloc, bytes),
-    };
-    prose.done()
-}
-
-// What is told of bytes that mean no model: the line that all commands tell, and what is wrong with them.
+// What is written of bytes that mean no model: the line that all commands write, and what is wrong with them.
 fn explain_no_model<A: Handle>(
     alloc: A,
     name: ModelName<'_>,
@@ -60,18 +40,24 @@ fn explain_no_model<A: Handle>(
 ) -> Result<Report<A>, AllocError>
     ensures { IfOk result (λ report. report.is_refused ≡ true) }
 {
-    let told = fault_text(alloc, name, bytes, fault)?;
-    let text = match refuse_model(alloc, fault) {
-        Ok(line) => Prose::new(alloc).put(name_text(line.text.as_slice())),
-        Err(_) => Prose::new(alloc).fail(),
+    let prose = Prose::new(alloc);
+    let words = match fault {
+        NoModel::Text(fault) => {
+            let prose = put_model_name(put!(prose; fault.code.name(), ", at "), name);
+            put_text_fault(prose, alloc, bytes)
+        }
+        NoModel::Image(fault) => {
+            let prose = put_model_name(put!(prose; fault.name(), " in "), name);
+            put_image_fault(prose, alloc, bytes)
+        }
     };
-    Ok(Report {
-        text: put_lines(text, told.as_str()).done()?.into_bytes(),
-        is_refused: true,
-    })
+    let words = words.done()?;
+    let report = refuse_model(alloc, fault)?;
+    let prose = Prose::new(alloc).put(name_text(report.text.as_slice()));
+    report_of(put_lines(prose, words.as_str()), true)
 }
 
-// What is told on a model.
+// What is written on a model.
 fn explain_on<A: Handle + Send + Sync, R: Threads + Sync>(
     rt: &R,
     alloc: A,
@@ -89,8 +75,8 @@ fn explain_on<A: Handle + Send + Sync, R: Threads + Sync>(
     }
 }
 
-/// What is told for the bytes of a model of this name and of an input, whose lines are of this kind. The input is refused
-/// where the model or a line is faulty; so is one of more kept lines than can be judged. `Err` where there is no memory.
+/// What is written for the bytes of a model of this name and of an input, whose lines are of this kind. The input is refused
+/// where the model or a line is faulty; so is one of more kept lines than can be judged.
 pub fn explain<A: Handle + Send + Sync, R: Threads + Sync>(
     rt: &R,
     alloc: A,
@@ -108,7 +94,7 @@ pub fn explain<A: Handle + Send + Sync, R: Threads + Sync>(
     }
 }
 
-/// Reads the whole input, and writes in one go what is told of it on the model of these bytes and this name. `Unread`
+/// Reads the whole input, and writes in one go what explains it on the model of these bytes and this name. `Unread`
 /// and `Unwritten` as for the other commands: where the input can't be read, nothing is written.
 pub fn explain_tool<A: Handle + Send + Sync, R: Threads + Sync, S: Source, W: Sink>(
     rt: &R,

@@ -1,4 +1,4 @@
-//! The run of the events of an input, told line by line: the answer to each event, what it formed or why it is refused,
+//! The run of the events of an input, line by line: the answer to each event, what it formed or why it is refused,
 //! and in the end what is owed.
 
 ghost use Rattle.std.specs.Prelude.{◌≡◌, ◌||◌, IfOk, is_some};
@@ -11,13 +11,12 @@ ghost use Rattle.acta_io.specs.declared.input.TheConstants.{MOST_SEATS};
 use crate::deadlocks::put_deadlocks;
 use crate::debts::put_prospect;
 use crate::faults::{LineForm, Stop, put_stop};
-use crate::layout::{Columns, Row, put_barred, put_debt, put_row};
+use crate::layout::{Columns, put_barred};
+use crate::lines::StepText;
 use crate::phrases::{name_text, put_numbered_edge, put_standing};
-use crate::prose::Prose;
+use crate::prose::{Prose, report_of};
 use crate::put;
-use crate::run_trace::{MOST_TOLD, RunTrace};
-use crate::spoken::{Spoken, spoken_in};
-use crate::told::StepText;
+use crate::run_trace::{MOST_RENDERED, RunTrace};
 use acta_hope::never_begin;
 use acta_io::{
     BadLine, EventLines, Input, MOST_SEATS, Report, Script, SeatedLines, read_lines, read_script,
@@ -28,54 +27,48 @@ use acta_table::{Event, Model, Owed};
 use acta_trace::Step;
 use std::alloc::AllocError;
 
-// Adds a debt, with the edge by which it is owed, and how the one stands on which it depends.
+// Adds a debt, with the edge by which it is owed, the status of the transaction on which that edge is, and whether the debt can
+// still be paid. `lost` is what `never_begin` says of the machine.
 fn put_owed<A: Handle>(
     prose: Prose<A>,
-    alloc: A,
-    told: &RunTrace<A>,
+    run: &RunTrace<A>,
     columns: Columns,
+    lost: &[u32],
     owed: &Owed,
 ) -> Prose<A> {
+    let alloc = run.allocator();
     let Ok(line) = owed_line(alloc, owed) else {
         return prose.fail();
     };
-    let prose = put_debt(prose, columns, name_text(line.as_slice()));
-    let number = owed.edge.0;
-    let machine = told.machine();
-    match machine.edges().get((number as usize).wrapping_sub(1)) {
+    let prose = columns.put_debt(prose, name_text(line.as_slice()));
+    let (lines, number) = (run.lines(), owed.edge.0);
+    let prose = match lines.edge(number) {
         Some(edge) => {
             let prose = put_numbered_edge(prose.put("by "), number, edge);
             let prose = put!(prose; ": ", edge.i.0, " ");
-            put_standing(prose, told.lines(), edge.i, machine.status(edge.i)).put("\n")
+            put_standing(prose, lines, edge.i, run.machine().status(edge.i))
         }
-        None => prose.put("\n"),
+        None => prose,
+    };
+    match put_prospect(Prose::new(alloc), run, lost, owed.txn, owed.missing).done() {
+        Ok(prospect) => put_barred(prose.put("\n"), columns.indent(), prospect.as_str()),
+        Err(_) => prose.fail(),
     }
 }
 
 // Adds what is owed.
-fn put_debts<A: Handle>(
-    mut prose: Prose<A>,
-    alloc: A,
-    told: &RunTrace<A>,
-    columns: Columns,
-) -> Prose<A> {
-    let Ok(debts) = told.machine().owed() else {
+fn put_debts<A: Handle>(mut prose: Prose<A>, run: &RunTrace<A>, columns: Columns) -> Prose<A> {
+    let Ok(debts) = run.machine().owed() else {
         return prose.fail();
     };
     if debts.is_empty() {
         return prose;
     }
-    let Ok(lost) = never_begin(alloc, told.machine()) else {
+    let Ok(lost) = never_begin(run.allocator(), run.machine()) else {
         return prose.fail();
     };
     for owed in debts.as_slice() {
-        prose = put_owed(prose, alloc, told, columns, owed);
-        let prospect = put_prospect(Prose::new(alloc), told, &lost, owed.txn, owed.missing);
-        let (prospect, has_failed) = prospect.parts();
-        prose = put_barred(prose, columns.indent(), prospect.as_str());
-        if has_failed {
-            return prose.fail();
-        }
+        prose = put_owed(prose, run, columns, &lost, owed);
     }
     prose
 }
@@ -88,10 +81,10 @@ fn answer_text<A: Handle>(alloc: A, step: &Step<A>) -> Result<Vec<u8, A>, AllocE
 }
 
 // The columns with room for all steps.
-fn columns_of<A: Handle>(alloc: A, told: &RunTrace<A>) -> Result<Columns, AllocError> {
+fn columns_of<A: Handle>(run: &RunTrace<A>) -> Result<Columns, AllocError> {
     let mut columns = Columns::new();
-    for (step, text) in told.steps().iter().zip(told.texts()) {
-        let answer = answer_text(alloc, step)?;
+    for (step, text) in run.steps().iter().zip(run.texts()) {
+        let answer = answer_text(run.allocator(), step)?;
         columns = columns.with(step.line, text.event.len(), answer.len());
     }
     Ok(columns)
@@ -100,87 +93,55 @@ fn columns_of<A: Handle>(alloc: A, told: &RunTrace<A>) -> Result<Columns, AllocE
 // Adds a step, and why its event is refused, if it is.
 fn put_step<A: Handle>(
     prose: Prose<A>,
-    alloc: A,
-    told: &RunTrace<A>,
+    run: &RunTrace<A>,
     columns: Columns,
     step: &Step<A>,
     text: &StepText<A>,
 ) -> Prose<A> {
+    let alloc = run.allocator();
     let Ok(answer) = answer_text(alloc, step) else {
         return prose.fail();
     };
-    let (formed, has_failed) = told.put_formed(Prose::new(alloc), step).parts();
-    let row = Row {
-        line: step.line,
-        event: text.event.as_str(),
-        answer: name_text(answer.as_slice()),
-        formed: formed.as_str(),
-        reason: text.reason.as_str(),
-    };
-    let prose = put_row(prose, columns, row);
-    if has_failed { prose.fail() } else { prose }
-}
-
-// Adds the whole of what is told. `stop` is the faulty line of the input. Behind a faulty command the debts are told,
-// since all events stand before the commands.
-fn put_told<A: Handle>(
-    mut prose: Prose<A>,
-    alloc: A,
-    told: &RunTrace<A>,
-    stop: Option<Stop<'_>>,
-) -> Prose<A> {
-    let Ok(columns) = columns_of(alloc, told) else {
+    let Ok(formed) = run.put_formed(Prose::new(alloc), step).done() else {
         return prose.fail();
     };
-    for (step, text) in told.steps().iter().zip(told.texts()) {
-        prose = put_step(prose, alloc, told, columns, step, text);
+    let answer = name_text(answer.as_slice());
+    let prose = columns.put_row(
+        prose,
+        step.line,
+        text.event.as_str(),
+        answer,
+        formed.as_str(),
+    );
+    put_barred(prose, columns.indent(), text.reason.as_str())
+}
+
+// Adds the whole run. `stop` is the faulty line of the input. Debts follow a faulty command, since all events are before the
+// commands.
+fn put_run<A: Handle>(mut prose: Prose<A>, run: &RunTrace<A>, stop: Option<Stop<'_>>) -> Prose<A> {
+    let alloc = run.allocator();
+    let Ok(columns) = columns_of(run) else {
+        return prose.fail();
+    };
+    for (step, text) in run.steps().iter().zip(run.texts()) {
+        prose = put_step(prose, run, columns, step, text);
     }
-    let untold = told.untold();
-    if untold > 0 {
-        prose = put!(prose; "and ", untold, " refused events more: the first ", MOST_TOLD,
+    let skipped = run.skipped();
+    if skipped > 0 {
+        prose = put!(prose; "and ", skipped, " refused events more: the first ", MOST_RENDERED,
             " are told\n");
     }
     if stop.is_none_or(|stop| stop.form == LineForm::Command) {
-        prose = put_debts(prose, alloc, told, columns);
-        prose = put_deadlocks(prose, alloc, told, columns.indent().saturating_sub(2));
+        prose = put_debts(prose, run, columns);
+        prose = put_deadlocks(prose, alloc, run, columns.indent().saturating_sub(2));
     }
     match stop {
-        Some(stop) => put_stop(prose, alloc, told.machine().model(), &stop),
+        Some(stop) => put_stop(prose, alloc, run.machine().model(), &stop),
         None => prose,
     }
 }
 
-// Takes all events, each of which its line says.
-fn take_all<A: Handle>(
-    told: &mut RunTrace<A>,
-    events: Vec<Event<A>, A>,
-    lines: Vec<Spoken<'_>, A>,
-) -> Result<(), AllocError> {
-    for (event, line) in events.into_iter().zip(lines) {
-        told.take(line, event)?;
-    }
-    Ok(())
-}
-
-// What is told of a run of these events, which the lines of the input say, up to the faulty one.
-fn run_text<A: Handle>(
-    alloc: A,
-    model: Model<A>,
-    events: Vec<Event<A>, A>,
-    input: &[u8],
-    stop: Option<Stop<'_>>,
-) -> Result<String<A>, AllocError> {
-    let lines = spoken_in(alloc, input)?;
-    let mut told = RunTrace::new(alloc, model)?;
-    let text = match take_all(&mut told, events, lines) {
-        Ok(()) => put_told(Prose::new(alloc), alloc, &told, stop).done(),
-        Err(e) => Err(e),
-    };
-    drop(told);
-    text
-}
-
-// What is told of a run of these events, as a report. The input is refused where it has a faulty line.
+// What is written of a run of these events, which the lines of the input say. The input is refused where it has a faulty line.
 fn run_report<A: Handle>(
     alloc: A,
     model: Model<A>,
@@ -190,11 +151,9 @@ fn run_report<A: Handle>(
 ) -> Result<Report<A>, AllocError>
     ensures { IfOk result (λ report. report.is_refused ≡ is_some stop.entry) }
 {
-    let text = run_text(alloc, model, events, input, stop)?;
-    Ok(Report {
-        text: text.into_bytes(),
-        is_refused: stop.is_some(),
-    })
+    let mut run = RunTrace::new(alloc, model)?;
+    run.take_all(events, input)?;
+    report_of(put_run(Prose::new(alloc), &run, stop), stop.is_some())
 }
 
 // The faulty line of the input, if there is one, which should have been this.
@@ -207,8 +166,7 @@ fn stop_at<'a>(input: &'a [u8], bad: Option<BadLine>, form: LineForm) -> Option<
     }
 }
 
-/// What is told of a run of the event lines of the input, which is refused where a line is faulty. `Err` where there is
-/// no memory.
+/// What is written of a run of the event lines of the input, which is refused where a line is faulty.
 pub fn explain_run<A: Handle>(
     alloc: A,
     model: Model<A>,
@@ -242,8 +200,8 @@ fn events_of<A: Handle>(
     Ok(events)
 }
 
-/// What is told of a run of the events of the seated lines of the input, in the order of the lines. It is refused where a
-/// line is faulty; the seats are numbered from 1 to `MOST_SEATS`. `Err` where there is no memory.
+/// What is written of a run of the events of the seated lines of the input, in the order of the lines. It is refused where a
+/// line is faulty; the seats are numbered from 1 to `MOST_SEATS`.
 pub fn explain_seated<A: Handle>(
     alloc: A,
     model: Model<A>,
@@ -281,8 +239,8 @@ fn script_stop<'a>(
     }
 }
 
-/// What is told of a debug script: of a run of its events, and of its first faulty line. It is refused where a line of the
-/// events is faulty, or a command is; commands are read, and not carried out. `Err` where there is no memory.
+/// What is written of a debug script: of a run of its events, and of its first faulty line. It is refused where a line of the
+/// events is faulty, or a command is; commands are read, and not carried out.
 pub fn explain_script<A: Handle>(
     alloc: A,
     model: Model<A>,

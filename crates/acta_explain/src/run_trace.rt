@@ -1,26 +1,25 @@
 //! A run in words, event by event: its steps, and the words of each.
 
-use crate::listing::{first_listed, put_more};
-use crate::phrases::{first_named, put_numbered_edge};
+use crate::lines::{LineIndex, NonBlankLine, StepText, non_blank_lines};
+use crate::listing::MOST_LISTED;
+use crate::phrases::{first_named, put_edges};
 use crate::prose::Prose;
 use crate::put;
 use crate::reasons::Refused;
-use crate::spoken::Spoken;
-use crate::told::{LineIndex, StepText};
 use acta_hope::why_and_hope;
 use acta_machine::{Handle, Machine};
 use acta_table::{Answer, Event, LAST_TXN, Model, Rule, TxnId, lengthen};
 use acta_trace::{Step, Trace};
 use std::alloc::AllocError;
 
-/// The most refused events that are told of a run, and the most faults of a verdict. Later ones are counted, so that millions
+/// The most refused events that are explained of a run, and the most faults of a verdict. Later ones are counted, so that millions
 /// of them take neither time nor room.
-pub const MOST_TOLD: usize = 32_768;
+pub const MOST_RENDERED: usize = 32_768;
 
 // The most refused events that are remembered until one is admitted.
 const MOST_REFUSED: usize = 64;
 
-// How many edges are looked at, in a run, for transactions that wait for one another: what is found is told as long as
+// How many edges are looked at, in a run, for transactions that wait for one another: what is found is written as long as
 // it is found in so many looks, so that a run with many edges and many waits isn't slow.
 const MOST_LOOKS: usize = 2_000_000;
 
@@ -35,8 +34,8 @@ pub struct RunTrace<A: Handle> {
     refused: Vec<usize, A>,
     // By transaction the place of its last event, if that was refused.
     blocked: Vec<Option<usize>, A>,
-    refused_told: usize,
-    untold: usize,
+    refused_steps: usize,
+    skipped: usize,
     looks_left: usize,
 }
 
@@ -49,8 +48,8 @@ impl<A: Handle> RunTrace<A> {
             texts: Vec::new(alloc),
             refused: Vec::new(alloc),
             blocked: Vec::new(alloc),
-            refused_told: 0,
-            untold: 0,
+            refused_steps: 0,
+            skipped: 0,
             looks_left: MOST_LOOKS,
         })
     }
@@ -80,6 +79,7 @@ impl<A: Handle> RunTrace<A> {
         LineIndex {
             steps: self.trace.steps(),
             texts: self.texts.as_slice(),
+            edges: self.machine().edges(),
         }
     }
 
@@ -89,59 +89,45 @@ impl<A: Handle> RunTrace<A> {
     }
 
     /// How many refused events have no step, because so many had one before.
-    pub fn untold(&self) -> usize {
-        self.untold
+    pub fn skipped(&self) -> usize {
+        self.skipped
     }
 
-    /// Takes the event that the line says. An event that is refused has a step only if fewer than `MOST_TOLD` refused ones had
+    /// Takes all events, each of which a line of the input says.
+    pub fn take_all(&mut self, events: Vec<Event<A>, A>, input: &[u8]) -> Result<(), AllocError> {
+        let lines = non_blank_lines(self.alloc, input)?;
+        for (event, line) in events.into_iter().zip(lines) {
+            self.take(line, event)?;
+        }
+        Ok(())
+    }
+
+    /// Takes the event that the line says. An event that is refused has a step only if fewer than `MOST_RENDERED` refused ones had
     /// one before.
-    pub fn take(&mut self, spoken: Spoken<'_>, event: Event<A>) -> Result<(), AllocError> {
-        let is_told = self.refused_told < MOST_TOLD;
-        match self.trace.take(spoken.line, event, is_told)? {
-            Answer::Admitted { .. } => self.note_admitted(spoken),
-            Answer::Refused { rule, .. } if is_told => self.note_refused(spoken, rule),
-            Answer::Refused { .. } => {
-                self.untold = self.untold.saturating_add(1);
-                Ok(())
+    pub fn take(&mut self, line: NonBlankLine<'_>, event: Event<A>) -> Result<(), AllocError> {
+        let is_kept = self.refused_steps < MOST_RENDERED;
+        let t = first_named(&event);
+        let place = self.steps().len();
+        let reason = match self.trace.take(line.line, event, is_kept)? {
+            Answer::Admitted { .. } => {
+                self.refused.clear();
+                if let Some(last) = self.blocked.get_mut(t.0 as usize) {
+                    *last = None;
+                }
+                String::new(self.alloc)
             }
-        }
-    }
-
-    // Adds the words of the last step, which was admitted.
-    fn note_admitted(&mut self, spoken: Spoken<'_>) -> Result<(), AllocError> {
-        self.refused.clear();
-        let t = match self.steps().last() {
-            Some(step) => first_named(&step.event),
-            None => return Ok(()),
+            Answer::Refused { .. } if !is_kept => {
+                self.skipped = self.skipped.saturating_add(1);
+                return Ok(());
+            }
+            Answer::Refused { rule, .. } => {
+                self.refused_steps = self.refused_steps.saturating_add(1);
+                self.block(t, place)?;
+                self.reason_at(place, rule)?
+            }
         };
-        if let Some(place) = self.blocked.get_mut(t.0 as usize) {
-            *place = None;
-        }
-        self.push_text(spoken, String::new(self.alloc))
-    }
-
-    // Adds the words of the last step, which the rule refuses.
-    fn note_refused(&mut self, spoken: Spoken<'_>, rule: Rule) -> Result<(), AllocError> {
-        self.refused_told = self.refused_told.saturating_add(1);
-        let place = self.steps().len().saturating_sub(1);
-        let reason = self.reason_at(place, rule)?;
-        self.push_text(spoken, reason)?;
-        self.block(place)?;
-        self.remember(place)
-    }
-
-    // Adds the words of the last step.
-    fn push_text(&mut self, spoken: Spoken<'_>, reason: String<A>) -> Result<(), AllocError> {
-        match spoken.put_words(Prose::new(self.alloc), self.alloc).done() {
-            Ok(event) => {
-                self.texts.push(StepText { event, reason })?;
-                Ok(())
-            }
-            Err(e) => {
-                drop(reason);
-                Err(e)
-            }
-        }
+        self.texts.push(StepText::of(self.alloc, line, reason)?)?;
+        Ok(())
     }
 
     /// The last event of the transaction, if that was refused, and the place of its step.
@@ -157,48 +143,38 @@ impl<A: Handle> RunTrace<A> {
         u16::try_from(self.blocked.len()).unwrap_or(u16::MAX)
     }
 
-    // Notes the step at this place, which was refused, as the last of its transaction.
-    fn block(&mut self, place: usize) -> Result<(), AllocError> {
-        let t = match self.steps().get(place) {
-            Some(step) => first_named(&step.event),
-            None => return Ok(()),
-        };
+    // Notes the step at this place, which was refused, as the last of the transaction.
+    fn block(&mut self, t: TxnId, place: usize) -> Result<(), AllocError> {
         if t.0 > LAST_TXN {
             return Ok(());
         }
-        let t = t.0 as usize;
-        lengthen(&mut self.blocked, t + 1, None)?;
-        if let Some(last) = self.blocked.get_mut(t) {
+        lengthen(&mut self.blocked, t.0 as usize + 1, None)?;
+        if let Some(last) = self.blocked.get_mut(t.0 as usize) {
             *last = Some(place);
         }
         Ok(())
     }
 
-    // Notes the step at this place, which was refused, for where its event comes again.
-    fn remember(&mut self, place: usize) -> Result<(), AllocError> {
-        if self.refused.len() < MOST_REFUSED && self.refused_before(place).is_none() {
-            self.refused.push(place)?;
-        }
-        Ok(())
-    }
-
-    // The words of the step that refused the event of the one at this place, since the last event that was admitted.
+    // The words of the step that refused the same event as the one at this place, since the last event that was admitted.
     fn refused_before(&self, place: usize) -> Option<&StepText<A>> {
         let event = &self.steps().get(place)?.event;
         for earlier in self.refused.iter() {
-            let step = self.steps().get(*earlier)?;
-            if step.event.is_same(event) {
+            if self.steps().get(*earlier)?.event.is_same(event) {
                 return self.texts.get(*earlier);
             }
         }
         None
     }
 
-    // Why the event of the step at this place is refused, by this rule, in lines.
+    // Why the event of the step at this place is refused, by this rule, in lines. The step is noted for where the event comes
+    // again.
     fn reason_at(&mut self, place: usize, rule: Rule) -> Result<String<A>, AllocError> {
         let prose = Prose::new(self.alloc);
         if let Some(text) = self.refused_before(place) {
             return prose.put(text.reason.as_str()).done();
+        }
+        if self.refused.len() < MOST_REFUSED {
+            self.refused.push(place)?;
         }
         let looks = self.machine().edges().len();
         let looks_for_waits = looks <= self.looks_left;
@@ -228,21 +204,14 @@ impl<A: Handle> RunTrace<A> {
 
     /// Adds the operation that a step did, and the edges that it formed.
     pub fn put_formed(&self, prose: Prose<A>, step: &Step<A>) -> Prose<A> {
-        let mut prose = match step.op {
+        let prose = match step.op {
             Some(op) => put!(prose; "operation ", op.0),
             None => prose,
         };
-        let mut gap = if prose.is_empty() { "" } else { "; " };
         let edges = self.machine().edges();
-        let new = edges
+        let formed = edges
             .get(step.edges_before..step.edges_after)
             .unwrap_or(&[]);
-        let mut number = step.edges_before as u64;
-        for edge in first_listed(new) {
-            number = number.saturating_add(1);
-            prose = put_numbered_edge(prose.put(gap), number, edge);
-            gap = "; ";
-        }
-        put_more(prose, "; and ", new.len())
+        put_edges(prose, step.edges_before, formed, MOST_LISTED)
     }
 }

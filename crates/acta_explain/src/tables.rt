@@ -1,15 +1,29 @@
-//! What is told of a rule, an axiom or a code that is asked for by its number or its name.
+//! What a rule, an axiom or a code means that is asked for by its number or its name.
 
 use crate::prose::Prose;
 use crate::put;
-use crate::words::{
-    AXIOMS, Entry, IMAGE_FAULTS, LINE_CODES, MODEL_FAULTS, RULES, TEXT_CODES, axiom_entry,
-    image_entry, line_entry, model_entry, rule_entry, text_entry,
-};
+use acta_axioms::Axiom;
+use acta_image::ImageFault;
+use acta_lang::Code;
+use acta_script::LineFault;
+use acta_table::{Dep, ModelFault, Rule};
 use acta_words::read_u16;
 use std::alloc::Allocator;
 
-/// The tables of words.
+/// A rule, an axiom or a code, in words.
+#[derive(Clone, Copy)]
+pub struct Entry {
+    /// Its number, as the program prints it.
+    pub number: u8,
+    /// Its name.
+    pub name: &'static str,
+    /// What it means.
+    pub sentence: &'static str,
+    /// What the number means that is printed with it, as a transaction or an edge; empty where none is printed.
+    pub by: &'static str,
+}
+
+/// The tables of entries.
 #[derive(Clone, Copy)]
 pub enum Table {
     Rules,
@@ -31,6 +45,121 @@ pub const CODES: [Table; 4] = [
     Table::ModelFaults,
 ];
 
+// All rules, by number.
+#[rattlefmt::skip]
+const RULES: [Rule; 28] = [
+    Rule::Full, Rule::BadNumber, Rule::BadClass, Rule::BadObject, Rule::BadOperation,
+    Rule::SameTransaction, Rule::NotInProgress, Rule::AlreadyBegun, Rule::NotInModel,
+    Rule::PartnerNotInProgress, Rule::NotResponsible, Rule::PartialDelegation, Rule::BadSet,
+    Rule::Conflict, Rule::FormTooLate, Rule::EdgesFull, Rule::BeginDep, Rule::SerialDep,
+    Rule::BeginOnCommit, Rule::BeginOnAbort, Rule::TerminationDep, Rule::OwesAbort,
+    Rule::OwesCommit, Rule::CommitOrder, Rule::WeakBegin, Rule::Unpayable, Rule::Clash,
+    Rule::NoHeir,
+];
+
+// All axioms, by number.
+#[rattlefmt::skip]
+const AXIOMS: [Axiom; 26] = [
+    Axiom::BegunOnce, Axiom::EndedAfterBegun, Axiom::EndedOnce, Axiom::OperatesInProgress,
+    Axiom::FormOfEvent, Axiom::Allowed, Axiom::PartiesInProgress, Axiom::Responsible,
+    Axiom::HandsWhole, Axiom::Conflict, Axiom::Return, Axiom::Heir, Axiom::FormedInTime,
+    Axiom::Dependency(Dep::Cd), Axiom::Dependency(Dep::Scd), Axiom::Dependency(Dep::Ad),
+    Axiom::Dependency(Dep::Wd), Axiom::Dependency(Dep::Td), Axiom::Dependency(Dep::Ed),
+    Axiom::Dependency(Dep::Cmd), Axiom::Dependency(Dep::Bd), Axiom::Dependency(Dep::Sd),
+    Axiom::Dependency(Dep::Bcd), Axiom::Dependency(Dep::Bad), Axiom::Dependency(Dep::Wcd),
+    Axiom::Clash,
+];
+
+// All codes of lines, by number.
+const LINE_CODES: [LineFault; 5] = [
+    LineFault::Empty,
+    LineFault::Word,
+    LineFault::Arity,
+    LineFault::Number,
+    LineFault::Name,
+];
+
+// All codes of texts of models, by number.
+const TEXT_CODES: [Code; 12] = [
+    Code::NotAscii,
+    Code::BadWord,
+    Code::BadName,
+    Code::DuplicateName,
+    Code::WrongPlace,
+    Code::BadNumber,
+    Code::TooMany,
+    Code::MissingEnd,
+    Code::MissingPart,
+    Code::BeginKindAtStart,
+    Code::HeirWithoutSpawn,
+    Code::BadPolicyKind,
+];
+
+// All faults of models, by number.
+const MODEL_FAULTS: [ModelFault; 8] = [
+    ModelFault::NoClass,
+    ModelFault::TooManyClasses,
+    ModelFault::TooManyObjects,
+    ModelFault::DuplicateName,
+    ModelFault::BadName,
+    ModelFault::BeginKindAtStart,
+    ModelFault::HeirWithoutSpawn,
+    ModelFault::BadPolicyKind,
+];
+
+// One fault of images of each number.
+const IMAGE_FAULTS: [ImageFault; 6] = [
+    ImageFault::Magic,
+    ImageFault::Version,
+    ImageFault::Truncated,
+    ImageFault::BadField(0),
+    ImageFault::Trailing(0),
+    ImageFault::Model(ModelFault::NoClass),
+];
+
+const TRANSACTION: &str = "a transaction";
+
+const OPERATION: &str = "an operation";
+
+const EDGE: &str = "an edge";
+
+const NOTHING: &str = "";
+
+// What the number means that is printed with a rule.
+fn named_by_rule(rule: Rule) -> &'static str {
+    match rule {
+        Rule::Full
+        | Rule::BadClass
+        | Rule::BadObject
+        | Rule::BadOperation
+        | Rule::NotInModel
+        | Rule::EdgesFull => NOTHING,
+        Rule::NotResponsible | Rule::PartialDelegation | Rule::BadSet | Rule::Conflict => OPERATION,
+        Rule::BeginDep
+        | Rule::SerialDep
+        | Rule::BeginOnCommit
+        | Rule::BeginOnAbort
+        | Rule::TerminationDep
+        | Rule::OwesAbort
+        | Rule::OwesCommit
+        | Rule::CommitOrder
+        | Rule::WeakBegin
+        | Rule::Unpayable => EDGE,
+        _ => TRANSACTION,
+    }
+}
+
+// What the number means that is printed with an axiom.
+fn named_by_axiom(axiom: Axiom) -> &'static str {
+    match axiom {
+        Axiom::Responsible | Axiom::HandsWhole | Axiom::Conflict => OPERATION,
+        Axiom::Return => "an operation, or 0",
+        Axiom::Heir => "a transaction, or 0",
+        Axiom::Dependency(_) => EDGE,
+        _ => TRANSACTION,
+    }
+}
+
 impl Table {
     /// What an entry of the table is called before its number.
     pub fn title(self) -> &'static str {
@@ -46,41 +175,66 @@ impl Table {
 
     /// The entry at this place of the table, from 0.
     pub fn entry(self, place: usize) -> Option<Entry> {
-        match self {
-            Table::Rules => Some(rule_entry(*RULES.get(place)?)),
-            Table::Axioms => Some(axiom_entry(*AXIOMS.get(place)?)),
-            Table::LineCodes => Some(line_entry(*LINE_CODES.get(place)?)),
-            Table::TextCodes => Some(text_entry(*TEXT_CODES.get(place)?)),
-            Table::ImageFaults => Some(image_entry(*IMAGE_FAULTS.get(place)?)),
-            Table::ModelFaults => Some(model_entry(*MODEL_FAULTS.get(place)?)),
-        }
-    }
-}
-
-// Whether the entry is asked for by this word, its number or its name.
-fn is_meant(entry: &Entry, word: &str) -> bool {
-    entry.name.eq_ignore_ascii_case(word)
-        || read_u16(word.as_bytes()) == Some(u16::from(entry.number))
-}
-
-// Adds an entry: its number and its name, and what it says.
-fn put_entry<A: Allocator>(prose: Prose<A>, table: Table, entry: &Entry) -> Prose<A> {
-    let prose =
-        put!(prose; table.title(), " ", entry.number, ": ", entry.name, "\n    ", entry.says, "\n");
-    if entry.by.is_empty() {
-        prose
-    } else {
-        put!(prose; "    The number told with it is that of ", entry.by, ".\n")
-    }
-}
-
-/// Adds what the table says by this word, the number or the name of an entry.
-pub fn put_meant<A: Allocator>(mut prose: Prose<A>, table: Table, word: &str) -> Prose<A> {
-    for place in 0..MOST_ENTRIES {
-        if let Some(entry) = table.entry(place) {
-            if is_meant(&entry, word) {
-                prose = put_entry(prose, table, &entry);
+        let (number, name, sentence, by) = match self {
+            Table::Rules => {
+                let rule = *RULES.get(place)?;
+                (
+                    rule.number(),
+                    rule.name(),
+                    rule.sentence(),
+                    named_by_rule(rule),
+                )
             }
+            Table::Axioms => {
+                let axiom = *AXIOMS.get(place)?;
+                (
+                    axiom.number(),
+                    axiom.name(),
+                    axiom.sentence(),
+                    named_by_axiom(axiom),
+                )
+            }
+            Table::LineCodes => {
+                let fault = *LINE_CODES.get(place)?;
+                (fault.number(), fault.name(), fault.sentence(), NOTHING)
+            }
+            Table::TextCodes => {
+                let code = *TEXT_CODES.get(place)?;
+                (code.number(), code.name(), code.sentence(), NOTHING)
+            }
+            Table::ImageFaults => {
+                let fault = *IMAGE_FAULTS.get(place)?;
+                (fault.number(), fault.name(), fault.sentence(), NOTHING)
+            }
+            Table::ModelFaults => {
+                let fault = *MODEL_FAULTS.get(place)?;
+                (fault.number(), fault.name(), fault.sentence(), NOTHING)
+            }
+        };
+        Some(Entry {
+            number,
+            name,
+            sentence,
+            by,
+        })
+    }
+}
+
+/// Adds the entries of the table that have this word as their number or their name: the number and the name of each, and what it
+/// means.
+pub fn put_meant<A: Allocator>(mut prose: Prose<A>, table: Table, word: &str) -> Prose<A> {
+    let number = read_u16(word.as_bytes());
+    for place in 0..MOST_ENTRIES {
+        let Some(entry) = table.entry(place) else {
+            continue;
+        };
+        if !entry.name.eq_ignore_ascii_case(word) && number != Some(u16::from(entry.number)) {
+            continue;
+        }
+        prose = put!(prose; table.title(), " ", entry.number, ": ", entry.name, "\n    ",
+            entry.sentence, "\n");
+        if !entry.by.is_empty() {
+            prose = put!(prose; "    The number told with it is that of ", entry.by, ".\n");
         }
     }
     prose

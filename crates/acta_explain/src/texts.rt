@@ -1,21 +1,22 @@
 //! What is wrong with a text of a model: where, with which word, what stands there in a good text, and which word was
 //! perhaps meant.
 
-use crate::hints::put_hint;
+use crate::faults::put_hint;
 use crate::phrases::name_text;
-use crate::placed::{Placed, column_behind, placed_words, put_shown};
 use crate::prose::Prose;
 use crate::put;
+use crate::shown::{column_of_missing, put_shown};
 use acta_lang::{ClassLines, Expected, PartLines, TextDiagnostic, diagnose};
 use acta_machine::Handle;
-use acta_words::Lines;
+use acta_words::{Lines, Span, word_span, words_of};
 
-// A line that is faulty, its words, and what is wrong with it.
+// A line that is faulty, how many words it has, the word at fault, if there is one, and what is wrong with it.
 #[derive(Drop)]
 struct BadText<'a, A: Handle> {
     alloc: A,
     bytes: &'a [u8],
-    words: Vec<Placed<'a>, A>,
+    words: usize,
+    word: Option<Span>,
     found: TextDiagnostic<'a>,
 }
 
@@ -59,24 +60,20 @@ fn expected_text(expected: Expected) -> &'static str {
 }
 
 impl<'a, A: Handle> BadText<'a, A> {
-    // The word at fault, if the line has one there.
-    fn word(&self) -> Option<&Placed<'a>> {
-        self.words.get(self.found.place?)
-    }
-
-    // The text of the word at fault.
+    // The bytes of the word at fault.
     fn word_text(&self) -> &'a [u8] {
-        match self.word() {
-            Some(placed) => placed.word,
-            None => b"".as_slice(),
-        }
+        let word = match self.word {
+            Some(span) => self.bytes.get(span.from..span.to),
+            None => None,
+        };
+        word.unwrap_or(b"".as_slice())
     }
 
-    // Adds the column of the word at fault, or else the one behind the last.
+    // Adds the column of the word at fault, or else the one after the last word.
     fn put_column(&self, prose: Prose<A>) -> Prose<A> {
-        let column = match self.word() {
-            Some(placed) => placed.column,
-            None => column_behind(self.words.as_slice()),
+        let column = match self.word {
+            Some(span) => span.from.saturating_add(1),
+            None => column_of_missing(self.bytes, self.words),
         };
         put!(prose; ", column ", column)
     }
@@ -86,20 +83,17 @@ impl<'a, A: Handle> BadText<'a, A> {
         put_shown(self.put_column(prose).put(": `"), self.word_text()).put("`\n")
     }
 
-    // Adds what is told of the word at fault: the word, what is expected in its place, and a hint.
+    // Adds the word at fault, what is expected in its place, and a hint.
     fn put_word(&self, prose: Prose<A>) -> Prose<A> {
         let expected = self.found.expected;
         let prose = self.put_column(prose);
-        match self.word() {
-            Some(placed) => {
-                let prose = put_shown(prose.put(": `"), placed.word);
-                let prose = put!(prose; "`\nexpected ", expected_text(expected));
-                put_hint(prose, self.alloc, placed.word, expected.words())
-            }
-            None => {
-                put!(prose; ", where the line lacks a word\nexpected ", expected_text(expected))
-            }
+        if self.word.is_none() {
+            return put!(prose; ", where the line lacks a word\nexpected ", expected_text(expected));
         }
+        let word = self.word_text();
+        let prose = put_shown(prose.put(": `"), word);
+        let prose = put!(prose; "`\nexpected ", expected_text(expected));
+        put_hint(prose, self.alloc, word, expected.words())
     }
 
     // Adds the byte at this offset, which no text has.
@@ -166,7 +160,7 @@ impl<'a, A: Handle> BadText<'a, A> {
         }
     }
 
-    // Adds what is told of the line.
+    // Adds what is wrong with the line.
     fn put_found(&self, prose: Prose<A>) -> Prose<A> {
         match (self.found.expected, self.found.class) {
             (Expected::Printable(offset), _) => self.put_byte(prose, offset),
@@ -218,13 +212,19 @@ pub fn put_text_fault<A: Handle>(prose: Prose<A>, alloc: A, text: &[u8]) -> Pros
     let bytes = Lines::of(text)
         .nth(found.line.saturating_sub(1))
         .unwrap_or(b"".as_slice());
-    let Ok(words) = placed_words(alloc, bytes) else {
-        return prose.fail();
+    let words = match words_of(alloc, bytes) {
+        Ok(words) => words.len(),
+        Err(_) => return prose.fail(),
+    };
+    let word = match found.place {
+        Some(place) => word_span(bytes, place),
+        None => None,
     };
     let bad = BadText {
         alloc,
         bytes,
         words,
+        word,
         found,
     };
     bad.put_found(put!(prose; ", line ", found.line))

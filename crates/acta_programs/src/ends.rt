@@ -6,7 +6,7 @@ use crate::programs::Programs;
 use crate::totals::{Totals, kind_words};
 use crate::waiting::{put_deadlocks, put_debts, put_waits};
 use acta_ends::{Condition, kept_ends};
-use acta_explain::{Prose, RunTrace, Spoken, name_text, put};
+use acta_explain::{NonBlankLine, Prose, RunTrace, name_text, put};
 use acta_explore::{Done, Explored, Outcome, Point, TxnStatus, Value};
 use acta_io::Report;
 use acta_machine::Handle;
@@ -122,7 +122,7 @@ fn take_all<A: Handle>(
         let text = Prose::new(programs.alloc);
         let text = programs.put_alternative(text, step.line, step.alternative);
         let text = text.done()?;
-        let line = Spoken {
+        let line = NonBlankLine {
             line: programs.number(step.line),
             bytes: text.as_bytes(),
         };

@@ -1,7 +1,7 @@
 //! Programs, with the lines of the input that say them.
 
 use acta_ends::{Condition, condition_text};
-use acta_explain::{Prose, Spoken, name_text, put};
+use acta_explain::{NonBlankLine, Prose, name_text, put};
 use acta_explore::{Plan, Step};
 use acta_machine::Handle;
 use acta_script::ProgramLine;
@@ -17,7 +17,7 @@ pub struct Programs<'a, A: Handle> {
     /// The number of each line in the input.
     pub numbers: &'a [usize],
     /// Each line as the input has it.
-    pub texts: &'a [Spoken<'a>],
+    pub texts: &'a [NonBlankLine<'a>],
     pub plan: &'a Plan<'a, A>,
 }
 

@@ -14,7 +14,7 @@ use crate::conditions::explain_condition;
 use crate::ends::{explain_ends, explain_incomplete};
 use crate::programs::Programs;
 use acta_ends::{Condition, ConditionError, read_condition};
-use acta_explain::spoken_in;
+use acta_explain::non_blank_lines;
 use acta_explore::{ExploreError, Explored, Plan, Watch, explore};
 use acta_io::{
     MOST_SEATS, ModelError, Outcome, ProgramLines, ReadFault, Report, Sink, Source,
@@ -37,7 +37,7 @@ fn explain_explored<A: Handle>(
 ) -> Result<Report<A>, AllocError>
     ensures { IfOk result (λ report. report.is_refused ≡ false) }
 {
-    let texts = spoken_in(alloc, input)?;
+    let texts = non_blank_lines(alloc, input)?;
     let plan = Plan::of(alloc, lines)?;
     let programs = Programs {
         alloc,

@@ -1,6 +1,6 @@
 //! Why no order is serial, in words.
 
-use acta_explain::{Prose, Spoken, name_text, put, put_lacking, put_return};
+use acta_explain::{NonBlankLine, Prose, name_text, put, put_lacking, put_return};
 use acta_machine::Handle;
 use acta_order::{Block, Cause, DeadEnd};
 use acta_table::{Event, Kept, Model, OpNo, Ret, TxnId};
@@ -19,7 +19,7 @@ pub(crate) struct History<'a, A: Handle> {
     pub(crate) alloc: A,
     pub(crate) model: &'a Model<A>,
     pub(crate) kept: &'a [Kept<A>],
-    pub(crate) lines: &'a [Spoken<'a>],
+    pub(crate) lines: &'a [NonBlankLine<'a>],
 }
 
 impl<'a, A: Handle> History<'a, A> {

@@ -8,7 +8,7 @@ ghost use Rattle.acta_serialize.specs.Answers.{IsAnswer, IsAnswerOn, IsOfHistory
 use crate::answers::{write_none, write_order, write_undecided};
 use crate::args::Asked;
 use crate::reasons::History;
-use acta_explain::spoken_in;
+use acta_explain::non_blank_lines;
 use acta_io::{
     KeptLines, ModelError, Outcome, ReadFault, Report, Sink, Source, read_lines, read_model,
     read_within, refuse_by, refuse_line, refuse_model, write_report,
@@ -28,7 +28,7 @@ fn explain_none<A: Handle>(
 ) -> Result<Report<A>, AllocError>
     ensures { IfOk result (λ report. SaysNone (output_of report)) }
 {
-    let lines = spoken_in(alloc, input)?;
+    let lines = non_blank_lines(alloc, input)?;
     let history = History {
         alloc,
         model,

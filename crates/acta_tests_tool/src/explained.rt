@@ -6,7 +6,7 @@ use crate::runs::ends;
 use acta_args::ModelName;
 use acta_compare::{Asked as AskedModels, Compared, compare_tool};
 use acta_draw::{Choice, Drawing, Form, Screen, draw_tool};
-use acta_explain::{RunTrace, Spoken, explain_tool};
+use acta_explain::{NonBlankLine, RunTrace, explain_tool};
 use acta_io::{LineKind, Metered, Outcome, ReadFault, Watched};
 use acta_lang::assemble;
 use acta_models::Standard;
@@ -332,7 +332,7 @@ fn explain_lacking(rt: &impl Abort, alloc: Global, event: Event<Global>, due: &s
     let model = made(rt, assemble(alloc, Standard::Atomic.text().as_bytes()), due);
     let mut run = made(rt, RunTrace::new(alloc, model), due);
     let (line, bytes) = (1, b"".as_slice());
-    made(rt, run.take(Spoken { line, bytes }, event), due);
+    made(rt, run.take(NonBlankLine { line, bytes }, event), due);
     let reason = run.texts().first().map_or("", |text| text.reason.as_str());
     tells(rt, reason.as_bytes(), due.as_bytes(), due);
     drop(run);

@@ -1,0 +1,122 @@
+//! The lines of an input that have words, and the lines to which a sentence refers: those of an operation, of an edge, or of the
+//! event that began or ended a transaction.
+
+use crate::phrases::name_text;
+use crate::prose::Prose;
+use crate::put;
+use acta_machine::Handle;
+use acta_table::{Edge, OpNo, TxnId};
+use acta_trace::Steps;
+use acta_words::{Lines, has_words, words_of};
+use std::alloc::{AllocError, Allocator};
+
+/// A line of an input that has words.
+#[derive(Clone, Copy)]
+pub struct NonBlankLine<'a> {
+    /// Its number, from 1.
+    pub line: usize,
+    /// Its bytes.
+    pub bytes: &'a [u8],
+}
+
+/// The lines of the input that have words, in order.
+pub fn non_blank_lines<'a, A: Allocator>(
+    alloc: A,
+    input: &'a [u8],
+) -> Result<Vec<NonBlankLine<'a>, A>, AllocError> {
+    let mut found = Vec::new(alloc);
+    let mut line = 0usize;
+    for bytes in Lines::of(input) {
+        line = line.saturating_add(1);
+        if has_words(bytes) {
+            found.push(NonBlankLine { line, bytes })?;
+        }
+    }
+    Ok(found)
+}
+
+impl<'a> NonBlankLine<'a> {
+    /// Adds its words, with single spaces between them.
+    pub fn put_words<A: Handle>(self, mut prose: Prose<A>, alloc: A) -> Prose<A> {
+        let Ok(words) = words_of(alloc, self.bytes) else {
+            return prose.fail();
+        };
+        let mut gap = "";
+        for word in words.iter() {
+            prose = put!(prose; gap, name_text(word));
+            gap = " ";
+        }
+        prose
+    }
+}
+
+/// The words of a step: its event as the input has it, and why it is refused, in lines.
+#[derive(Drop)]
+pub struct StepText<A: Handle> {
+    pub event: String<A>,
+    pub reason: String<A>,
+}
+
+impl<A: Handle> StepText<A> {
+    /// The words of the step that a line says, with the reason for which it is refused.
+    pub fn of(
+        alloc: A,
+        line: NonBlankLine<'_>,
+        reason: String<A>,
+    ) -> Result<StepText<A>, AllocError> {
+        let event = line.put_words(Prose::new(alloc), alloc).done()?;
+        Ok(StepText { event, reason })
+    }
+}
+
+/// A line of the input: its number, from 1, and its event as the input has it.
+#[derive(Clone, Copy)]
+pub struct LineText<'a> {
+    pub line: usize,
+    pub event: &'a str,
+}
+
+/// Steps, each with its words, and the edges that they formed.
+#[derive(Clone, Copy)]
+pub struct LineIndex<'a, A: Handle> {
+    pub steps: &'a Steps<A>,
+    pub texts: &'a [StepText<A>],
+    pub edges: &'a [Edge],
+}
+
+impl<'a, A: Handle> LineIndex<'a, A> {
+    /// The line of the step at this place, from 0.
+    pub fn at(&self, place: usize) -> Option<LineText<'a>> {
+        let step = self.steps.as_slice().get(place)?;
+        let text = self.texts.get(place)?;
+        Some(LineText {
+            line: step.line,
+            event: text.event.as_str(),
+        })
+    }
+
+    /// The line that did the operation.
+    pub fn operation(&self, op: OpNo) -> Option<LineText<'a>> {
+        self.at(self.steps.operation(op)?)
+    }
+
+    /// The line that formed the edge with this number.
+    pub fn edge_line(&self, number: u64) -> Option<LineText<'a>> {
+        self.at(self.steps.edge(u32::try_from(number).ok()?)?)
+    }
+
+    /// The edge with this number.
+    pub fn edge(&self, number: u64) -> Option<&'a Edge> {
+        self.edges.get((number as usize).checked_sub(1)?)
+    }
+
+    /// The line that began the transaction.
+    pub fn begin(&self, t: TxnId) -> Option<LineText<'a>> {
+        self.at(self.steps.begin_of(t)?)
+    }
+
+    /// The line that ended the transaction.
+    pub fn end(&self, t: TxnId) -> Option<LineText<'a>> {
+        self.at(self.steps.end_of(t)?)
+    }
+}
