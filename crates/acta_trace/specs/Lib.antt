@@ -1,4 +1,5 @@
-pub mod Firsts
+pub mod Latest
+pub mod Lines
 pub mod Steps
 pub mod Traces
 pub mod inside

@@ -5,12 +5,14 @@
 //! if memory runs out.
 #![tactic(auto)]
 
-mod firsts;
+mod history;
 mod index;
+mod latest;
 mod step;
 mod steps;
 mod trace;
 
+pub use history::{push_event_lines, push_kept_lines};
 pub use step::Step;
 pub use steps::Steps;
 pub use trace::Trace;
