@@ -25,5 +25,5 @@ mod wrapping;
 
 pub use args::{Asked, DrawLine, Drawing, Form};
 pub use choice::Choice;
-pub use picture::{draw, draw_tool};
+pub use picture::{draw, draw_run, draw_tool};
 pub use screen::Screen;

@@ -62,8 +62,8 @@ fn no_model<A: Handle>(alloc: A, drawing: &Drawing, fault: NoModel) -> Result<Re
     }
 }
 
-// What is drawn of a run of the event lines of the input.
-fn draw_run<A: Handle>(
+/// What is drawn of a run of the event lines of the input, which is refused if a line is faulty.
+pub fn draw_run<A: Handle>(
     alloc: A,
     drawing: &Drawing,
     screen: Screen,

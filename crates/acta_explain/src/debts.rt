@@ -1,34 +1,44 @@
 //! Whether what is owed can still be paid.
 
+use crate::lines::LineIndex;
 use crate::phrases::{first_named, put_formed_edge, put_standing};
 use crate::prose::Prose;
 use crate::put;
 use crate::reasons::Refused;
-use crate::run_trace::RunTrace;
 use acta_hope::{Hope, why_and_hope};
-use acta_machine::Handle;
+use acta_machine::{Handle, Machine};
 use acta_script::event_word;
 use acta_table::{Event, Missing, TxnId};
 
 // Adds that the debtor never begins, by the edge of this number.
-fn put_lost<A: Handle>(prose: Prose<A>, run: &RunTrace<A>, debtor: TxnId, number: u32) -> Prose<A> {
-    let (lines, number) = (run.lines(), u64::from(number));
+fn put_lost<A: Handle>(
+    prose: Prose<A>,
+    machine: &Machine<A>,
+    lines: LineIndex<'_, A>,
+    debtor: TxnId,
+    number: u32,
+) -> Prose<A> {
+    let number = u64::from(number);
     let prose = put!(prose; "It can't be paid any more: ", debtor.0, " never begins");
     let Some(edge) = lines.edge(number) else {
         return prose.put(".");
     };
     let prose = put_formed_edge(prose.put(", by "), lines, number);
     let prose = put!(prose; "\n", edge.i.0, " ");
-    put_standing(prose, lines, edge.i, run.machine().status(edge.i)).put(".")
+    put_standing(prose, lines, edge.i, machine.status(edge.i)).put(".")
 }
 
 // Adds whether the event that pays would be admitted, or why it is refused, for now or for ever.
-fn put_payment<A: Handle>(prose: Prose<A>, run: &RunTrace<A>, payment: &Event<A>) -> Prose<A> {
-    let machine = run.machine();
+fn put_payment<A: Handle>(
+    prose: Prose<A>,
+    machine: &Machine<A>,
+    lines: LineIndex<'_, A>,
+    payment: &Event<A>,
+) -> Prose<A> {
     let (word, debtor) = (event_word(payment.kind()), first_named(payment).0);
     let refused = Refused {
         machine,
-        lines: run.lines(),
+        lines,
         event: payment,
     };
     match why_and_hope(machine, payment) {
@@ -51,17 +61,18 @@ fn put_payment<A: Handle>(prose: Prose<A>, run: &RunTrace<A>, payment: &Event<A>
 /// `acta_hope` says of the machine.
 pub fn put_prospect<A: Handle>(
     prose: Prose<A>,
-    run: &RunTrace<A>,
+    machine: &Machine<A>,
+    lines: LineIndex<'_, A>,
     lost: &[u32],
     debtor: TxnId,
     missing: Missing,
 ) -> Prose<A> {
     match lost.get(debtor.0 as usize) {
-        Some(number) if *number != 0 => return put_lost(prose, run, debtor, *number),
+        Some(number) if *number != 0 => return put_lost(prose, machine, lines, debtor, *number),
         _ => {}
     }
     match missing {
-        Missing::Commit => put_payment(prose, run, &Event::Commit(debtor)),
-        Missing::Abort => put_payment(prose, run, &Event::Abort(debtor)),
+        Missing::Commit => put_payment(prose, machine, lines, &Event::Commit(debtor)),
+        Missing::Abort => put_payment(prose, machine, lines, &Event::Abort(debtor)),
     }
 }

@@ -12,8 +12,8 @@ use acta_io::{BadLine, MOST_SEATS, refuse_line};
 use acta_machine::Handle;
 use acta_script::{
     BreakKind, CommandKind, Diagnostic, EVENT_KINDS, Expected, LineFault, LinePart, OpKind,
-    RETURN_WORDS, WordPlace, diagnose_command, diagnose_event, diagnose_kept, diagnose_seated,
-    event_form, event_word,
+    RETURN_WORDS, ShellFault, ShellKind, WordPlace, diagnose_command, diagnose_event,
+    diagnose_kept, diagnose_seated, event_form, event_word, read_shell_line,
 };
 use acta_table::{Dep, Model};
 use acta_words::{Lines, word_span};
@@ -30,6 +30,8 @@ pub enum LineForm {
     Seated,
     /// A command to a debugger.
     Command,
+    /// A line of a session: an event, a question, or a command.
+    Shell,
 }
 
 /// A line that says nothing, by which a run stops.
@@ -73,6 +75,7 @@ fn return_words<'a, A: Handle>(alloc: A) -> Result<Vec<&'a str, A>, AllocError> 
 fn known_words<'a, A: Handle>(
     alloc: A,
     model: &'a Model<A>,
+    form: LineForm,
     expected: Expected,
 ) -> Result<Vec<&'a str, A>, AllocError> {
     if let Expected::Part(LinePart::Return) = expected {
@@ -83,6 +86,11 @@ fn known_words<'a, A: Handle>(
         Expected::Part(LinePart::Event) => {
             for kind in EVENT_KINDS {
                 words.push(event_word(kind))?;
+            }
+            if form == LineForm::Shell {
+                for kind in ShellKind::ALL {
+                    words.push(kind.word())?;
+                }
             }
         }
         Expected::Part(LinePart::Kind) => {
@@ -203,10 +211,15 @@ fn put_event<A: Handle>(prose: Prose<A>, wrong: WrongWord<'_>, known: &[&str]) -
     let Some(word) = wrong.word else {
         return prose.put(match wrong.form {
             LineForm::Seated => "an event behind the seat",
+            LineForm::Shell => "an event behind `can`",
             _ => "an event before the `=`",
         });
     };
-    let prose = put_either(prose.put("an event: "), known);
+    let prose = if wrong.form == LineForm::Shell {
+        prose.put("an event or a command (`help` lists them)")
+    } else {
+        put_either(prose.put("an event: "), known)
+    };
     match OpKind::of_word(word) {
         Some(kind) if wrong.form != LineForm::Command => {
             put!(prose; "\nan operation is written `", kind.form(), "`")
@@ -257,6 +270,11 @@ fn diagnosis_of<A: Handle>(
         LineForm::Kept => diagnose_kept(alloc, model, stop.bytes),
         LineForm::Seated => diagnose_seated(alloc, model, MOST_SEATS, stop.bytes),
         LineForm::Command => diagnose_command(alloc, model, stop.bytes),
+        LineForm::Shell => match read_shell_line(alloc, model, stop.bytes) {
+            Ok(_) => Ok(None),
+            Err(ShellFault::Wrong(found)) => Ok(Some(found)),
+            Err(ShellFault::Memory) => Err(AllocError),
+        },
     }
 }
 
@@ -266,12 +284,22 @@ fn stop_text<A: Handle>(
     model: &Model<A>,
     stop: &Stop<'_>,
 ) -> Result<String<A>, AllocError> {
-    let name = Prose::new(alloc).put(stop.fault.name());
-    let Some(found) = diagnosis_of(alloc, model, stop)? else {
-        return name.done();
-    };
+    match diagnosis_of(alloc, model, stop)? {
+        Some(found) => fault_text(alloc, model, stop, found),
+        None => Prose::new(alloc).put(stop.fault.name()).done(),
+    }
+}
+
+/// The fault of the line, and what was found to be wrong with it, in lines.
+pub fn fault_text<A: Handle>(
+    alloc: A,
+    model: &Model<A>,
+    stop: &Stop<'_>,
+    found: Diagnostic,
+) -> Result<String<A>, AllocError> {
+    let name = Prose::new(alloc).put(found.fault.name());
     let wrong = wrong_word_at(stop, found.place);
-    let known = known_words(alloc, model, found.expected)?;
+    let known = known_words(alloc, model, stop.form, found.expected)?;
     put_wrong_word(name, alloc, wrong, found.expected, &known).done()
 }
 

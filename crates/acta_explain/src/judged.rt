@@ -139,6 +139,7 @@ impl<'a, A: Handle> Scene<'a, A> {
     // The lines of the places.
     fn lines(&self) -> LineIndex<'_, A> {
         LineIndex {
+            noun: "line",
             steps: &self.steps,
             texts: self.texts.as_slice(),
             edges: self.walk.edges(),

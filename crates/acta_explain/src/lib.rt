@@ -30,13 +30,13 @@ mod texts;
 pub use advice::{Advice, advice_for};
 pub use args::{Asked, ExplainLine};
 pub use debts::put_prospect;
-pub use faults::{LineForm, Stop, put_stop};
+pub use faults::{LineForm, Stop, fault_text, put_stop};
 pub use layout::{digits, put_barred};
 pub use lines::{LineIndex, NonBlankLine, StepText, non_blank_lines};
 pub use listing::{first_listed, put_more};
 pub use phrases::{
-    first_named, name_text, put_edges, put_lacking, put_line, put_numbered_edge, put_return,
-    put_standing,
+    class_at, first_named, name_text, put_edges, put_formed_edge, put_lacking, put_line,
+    put_numbered_edge, put_operation, put_return, put_standing,
 };
 pub use prose::{Prose, report_of};
 pub use reasons::Refused;

@@ -69,16 +69,22 @@ impl<A: Handle> StepText<A> {
     }
 }
 
-/// A line of the input: its number, from 1, and its event as the input has it.
+/// A line to which a sentence refers.
 #[derive(Clone, Copy)]
 pub struct LineText<'a> {
+    /// What it is called: a line of an input, or an event of a session.
+    pub noun: &'static str,
+    /// Its number, from 1.
     pub line: usize,
+    /// Its event as the input has it.
     pub event: &'a str,
 }
 
 /// Steps, each with its words, and the edges that they formed.
 #[derive(Clone, Copy)]
 pub struct LineIndex<'a, A: Handle> {
+    /// What a step is called in a sentence.
+    pub noun: &'static str,
     pub steps: &'a Steps<A>,
     pub texts: &'a [StepText<A>],
     pub edges: &'a [Edge],
@@ -90,6 +96,7 @@ impl<'a, A: Handle> LineIndex<'a, A> {
         let step = self.steps.as_slice().get(place)?;
         let text = self.texts.get(place)?;
         Some(LineText {
+            noun: self.noun,
             line: step.line,
             event: text.event.as_str(),
         })

@@ -118,7 +118,7 @@ pub fn put_edge<A: Allocator>(prose: Prose<A>, edge: &Edge) -> Prose<A> {
 
 /// Adds a line, as a sentence refers to it: its number, and as much of its event as a sentence tells.
 pub fn put_line_text<A: Allocator>(prose: Prose<A>, line: LineText<'_>) -> Prose<A> {
-    let prose = put!(prose; "line ", line.line, ": ");
+    let prose = put!(prose; line.noun, " ", line.line, ": ");
     match line.event.char_indices().nth(MOST_OF_EVENT) {
         Some((end, _)) => put!(prose; line.event.get(..end).unwrap_or(""), " .."),
         None => prose.put(line.event),
@@ -135,7 +135,7 @@ pub fn put_standing<A: Handle>(
     let prose = prose.put(status_words(status));
     match lines.end(t) {
         Some(line) if !matches!(status, Status::NotBegun | Status::InProgress) => {
-            put!(prose; " (line ", line.line, ")")
+            put!(prose; " (", line.noun, " ", line.line, ")")
         }
         _ => prose,
     }

@@ -437,7 +437,7 @@ impl<'a, A: Handle> Refused<'a, A> {
         } else {
             let prose = put!(prose; " begins; ", edge.j.0, " has begun");
             match self.lines.begin(edge.j) {
-                Some(line) => put!(prose; " (line ", line.line, "), and "),
+                Some(line) => put!(prose; " (", line.noun, " ", line.line, "), and "),
                 None => prose.put(", and "),
             }
         };

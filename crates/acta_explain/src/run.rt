@@ -50,7 +50,16 @@ fn put_owed<A: Handle>(
         }
         None => prose,
     };
-    match put_prospect(Prose::new(alloc), run, lost, owed.txn, owed.missing).done() {
+    match put_prospect(
+        Prose::new(alloc),
+        run.machine(),
+        run.lines(),
+        lost,
+        owed.txn,
+        owed.missing,
+    )
+    .done()
+    {
         Ok(prospect) => put_barred(prose.put("\n"), columns.indent(), prospect.as_str()),
         Err(_) => prose.fail(),
     }

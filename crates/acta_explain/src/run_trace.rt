@@ -77,6 +77,7 @@ impl<A: Handle> RunTrace<A> {
     /// The steps with their words.
     pub fn lines(&self) -> LineIndex<'_, A> {
         LineIndex {
+            noun: "line",
             steps: self.trace.steps(),
             texts: self.texts.as_slice(),
             edges: self.machine().edges(),

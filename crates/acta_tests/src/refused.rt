@@ -9,6 +9,7 @@ mod explorers;
 mod judges;
 mod machines;
 mod permits;
+mod shells;
 mod tables;
 mod values;
 mod walks;

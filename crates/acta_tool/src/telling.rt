@@ -5,7 +5,6 @@ ghost use Rattle.acta_machine.specs.Table.{debts_in};
 ghost use Rattle.acta_axioms.specs.Axioms.{axiom_number};
 ghost use Rattle.acta_script.specs.Answers.{answer_line, fault_line, owed_line};
 ghost use Rattle.acta_script.specs.Laws.{IsInModel};
-ghost use Rattle.acta_script.specs.Writing.{kept_line};
 ghost use Rattle.acta_words.specs.Text.{line_of, text_of};
 ghost use Rattle.acta_tool.specs.Driving.{book_lines, entry_line, front_line};
 ghost use Rattle.acta_io.specs.Reports.{fault_number_words, fault_words, image_line, model_line, no_model_line, stop_line};
@@ -16,8 +15,9 @@ use acta_io::{BadLine, push_stop};
 use acta_judge::Verdict;
 use acta_locked::{Book, Entry, Front};
 use acta_machine::{Handle, Machine, Run};
-use acta_script::{answer_line, fault_line, owed_line, write_event, write_kept};
+use acta_script::{answer_line, fault_line, owed_line, write_event};
 use acta_table::{Answer, Model, Owed};
+use acta_trace::push_kept_lines;
 use acta_words::{push_line, push_natural, push_word};
 use itoa::Buffer;
 use std::alloc::{AllocError, Allocator};
@@ -32,21 +32,6 @@ fn tell_answers<A: Allocator + Copy>(
 {
     for answer in answers {
         push_line(text, answer_line(alloc, answer)?.as_slice())?;
-    }
-    Ok(())
-}
-
-// Tells the events that the machine kept, with what they returned, a line each.
-fn tell_history<A: Handle>(
-    alloc: A,
-    machine: &Machine<A>,
-    text: &mut Vec<u8, A>,
-) -> Result<(), AllocError>
-    ensures { OnOk result (text.new.items ≡ text.old.items ++ text_of (map (kept_line machine.now.model) machine.now.kept)) }
-{
-    for kept in machine.history() {
-        let line = write_kept(alloc, machine.model(), kept)?;
-        push_line(text, line.as_slice())?;
     }
     Ok(())
 }
@@ -189,7 +174,7 @@ pub fn tell_events<A: Handle>(
     ensures { OnOk result (text.new.items ≡ text.old.items ++ text_of (told is_kept run.now.answers run.now.machine)) }
 {
     if is_kept {
-        tell_history(alloc, &run.machine, text)
+        push_kept_lines(alloc, &run.machine, text)
     } else {
         tell_answers(alloc, run.answers.as_slice(), text)
     }
