@@ -1,4 +1,4 @@
-pub mod Latest
+pub mod Firsts
 pub mod Lines
 pub mod Steps
 pub mod Traces

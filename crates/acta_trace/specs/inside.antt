@@ -1,3 +1,3 @@
 -- What the contracts inside the crate cite.
-pub mod Latest
+pub mod Firsts
 pub mod Kept

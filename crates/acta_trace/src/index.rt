@@ -5,7 +5,7 @@ ghost use Rattle.acta_trace.specs.declared.step.Step.{Step};
 ghost use Rattle.acta_trace.specs.Steps.{Fits, FitsEvent};
 ghost use Rattle.acta_trace.specs.inside.Kept.{IsIndexed, room_of};
 
-use crate::latest::Latest;
+use crate::firsts::Firsts;
 use crate::step::{Step, ended_by};
 use acta_table::{Event, OpNo, TxnId};
 use std::alloc::{AllocError, Allocator};
@@ -13,10 +13,10 @@ use std::alloc::{AllocError, Allocator};
 /// The places of steps, by the numbers of transactions, operations and edges.
 #[derive(Drop)]
 pub(crate) struct Index<A: Allocator> {
-    pub(crate) begun: Latest<A>,
-    pub(crate) ended: Latest<A>,
-    pub(crate) operations: Latest<A>,
-    pub(crate) edges: Latest<A>,
+    pub(crate) begun: Firsts<A>,
+    pub(crate) ended: Firsts<A>,
+    pub(crate) operations: Firsts<A>,
+    pub(crate) edges: Firsts<A>,
 }
 
 // The number of a transaction.
@@ -39,10 +39,10 @@ impl<A: Allocator + Copy> Index<A> {
         ensures { IsIndexed [] result }
     {
         Index {
-            begun: Latest::new(alloc),
-            ended: Latest::new(alloc),
-            operations: Latest::new(alloc),
-            edges: Latest::new(alloc),
+            begun: Firsts::new(alloc),
+            ended: Firsts::new(alloc),
+            operations: Firsts::new(alloc),
+            edges: Firsts::new(alloc),
         }
     }
 }

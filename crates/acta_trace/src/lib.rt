@@ -5,9 +5,9 @@
 //! if memory runs out.
 #![tactic(auto)]
 
+mod firsts;
 mod history;
 mod index;
-mod latest;
 mod step;
 mod steps;
 mod trace;

@@ -1,7 +1,7 @@
 //! A list of steps in which each is found by what it did.
 
 ghost use Rattle.std.specs.Prelude.{◌≡◌, ◌≤◌, ◌<◌, ◌++◌, ◌∷◌, [], OnErr, OnOk, IfOk, length};
-ghost use Rattle.acta_trace.specs.Latest.{IsLastAt};
+ghost use Rattle.acta_trace.specs.Firsts.{IsFirstAt};
 ghost use Rattle.acta_trace.specs.Steps.{Fits, FitsEvent, begins, does, ends, forms};
 
 use crate::index::Index;
@@ -9,9 +9,8 @@ use crate::step::Step;
 use acta_table::{Event, OpNo, TxnId};
 use std::alloc::{AllocError, Allocator};
 
-/// Steps in order. The step that began or ended a transaction, did an operation or formed an edge is found by the number; of
-/// several the last, as where events were taken back and others taken in their place. Contracts see the steps, and for which
-/// numbers there is room.
+/// Steps in order. The step that began or ended a transaction, did an operation or formed an edge is found by the number.
+/// Contracts see the steps, and for which numbers there is room.
 #[derive(Drop)]
 pub struct Steps<A: Allocator> {
     list: Vec<Step<A>, A>,
@@ -84,30 +83,30 @@ impl<A: Allocator> Steps<A> {
         self.list.as_slice()
     }
 
-    /// The place, from 0, of the last step that began the transaction; `None` if no step did.
+    /// The place, from 0, of the step that began the transaction; `None` if no step did.
     pub fn begin_of(&self, t: TxnId) -> Option<usize>
-        ensures { IsLastAt (begins t.0) self.now.steps result }
+        ensures { IsFirstAt (begins t.0) self.now.steps result }
     {
         self.index.begun.at(t.0 as usize)
     }
 
-    /// The place of the last step that ended the transaction; `None` if no step did.
+    /// The place of the step that ended the transaction; `None` if no step did.
     pub fn end_of(&self, t: TxnId) -> Option<usize>
-        ensures { IsLastAt (ends t.0) self.now.steps result }
+        ensures { IsFirstAt (ends t.0) self.now.steps result }
     {
         self.index.ended.at(t.0 as usize)
     }
 
-    /// The place of the last step that did the operation; `None` if no step did.
+    /// The place of the step that did the operation; `None` if no step did.
     pub fn operation(&self, op: OpNo) -> Option<usize>
-        ensures { IsLastAt (does op.0) self.now.steps result }
+        ensures { IsFirstAt (does op.0) self.now.steps result }
     {
         self.index.operations.at(op.0 as usize)
     }
 
-    /// The place of the last step that formed the edge with this number; `None` if no step did.
+    /// The place of the step that formed the edge with this number; `None` if no step did.
     pub fn edge(&self, number: u32) -> Option<usize>
-        ensures { IsLastAt (forms number) self.now.steps result }
+        ensures { IsFirstAt (forms number) self.now.steps result }
     {
         self.index.edges.at(number as usize)
     }

@@ -1,7 +1,7 @@
 use Rattle.std.proofs.Common.{ap, ◌∙◌}
 use Rattle.acta_trace.specs.Steps.{begins, does, ends, forms, is_number}
-use Rattle.acta_trace.specs.inside.Latest.{noted}
-use Rattle.acta_trace.proofs.Noting.{last-noted}
+use Rattle.acta_trace.specs.inside.Firsts.{noted}
+use Rattle.acta_trace.proofs.Noting.{firsts-noted}
 use Rattle.acta_trace.proofs.index.Index.note.Goals as goal
 
 pub returns : goal.returns
@@ -10,11 +10,11 @@ returns g c = λ steps at indexed.
     let old = c.args.self.now in
     let place = c.args.place in
     record {
-      begins = last-noted begins steps step old.begun.places.items _ place at indexed.begins
+      begins = firsts-noted begins steps step old.begun.places.items _ place at indexed.begins
           (λ n. c.note.ensures.noted n ∙ ap (λ o. noted (is_number o) old.begun.places.items place n) (c.number_of.ensures ∙ c.began.ensures));
-      ends = last-noted ends steps step old.ended.places.items _ place at indexed.ends
+      ends = firsts-noted ends steps step old.ended.places.items _ place at indexed.ends
           (λ n. c.note-2.ensures.noted n ∙ ap (λ o. noted (is_number o) old.ended.places.items place n) (c.number_of-2.ensures ∙ c.ended.ensures));
-      does = last-noted does steps step old.operations.places.items _ place at indexed.does
+      does = firsts-noted does steps step old.operations.places.items _ place at indexed.does
           (λ n. c.note-3.ensures.noted n ∙ ap (λ o. noted (is_number o) old.operations.places.items place n) c.number_of_op.ensures);
-      forms = last-noted forms steps step old.edges.places.items _ place at indexed.forms c.note_all.ensures.noted;
+      forms = firsts-noted forms steps step old.edges.places.items _ place at indexed.forms c.note_all.ensures.noted;
     }

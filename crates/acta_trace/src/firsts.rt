@@ -1,25 +1,24 @@
-//! The last step for each number: for each transaction the one that began it, for each operation the one that did it. In one
-//! run each number has at most one such step.
+//! The first step for each number: for each transaction the one that began it, for each operation the one that did it.
 
 ghost use Rattle.std.specs.Prelude.{◌≡◌, ◌&&◌, ◌<◌, ◌≤◌, ℕ, [], None, get_or, length, nat_lt, nat_le, IfSome, OnOk};
 ghost use Rattle.acta_trace.specs.Steps.{is_number};
-ghost use Rattle.acta_trace.specs.inside.Latest.{noted};
+ghost use Rattle.acta_trace.specs.inside.Firsts.{noted};
 
 use acta_table::lengthen;
 use std::alloc::{AllocError, Allocator};
 
 /// For each number the place of a step among the steps, from 0.
 #[derive(Drop)]
-pub(crate) struct Latest<A: Allocator> {
+pub(crate) struct Firsts<A: Allocator> {
     pub(crate) places: Vec<Option<usize>, A>,
 }
 
-impl<A: Allocator> Latest<A> {
+impl<A: Allocator> Firsts<A> {
     /// No number has a step. Allocates nothing.
-    pub(crate) fn new(alloc: A) -> Latest<A>
+    pub(crate) fn new(alloc: A) -> Firsts<A>
         ensures { result.places.items ≡ [] }
     {
-        Latest {
+        Firsts {
             places: Vec::new(alloc),
         }
     }
@@ -38,7 +37,7 @@ impl<A: Allocator> Latest<A> {
         }
     }
 
-    /// Notes the step at this place for the number, if there is a number.
+    /// Notes the step at this place for the number, if there is a number and it has no step.
     pub(crate) fn note(&mut self, number: Option<usize>, place: usize)
         requires { IfSome number (λ n. n < length self.old.places.items) }
         ensures noted { (n : ℕ) → get_or self.new.places.items n None ≡ noted (is_number number) self.old.places.items place n }
@@ -47,10 +46,12 @@ impl<A: Allocator> Latest<A> {
         let Some(number) = number else {
             return;
         };
-        self.places[number] = Some(place);
+        if self.places[number].is_none() {
+            self.places[number] = Some(place);
+        }
     }
 
-    /// Notes the step at this place for each of the numbers after the first and up to the last.
+    /// Notes the step at this place for each of the numbers after the first and up to the last that has no step.
     pub(crate) fn note_all(&mut self, first: usize, last: usize, place: usize)
         requires { last < length self.old.places.items }
         ensures noted { (n : ℕ) → get_or self.new.places.items n None ≡ noted (λ n. nat_lt first n && nat_le n last) self.old.places.items place n }

@@ -1,7 +1,7 @@
 use Rattle.std.proofs.Common.{◌≡◌, ◌&&◌, ℕ, length, get_or}
 use Rattle.std.specs.Prelude.{None, nat_lt}
-use Rattle.acta_trace.specs.inside.Latest.{noted}
-use Rattle.acta_trace.proofs.latest.Latest.note_all.Given as goal
+use Rattle.acta_trace.specs.inside.Firsts.{noted}
+use Rattle.acta_trace.proofs.firsts.Firsts.note_all.Given as goal
 
 -- what is noted so far
 abbrev pub invariant-loop-number : goal.invariant-loop-number
