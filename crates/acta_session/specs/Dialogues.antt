@@ -1,0 +1,89 @@
+-- A session at a console: what is read and shown, act by act.
+use Rattle.std.specs.Prelude.{◌≡◌, ⊤, ℕ, Bool, true, false, ◌||◌, List, [], ◌∷◌, ◌++◌, if◌then◌else◌}
+use Rattle.acta_words.specs.Text.{is_line_feed}
+use Rattle.acta_debug.specs.Sessions.{Session}
+use Rattle.acta_session.specs.Replies.{IsReply, after_line, quits}
+
+-- bytes were read, of which there are none at the end of the input; or bytes were shown, which means that they were
+-- written and flushed
+pub data Act : Type 0 where
+  Read : List ℕ → Act
+  Shown : List ℕ → Act
+
+-- bytes, cut behind each line feed: the lines, and the front of the next one
+pub record Cut : Type 0 where
+  pub lines : List (List ℕ)
+  pub front : List ℕ
+
+abbrev pub with_line : List ℕ → Cut → Cut
+with_line line c = record c { lines = line ∷ c.lines }
+
+-- the lines that these bytes end, after the front of the first of them
+abbrev pub cut : List ℕ → List ℕ → Cut
+cut front [] = record { lines = []; front = front }
+cut front (b ∷ bs) = if is_line_feed b then with_line front (cut [] bs) else cut (front ++ b ∷ []) bs
+
+-- a moment of a session: the events so far, the lines that are to be answered, the front of the next line, and whether
+-- nothing more is read
+pub record Moment (A : Type 0) : Type 0 where
+  pub session : Session A
+  pub due : List (List ℕ)
+  pub front : List ℕ
+  pub is_over : Bool
+
+-- before anything was read
+abbrev pub at_start : {A : Type 0} → Session A → Moment A
+at_start s = record { session = s; due = []; front = []; is_over = false }
+
+-- the last line, which has no line feed; it is one where it has a byte
+abbrev pub last_line : List ℕ → List (List ℕ)
+last_line [] = []
+last_line (b ∷ bs) = (b ∷ bs) ∷ []
+
+-- after a read the lines that end are due; at the end of the input the last line is
+abbrev pub after_read : {A : Type 0} → Moment A → List ℕ → Moment A
+after_read p [] = record p { due = last_line p.front; front = []; is_over = true }
+after_read p (b ∷ bs) = record p { due = (cut p.front (b ∷ bs)).lines; front = (cut p.front (b ∷ bs)).front }
+
+-- after the reply to the first line that is due; after a line that ends the session no other is answered
+abbrev pub after_reply : {A : Type 0} → Moment A → List (List ℕ) → Moment A
+after_reply p [] = p
+after_reply p (line ∷ lines) = record p {
+  session = after_line p.session line;
+  due = if quits p.session line then [] else lines;
+  is_over = p.is_over || quits p.session line;
+}
+
+abbrev pub after_act : {A : Type 0} → Moment A → Act → Moment A
+after_act p (Read bytes) = after_read p bytes
+after_act p (Shown bytes) = after_reply p p.due
+
+abbrev pub after_acts : {A : Type 0} → Moment A → List Act → Moment A
+after_acts p [] = p
+after_acts p (act ∷ acts) = after_acts (after_act p act) acts
+
+-- what is shown for a line: its reply, and then the prompt, unless the session ends
+abbrev pub IsShownFor : {A : Type 0} → List ℕ → Session A → List ℕ → List ℕ → Type 0
+IsShownFor prompt s line bytes =
+    (text : List ℕ) × IsReply s line text × (bytes ≡ text ++ (if quits s line then [] else prompt))
+
+-- what is shown is for the first line that is due
+abbrev pub IsForFirst : {A : Type 0} → List ℕ → Session A → List (List ℕ) → List ℕ → Type 0
+IsForFirst prompt s [] bytes = ⊥
+IsForFirst prompt s (line ∷ lines) bytes = IsShownFor prompt s line bytes
+
+-- it reads on only where every line that was read has been answered; and it shows nothing but replies
+abbrev pub IsInTurn : {A : Type 0} → List ℕ → Moment A → Act → Type 0
+IsInTurn prompt p (Read bytes) = (p.due ≡ []) × (p.is_over ≡ false)
+IsInTurn prompt p (Shown bytes) = IsForFirst prompt p.session p.due bytes
+
+abbrev pub AreInTurn : {A : Type 0} → List ℕ → Moment A → List Act → Type 0
+AreInTurn prompt p [] = ⊤
+AreInTurn prompt p (act ∷ acts) = IsInTurn prompt p act × AreInTurn prompt (after_act p act) acts
+
+-- a whole session, from these events to those: each act is in turn, and in the end nothing is due and nothing more is read
+pub record IsDialogue {A : Type 0} (prompt : List ℕ) (old : Session A) (acts : List Act) (new : Session A) : Type 0 where
+  pub in_turn : AreInTurn prompt (at_start old) acts
+  pub session : (after_acts (at_start old) acts).session ≡ new
+  pub answered : (after_acts (at_start old) acts).due ≡ []
+  pub over : (after_acts (at_start old) acts).is_over ≡ true

@@ -1,0 +1,134 @@
+//! A session at a console, from its first line to its end.
+
+ghost use Rattle.std.specs.Prelude.{◌≡◌, ◌≢◌, ℕ, List, [], ◌∷◌, if◌then◌else◌, false, true, IfOk, IfErr, OnOk};
+ghost use Rattle.acta_io.specs.declared.outcome.Outcome.TheVariants.{Done};
+ghost use Rattle.acta_session.specs.Dialogues.{Act, Shown, IsDialogue, IsShownFor, cut, last_line};
+ghost use Rattle.acta_session.specs.Replies.{after_line, quits};
+ghost use Rattle.acta_session.specs.inside.Talks.{HasTalked, at_front};
+
+use crate::console::Console;
+use crate::shell::{Reply, Shell};
+use crate::words::Words;
+use acta_io::{Outcome, ReadFault};
+use acta_machine::Handle;
+
+// The most reads of a session.
+const MOST_READS: u32 = u32::MAX;
+
+// Shows the reply to a line, and then the prompt, unless the line ends the session. Answers whether it does.
+fn answer<A: Handle, W: Words<A>, C: Console>(
+    console: &mut C,
+    shell: &mut Shell<A, W>,
+    prompt: &[u8],
+    line: &[u8],
+) -> Result<bool, Outcome>
+    ensures shown { IfOk result (λ over. (bytes : List _) × IsShownFor prompt.now shell.old line.now bytes × C.since console.old (Shown bytes ∷ []) console.new) }
+    ensures session { OnOk result (shell.new ≡ after_line shell.old line.now) }
+    ensures over { IfOk result (λ over. over ≡ quits shell.old line.now) }
+    ensures failed { IfErr result (λ outcome. outcome ≢ Done) }
+{
+    let Ok(Reply { mut text, is_over }) = shell.respond(line) else {
+        return Err(Outcome::Unread(ReadFault::Memory));
+    };
+    if !is_over && text.extend_from_slice(prompt).is_err() {
+        return Err(Outcome::Unread(ReadFault::Memory));
+    }
+    match console.show(text.as_slice()) {
+        Ok(()) => Ok(is_over),
+        Err(_) => Err(Outcome::Unwritten),
+    }
+}
+
+// Takes a byte: the end of a line, which is answered, or one byte more of it. Answers whether the line ends the session.
+fn take_byte<A: Handle, W: Words<A>, C: Console>(
+    console: &mut C,
+    shell: &mut Shell<A, W>,
+    prompt: &[u8],
+    front: &mut Vec<u8, A>,
+    byte: u8,
+) -> Result<bool, Outcome>
+    ensures talked { IfOk result (λ over. (rest : List ℕ) → HasTalked prompt.now (C.since console.old) console.new (at_front shell.old (cut front.old.items (byte ∷ rest))) shell.new (if over then [] else (cut front.new.items rest).lines) (cut front.old.items (byte ∷ rest)).front over) }
+    ensures front { IfOk result (λ over. over ≡ false → (rest : List ℕ) → (cut front.old.items (byte ∷ rest)).front ≡ (cut front.new.items rest).front) }
+    ensures failed { IfErr result (λ outcome. outcome ≢ Done) }
+{
+    if byte != b'\n' {
+        return match front.push(byte) {
+            Ok(()) => Ok(false),
+            Err(_) => Err(Outcome::Unread(ReadFault::Memory)),
+        };
+    }
+    let is_over = answer(console, shell, prompt, front.as_slice())?;
+    front.clear();
+    Ok(is_over)
+}
+
+// Answers the lines that the bytes end, after the front of the first of them. Answers whether one of them ends the session;
+// no line behind it is answered.
+fn answer_lines<A: Handle, W: Words<A>, C: Console>(
+    console: &mut C,
+    shell: &mut Shell<A, W>,
+    prompt: &[u8],
+    front: &mut Vec<u8, A>,
+    bytes: &[u8],
+) -> Result<bool, Outcome>
+    ensures talked { IfOk result (λ over. HasTalked prompt.now (C.since console.old) console.new (at_front shell.old (cut front.old.items bytes.now)) shell.new [] (cut front.old.items bytes.now).front over) }
+    ensures front { IfOk result (λ over. over ≡ false → front.new.items ≡ (cut front.old.items bytes.now).front) }
+    ensures failed { IfErr result (λ outcome. outcome ≢ Done) }
+{
+    for byte in bytes {
+        let is_over = take_byte(console, shell, prompt, front, *byte)?;
+        if is_over {
+            return Ok(true);
+        }
+    }
+    Ok(false)
+}
+
+/// Reads lines from the console and answers each, until one ends the session or there are no more; the prompt follows each reply.
+/// It reads on only where every line that was read has been answered, and the answers were written and flushed. `Done` at the end.
+/// `Unread(Device)` if a read fails, `Unread(Memory)` if memory runs out, `Unwritten` if a reply cannot be shown, and
+/// `Unread(TooMuch)` after 4,294,967,295 reads; what was shown until then are the answers to the first lines.
+pub fn converse<A: Handle, W: Words<A>, C: Console>(
+    alloc: A,
+    console: &mut C,
+    shell: &mut Shell<A, W>,
+    prompt: &[u8],
+) -> Outcome
+    ensures { result ≡ Done → (acts : List Act) × C.since console.old acts console.new × IsDialogue prompt.now shell.old acts shell.new }
+{
+    let mut front = Vec::new(alloc);
+    let mut chunk = [0u8; 4096];
+    for _ in 0..MOST_READS {
+        let n = match console.read(&mut chunk) {
+            Ok(n) => n,
+            Err(_) => return Outcome::Unread(ReadFault::Device),
+        };
+        if n == 0 {
+            return answer_last(console, shell, prompt, front.as_slice());
+        }
+        match answer_lines(console, shell, prompt, &mut front, &chunk[..n]) {
+            Ok(false) => {}
+            Ok(true) => return Outcome::Done,
+            Err(outcome) => return outcome,
+        }
+    }
+    Outcome::Unread(ReadFault::TooMuch)
+}
+
+// Answers the last line, which has no line feed, if it has a byte.
+fn answer_last<A: Handle, W: Words<A>, C: Console>(
+    console: &mut C,
+    shell: &mut Shell<A, W>,
+    prompt: &[u8],
+    line: &[u8],
+) -> Outcome
+    ensures { result ≡ Done → HasTalked prompt.now (C.since console.old) console.new (record { session = shell.old; due = last_line line.now; front = []; is_over = true }) shell.new [] [] true }
+{
+    if line.is_empty() {
+        return Outcome::Done;
+    }
+    match answer(console, shell, prompt, line) {
+        Ok(_) => Outcome::Done,
+        Err(outcome) => outcome,
+    }
+}
