@@ -153,8 +153,6 @@ pub fn work<A: Allocator + Copy, D: Desk<Event<A>, Entry<A>>, G: Gate<Entry<A>>>
             return Err(WorkError::Memory);
         }
     }
-    Ok(Report {
-        seat,
-        entries: Items::of(entries),
-    })
+    let entries = Items::of(entries);
+    Ok(Report { seat, entries })
 }
