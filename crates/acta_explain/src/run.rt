@@ -14,7 +14,7 @@ use crate::faults::{LineForm, Stop, put_stop};
 use crate::layout::{Columns, put_barred};
 use crate::lines::StepText;
 use crate::phrases::{name_text, put_numbered_edge, put_standing};
-use crate::prose::{Prose, report_of};
+use crate::prose::Prose;
 use crate::put;
 use crate::run_trace::{MOST_RENDERED, RunTrace};
 use acta_hope::never_begin;
@@ -150,7 +150,24 @@ fn put_run<A: Handle>(mut prose: Prose<A>, run: &RunTrace<A>, stop: Option<Stop<
     }
 }
 
-// What is written of a run of these events, which the lines of the input say. The input is refused where it has a faulty line.
+// The words of a run of these events, which the lines of the input say, up to the faulty one.
+fn run_text<A: Handle>(
+    alloc: A,
+    model: Model<A>,
+    events: Vec<Event<A>, A>,
+    input: &[u8],
+    stop: Option<Stop<'_>>,
+) -> Result<String<A>, AllocError> {
+    let mut run = RunTrace::new(alloc, model)?;
+    let text = match run.take_all(events, input) {
+        Ok(()) => put_run(Prose::new(alloc), &run, stop).done(),
+        Err(e) => Err(e),
+    };
+    drop(run);
+    text
+}
+
+// What is written of a run of these events. The input is refused where it has a faulty line.
 fn run_report<A: Handle>(
     alloc: A,
     model: Model<A>,
@@ -160,9 +177,11 @@ fn run_report<A: Handle>(
 ) -> Result<Report<A>, AllocError>
     ensures { IfOk result (λ report. report.is_refused ≡ is_some stop.entry) }
 {
-    let mut run = RunTrace::new(alloc, model)?;
-    run.take_all(events, input)?;
-    report_of(put_run(Prose::new(alloc), &run, stop), stop.is_some())
+    let text = run_text(alloc, model, events, input, stop)?;
+    Ok(Report {
+        text: text.into_bytes(),
+        is_refused: stop.is_some(),
+    })
 }
 
 // The faulty line of the input, if there is one, which should have been this.
