@@ -240,7 +240,14 @@ pub fn put_debts<A: Handle>(mut prose: Prose<A>, run: &RunTrace<A>, debts: &[Deb
     for debt in debts {
         prose = put_debt(prose, run, debt);
         let prospect = Prose::new(run.allocator());
-        let prospect = put_prospect(prospect, run.machine(), run.lines(), &lost, debt.txn, debt.missing());
+        let prospect = put_prospect(
+            prospect,
+            run.machine(),
+            run.lines(),
+            &lost,
+            debt.txn,
+            debt.missing(),
+        );
         let (prospect, has_failed) = prospect.parts();
         prose = put_barred(prose, 4, prospect.as_str());
         if has_failed {
