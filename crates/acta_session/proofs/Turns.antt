@@ -32,15 +32,6 @@ module _ {A C : Type 0} (prompt : List ℕ) (since : C → List Act → C → Ty
     last = acts-append old talk.acts (act ∷ []) ∙ ap (λ (p : Moment A). after_act p act) talk.last ∙ now;
   }
 
-  -- the reply to the first line that is due
-  pub talked-reply : (first c d : C) (old : Moment A) (s : Session A) (line : List ℕ) (lines : List (List ℕ)) (front : List ℕ) (b e : Bool) (bytes : List ℕ)
-      → HasTalked prompt (since first) c old s (line ∷ lines) front b → since c (Shown bytes ∷ []) d → IsShownFor prompt s line bytes
-      → quits s line ≡ e
-      → HasTalked prompt (since first) d old (after_line s line) (if e then [] else lines) front (b || e)
-  talked-reply first c d old s line lines front b e bytes talk happened shown quit =
-      talked-on first c d old s (after_line s line) (line ∷ lines) (if e then [] else lines) front front b (b || e) (Shown bytes) talk happened shown
-      (λ i. moment (after_line s line) (if quit i then [] else lines) front (b || quit i))
-
   -- a stretch that began where another ended
   pub talked-both : (first c d : C) (old mid : Moment A) (s t : Session A) (due next : List (List ℕ)) (front rest : List ℕ) (b e : Bool)
       → HasTalked prompt (since first) c old s due front b → moment s due front b ≡ mid → HasTalked prompt (since c) d mid t next rest e
