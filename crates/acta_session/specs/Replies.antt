@@ -4,14 +4,16 @@ use Rattle.std.specs.Io.{StartsWith}
 use Rattle.acta_words.specs.Text.{line_of, text_of}
 use Rattle.acta_script.specs.declared.diagnosis.Diagnostic.{Diagnostic}
 use Rattle.acta_script.specs.declared.shell_lines.ShellCommand.{ShellCommand}
-use Rattle.acta_script.specs.declared.shell_lines.ShellCommand.TheVariants.{Undo, Redo, Goto, History, Events, Quit}
+use Rattle.acta_script.specs.declared.shell_lines.ShellCommand.TheVariants.{Undo, Redo, Goto, Status, Value, Held, Conflicts, Edges, Permits, Owed, History, Events, Quit}
+use Rattle.acta_script.specs.declared.shell_lines.ShellCommand.TheVariants as command
 use Rattle.acta_script.specs.declared.shell_lines.ShellLine.{ShellLine}
 use Rattle.acta_script.specs.declared.shell_lines.ShellLine.TheVariants.{Event, Can, Command}
-use Rattle.acta_script.specs.Answers.{answer_line}
+use Rattle.acta_script.specs.Answers.{answer_line, owed_line}
 use Rattle.acta_script.specs.Shell.{shell_line_of}
 use Rattle.acta_script.specs.Writing.{kept_line}
-use Rattle.acta_machine.specs.Table.{State, answer_to}
+use Rattle.acta_machine.specs.Table.{State, access_set_in, answer_to, conflict_set_in, debts_in}
 use Rattle.acta_trace.specs.Lines.{event_line_in}
+use Rattle.acta_trace.specs.States.{ArePermitLines, edge_lines, operations_line, state_lines, status_line, value_line}
 use Rattle.acta_debug.specs.Histories.{state_at}
 use Rattle.acta_debug.specs.Moves.{taken}
 use Rattle.acta_debug.specs.Sessions.{Session, moved_to}
@@ -60,15 +62,27 @@ quits s line = quits_by (shell_line_of s.model line)
 abbrev pub place_line : ℕ → List ℕ
 place_line n = line_of (codes "at" ∷ decimal n ∷ [])
 
--- what the reply to a command says; of those that are not named here only words are said
+-- the lines with which the reply to a command begins that asks for the state; other commands have words alone
+abbrev pub lines_for : {A : Type 0} → Session A → ShellCommand → List (List ℕ)
+lines_for s command.State = state_lines (state_of s)
+lines_for s (Status t) = status_line (state_of s) t ∷ []
+lines_for s (Value ob) = value_line (state_of s) ob ∷ []
+lines_for s (Held t) = operations_line (access_set_in (state_of s) t.0) ∷ []
+lines_for s (Conflicts t) = operations_line (conflict_set_in (state_of s) t.0) ∷ []
+lines_for s (Edges t) = edge_lines (state_of s) t
+lines_for s Owed = map owed_line (debts_in (state_of s))
+lines_for s _ = []
+
+-- what the reply to a command says
 abbrev pub SaysOf : {A : Type 0} → Session A → ShellCommand → List ℕ → Type 0
 SaysOf s (Undo n) text = can_move s (Undo n) ≡ true → text ≡ text_of (place_line (place_after s (Undo n)) ∷ [])
 SaysOf s (Redo n) text = can_move s (Redo n) ≡ true → text ≡ text_of (place_line (place_after s (Redo n)) ∷ [])
 SaysOf s (Goto n) text = can_move s (Goto n) ≡ true → text ≡ text_of (place_line (place_after s (Goto n)) ∷ [])
 SaysOf s History text = text ≡ text_of (map (kept_line s.model) (state_of s).kept)
 SaysOf s Events text = text ≡ text_of (map (event_line_in s.model) (state_of s).kept)
+SaysOf s Permits text = (lines : List (List ℕ)) × ArePermitLines (state_of s) lines × StartsWith text (text_of lines)
 SaysOf s Quit text = text ≡ []
-SaysOf s _ text = ⊤
+SaysOf s c text = StartsWith text (text_of (lines_for s c))
 
 -- what the reply to a line says, as it was read: first the answer to the event, which is the machine's
 abbrev pub Says : {A : Type 0} → Session A → Result (ShellLine A) Diagnostic → List ℕ → Type 0

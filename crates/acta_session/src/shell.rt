@@ -1,6 +1,6 @@
 //! A session, line by line.
 
-ghost use Rattle.std.specs.Prelude.{◌≡◌, ◌≤◌, ◌∷◌, [], false, true, Ok, Some, None, if◌then◌else◌, length, IfOk, IfSome, OnOk};
+ghost use Rattle.std.specs.Prelude.{◌≡◌, ◌≤◌, ◌∷◌, ℕ, List, [], false, true, Ok, Some, None, if◌then◌else◌, length, IfOk, IfSome, OnOk};
 ghost use Rattle.std.specs.Io.{StartsWith};
 ghost use Rattle.acta_script.specs.Answers.{answer_line};
 ghost use Rattle.acta_script.specs.Laws.{IsInModel};
@@ -10,7 +10,8 @@ ghost use Rattle.acta_script.specs.declared.shell_lines.ShellCommand.TheVariants
 ghost use Rattle.acta_machine.specs.Table.{answer_to};
 ghost use Rattle.acta_debug.specs.Moves.{taken};
 ghost use Rattle.acta_debug.specs.Sessions.{moved_to, opened};
-ghost use Rattle.acta_session.specs.Replies.{IsReply, Says, SaysOf, after_line, after_said, can_move, moved, place_after, place_line, quits, quits_by, state_of};
+ghost use Rattle.acta_trace.specs.States.{ArePermitLines};
+ghost use Rattle.acta_session.specs.Replies.{IsReply, Says, SaysOf, after_line, after_said, can_move, lines_for, moved, place_after, place_line, quits, quits_by, state_of};
 
 use crate::words::{Before, Words};
 use acta_debug::Debugger;
@@ -19,7 +20,10 @@ use acta_script::{
     Diagnostic, ShellCommand, ShellFault, ShellLine, answer_line, read_shell_line, write_event,
 };
 use acta_table::{Answer, Event, Model};
-use acta_trace::{push_event_lines, push_kept_lines};
+use acta_trace::{
+    push_conflicts_line, push_debt_lines, push_edge_lines, push_event_lines, push_held_line,
+    push_kept_lines, push_permit_lines, push_state_lines, push_status_line, push_value_line,
+};
 use acta_words::{has_words, push_line, push_natural};
 use std::alloc::AllocError;
 
@@ -246,6 +250,66 @@ impl<A: Handle, W: Words<A>> Shell<A, W> {
         Ok(text)
     }
 
+    // The lines that say of the state what the command asks for; permits have their own.
+    fn lines_for(&self, command: ShellCommand) -> Result<Vec<u8, A>, AllocError>
+        ensures { IfOk result (λ text. text.items ≡ text_of (lines_for self.now command)) }
+    {
+        let mut text = Vec::new(self.alloc);
+        let machine = self.machine();
+        match command {
+            ShellCommand::State => push_state_lines(self.alloc, machine, &mut text)?,
+            ShellCommand::Status(t) => push_status_line(machine, t, &mut text)?,
+            ShellCommand::Value(object) => push_value_line(self.alloc, machine, object, &mut text)?,
+            ShellCommand::Held(t) => push_held_line(self.alloc, machine, t, &mut text)?,
+            ShellCommand::Conflicts(t) => push_conflicts_line(self.alloc, machine, t, &mut text)?,
+            ShellCommand::Edges(t) => push_edge_lines(machine, t, &mut text)?,
+            ShellCommand::Owed => push_debt_lines(self.alloc, machine, &mut text)?,
+            _ => {}
+        }
+        Ok(text)
+    }
+
+    // The lines of the permits.
+    fn permits(&self) -> Result<Vec<u8, A>, AllocError>
+        ensures { IfOk result (λ text. (lines : List (List ℕ)) × ArePermitLines (state_of self.now) lines × (text.items ≡ text_of lines)) }
+    {
+        let mut text = Vec::new(self.alloc);
+        push_permit_lines(self.machine(), &mut text)?;
+        Ok(text)
+    }
+
+    // A reply that begins with this text, and goes on in words.
+    fn with_words(
+        &mut self,
+        command: ShellCommand,
+        mut text: Vec<u8, A>,
+    ) -> Result<Vec<u8, A>, AllocError>
+        ensures same { self.new ≡ self.old }
+        ensures front { IfOk result (λ reply. StartsWith reply.items text.items) }
+    {
+        let words = self.words.of_command(self.debugger.machine(), command)?;
+        text.extend_from_slice(words.as_slice())?;
+        Ok(text)
+    }
+
+    // The reply to a command that asks for the state, or for words.
+    fn say(&mut self, command: ShellCommand) -> Result<Vec<u8, A>, AllocError>
+        ensures same { self.new ≡ self.old }
+        ensures says { IfOk result (λ text. StartsWith text.items (text_of (lines_for self.old command))) }
+    {
+        let lines = self.lines_for(command)?;
+        self.with_words(command, lines)
+    }
+
+    // The reply to `permits`.
+    fn say_permits(&mut self) -> Result<Vec<u8, A>, AllocError>
+        ensures same { self.new ≡ self.old }
+        ensures says { IfOk result (λ text. SaysOf self.old shell_command.Permits text.items) }
+    {
+        let lines = self.permits()?;
+        self.with_words(ShellCommand::Permits, lines)
+    }
+
     // Carries out a command.
     fn carry_out(&mut self, command: ShellCommand) -> Result<Vec<u8, A>, AllocError>
         ensures session { OnOk result (self.new ≡ moved self.old command) }
@@ -257,8 +321,9 @@ impl<A: Handle, W: Words<A>> Shell<A, W> {
             ),
             ShellCommand::History => self.history(),
             ShellCommand::Events => self.events(),
+            ShellCommand::Permits => self.say_permits(),
             ShellCommand::Quit => Ok(Vec::new(self.alloc)),
-            _ => self.words.of_command(self.debugger.machine(), command),
+            _ => self.say(command),
         }
     }
 }

@@ -63,7 +63,8 @@ pub trait Words<A: Handle>: Drop {
         found: Diagnostic,
     ) -> Result<Vec<u8, A>, AllocError>;
 
-    /// The reply to a command that asks for the state.
+    /// What follows the lines of the reply to a command, if they are followed by something. It is the whole reply where a
+    /// command has no lines: `draw`, `why`, `next` and `help`.
     fn of_command(
         &mut self,
         machine: &Machine<A>,

@@ -1,13 +1,7 @@
 -- The texts of commands to a debugger.
 use Rattle.std.specs.Prelude.{ℕ, List, [], ◌∷◌, ◌++◌, length, map, codes, decimal, Result, Ok, Err}
-use Rattle.std.specs.Fmt.{signed_decimal}
-use Rattle.std.specs.Option.{option_map_or}
-use Rattle.acta_table.specs.declared.event.ObjId.{ObjId}
-use Rattle.acta_table.specs.declared.event.TxnId.{TxnId}
 use Rattle.acta_words.specs.Text.{line_of}
-use Rattle.acta_objects.specs.declared.state.ObjectState.{ObjectState}
-use Rattle.acta_objects.specs.declared.state.ObjectState.TheVariants.{Register, Counter, Elements}
-use Rattle.acta_machine.specs.Table.{State, debts_in, status_in, value_in}
+use Rattle.acta_machine.specs.Table.{State, debts_in}
 use Rattle.acta_debug.specs.declared.breaks.Break.{Break}
 use Rattle.acta_debug.specs.declared.breaks.Break.TheVariants.{Kind, Touches, Object, OwedAtLeast, Ended}
 use Rattle.acta_debug.specs.declared.breaks.Stop.{Stop}
@@ -19,7 +13,7 @@ use Rattle.acta_debug.specs.Moves.{gone_to, stepped, stepped_back, with_break, w
 use Rattle.acta_debug.specs.Sessions.{Session}
 use Rattle.acta_debug.specs.Stops.{run_to_stop, stop_of}
 use Rattle.acta_script.specs.Answers.{owed_line}
-use Rattle.acta_script.specs.Writing.{elements_word, object_word, status_word, txn_word}
+use Rattle.acta_trace.specs.States.{status_line, value_line}
 use Rattle.acta_script.specs.declared.commands.BreakOn.{BreakOn}
 use Rattle.acta_script.specs.declared.commands.BreakOn.TheVariants as on
 use Rattle.acta_script.specs.declared.commands.DebugCommand.{DebugCommand}
@@ -66,21 +60,6 @@ run_line last Finished = line_of (codes "end" ∷ decimal last ∷ [])
 -- break B set
 abbrev pub set_line : ℕ → List ℕ
 set_line b = line_of (codes "break" ∷ decimal b ∷ codes "set" ∷ [])
-
--- the word of a value
-abbrev pub state_word : {A : Type 0} → ObjectState A → List ℕ
-state_word (Register v) = signed_decimal v
-state_word (Counter v) = signed_decimal v
-state_word (Elements xs) = elements_word xs
-
--- value OBJECT V; an object that is not in the model has no value
-abbrev pub value_line : {A : Type 0} → State A → ObjId → List ℕ
-value_line state ob =
-    line_of (codes "value" ∷ object_word state.model ob ∷ option_map_or state_word (value_in state ob.0) [] ∷ [])
-
--- status T STATUS
-abbrev pub status_line : {A : Type 0} → State A → TxnId → List ℕ
-status_line state t = line_of (codes "status" ∷ txn_word t ∷ status_word (status_in state t.0) ∷ [])
 
 -- the machine where the debugger stands
 abbrev pub here : {A : Type 0} → Session A → State A

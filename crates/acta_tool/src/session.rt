@@ -1,22 +1,17 @@
 //! A debugging run: what each command does to the debugger, and its text.
 
 ghost use Rattle.std.specs.Prelude.{◌≡◌, ◌≢◌, ◌++◌, ◌∷◌, [], codes, length, IfOk, OnOk};
-ghost use Rattle.std.specs.Option.{option_map_or};
 ghost use Rattle.acta_debug.specs.Moves.{gone_to, stepped, stepped_back, with_break, without_breaks};
 ghost use Rattle.acta_debug.specs.Stops.{run_to_stop, stop_of};
 ghost use Rattle.acta_debug.specs.declared.errors.MoveError.TheVariants as barred;
-ghost use Rattle.acta_machine.specs.Table.{value_in};
-ghost use Rattle.acta_script.specs.Writing.{elements_word};
 ghost use Rattle.acta_words.specs.Text.{text_of};
-ghost use Rattle.acta_tool.specs.Debugging.{at_line, barred_line, behind, break_of, error_word, move_line, moved, run_line, set_line, state_word, status_line, texts_of, told_by, value_line};
+ghost use Rattle.acta_tool.specs.Debugging.{at_line, barred_line, behind, break_of, error_word, move_line, moved, run_line, set_line, texts_of, told_by};
 
-use crate::telling::tell_debts;
 use acta_debug::{Break, Debugger, MoveError, Stop};
-use acta_machine::{Handle, Machine};
-use acta_objects::{Members, ObjectState};
-use acta_script::{BreakOn, DebugCommand, object_name, push_elements, status_word};
-use acta_table::{ObjId, TxnId};
-use acta_words::{push_integer, push_line, push_natural, push_word};
+use acta_machine::Handle;
+use acta_script::{BreakOn, DebugCommand};
+use acta_trace::{push_debt_lines, push_status_line, push_value_line};
+use acta_words::{push_line, push_natural, push_word};
 use std::alloc::{AllocError, Allocator};
 
 // The break that a command says.
@@ -160,77 +155,6 @@ fn tell_clear<A: Handle>(
     push_line(text, b"cleared")
 }
 
-// Writes a space, and the elements of a set between braces.
-fn push_members<A: Allocator + Copy>(
-    alloc: A,
-    members: &Members<A>,
-    text: &mut Vec<u8, A>,
-) -> Result<(), AllocError>
-    ensures { OnOk result (text.new.items ≡ text.old.items ++ 32 ∷ elements_word members.now) }
-{
-    let elements = members.listed(alloc)?;
-    push_elements(text, elements.as_slice())
-}
-
-// Writes a space and the value.
-fn push_state<A: Allocator + Copy>(
-    alloc: A,
-    state: &ObjectState<A>,
-    text: &mut Vec<u8, A>,
-) -> Result<(), AllocError>
-    ensures { OnOk result (text.new.items ≡ text.old.items ++ 32 ∷ state_word state.now) }
-{
-    match state {
-        ObjectState::Register(value) => push_integer(text, i64::from(*value)),
-        ObjectState::Counter(value) => push_integer(text, *value),
-        ObjectState::Elements(members) => push_members(alloc, members, text),
-    }
-}
-
-// Writes a space and the value of an object, if it has one.
-fn push_value<A: Handle>(
-    alloc: A,
-    machine: &Machine<A>,
-    object: ObjId,
-    text: &mut Vec<u8, A>,
-) -> Result<(), AllocError>
-    ensures { OnOk result (text.new.items ≡ text.old.items ++ 32 ∷ option_map_or state_word (value_in machine.now object.0) []) }
-{
-    match machine.value(object)? {
-        Some(state) => push_state(alloc, &state, text),
-        None => push_word(text, b""),
-    }
-}
-
-// Tells the value of an object.
-fn tell_value<A: Handle>(
-    alloc: A,
-    machine: &Machine<A>,
-    object: ObjId,
-    text: &mut Vec<u8, A>,
-) -> Result<(), AllocError>
-    ensures { OnOk result (text.new.items ≡ text.old.items ++ text_of (value_line machine.now object ∷ [])) }
-{
-    text.extend_from_slice(b"value")?;
-    push_word(text, object_name(machine.model(), object))?;
-    push_value(alloc, machine, object, text)?;
-    push_line(text, b"")
-}
-
-// Tells how a transaction stands.
-fn tell_status<A: Handle>(
-    machine: &Machine<A>,
-    t: TxnId,
-    text: &mut Vec<u8, A>,
-) -> Result<(), AllocError>
-    ensures { OnOk result (text.new.items ≡ text.old.items ++ text_of (status_line machine.now t ∷ [])) }
-{
-    text.extend_from_slice(b"status")?;
-    push_natural(text, u64::from(t.0))?;
-    push_word(text, status_word(machine.status(t)))?;
-    push_line(text, b"")
-}
-
 // Does a command, and tells its text.
 #[tactic(auto, unfolding(crate::specs::Debugging::told_by, crate::specs::Debugging::behind))]
 fn tell_command<A: Handle>(
@@ -249,9 +173,9 @@ fn tell_command<A: Handle>(
         DebugCommand::Run => tell_run(debugger, text),
         DebugCommand::Break(on) => tell_break(debugger, on, text),
         DebugCommand::Clear => tell_clear(debugger, text),
-        DebugCommand::Value(object) => tell_value(alloc, debugger.machine(), object, text),
-        DebugCommand::Status(t) => tell_status(debugger.machine(), t, text),
-        DebugCommand::Owed => tell_debts(alloc, debugger.machine(), text),
+        DebugCommand::Value(object) => push_value_line(alloc, debugger.machine(), object, text),
+        DebugCommand::Status(t) => push_status_line(debugger.machine(), t, text),
+        DebugCommand::Owed => push_debt_lines(alloc, debugger.machine(), text),
     }
 }
 

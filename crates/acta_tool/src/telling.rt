@@ -17,7 +17,7 @@ use acta_locked::{Book, Entry, Front};
 use acta_machine::{Handle, Machine, Run};
 use acta_script::{answer_line, fault_line, owed_line, write_event};
 use acta_table::{Answer, Model, Owed};
-use acta_trace::push_kept_lines;
+use acta_trace::{push_debt_lines, push_kept_lines, push_owed_lines};
 use acta_words::{push_line, push_natural, push_word};
 use itoa::Buffer;
 use std::alloc::{AllocError, Allocator};
@@ -34,32 +34,6 @@ fn tell_answers<A: Allocator + Copy>(
         push_line(text, answer_line(alloc, answer)?.as_slice())?;
     }
     Ok(())
-}
-
-// Tells these debts, a line each.
-fn tell_owed<A: Allocator + Copy>(
-    alloc: A,
-    owed: &[Owed],
-    text: &mut Vec<u8, A>,
-) -> Result<(), AllocError>
-    ensures { OnOk result (text.new.items ≡ text.old.items ++ text_of (map owed_line owed.now)) }
-{
-    for one in owed {
-        push_line(text, owed_line(alloc, one)?.as_slice())?;
-    }
-    Ok(())
-}
-
-/// Tells what is owed, a line each.
-pub fn tell_debts<A: Handle>(
-    alloc: A,
-    machine: &Machine<A>,
-    text: &mut Vec<u8, A>,
-) -> Result<(), AllocError>
-    ensures { OnOk result (text.new.items ≡ text.old.items ++ text_of (map owed_line (debts_in machine.now))) }
-{
-    let owed = machine.owed()?;
-    tell_owed(alloc, owed.as_slice(), text)
 }
 
 // Tells these faults, a line each.
@@ -86,7 +60,7 @@ pub fn tell_verdict<A: Allocator + Copy>(
     ensures { OnOk result (text.new.items ≡ text.old.items ++ text_of (verdict_lines verdict.now)) }
 {
     tell_faults(alloc, verdict.faults.as_slice(), text)?;
-    tell_owed(alloc, verdict.owed.as_slice(), text)?;
+    push_owed_lines(alloc, verdict.owed.as_slice(), text)?;
     Ok(())
 }
 
@@ -160,7 +134,7 @@ pub fn tell_book<A: Handle>(
     let machine = book.machine();
     tell_entries(alloc, machine.model(), book.entries(), text)?;
     tell_fronts(fronts, text)?;
-    tell_debts(alloc, machine, text)?;
+    push_debt_lines(alloc, machine, text)?;
     Ok(())
 }
 
@@ -193,6 +167,6 @@ pub fn tell_end<A: Handle>(
     match stop {
         Some(stop) => push_stop(text, stop),
         None if is_kept => Ok(()),
-        None => tell_debts(alloc, machine, text),
+        None => push_debt_lines(alloc, machine, text),
     }
 }

@@ -1,5 +1,5 @@
-pub mod Firsts
 pub mod Lines
+pub mod States
 pub mod Steps
 pub mod Traces
 pub mod inside

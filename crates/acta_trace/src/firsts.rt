@@ -2,7 +2,7 @@
 
 ghost use Rattle.std.specs.Prelude.{◌≡◌, ◌&&◌, ◌<◌, ◌≤◌, ℕ, [], None, get_or, length, nat_lt, nat_le, IfSome, OnOk};
 ghost use Rattle.acta_trace.specs.Steps.{is_number};
-ghost use Rattle.acta_trace.specs.inside.Firsts.{noted};
+ghost use Rattle.acta_trace.specs.inside.Firsts.{forgotten, noted};
 
 use acta_table::lengthen;
 use std::alloc::{AllocError, Allocator};
@@ -62,6 +62,30 @@ impl<A: Allocator> Firsts<A> {
         }
         for number in first + 1..last + 1 {
             self.note(Some(number), place);
+        }
+    }
+
+    /// Forgets the step at this place for the number, if there is a number and this is its step.
+    pub(crate) fn forget(&mut self, number: Option<usize>, place: usize)
+        ensures forgotten { (n : ℕ) → get_or self.new.places.items n None ≡ forgotten (is_number number) self.old.places.items place n }
+    {
+        let Some(number) = number else {
+            return;
+        };
+        if self.at(number) == Some(place) {
+            self.places[number] = None;
+        }
+    }
+
+    /// Forgets the step at this place for each of the numbers after the first and up to the last.
+    pub(crate) fn forget_all(&mut self, first: usize, last: usize, place: usize)
+        ensures forgotten { (n : ℕ) → get_or self.new.places.items n None ≡ forgotten (λ n. nat_lt first n && nat_le n last) self.old.places.items place n }
+    {
+        if last <= first {
+            return;
+        }
+        for number in first..last {
+            self.forget(Some(number + 1), place);
         }
     }
 

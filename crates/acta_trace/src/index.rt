@@ -76,4 +76,15 @@ impl<A: Allocator> Index<A> {
         self.edges
             .note_all(step.edges_before, step.edges_after, place);
     }
+
+    /// Forgets the last step, which is at this place.
+    pub(crate) fn forget(&mut self, place: usize, step: &Step<A>)
+        ensures { (steps : List (Step A)) → length steps ≡ place → IsIndexed (steps ++ step.now ∷ []) self.old → IsIndexed steps self.new }
+    {
+        self.begun.forget(number_of(step.began()), place);
+        self.ended.forget(number_of(step.ended()), place);
+        self.operations.forget(number_of_op(step.op), place);
+        self.edges
+            .forget_all(step.edges_before, step.edges_after, place);
+    }
 }

@@ -1,7 +1,7 @@
 //! A list of steps in which each is found by what it did.
 
-ghost use Rattle.std.specs.Prelude.{◌≡◌, ◌≤◌, ◌<◌, ◌++◌, ◌∷◌, [], OnErr, OnOk, IfOk, length};
-ghost use Rattle.acta_trace.specs.Firsts.{IsFirstAt};
+ghost use Rattle.std.specs.Prelude.{◌≡◌, ◌-◌, ◌++◌, ◌∷◌, [], OnErr, OnOk, length, take};
+ghost use Rattle.std.specs.List.{position};
 ghost use Rattle.acta_trace.specs.Steps.{Fits, FitsEvent, begins, does, ends, forms};
 
 use crate::index::Index;
@@ -76,6 +76,24 @@ impl<A: Allocator> Steps<A> {
         Ok(())
     }
 
+    // Takes away the last step, if there is one.
+    fn pop(&mut self)
+        ensures { self.new.steps ≡ take (length self.old.steps - 1) self.old.steps }
+    {
+        if let Some(step) = self.list.pop() {
+            self.index.forget(self.list.len(), &step);
+        }
+    }
+
+    /// Takes away all but the first steps, so many. Does nothing if there are no more.
+    pub fn truncate(&mut self, len: usize)
+        ensures { self.new.steps ≡ take len self.old.steps }
+    {
+        while len < self.list.len() {
+            self.pop();
+        }
+    }
+
     /// The steps, in order.
     pub fn as_slice(&self) -> &[Step<A>]
         ensures { result.now ≡ self.now.steps }
@@ -85,28 +103,28 @@ impl<A: Allocator> Steps<A> {
 
     /// The place, from 0, of the step that began the transaction; `None` if no step did.
     pub fn begin_of(&self, t: TxnId) -> Option<usize>
-        ensures { IsFirstAt (begins t.0) self.now.steps result }
+        ensures { result ≡ position (begins t.0) self.now.steps }
     {
         self.index.begun.at(t.0 as usize)
     }
 
     /// The place of the step that ended the transaction; `None` if no step did.
     pub fn end_of(&self, t: TxnId) -> Option<usize>
-        ensures { IsFirstAt (ends t.0) self.now.steps result }
+        ensures { result ≡ position (ends t.0) self.now.steps }
     {
         self.index.ended.at(t.0 as usize)
     }
 
     /// The place of the step that did the operation; `None` if no step did.
     pub fn operation(&self, op: OpNo) -> Option<usize>
-        ensures { IsFirstAt (does op.0) self.now.steps result }
+        ensures { result ≡ position (does op.0) self.now.steps }
     {
         self.index.operations.at(op.0 as usize)
     }
 
     /// The place of the step that formed the edge with this number; `None` if no step did.
     pub fn edge(&self, number: u32) -> Option<usize>
-        ensures { IsFirstAt (forms number) self.now.steps result }
+        ensures { result ≡ position (forms number) self.now.steps }
     {
         self.index.edges.at(number as usize)
     }
