@@ -210,7 +210,11 @@ impl<A: Handle> Debugger<A> {
         if n > self.last() {
             return Err(MoveError::OutOfRange);
         }
-        self.stand_behind(n as usize)?;
+        let place = n as usize;
+        if place < self.at && self.at - place <= LEAST_DISTANCE {
+            self.draw_near(place)?;
+        }
+        self.stand_behind(place)?;
         Ok(())
     }
 
@@ -218,6 +222,38 @@ impl<A: Handle> Debugger<A> {
     /// becomes the last of the history: the events after the place are forgotten. A refusal changes nothing, and neither
     /// does `Err`, which comes if memory runs out.
     pub fn take(&mut self, event: &Event<A>) -> Result<Answer, AllocError>
+        ensures answer { IfOk result (λ answer. answer ≡ answer_to (state_at self.old.model self.old.history self.old.at) event.now) }
+        ensures ok { OnOk result (self.new ≡ taken self.old event.now) }
+        ensures err { OnErr result (self.new ≡ self.old) }
+    {
+        let answer = self.take_here(event)?;
+        self.mark();
+        Ok(answer)
+    }
+
+    // Leaves a checkpoint if the nearest one is far back: the distance grows with the history, so that all together keep some
+    // seventeen times its items. If memory runs out, none is left.
+    fn mark(&mut self)
+        ensures { self.new ≡ self.old }
+    {
+        let kept = self.machine.history().len();
+        let last = match nearest_of(self.checkpoints.as_slice(), kept) {
+            Some(k) => self.checkpoints[k].history().len(),
+            None => 0,
+        };
+        if kept.saturating_sub(last) < LEAST_DISTANCE.max(kept / 16) {
+            return;
+        }
+        if self.checkpoints.reserve(1).is_err() {
+            return;
+        }
+        if let Ok(checkpoint) = self.machine.copy() {
+            self.checkpoints.push_reserved(checkpoint);
+        }
+    }
+
+    // Has the machine take an event, as `take` does.
+    fn take_here(&mut self, event: &Event<A>) -> Result<Answer, AllocError>
         ensures answer { IfOk result (λ answer. answer ≡ answer_to (state_at self.old.model self.old.history self.old.at) event.now) }
         ensures ok { OnOk result (self.new ≡ taken self.old event.now) }
         ensures err { OnErr result (self.new ≡ self.old) }

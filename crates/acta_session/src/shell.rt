@@ -19,7 +19,7 @@ use acta_machine::{Handle, Machine};
 use acta_script::{
     Diagnostic, ShellCommand, ShellFault, ShellLine, answer_line, read_shell_line, write_event,
 };
-use acta_table::{Answer, Event, Model};
+use acta_table::{Answer, Event, Model, Refusal};
 use acta_trace::{
     push_conflicts_line, push_debt_lines, push_edge_lines, push_event_lines, push_held_line,
     push_kept_lines, push_permit_lines, push_state_lines, push_status_line, push_value_line,
@@ -62,8 +62,22 @@ fn answer_text<A: Handle>(alloc: A, answer: &Answer, rest: &[u8]) -> Result<Vec<
     Ok(text)
 }
 
-// What the machine would answer to an event.
+// What the machine would answer to an event. A copy takes it only if nothing refuses it.
+#[tactic(auto, unfolding(acta_machine::specs::Table::answer_to))]
 fn answer_of<A: Handle>(machine: &Machine<A>, event: &Event<A>) -> Result<Answer, AllocError>
+    ensures { IfOk result (λ answer. answer ≡ answer_to machine.now event.now) }
+{
+    match machine.why(event)? {
+        Some(reason) => {
+            let Refusal { rule, by } = reason.refusal();
+            Ok(Answer::Refused { rule, by })
+        }
+        None => answer_of_copy(machine, event),
+    }
+}
+
+// What a copy of the machine answers to an event.
+fn answer_of_copy<A: Handle>(machine: &Machine<A>, event: &Event<A>) -> Result<Answer, AllocError>
     ensures { IfOk result (λ answer. answer ≡ answer_to machine.now event.now) }
 {
     let mut next = machine.copy()?;

@@ -4,7 +4,7 @@ ghost use Rattle.std.specs.Prelude.{◌≡◌, ◌++◌, ◌∷◌, ℕ, List, [
 ghost use Rattle.std.specs.Option.{option_map_or};
 ghost use Rattle.acta_machine.specs.Table.{access_set_in, conflict_set_in, debts_in, value_in};
 ghost use Rattle.acta_script.specs.Answers.{owed_line};
-ghost use Rattle.acta_script.specs.Writing.{elements_word};
+ghost use Rattle.acta_script.specs.Writing.{elements_word, txn_word};
 ghost use Rattle.acta_table.specs.Events.{started};
 ghost use Rattle.acta_words.specs.Text.{text_of};
 ghost use Rattle.acta_trace.specs.States.{ArePermitLines, edge_line, edge_lines, is_of, operations_line, permit_line, started_line, state_lines, state_word, status_line, status_lines, value_line, value_lines};
@@ -166,6 +166,14 @@ pub fn is_edge_of(edge: &Edge, t: Option<TxnId>) -> bool
     }
 }
 
+// Writes a space before each of the two transactions of the edge.
+fn push_ends<A: Allocator>(edge: &Edge, text: &mut Vec<u8, A>) -> Result<(), AllocError>
+    ensures { OnOk result (text.new.items ≡ text.old.items ++ 32 ∷ txn_word edge.now.j ++ 32 ∷ txn_word edge.now.i) }
+{
+    push_natural(text, u64::from(edge.j.0))?;
+    push_natural(text, u64::from(edge.i.0))
+}
+
 // Adds the edge with this number.
 fn push_edge<A: Allocator>(
     number: usize,
@@ -177,8 +185,7 @@ fn push_edge<A: Allocator>(
     text.extend_from_slice(b"edge")?;
     push_natural(text, number as u64)?;
     push_word(text, edge.kind.word().as_bytes())?;
-    push_natural(text, u64::from(edge.j.0))?;
-    push_natural(text, u64::from(edge.i.0))?;
+    push_ends(edge, text)?;
     push_line(text, b"")
 }
 

@@ -4,7 +4,7 @@ use Rattle.acta_debug.specs.Histories.{state_at}
 use Rattle.acta_debug.specs.Sessions.{Session}
 use Rattle.acta_debug.proofs.Standing.{shows-state}
 use Rattle.acta_debug.proofs.Taking.{admitted-fronts, admitted-inside, admitted-moves, refused-inside, refused-moves}
-use Rattle.acta_debug.proofs.debugger.Debugger.take.Goals as goal
+use Rattle.acta_debug.proofs.debugger.Debugger.take_here.Goals as goal
 
 pub invariant_of-self-in-Refused : goal.invariant_of-self-in-Refused
 invariant_of-self-in-Refused g c =
