@@ -1,8 +1,9 @@
 //! The program `acta_tool COMMAND [OPTIONS] MODEL`. Its words say what is to be done and with which model, a file or
 //! one that the program holds; the standard input holds the lines of a history. The model and the whole input are read
 //! before anything is written, and the answer is written in one go, so that a run whose input can't be read, or whose
-//! memory runs out, prints nothing. It ends with status 0 where all was answered, 1 where the model or a line was
-//! refused, 2 where the words are wrong, and 3 where a read, a write or the memory failed.
+//! memory runs out, prints nothing. Only `shell` answers each line before it reads the next. The program ends with status 0
+//! where all was answered, 1 where the model or a line was refused, 2 where the words are wrong, and 3 where a read, a write
+//! or the memory failed.
 #![tactic(auto)]
 
 mod progress;
@@ -21,6 +22,8 @@ use acta_io::{LineKind, Metered, Outcome, ReadFault, Watched, read_all, read_wit
 use acta_models::Standard;
 use acta_programs::{ExploreLine, explore_tool};
 use acta_serialize::{SerializeLine, serialize_tool};
+use acta_session::Streams;
+use acta_shell::{NotingEnd, ShellLine, shell_tool};
 use acta_tool::{Args, Command, Failure, drive_tool, exit_status, run_tool};
 use std::alloc::AllocError;
 use std::env::Env;
@@ -294,6 +297,27 @@ fn serve_serialize<R: Files + Input + Print + AllocGlobal>(
     ))
 }
 
+// Answers the lines of the standard input one by one.
+fn serve_shell<R: Env + Files + Input + Print + AllocGlobal>(
+    rt: &R,
+    terminals: Terminals,
+    words: &[String],
+) -> Result<Outcome, UsageFault> {
+    let asked = parse::<ShellLine>(rt.alloc(), words)?;
+    let model = match model_bytes(rt, asked.model) {
+        Ok(model) => model,
+        Err(reason) => return Ok(Outcome::Unread(reason)),
+    };
+    Ok(shell_tool(
+        rt.alloc(),
+        asked.model,
+        model.as_slice(),
+        Screen::of(rt, terminals.output),
+        terminals.input && terminals.output,
+        &mut NotingEnd::new(Streams::new(rt.reader(), io::writer(rt))),
+    ))
+}
+
 // The models that a command line names, which are two at most.
 struct Named<'a> {
     model: Option<ModelName<'a>>,
@@ -333,6 +357,7 @@ fn models_named<'a, R: AllocGlobal>(rt: &R, words: &'a [String]) -> Result<Named
             }
         }
         "serialize" => Named::one(parse::<SerializeLine>(rt.alloc(), words)?.model),
+        "shell" => Named::one(parse::<ShellLine>(rt.alloc(), words)?.model),
         _ => Named::one(acta_tool::parse(rt.alloc(), words)?.model),
     })
 }
@@ -369,11 +394,18 @@ fn tell_version<R: Print>(rt: &R) -> Outcome {
     }
 }
 
-// Runs the command that the words name. The standard output and the standard error may be terminals.
+// Which of the standard streams are terminals.
+#[derive(Clone, Copy)]
+struct Terminals {
+    input: bool,
+    output: bool,
+    error: bool,
+}
+
+// Runs the command that the words name.
 fn serve<R: Clock + Env + Eprint + Files + Input + Print + AllocGlobal + Threads + Wait + Sync>(
     rt: &R,
-    is_output_terminal: bool,
-    is_error_terminal: bool,
+    terminals: Terminals,
     words: &[String],
 ) -> Result<Outcome, Failure> {
     let command = match words.get(1) {
@@ -381,16 +413,17 @@ fn serve<R: Clock + Env + Eprint + Files + Input + Print + AllocGlobal + Threads
         None => "",
     };
     Ok(match command {
-        "draw" => serve_draw(rt, is_output_terminal, words)?,
+        "draw" => serve_draw(rt, terminals.output, words)?,
         "explain" => serve_explain(rt, words)?,
-        "explore" => serve_explore(rt, is_error_terminal, words)?,
-        "compare" => serve_compare(rt, is_error_terminal, words)?,
+        "explore" => serve_explore(rt, terminals.error, words)?,
+        "compare" => serve_compare(rt, terminals.error, words)?,
         "serialize" => serve_serialize(rt, words)?,
+        "shell" => serve_shell(rt, terminals, words)?,
         "--version" | "-V" => tell_version(rt),
         "--models" => tell_models(rt, words.get(1..).unwrap_or(&[]))?,
         _ if is_command(command) => {
             let args = acta_tool::parse(rt.alloc(), words)?;
-            serve_run(rt, is_error_terminal, &args)?
+            serve_run(rt, terminals.error, &args)?
         }
         _ => return Err(Failure::Words(refuse_words(rt.alloc(), words))),
     })
@@ -445,12 +478,12 @@ fn main(rt: HostRuntime) -> ExitCode {
     let none = Vec::new(rt.alloc());
     let (words, outcome) = match words(&rt) {
         Ok(words) => {
-            let outcome = serve(
-                &rt,
-                rt.stdout().is_terminal(),
-                rt.stderr().is_terminal(),
-                words.as_slice(),
-            );
+            let terminals = Terminals {
+                input: rt.stdin().is_terminal(),
+                output: rt.stdout().is_terminal(),
+                error: rt.stderr().is_terminal(),
+            };
+            let outcome = serve(&rt, terminals, words.as_slice());
             (words, outcome)
         }
         Err(fault) => (none, Err(Failure::Words(fault))),

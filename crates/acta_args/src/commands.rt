@@ -17,7 +17,7 @@ pub struct Listed {
 }
 
 /// The commands, in the order in which the help lists them.
-pub const COMMANDS: [Listed; 14] = [
+pub const COMMANDS: [Listed; 15] = [
     Listed {
         name: "run",
         about: "Answers the event lines of the standard input, and says what is owed",
@@ -33,6 +33,10 @@ pub const COMMANDS: [Listed; 14] = [
     Listed {
         name: "trace",
         about: "Answers them with their lines, and with the operation and the edges that each event formed",
+    },
+    Listed {
+        name: "shell",
+        about: "Answers events and commands one by one, in a session",
     },
     Listed {
         name: "explore",

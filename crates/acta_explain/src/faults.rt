@@ -11,8 +11,8 @@ use acta_args::nearest;
 use acta_io::{BadLine, MOST_SEATS, refuse_line};
 use acta_machine::Handle;
 use acta_script::{
-    BreakKind, CommandKind, Diagnostic, EVENT_KINDS, Expected, LineFault, LinePart, OpKind,
-    RETURN_WORDS, ShellFault, ShellKind, WordPlace, diagnose_command, diagnose_event,
+    BreakKind, CAN_WORD, CommandKind, Diagnostic, EVENT_KINDS, Expected, LineFault, LinePart,
+    OpKind, RETURN_WORDS, ShellFault, ShellKind, WordPlace, diagnose_command, diagnose_event,
     diagnose_kept, diagnose_seated, event_form, event_word, read_shell_line,
 };
 use acta_table::{Dep, Model};
@@ -88,6 +88,7 @@ fn known_words<'a, A: Handle>(
                 words.push(event_word(kind))?;
             }
             if form == LineForm::Shell {
+                words.push(CAN_WORD)?;
                 for kind in ShellKind::ALL {
                     words.push(kind.word())?;
                 }

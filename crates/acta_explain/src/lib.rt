@@ -35,10 +35,10 @@ pub use layout::{digits, put_barred};
 pub use lines::{LineIndex, NonBlankLine, StepText, non_blank_lines};
 pub use listing::{first_listed, put_more};
 pub use phrases::{
-    class_at, first_named, name_text, put_edges, put_formed_edge, put_lacking, put_line,
-    put_numbered_edge, put_operation, put_return, put_standing,
+    allowing_word, class_at, first_named, name_text, put_edges, put_formed_edge, put_lacking,
+    put_line, put_line_text, put_numbered_edge, put_operation, put_return, put_standing,
 };
 pub use prose::{Prose, report_of};
 pub use reasons::Refused;
-pub use report::{explain, explain_tool, put_model_name, write_words};
-pub use run_trace::{MOST_RENDERED, RunTrace};
+pub use report::{explain, explain_no_model, explain_tool, put_model_name, write_words};
+pub use run_trace::{MOST_RENDERED, RunTrace, put_formed};

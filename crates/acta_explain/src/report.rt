@@ -31,8 +31,8 @@ pub fn put_model_name<A: Handle>(prose: Prose<A>, name: ModelName<'_>) -> Prose<
     }
 }
 
-// What is written of bytes that mean no model: the line that all commands write, and what is wrong with them.
-fn explain_no_model<A: Handle>(
+/// What is written for bytes that mean no model: the line that all commands write, and what is wrong with them.
+pub fn explain_no_model<A: Handle>(
     alloc: A,
     name: ModelName<'_>,
     bytes: &[u8],

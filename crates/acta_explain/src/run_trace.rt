@@ -8,9 +8,9 @@ use crate::put;
 use crate::reasons::Refused;
 use acta_hope::why_and_hope;
 use acta_machine::{Handle, Machine};
-use acta_table::{Answer, Event, LAST_TXN, Model, Rule, TxnId, lengthen};
+use acta_table::{Answer, Edge, Event, LAST_TXN, Model, Rule, TxnId, lengthen};
 use acta_trace::{Step, Trace};
-use std::alloc::AllocError;
+use std::alloc::{AllocError, Allocator};
 
 /// The most refused events that are explained of a run, and the most faults of a verdict. Later ones are counted, so that millions
 /// of them take neither time nor room.
@@ -205,14 +205,18 @@ impl<A: Handle> RunTrace<A> {
 
     /// Adds the operation that a step did, and the edges that it formed.
     pub fn put_formed(&self, prose: Prose<A>, step: &Step<A>) -> Prose<A> {
-        let prose = match step.op {
-            Some(op) => put!(prose; "operation ", op.0),
-            None => prose,
-        };
-        let edges = self.machine().edges();
-        let formed = edges
-            .get(step.edges_before..step.edges_after)
-            .unwrap_or(&[]);
-        put_edges(prose, step.edges_before, formed, MOST_LISTED)
+        put_formed(prose, self.machine().edges(), step)
     }
+}
+
+/// Adds the operation that a step did, and the edges that it formed; these are all edges.
+pub fn put_formed<A: Allocator>(prose: Prose<A>, edges: &[Edge], step: &Step<A>) -> Prose<A> {
+    let prose = match step.op {
+        Some(op) => put!(prose; "operation ", op.0),
+        None => prose,
+    };
+    let formed = edges
+        .get(step.edges_before..step.edges_after)
+        .unwrap_or(&[]);
+    put_edges(prose, step.edges_before, formed, MOST_LISTED)
 }

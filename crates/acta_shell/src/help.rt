@@ -1,0 +1,136 @@
+//! What the lines of a session do, in words.
+
+use acta_explain::{Prose, put};
+use acta_machine::Handle;
+use acta_script::{CAN_FORM, EVENT_KINDS, ShellKind, Topic, event_form};
+use acta_table::EventKind;
+
+// What a line does, and a line that does it.
+type Entry = (&'static str, &'static str);
+
+// The command `can`.
+const CAN: Entry = (
+    "says whether an event would be admitted, and does not do it",
+    "can commit 1",
+);
+
+// What a command does.
+fn command_words(kind: ShellKind) -> &'static str {
+    match kind {
+        ShellKind::Undo => "takes back the last event, or the last N events",
+        ShellKind::Redo => "does the next event again that was taken back, or the next N",
+        ShellKind::Goto => "goes to the place after the first N events, back or forward",
+        ShellKind::State => "shows the transactions, the values and the debts",
+        ShellKind::Status => "shows the status of transaction T",
+        ShellKind::Value => "shows the value of an object",
+        ShellKind::Held => "lists the operations in progress that T holds",
+        ShellKind::Conflicts => "lists the operations of others with which one of T can conflict",
+        ShellKind::Edges => "lists the dependencies in force, or those of transaction T",
+        ShellKind::Permits => "lists the permits in force",
+        ShellKind::Owed => "lists the events that are owed, and says whether they can be paid",
+        ShellKind::History => "lists the events with what they returned, as `judge` reads them",
+        ShellKind::Events => "lists the events, as `run` reads them",
+        ShellKind::Draw => "draws the history",
+        ShellKind::Why => "says why the last refused event was refused, or the Nth",
+        ShellKind::Next => "lists which events would be admitted now, or those of T",
+        ShellKind::Help => "lists all lines, or explains one by its first word",
+        ShellKind::Quit => "ends the session, as Ctrl-D does",
+    }
+}
+
+// A line with the command.
+fn command_example(kind: ShellKind) -> &'static str {
+    match kind {
+        ShellKind::Undo => "undo 2",
+        ShellKind::Redo => "redo",
+        ShellKind::Goto => "goto 0",
+        ShellKind::State => "state",
+        ShellKind::Status => "status 1",
+        ShellKind::Value => "value x",
+        ShellKind::Held => "held 1",
+        ShellKind::Conflicts => "conflicts 1",
+        ShellKind::Edges => "edges 1",
+        ShellKind::Permits => "permits",
+        ShellKind::Owed => "owed",
+        ShellKind::History => "history",
+        ShellKind::Events => "events",
+        ShellKind::Draw => "draw",
+        ShellKind::Why => "why 1",
+        ShellKind::Next => "next 1",
+        ShellKind::Help => "help undo",
+        ShellKind::Quit => "quit",
+    }
+}
+
+// What a command does, and a line with it.
+fn command_entry(kind: ShellKind) -> Entry {
+    (command_words(kind), command_example(kind))
+}
+
+// What an event of the kind is.
+fn event_entry(kind: EventKind) -> Entry {
+    match kind {
+        EventKind::Begin => ("T begins, as a transaction of a class", "begin 1 part"),
+        EventKind::Spawn => ("T spawns its child C, of a class", "spawn 1 2 part"),
+        EventKind::Split => (
+            "T splits off U, of a class, which gets operations by number, or none by `-`",
+            "split 1 2 part 3,4",
+        ),
+        EventKind::Join => ("T joins U, which gets all that T holds", "join 2 1"),
+        EventKind::Delegate => ("T hands operations to U, by number", "delegate 1 2 3,4"),
+        EventKind::Form => (
+            "a dependency of J on I is formed, of a kind as CD or AD",
+            "form CD 2 1",
+        ),
+        EventKind::Operate => ("T does an operation on an object", "do 1 x write 5"),
+        EventKind::Commit => ("T commits", "commit 1"),
+        EventKind::Abort => ("T aborts", "abort 1"),
+        EventKind::Permit => ("T permits U to work on an object beside it", "permit 1 2 x"),
+    }
+}
+
+// How far in the words stand after a form.
+const FORM_WIDTH: usize = 22;
+
+// Adds a form and what it does, as a line of a list.
+fn put_listed<A: Handle>(prose: Prose<A>, form: &str, entry: Entry) -> Prose<A> {
+    let (words, _) = entry;
+    let prose = put!(prose; "  ", form).pad(FORM_WIDTH.saturating_sub(form.len()));
+    put!(prose; words, "\n")
+}
+
+// Adds a form, what it does, and an example.
+fn put_alone<A: Handle>(prose: Prose<A>, form: &str, entry: Entry) -> Prose<A> {
+    let (words, example) = entry;
+    put!(prose; "`", form, "` ", words, "\nfor example `", example, "`\n")
+}
+
+// Adds an event, which has no verb of its own.
+fn put_event<A: Handle>(prose: Prose<A>, kind: EventKind) -> Prose<A> {
+    let (words, example) = event_entry(kind);
+    put!(prose; "`", event_form(kind), "`: ", words, "\nfor example `", example, "`\n")
+}
+
+// Adds all lines.
+fn put_all<A: Handle>(prose: Prose<A>) -> Prose<A> {
+    let mut prose = prose.put("events:\n");
+    for kind in EVENT_KINDS {
+        prose = put_listed(prose, event_form(kind), event_entry(kind));
+    }
+    prose = put_listed(prose.put("commands:\n"), CAN_FORM, CAN);
+    for kind in ShellKind::ALL {
+        prose = put_listed(prose, kind.form(), command_entry(kind));
+    }
+    prose.put("`help WORD` explains the line that begins with the word\n")
+}
+
+/// All lines of a session, or one of them with an example.
+pub(crate) fn help_text<A: Handle>(alloc: A, topic: Option<Topic>) -> Prose<A> {
+    let prose = Prose::new(alloc);
+    match topic {
+        None => put_all(prose),
+        Some(Topic::Can) => put_alone(prose, CAN_FORM, CAN),
+        Some(Topic::Command(kind)) => put_alone(prose, kind.form(), command_entry(kind)),
+        Some(Topic::Event(kind)) => put_event(prose, kind),
+    }
+}

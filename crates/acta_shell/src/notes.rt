@@ -1,0 +1,89 @@
+//! What the words of replies refer to: the events that were admitted, and those that were refused.
+
+use acta_explain::{LineIndex, MOST_RENDERED, StepText};
+use acta_machine::{Handle, Machine};
+use acta_trace::{Step, Steps};
+use std::alloc::AllocError;
+
+// How many edges are looked at for transactions that wait for one another, in all refusals of a session, so that a session with
+// many edges and many refusals isn't slow.
+const MOST_LOOKS: usize = 2_000_000;
+
+/// The events that were admitted, with those that were taken back and can be done again, and the first refusals.
+#[derive(Drop)]
+pub(crate) struct Notes<A: Handle> {
+    alloc: A,
+    steps: Steps<A>,
+    // One for each step.
+    texts: Vec<StepText<A>, A>,
+    // The first refused events, with the reasons.
+    refusals: Vec<StepText<A>, A>,
+    refused: usize,
+    looks_left: usize,
+}
+
+impl<A: Handle> Notes<A> {
+    pub(crate) fn new(alloc: A) -> Notes<A> {
+        Notes {
+            alloc,
+            steps: Steps::new(alloc),
+            texts: Vec::new(alloc),
+            refusals: Vec::new(alloc),
+            refused: 0,
+            looks_left: MOST_LOOKS,
+        }
+    }
+
+    pub(crate) fn allocator(&self) -> A {
+        self.alloc
+    }
+
+    /// The events of the machine's history, to which sentences refer. Those that were taken back have no text here, so that no
+    /// sentence names them.
+    pub(crate) fn lines<'a>(&'a self, machine: &'a Machine<A>) -> LineIndex<'a, A> {
+        let texts = self.texts.as_slice();
+        LineIndex {
+            noun: "event",
+            steps: &self.steps,
+            texts: texts.get(..machine.history().len()).unwrap_or(texts),
+            edges: machine.edges(),
+        }
+    }
+
+    /// Notes an event that was admitted, with its line. The events that were taken back before it can't be done again, and are
+    /// forgotten.
+    pub(crate) fn admit(&mut self, step: Step<A>, event: String<A>) -> Result<(), AllocError> {
+        let before = step.line.saturating_sub(1);
+        self.steps.truncate(before);
+        self.texts.truncate(before);
+        let reason = String::new(self.alloc);
+        self.texts.push(StepText { event, reason })?;
+        self.steps.push(step)
+    }
+
+    /// Notes an event that was refused, with its line and the reason. Only the first `MOST_RENDERED` reasons are kept.
+    pub(crate) fn refuse(&mut self, event: String<A>, reason: String<A>) -> Result<(), AllocError> {
+        self.refused = self.refused.saturating_add(1);
+        if self.refused <= MOST_RENDERED {
+            self.refusals.push(StepText { event, reason })?;
+        }
+        Ok(())
+    }
+
+    /// How many events were refused.
+    pub(crate) fn refused(&self) -> usize {
+        self.refused
+    }
+
+    /// The refused event of this number, from 1, if its reason is kept.
+    pub(crate) fn refusal(&self, number: usize) -> Option<&StepText<A>> {
+        self.refusals.get(number.checked_sub(1)?)
+    }
+
+    /// Whether so many edges may still be looked at for a refusal. They are counted.
+    pub(crate) fn may_look(&mut self, edges: usize) -> bool {
+        let may = edges <= self.looks_left;
+        self.looks_left = self.looks_left.saturating_sub(edges);
+        may
+    }
+}
