@@ -20,3 +20,5 @@ mod explained;
 mod images;
 #[cfg(test)]
 mod runs;
+#[cfg(test)]
+mod sessions;

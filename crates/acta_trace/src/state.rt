@@ -130,7 +130,7 @@ fn push_operations<A: Allocator + Copy>(
     push_line(text, line.as_slice())
 }
 
-/// Adds the numbers of the operations in progress that a transaction holds.
+/// Adds the numbers of the operations in the access set of a transaction.
 pub fn push_held_line<A: Handle>(
     alloc: A,
     machine: &Machine<A>,
@@ -143,7 +143,7 @@ pub fn push_held_line<A: Handle>(
     push_operations(alloc, held.as_slice(), text)
 }
 
-/// Adds the numbers of the operations that conflict with those that a transaction may do.
+/// Adds the numbers of the operations in the conflict set of a transaction.
 pub fn push_conflicts_line<A: Handle>(
     alloc: A,
     machine: &Machine<A>,
