@@ -207,14 +207,31 @@ impl<A: Handle> Debugger<A> {
         ensures barred { (e : Fault) → gone_to self.old n ≡ Err e → result ≡ Err e }
         ensures only { IfErr result (λ e. (gone_to self.old n ≡ Err e) ⊎ (e ≡ MoveError.Memory)) }
     {
+        self.come_near(n as usize);
+        self.goto_place(n)
+    }
+
+    // Leaves a checkpoint a little before this place if it is a little before the present one, so that one move back after
+    // another takes few events. If memory runs out, none is left.
+    fn come_near(&mut self, n: usize)
+        ensures { self.new ≡ self.old }
+    {
+        if n < self.at && self.at - n <= LEAST_DISTANCE {
+            let _near = self.draw_near(n);
+        }
+    }
+
+    // Moves to behind the first n events, as `goto` does.
+    fn goto_place(&mut self, n: u32) -> Result<(), MoveError>
+        ensures ok { OnOk result (gone_to self.old n ≡ Ok self.new) }
+        ensures err { OnErr result (self.new ≡ self.old) }
+        ensures barred { (e : Fault) → gone_to self.old n ≡ Err e → result ≡ Err e }
+        ensures only { IfErr result (λ e. (gone_to self.old n ≡ Err e) ⊎ (e ≡ MoveError.Memory)) }
+    {
         if n > self.last() {
             return Err(MoveError::OutOfRange);
         }
-        let place = n as usize;
-        if place < self.at && self.at - place <= LEAST_DISTANCE {
-            self.draw_near(place)?;
-        }
-        self.stand_behind(place)?;
+        self.stand_behind(n as usize)?;
         Ok(())
     }
 
@@ -227,13 +244,14 @@ impl<A: Handle> Debugger<A> {
         ensures err { OnErr result (self.new ≡ self.old) }
     {
         let answer = self.take_here(event)?;
-        self.mark();
+        // (without a checkpoint a later move takes longer)
+        let _marked = self.mark();
         Ok(answer)
     }
 
     // Leaves a checkpoint if the nearest one is far back: the distance grows with the history, so that all together keep some
-    // seventeen times its items. If memory runs out, none is left.
-    fn mark(&mut self)
+    // seventeen times its items.
+    fn mark(&mut self) -> Result<(), AllocError>
         ensures { self.new ≡ self.old }
     {
         let kept = self.machine.history().len();
@@ -242,14 +260,12 @@ impl<A: Handle> Debugger<A> {
             None => 0,
         };
         if kept.saturating_sub(last) < LEAST_DISTANCE.max(kept / 16) {
-            return;
+            return Ok(());
         }
-        if self.checkpoints.reserve(1).is_err() {
-            return;
-        }
-        if let Ok(checkpoint) = self.machine.copy() {
-            self.checkpoints.push_reserved(checkpoint);
-        }
+        self.checkpoints.reserve(1)?;
+        let checkpoint = self.machine.copy()?;
+        self.checkpoints.push_reserved(checkpoint);
+        Ok(())
     }
 
     // Has the machine take an event, as `take` does.

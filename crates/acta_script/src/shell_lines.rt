@@ -44,7 +44,7 @@ pub enum ShellCommand {
     Value(ObjId),
     /// The operations that the transaction holds.
     Held(TxnId),
-    /// The conflict set of the transaction: the operations in progress that others hold.
+    /// The operations that conflict with those that the transaction holds.
     Conflicts(TxnId),
     /// The edges, or those of the transaction.
     Edges(Option<TxnId>),

@@ -21,7 +21,7 @@ pub enum ShellKind {
     Value,
     /// The operations that a transaction holds.
     Held,
-    /// The conflict set of a transaction: the operations in progress that others hold.
+    /// The operations that conflict with those that a transaction holds.
     Conflicts,
     /// The edges, or those of a transaction.
     Edges,

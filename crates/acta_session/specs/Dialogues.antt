@@ -87,3 +87,7 @@ pub record IsDialogue {A : Type 0} (prompt : List ℕ) (old : Session A) (acts :
   pub session : (after_acts (at_start old) acts).session ≡ new
   pub answered : (after_acts (at_start old) acts).due ≡ []
   pub over : (after_acts (at_start old) acts).is_over ≡ true
+
+-- from this moment on there were acts, each in turn; the last line that was read may have no reply yet
+abbrev pub HasBegun : {A C : Type 0} → List ℕ → (List Act → C → Type 0) → C → Moment A → Type 0
+HasBegun prompt since console old = (acts : List Act) × since acts console × AreInTurn prompt old acts

@@ -1,8 +1,8 @@
 //! A session at a console, from its first line to its end.
 
-ghost use Rattle.std.specs.Prelude.{◌≡◌, ◌≢◌, ℕ, List, [], ◌∷◌, if◌then◌else◌, false, true, IfOk, IfErr, OnOk};
-ghost use Rattle.acta_io.specs.declared.outcome.Outcome.TheVariants.{Done};
-ghost use Rattle.acta_session.specs.Dialogues.{Act, Shown, IsDialogue, IsShownFor, cut, last_line};
+ghost use Rattle.std.specs.Prelude.{◌≡◌, ◌≢◌, ℕ, List, [], ◌∷◌, if◌then◌else◌, false, true, Err, IfOk, IfErr, OnOk};
+ghost use Rattle.acta_io.specs.declared.outcome.Outcome.TheVariants.{Done, Unread};
+ghost use Rattle.acta_session.specs.Dialogues.{Act, Shown, HasBegun, IsDialogue, IsShownFor, at_start, cut, last_line};
 ghost use Rattle.acta_session.specs.Replies.{after_line, quits};
 ghost use Rattle.acta_session.specs.inside.Talks.{HasTalked, at_front};
 
@@ -26,6 +26,7 @@ fn answer<A: Handle, W: Words<A>, C: Console>(
     ensures session { OnOk result (shell.new ≡ after_line shell.old line.now) }
     ensures over { IfOk result (λ over. over ≡ quits shell.old line.now) }
     ensures failed { IfErr result (λ outcome. outcome ≢ Done) }
+    ensures silent { result ≡ Err (Unread ReadFault.Memory) → console.new ≡ console.old }
 {
     let Ok(Reply { mut text, is_over }) = shell.respond(line) else {
         return Err(Outcome::Unread(ReadFault::Memory));
@@ -50,6 +51,7 @@ fn take_byte<A: Handle, W: Words<A>, C: Console>(
     ensures talked { IfOk result (λ over. (rest : List ℕ) → HasTalked prompt.now (C.since console.old) console.new (at_front shell.old (cut front.old.items (byte ∷ rest))) shell.new (if over then [] else (cut front.new.items rest).lines) (cut front.old.items (byte ∷ rest)).front over) }
     ensures front { IfOk result (λ over. over ≡ false → (rest : List ℕ) → (cut front.old.items (byte ∷ rest)).front ≡ (cut front.new.items rest).front) }
     ensures failed { IfErr result (λ outcome. outcome ≢ Done) }
+    ensures silent { result ≡ Err (Unread ReadFault.Memory) → console.new ≡ console.old }
 {
     if byte != b'\n' {
         return match front.push(byte) {
@@ -74,6 +76,7 @@ fn answer_lines<A: Handle, W: Words<A>, C: Console>(
     ensures talked { IfOk result (λ over. HasTalked prompt.now (C.since console.old) console.new (at_front shell.old (cut front.old.items bytes.now)) shell.new [] (cut front.old.items bytes.now).front over) }
     ensures front { IfOk result (λ over. over ≡ false → front.new.items ≡ (cut front.old.items bytes.now).front) }
     ensures failed { IfErr result (λ outcome. outcome ≢ Done) }
+    ensures partly { result ≡ Err (Unread ReadFault.Memory) → HasBegun prompt.now (C.since console.old) console.new (at_front shell.old (cut front.old.items bytes.now)) }
 {
     for byte in bytes {
         let is_over = take_byte(console, shell, prompt, front, *byte)?;
@@ -87,14 +90,15 @@ fn answer_lines<A: Handle, W: Words<A>, C: Console>(
 /// Reads lines from the console and answers each, until one ends the session or there are no more; the prompt follows each reply.
 /// It reads on only where every line that was read has been answered, and the answers were written and flushed. `Done` at the end.
 /// `Unread(Device)` if a read fails, `Unread(Memory)` if memory runs out, `Unwritten` if a reply cannot be shown, and
-/// `Unread(TooMuch)` after 4,294,967,295 reads; what was shown until then are the answers to the first lines.
+/// `Unread(TooMuch)` after 4,294,967,295 reads. If memory runs out, what was shown until then are the replies to the first lines.
 pub fn converse<A: Handle, W: Words<A>, C: Console>(
     alloc: A,
     console: &mut C,
     shell: &mut Shell<A, W>,
     prompt: &[u8],
 ) -> Outcome
-    ensures { result ≡ Done → (acts : List Act) × C.since console.old acts console.new × IsDialogue prompt.now shell.old acts shell.new }
+    ensures done { result ≡ Done → (acts : List Act) × C.since console.old acts console.new × IsDialogue prompt.now shell.old acts shell.new }
+    ensures partly { result ≡ Unread ReadFault.Memory → HasBegun prompt.now (C.since console.old) console.new (at_start shell.old) }
 {
     let mut front = Vec::new(alloc);
     let mut chunk = [0u8; 4096];
@@ -122,7 +126,8 @@ fn answer_last<A: Handle, W: Words<A>, C: Console>(
     prompt: &[u8],
     line: &[u8],
 ) -> Outcome
-    ensures { result ≡ Done → HasTalked prompt.now (C.since console.old) console.new (record { session = shell.old; due = last_line line.now; front = []; is_over = true }) shell.new [] [] true }
+    ensures done { result ≡ Done → HasTalked prompt.now (C.since console.old) console.new (record { session = shell.old; due = last_line line.now; front = []; is_over = true }) shell.new [] [] true }
+    ensures silent { result ≡ Unread ReadFault.Memory → console.new ≡ console.old }
 {
     if line.is_empty() {
         return Outcome::Done;

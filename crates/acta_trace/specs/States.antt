@@ -66,16 +66,21 @@ pub record ArePermitLines {A : Type 0} (state : State A) (lines : List (List ℕ
   pub permits : List Permit
   pub all : (h t object : ℕ) → is_listed permits h t object ≡ permitted_in state h t object
   pub ascending : IsStrictlySortedBy permit_cmp permits
-  pub lines : lines ≡ map (permit_line state.model) permits
+  pub each : lines ≡ map (permit_line state.model) permits
 
 -- the status of the transaction that an event began, if it began one
 abbrev pub started_line : {A : Type 0} → State A → Option ℕ → List (List ℕ)
 started_line state None = []
 started_line state (Some t) = status_line state (record { 0 = t }) ∷ []
 
+-- the statuses of the transactions that these events began
+abbrev pub status_lines_of : {A : Type 0} → State A → List (Kept A) → List (List ℕ)
+status_lines_of state [] = []
+status_lines_of state (k ∷ ks) = started_line state (started k.event) ++ status_lines_of state ks
+
 -- the statuses of the transactions that have begun, in the order in which they began
 abbrev pub status_lines : {A : Type 0} → State A → List (List ℕ)
-status_lines state = flat_map (λ kept. started_line state (started kept.event)) state.kept
+status_lines state = status_lines_of state state.kept
 
 -- the values of these objects, of which the first has this number
 abbrev pub value_lines_from : {A : Type 0} → State A → ℕ → List (Object A) → List (List ℕ)

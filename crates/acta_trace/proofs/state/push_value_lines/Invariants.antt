@@ -5,4 +5,4 @@ use Rattle.acta_trace.proofs.state.push_value_lines.Given as goal
 
 abbrev pub invariant-loop-number : goal.invariant-loop-number
 invariant-loop-number g l =
-    l.text.items ++ text_of (value_lines_from l.machine l.number-index (drop l.number-index l.machine.model.objects)) ≡ l.initial.text.items ++ text_of (value_lines l.machine)
+    l.text.items ++ text_of (value_lines_from l.machine l.number (drop l.number l.machine.model.objects)) ≡ l.initial.text.items ++ text_of (value_lines l.machine)
