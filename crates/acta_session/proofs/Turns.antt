@@ -2,7 +2,7 @@
 use Rattle.std.proofs.Common.{◌≡◌, ◌<◌, ℕ, Bool, true, false, ◌||◌, List, [], ◌∷◌, ◌++◌, length, refl, sym, ap, subst, ◌∙◌, arith}
 use Rattle.std.specs.Prelude.{if◌then◌else◌}
 use Rattle.acta_debug.specs.Sessions.{Session}
-use Rattle.acta_session.specs.Dialogues.{Act, Shown, Read, Moment, cut, last_line, at_start, after_act, after_acts, AreInTurn, IsInTurn, IsShownFor, IsDialogue}
+use Rattle.acta_session.specs.Dialogues.{Act, Shown, Read, Moment, cut, last_line, at_start, after_act, after_acts, AreInTurn, IsInTurn, IsShownFor, IsDialogue, HasBegun}
 use Rattle.acta_session.specs.Replies.{after_line, quits}
 use Rattle.acta_session.specs.inside.Talks.{HasTalked, at_front}
 
@@ -43,6 +43,22 @@ module _ {A C : Type 0} (prompt : List ℕ) (since : C → List Act → C → Ty
         (subst (λ (p : Moment A). AreInTurn prompt p two.acts) (sym (one.last ∙ same)) two.in_turn);
     last = acts-append old one.acts two.acts ∙ ap (λ (p : Moment A). after_acts p two.acts) (one.last ∙ same) ∙ two.last;
   }
+
+  -- what has happened, where nothing happened since
+  pub begun-of : (first c d : C) (old : Moment A) (s : Session A) (due : List (List ℕ)) (front : List ℕ) (b : Bool)
+      → HasTalked prompt (since first) c old s due front b → d ≡ c → HasBegun prompt (since first) d old
+  begun-of first c d old s due front b talk same = (talk.acts, subst (λ (e : C). since first talk.acts e) (sym same) talk.happened, talk.in_turn)
+
+  -- a stretch that began where another ended, and broke off
+  pub begun-both : (first c d : C) (old mid : Moment A) (s : Session A) (due : List (List ℕ)) (front : List ℕ) (b : Bool)
+      → HasTalked prompt (since first) c old s due front b → moment s due front b ≡ mid → HasBegun prompt (since c) d mid
+      → HasBegun prompt (since first) d old
+  begun-both first c d old mid s due front b one same two = (
+    one.acts ++ two.0,
+    further first c d one.acts two.0 one.happened two.1,
+    in_turn-append prompt old one.acts two.0 one.in_turn
+        (subst (λ (p : Moment A). AreInTurn prompt p two.0) (sym (one.last ∙ same)) two.2),
+  )
 
   -- a stretch that goes on with a byte
   pub stretch : (first c d : C) (old : Moment A) (s t : Session A) (front last ys rest : List ℕ) (b : ℕ) (due : List (List ℕ)) (over : Bool)

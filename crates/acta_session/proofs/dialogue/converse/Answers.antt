@@ -1,11 +1,12 @@
+use Rattle.std.specs.Prelude.{Err}
 use Rattle.std.proofs.Common.{◌<◌, [], ℕ, Bool, List, true, false, ap, length, refl, rules, sym, subst, take}
 use Rattle.acta_session.specs.Dialogues.{at_start, cut, last_line}
 use Rattle.acta_session.specs.inside.Talks.{HasTalked, at_front}
-use Rattle.acta_session.proofs.Turns.{dialogue-of, moment, talked-both, talked-end, talked-read}
+use Rattle.acta_session.proofs.Turns.{begun-both, begun-of, dialogue-of, moment, talked-both, talked-end, talked-read}
 use Rattle.acta_session.proofs.dialogue.converse.Goals as goal
 
-pub returns-then-n-eq0 : goal.returns-then-n-eq0
-returns-then-n-eq0 g c = λ done.
+pub returns-then-n-eq0-clause-done : goal.returns-then-n-eq0-clause-done
+returns-then-n-eq0-clause-done g c = λ done.
     let start = c.args.shell.now in
     let session = c.loop.shell in
     let new = c.answer_last.new.shell in
@@ -15,10 +16,10 @@ returns-then-n-eq0 g c = λ done.
     dialogue-of c.args.prompt.now (g.C.Console.since c.args.console.now) c.answer_last.new.console start new []
     (talked-both c.args.prompt.now g.C.Console.since g.met.C.Console.further c.args.console.now c.read.new.self c.answer_last.new.console (at_start start)
     (moment session (last_line c.as_slice.result.now) [] true) session new (last_line c.loop.front.items) [] [] [] true true ended
-    (ap (λ line. moment session (last_line line) [] true) (sym c.as_slice.ensures.value)) (c.answer_last.ensures done))
+    (ap (λ line. moment session (last_line line) [] true) (sym c.as_slice.ensures.value)) (c.answer_last.ensures.done done))
 
-pub returns-in-Ok-true : goal.returns-in-Ok-true
-returns-in-Ok-true g c = λ done.
+pub returns-in-Ok-true-clause-done : goal.returns-in-Ok-true-clause-done
+returns-in-Ok-true-clause-done g c = λ done.
     let start = c.args.shell.now in
     let session = c.loop.shell in
     let new = c.answer_lines.new.shell in
@@ -53,3 +54,28 @@ loop-preserved g c =
     (sym (c.in-Ok-false.ensures.front c.in-Ok-false.field-0-test))
     (talked-both c.args.prompt.now g.C.Console.since g.met.C.Console.further c.args.console.now c.read.new.self c.answer_lines.new.console (at_start start)
     (at_front session (cut front bytes)) session new (cut front bytes).lines [] (cut front bytes).front (cut front bytes).front false false read refl talk)
+
+-- memory ran out for the reply to the last line: nothing was shown since the read
+pub returns-then-n-eq0-clause-partly : goal.returns-then-n-eq0-clause-partly
+returns-then-n-eq0-clause-partly g c = λ short.
+    let start = c.args.shell.now in
+    let ended =
+    talked-end c.args.prompt.now g.C.Console.since g.met.C.Console.further c.args.console.now c.loop.console c.read.new.self (at_start start)
+    c.loop.shell c.loop.front.items _ (search rules) c.loop.invariant (c.in-Ok.ensures.read (search rules)) in
+    begun-of c.args.prompt.now g.C.Console.since g.met.C.Console.further c.args.console.now c.read.new.self c.answer_last.new.console (at_start start)
+    c.loop.shell (last_line c.loop.front.items) [] true ended (c.answer_last.ensures.silent short)
+
+-- memory ran out for a reply to one of the lines that were read
+pub returns-in-Err-answer_lines-clause-partly : goal.returns-in-Err-answer_lines-clause-partly
+returns-in-Err-answer_lines-clause-partly g c = λ short.
+    let start = c.args.shell.now in
+    let session = c.loop.shell in
+    let front = c.loop.front.items in
+    let bytes = take c.in-Ok.n c.read.new.buf in
+    let some : 0 < length bytes = search rules in
+    let read =
+    talked-read c.args.prompt.now g.C.Console.since g.met.C.Console.further c.args.console.now c.loop.console c.read.new.self (at_start start)
+    session front bytes some c.loop.invariant (c.in-Ok.ensures.read (search rules)) in
+    begun-both c.args.prompt.now g.C.Console.since g.met.C.Console.further c.args.console.now c.read.new.self c.answer_lines.new.console (at_start start)
+    (at_front session (cut front bytes)) session (cut front bytes).lines (cut front bytes).front false read refl
+    (c.in-Err-answer_lines.ensures.partly (ap Err short))
