@@ -1,9 +1,7 @@
 -- Acts in turn, one stretch after another.
-use Rattle.std.proofs.Common.{◌≡◌, ◌<◌, ℕ, Bool, true, false, ◌||◌, List, [], ◌∷◌, ◌++◌, length, refl, sym, ap, subst, ◌∙◌, arith}
-use Rattle.std.specs.Prelude.{if◌then◌else◌}
+use Rattle.std.proofs.Common.{◌≡◌, ◌<◌, ℕ, Bool, true, false, List, [], ◌∷◌, ◌++◌, length, refl, sym, ap, subst, ◌∙◌, arith}
 use Rattle.acta_debug.specs.Sessions.{Session}
-use Rattle.acta_session.specs.Dialogues.{Act, Shown, Read, Moment, cut, last_line, at_start, after_act, after_acts, AreInTurn, IsInTurn, IsShownFor, IsDialogue, HasBegun}
-use Rattle.acta_session.specs.Replies.{after_line, quits}
+use Rattle.acta_session.specs.Dialogues.{Act, Read, Moment, cut, last_line, at_start, after_act, after_acts, AreInTurn, IsInTurn, IsDialogue, HasBegun}
 use Rattle.acta_session.specs.inside.Talks.{HasTalked, at_front}
 
 pub acts-append : {A : Type 0} (p : Moment A) (xs ys : List Act) → after_acts p (xs ++ ys) ≡ after_acts (after_acts p xs) ys

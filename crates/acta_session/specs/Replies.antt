@@ -1,5 +1,5 @@
 -- What a line of a session changes, and what the reply to it says.
-use Rattle.std.specs.Prelude.{◌≡◌, ⊤, ℕ, ◌+◌, ◌-◌, Bool, true, false, nat_le, List, [], ◌∷◌, codes, decimal, length, map, take, if◌then◌else◌, Result, Ok, Err}
+use Rattle.std.specs.Prelude.{◌≡◌, ⊤, ℕ, ◌+◌, ◌-◌, Bool, true, false, nat_le, List, [], ◌∷◌, codes, decimal, length, map, if◌then◌else◌, Result, Ok, Err}
 use Rattle.std.specs.Io.{StartsWith}
 use Rattle.acta_words.specs.Text.{line_of, text_of}
 use Rattle.acta_script.specs.declared.diagnosis.Diagnostic.{Diagnostic}

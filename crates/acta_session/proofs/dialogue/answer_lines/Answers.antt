@@ -1,4 +1,4 @@
-use Rattle.std.proofs.Common.{◌≡◌, ◌+◌, ◌∷◌, ◌∙◌, [], ℕ, Bool, false, List, ap, drop, sym, subst}
+use Rattle.std.proofs.Common.{◌+◌, ◌∙◌, [], Bool, ap, drop, sym, subst}
 use Rattle.std.specs.Prelude.{if◌then◌else◌}
 use Rattle.std.proofs.lemmas.List.{drop_more}
 use Rattle.acta_session.specs.Dialogues.{cut}
