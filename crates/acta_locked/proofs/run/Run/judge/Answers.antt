@@ -1,4 +1,4 @@
-use Rattle.std.proofs.Common.{rules, arith, ◌≡◌, ◌++◌, length, drop, vec_len}
+use Rattle.std.proofs.Common.{rules, ◌≡◌, ◌++◌, length, drop}
 use Rattle.acta_locked.proofs.Watching.{fronts-add}
 use Rattle.acta_locked.proofs.run.Run.judge.Goals as goal
 

@@ -1,4 +1,4 @@
-use Rattle.std.proofs.Common.{rules, arith, below_more, ◌≡◌, ◌+◌, ℕ, get_or, length, ap, refl, vec_len, ◌∙◌}
+use Rattle.std.proofs.Common.{rules, arith, below_more, ◌≡◌, ◌+◌, ℕ, get_or, ap, refl, vec_len, ◌∙◌}
 use Rattle.acta_locked.proofs.run.Run.workers.Goals as goal
 
 pub loop-k-preserved : goal.loop-k-preserved
