@@ -14,7 +14,7 @@ use crate::desk::Desk;
 use acta_judge::{JudgeError, Verdict, judge};
 use acta_machine::{Handle, Machine};
 use acta_table::{Answer, Event, Kept, MOST_EVENTS, Model};
-use std::alloc::{AllocError, Allocator};
+use std::alloc::{AllocError, AllocFailed, Allocator};
 use std::thread::Threads;
 
 /// What a call at a desk came to (ours): its number in the book, from 1, the seat that made it, the event and the answer.
@@ -65,6 +65,14 @@ impl From<AllocError> for TakeError {
     ghost from_gives = { λ _ e. e ≡ Memory };
 
     fn from(_error: AllocError) -> TakeError {
+        TakeError::Memory
+    }
+}
+
+impl<T: Drop> From<AllocFailed<T>> for TakeError {
+    ghost from_gives = { λ _ e. e ≡ Memory };
+
+    fn from(_error: AllocFailed<T>) -> TakeError {
         TakeError::Memory
     }
 }
