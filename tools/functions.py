@@ -64,11 +64,26 @@ def functions_of(lines, module, homes):
     ... }
     ... ''', "steps", {"Walk": "walk"})
     [('walk::Walk::step', 2, 4), ('steps::last', 15, 16)]
+
+    The head of an impl may have several lines, too.
+
+    >>> shown('''
+    ... impl<
+    ...     'a,
+    ...     A: Gate<Entry<A>> + 'a,
+    ... > Walk<'a, A> {
+    ...     fn step(&self) {
+    ...     }
+    ... }
+    ... ''', "walk")
+    [('walk::Walk::step', 4, 5)]
     """
     owner = [module]
     for at, line in enumerate(lines):
         if re.match(r"(unsafe )?impl\b|(pub(\(crate\))? )?trait\b", line):
-            own = " for " not in line and re.match(r"impl(?:<.*>)? (\w+).* \{$", line)
+            rest = itertools.dropwhile(lambda it: not lines[it].endswith(("{", "}")), range(at, len(lines)))
+            head = " ".join(lines[at : next(rest) + 1])
+            own = " for " not in head and re.match(r"impl(?:<.*>)? (\w+).* \{$", head)
             owner = own and [homes.get(own[1], module), own[1]]
         elif line == "}":
             owner = [module]

@@ -1,17 +1,16 @@
 -- What the workers hand back, put together.
-use Rattle.std.proofs.Common.{◌≡◌, ℕ, suc, ◌+◌, ◌-◌, ◌<◌, ◌≤◌, true, false, List, [], ◌∷◌, length, get_or, refl, sym, subst, arith, true≢false}
-use Rattle.std.specs.Prelude.{Result, Ok, Err, IfOk, IfErr, IsErrAnd, sum_by}
+use Rattle.std.proofs.Common.{◌≡◌, ℕ, suc, ◌-◌, ◌≤◌, false, List, [], ◌∷◌, length, get_or, refl, sym, subst, arith}
+use Rattle.std.specs.Prelude.{Result, Ok, Err, IfOk, sum_by}
 use Rattle.acta_table.specs.declared.event.Event.{Event}
 use Rattle.acta_locked.specs.declared.book.Entry.{Entry}
 use Rattle.acta_locked.specs.declared.run.DriveError.{DriveError}
-use Rattle.acta_locked.specs.declared.run.DriveError.TheVariants as drive
 use Rattle.acta_locked.specs.declared.worker.Report.{Report}
 use Rattle.acta_locked.specs.declared.worker.WorkError.{WorkError}
 use Rattle.acta_locked.specs.declared.worker.WorkError.TheVariants.{BookFull, GaveUp, Memory}
 use Rattle.acta_locked.specs.Desks.{IsReport}
 use Rattle.acta_locked.specs.Drives.{EachLetOn, MayFail, fault_by, is_of_scripts}
 use Rattle.acta_locked.specs.Gates.{LetOn}
-use Rattle.acta_locked.specs.inside.Outcomes.{IsOfGate, IsOutcome, is_of_judging}
+use Rattle.acta_locked.specs.inside.Outcomes.{IsOfGate, IsOutcome, MayEnd}
 
 let_on-weaker : {X : Type 0} (P pass : ℕ → Type 0) (Q go_on : ℕ → X → Type 0) → ((k : ℕ) → P k → pass k) → ((k : ℕ) (e : X) → Q k e → go_on k e) → (k : ℕ) (es : List X) → LetOn P Q k es → LetOn pass go_on k es
 let_on-weaker P pass Q go_on p q k [] all = tt
@@ -35,28 +34,23 @@ module _ {A : Type 0} (S P : ℕ → ℕ → Type 0) (Q : ℕ → ℕ → Entry 
   outcome-of given r same reports let_on gave_up stopped = subst (λ s. IsOutcome stop pass go_on seat s r) same (outcome r reports let_on gave_up stopped)
 
 -- a worker without a report says why the run has no result
-pub failed : {A : Type 0} (stop pass : ℕ → ℕ → Type 0) (go_on : ℕ → ℕ → Entry A → Type 0) (scripts : List (List (Event A))) (k : ℕ) (w : WorkError) → k < length scripts
-    → IsOutcome stop pass go_on (k + 1) (get_or scripts k []) (Err w) → MayFail stop scripts (fault_by w)
-failed stop pass go_on scripts k (GaveUp n) within (is, stopped) =
+fault-late : (w : WorkError) → is_of_scripts (fault_by w) ≡ false
+fault-late (GaveUp n) = refl
+fault-late BookFull = refl
+fault-late Memory = refl
+
+fault-may : {A : Type 0} (stop pass : ℕ → ℕ → Type 0) (go_on : ℕ → ℕ → Entry A → Type 0) (scripts : List (List (Event A))) (seat : ℕ) (w : WorkError) → 1 ≤ seat → seat ≤ length scripts
+    → IsOutcome stop pass go_on seat (get_or scripts (seat - 1) []) (Err w) → MayFail stop scripts (fault_by w)
+fault-may stop pass go_on scripts seat (GaveUp n) first within (is, stopped) =
     let j = stopped.0 in
-    let place : k ≡ n - 1 = omega (arith, is) in
-    (omega (arith, is), omega (arith, is, within), (j, stopped.1, subst (λ p. j ≤ length (get_or scripts p [])) place stopped.2, stopped.3))
-failed stop pass go_on scripts k BookFull within free = tt
-failed stop pass go_on scripts k Memory within free = tt
+    (omega (arith, is, first), omega (arith, is, within), (j, stopped.1, subst (λ p. j ≤ length (get_or scripts (p - 1) [])) (sym is) stopped.2, stopped.3))
+fault-may stop pass go_on scripts seat BookFull first within free = tt
+fault-may stop pass go_on scripts seat Memory first within free = tt
 
-pub judging-may : {A : Type 0} (stop : ℕ → ℕ → Type 0) (scripts : List (List (Event A))) (e : DriveError) → is_of_judging e ≡ true → MayFail stop scripts e
-judging-may stop scripts drive.NoWorker is = tt
-judging-may stop scripts drive.TooManyWorkers is = tt
-judging-may stop scripts drive.TooManyEvents is = tt
-judging-may stop scripts drive.Memory is = tt
-judging-may stop scripts drive.NoThread is = tt
-judging-may stop scripts (drive.GaveUp seat) is = absurd (true≢false (sym is))
-judging-may stop scripts drive.Unsettled is = tt
-
--- what is known of an error is known where it is passed on
-pub passed-on : {T E : Type 0} (r : Result T E) (x : E) (P : E → Type 0) → P x → IsErrAnd r (λ e. e ≡ x) → IfErr r P
-passed-on (Ok t) x P p is = tt
-passed-on (Err e) x P p is = subst P (sym is) p
+pub failed : {A : Type 0} (stop pass : ℕ → ℕ → Type 0) (go_on : ℕ → ℕ → Entry A → Type 0) (scripts : List (List (Event A))) (seat : ℕ) (w : WorkError) (e : DriveError) → 1 ≤ seat → seat ≤ length scripts
+    → IsOutcome stop pass go_on seat (get_or scripts (seat - 1) []) (Err w) → e ≡ fault_by w → MayEnd stop scripts e
+failed stop pass go_on scripts seat w e first within out is =
+    subst (MayEnd stop scripts) (sym is) (fault-late w, fault-may stop pass go_on scripts seat w first within out)
 
 -- where there is no report, each is as it should be
 pub none-let_on : {A : Type 0} (P : ℕ → ℕ → Type 0) (Q : ℕ → ℕ → Entry A → Type 0) (rs : List (Report A)) → length rs ≡ 0 → EachLetOn P Q rs
@@ -66,12 +60,3 @@ none-let_on P Q (r ∷ rs) none = absurd (omega (arith, none))
 pub none-counted : {A : Type 0} (rs : List (Report A)) → length rs ≡ 0 → 0 ≡ sum_by (λ (r : Report A). length r.entries) rs
 none-counted [] none = refl
 none-counted (r ∷ rs) none = absurd (omega (arith, none))
-
-pub judging-late : (e : DriveError) → is_of_judging e ≡ true → is_of_scripts e ≡ false
-judging-late drive.NoWorker is = absurd (true≢false (sym is))
-judging-late drive.TooManyWorkers is = absurd (true≢false (sym is))
-judging-late drive.TooManyEvents is = absurd (true≢false (sym is))
-judging-late drive.Memory is = refl
-judging-late drive.NoThread is = refl
-judging-late (drive.GaveUp seat) is = refl
-judging-late drive.Unsettled is = refl

@@ -5,11 +5,6 @@ use Rattle.acta_table.specs.declared.model.Parts.{Parts}
 use Rattle.acta_judge.specs.Verdicts.{verdict}
 use Rattle.acta_locked.specs.declared.watch.Front.{Front}
 
--- the last copy of the history, and the fronts, in order
-pub record Seen (A : Type 0) : Type 0 where
-  pub history : List (Kept A)
-  pub fronts : List (Front A)
-
 -- a front is the verdict on the first items of the history, and finds no fault
 pub record IsFront {A : Type 0} (m : Parts A) (h : List (Kept A)) (f : Front A) : Type 0 where
   pub within : f.length ≤ length h

@@ -2,3 +2,4 @@
 pub mod Growth
 pub mod Outcomes
 pub mod Shown
+pub mod Watches

@@ -1,20 +1,23 @@
-//! The book.
+//! The book, and a desk with a book of its own.
 
-ghost use Rattle.std.specs.Prelude.{◌≡◌, ◌<◌, ◌≤◌, [], Err, length, true, false, Decides, IfOk, OnErr, OnOk};
+ghost use Rattle.std.specs.Prelude.{◌≡◌, ◌<◌, ◌≤◌, ◌∷◌, List, [], Err, None, length, true, false, Decides, IfOk, OnErr, OnOk};
+ghost use Rattle.acta_table.specs.declared.event.Event.{Event};
+ghost use Rattle.acta_table.specs.declared.model.Parts.{Parts};
+ghost use Rattle.acta_table.specs.Faults.{lowest_fault};
 ghost use Rattle.acta_judge.specs.Verdicts.{verdict};
 ghost use Rattle.acta_machine.specs.Places.{FollowsPlaces};
-ghost use Rattle.acta_machine.specs.Table.{after, answer_to, debts_in};
-ghost use Rattle.acta_locked.specs.Books.{IsRun, entered, entry_of, no_entries, state_of};
+ghost use Rattle.acta_machine.specs.Table.{debts_in, run_state};
+ghost use Rattle.acta_locked.specs.Books.{IsRun, entered, entry_of, no_entries, state_of, with_entries};
 ghost use Rattle.acta_locked.specs.declared.book.TakeError.TheVariants.{Memory};
 
+use crate::desk::Desk;
 use acta_judge::{JudgeError, Verdict, judge};
 use acta_machine::{Handle, Machine};
 use acta_table::{Answer, Event, Kept, MOST_EVENTS, Model};
 use std::alloc::{AllocError, AllocFailed, Allocator};
 use std::thread::Threads;
 
-/// What a call at a desk came to: its number in the book, from 1, the seat that made it, the event and the
-/// machine's answer (ours).
+/// What a call at a desk came to (ours): its number in the book, from 1, the seat that made it, the event and the answer.
 #[derive(Drop)]
 pub struct Entry<A: Allocator> {
     pub number: u32,
@@ -93,22 +96,6 @@ impl<A: Handle> std::marker::Model for Book<A> {
     ghost invariant = { λ b. IsMachineOf b.machine (record { model = b.machine.model; entries = b.entries.items }) };
 }
 
-// What the machine answers the event, with a copy of the event, which is made first.
-fn answered<A: Handle>(
-    machine: &mut Machine<A>,
-    event: &Event<A>,
-) -> Result<(Event<A>, Answer), AllocError>
-    ensures event { IfOk result (λ r. r.0 ≡ event.now) }
-    ensures answer { IfOk result (λ r. r.1 ≡ answer_to machine.old event.now) }
-    ensures ok { OnOk result (machine.new ≡ after machine.old event.now) }
-    ensures err { OnErr result (machine.new ≡ machine.old) }
-    ensures follows { OnOk result (FollowsPlaces machine.new) }
-{
-    let copied = event.copy()?;
-    let answer = machine.take(event)?;
-    Ok((copied, answer))
-}
-
 impl<A: Handle> Book<A> {
     /// A book on the model, with no entry (ours). `Err` where there is no memory.
     pub fn new(alloc: A, model: Model<A>) -> Result<Book<A>, AllocError>
@@ -162,12 +149,13 @@ impl<A: Handle> Book<A> {
         ensures run { IsRun self.new }
     {
         self.entries.reserve(1)?;
-        let (event, answer) = answered(&mut self.machine, event)?;
+        let copied = event.copy()?;
+        let answer = self.machine.take(event)?;
         let number = self.entries.len() as u32 + 1;
         let Ok(()) = self.entries.push(Entry {
             number,
             seat,
-            event,
+            event: copied,
             answer,
         })
         else {
@@ -175,31 +163,21 @@ impl<A: Handle> Book<A> {
         };
         Ok((number, answer))
     }
-}
 
-// The same items, in memory of their own. `Err` where there is no memory.
-fn copied<A: Handle>(alloc: A, items: &[Kept<A>]) -> Result<Vec<Kept<A>, A>, AllocError>
-    ensures { IfOk result (λ copied. copied.items ≡ items.now) }
-{
-    let mut copied = Vec::with_capacity(alloc, items.len())?;
-    for item in items {
-        copied.push(item.copy()?)?;
-    }
-    Ok(copied)
-}
-
-impl<A: Handle> Book<A> {
     /// A copy of the history that the machine keeps, on which a verdict has no fault (ours). `Err` where there is no memory.
     pub fn history(&self, alloc: A) -> Result<Vec<Kept<A>, A>, AllocError>
         ensures all { IfOk result (λ copy. copy.items ≡ (state_of self.now).kept) }
         ensures few { IfOk result (λ copy. length copy.items ≤ MOST_EVENTS) }
         ensures faultless { IfOk result (λ copy. (verdict self.now.model copy.items).faults ≡ []) }
     {
-        copied(alloc, self.machine().history())
+        let history = self.machine().history();
+        let mut copy = Vec::with_capacity(alloc, history.len())?;
+        for item in history {
+            copy.push(item.copy()?)?;
+        }
+        Ok(copy)
     }
-}
 
-impl<A: Handle> Book<A> {
     /// The entries, in order; at most 65,536 (ours).
     pub fn entries(&self) -> &[Entry<A>]
         ensures entries { result.now ≡ self.now.entries }
@@ -233,3 +211,69 @@ impl<A: Handle + Send + Sync> Book<A> {
         }
     }
 }
+
+/// A desk with a book of its own (ours).
+#[derive(Drop)]
+pub struct PlainDesk<A: Handle> {
+    pub seat: u8,
+    pub book: Book<A>,
+}
+
+impl<A: Handle> PlainDesk<A> {
+    /// A desk at this seat, with a book on the model that has no entry. `Err` where there is no memory.
+    pub fn new(alloc: A, seat: u8, model: Model<A>) -> Result<PlainDesk<A>, AllocError>
+        ensures { IfOk result (λ desk. desk ≡ record { seat = seat; book = no_entries model }) }
+    {
+        let book = Book::new(alloc, model)?;
+        Ok(PlainDesk { seat, book })
+    }
+}
+
+impl<A: Handle> Desk<Event<A>, Entry<A>> for PlainDesk<A> {
+    ghost use Rattle.acta_table.specs.declared.limits.TheConstants.{MOST_EVENTS};
+    ghost use Rattle.acta_locked.specs.Desks.{Gives};
+    ghost use Rattle.acta_locked.specs.inside.Growth.{book-nothing, book-further, gives-nothing, gives-further};
+
+    ghost seat_of = { λ d. d.seat };
+
+    ghost seat_in = { λ e. e.seat };
+
+    ghost event_in = { λ e. e.event };
+
+    ghost answered = { λ d xs e. e.book ≡ with_entries d.book xs };
+
+    ghost gave = { λ d answers e. Gives d.book answers e.book };
+
+    fn seat(&self) -> u8 {
+        self.seat
+    }
+
+    /// As `Book::take` on the desk's book.
+    fn hand(&mut self, event: Event<A>) -> Result<Entry<A>, TakeError>
+        ensures same_seat { self.new.seat ≡ self.old.seat }
+        ensures seat { IfOk result (λ entry. entry.seat ≡ self.old.seat) }
+        ensures event { IfOk result (λ entry. entry.event ≡ event) }
+        ensures entry { IfOk result (λ entry. entry ≡ entry_of self.old.book self.old.seat event) }
+        ensures answered { IfOk result (λ entry. self.new.book ≡ entered self.old.book entry) }
+        ensures none { OnErr result (self.new.book ≡ with_entries self.old.book []) }
+        ensures gave { Gives self.old.book (result ∷ []) self.new.book }
+        ensures full { result ≡ Err TakeError.BookFull → length self.old.book.entries ≡ MOST_EVENTS }
+        ensures barred { length self.old.book.entries ≡ MOST_EVENTS → result ≡ Err TakeError.BookFull }
+    {
+        self.book.take(self.seat, event)
+    }
+
+    ghost nothing = { λ d. book-nothing d.book };
+
+    ghost further = { λ d e f xs ys p q. book-further d.book e.book f.book xs ys p q };
+
+    ghost silent = { λ d. gives-nothing d.book };
+
+    ghost onward = { λ d e f xs ys one two. gives-further d.book e.book f.book xs ys one two };
+}
+
+/// The verdict on what a machine keeps of any events has no fault, and what is owed by it is what the machine owes, so
+/// that neither the written table nor the axioms by places say more than the other (ours).
+pub fn runs_are_faultless<A: Allocator>()
+    ensures { (m : Parts A) → lowest_fault m ≡ None → (es : List (Event A)) → verdict m (run_state m es).kept ≡ record { faults = []; owed = debts_in (run_state m es) } }
+{}

@@ -1,13 +1,17 @@
-//! Desks: where a worker hands in its events.
+//! Desks: where a worker hands in its events. Those of many workers share a book and its ledger under a lock.
 
-ghost use Rattle.std.specs.Prelude.{◌≡◌, ◌++◌, ◌∷◌, [], ℕ, List, Result, Err, length, IfOk, OnErr};
+ghost use Rattle.std.specs.Prelude.{◌≡◌, ◌+◌, ◌<◌, ◌≤◌, ◌++◌, ◌∷◌, [], ℕ, List, Result, Err, length, IfOk, OnErr, OnOk};
+ghost use Rattle.acta_judge.specs.Verdicts.{verdict};
 ghost use Rattle.acta_locked.specs.declared.book.TakeError.{TakeError as Refusal};
-ghost use Rattle.acta_locked.specs.Books.{entered, entry_of, no_entries, with_entries};
+ghost use Rattle.acta_locked.specs.Books.{IsRun, entered, entry_of, state_of};
 
 use crate::book::{Book, Entry, TakeError};
 use acta_machine::Handle;
-use acta_table::{Event, MOST_EVENTS, Model};
+use acta_table::{Event, Kept, MOST_EVENTS};
 use std::alloc::AllocError;
+use std::marker::Brand;
+use std::sync::ledger::{self, Ledger, Share};
+use std::sync::{Mutex, Wait};
 
 /// Where a worker hands in its events, of the type E, and gets entries of the type X (ours).
 pub trait Desk<E, X> {
@@ -49,29 +53,123 @@ pub trait Desk<E, X> {
     ghost onward: { (d e f : Self) (xs ys : List (Result X Refusal)) → gave d xs e → gave e ys f → gave d (xs ++ ys) f };
 }
 
-/// A desk with a book of its own (ours).
-#[derive(Drop)]
-pub struct PlainDesk<A: Handle> {
-    pub seat: u8,
-    pub book: Book<A>,
+/// Which ledger counts the entries of a run, of which model the run is, which scripts its workers hand in, and at which
+/// gate; A is the model's allocator (ours).
+pub trait Job<A>: Ledger {
+    ghost use Rattle.std.specs.Prelude.{ℕ, List};
+    ghost use Rattle.acta_table.specs.declared.event.Event.{Event};
+    ghost use Rattle.acta_table.specs.declared.model.Parts.{Parts};
+    ghost use Rattle.acta_locked.specs.declared.book.Entry.{Entry};
+
+    ghost model: { Parts A };
+
+    ghost scripts: { List (List (Event A)) };
+
+    // What is known of the gate: where it may stop, pass and go on.
+    ghost may_stop: { ℕ → ℕ → Type 0 };
+
+    ghost may_pass: { ℕ → ℕ → Type 0 };
+
+    ghost may_go_on: { ℕ → ℕ → Entry A → Type 0 };
 }
 
-impl<A: Handle> PlainDesk<A> {
-    /// A desk at this seat, with a book on the model that has no entry. `Err` where there is no memory.
-    pub fn new(alloc: A, seat: u8, model: Model<A>) -> Result<PlainDesk<A>, AllocError>
-        ensures { IfOk result (λ desk. desk ≡ record { seat = seat; book = no_entries model }) }
+impl<A> Job<A> for Brand {
+    ghost use Rattle.std.specs.Prelude.{[]};
+
+    ghost model = { record { objects = []; classes = [] } };
+
+    ghost scripts = { [] };
+
+    ghost may_stop = { λ _ _. Unit {0} };
+
+    ghost may_pass = { λ _ _. Unit {0} };
+
+    ghost may_go_on = { λ _ _ _. Unit {0} };
+}
+
+/// What lies under the lock (ours): a book of the run's model, and a ledger, whose total is the number of its entries.
+#[derive(Drop)]
+pub struct Vault<A: Handle, J: Job<A>> {
+    book: Book<A>,
+    calls: ledger::Book<J>,
+    ghost counted: { length book.entries ≡ calls.total },
+    ghost of_model: { book.model ≡ J.model },
+}
+
+impl<A: Handle, J: Job<A>> Vault<A, J> {
+    /// A book with no entry, and a ledger that has counted none (ours).
+    pub fn new(book: Book<A>, calls: ledger::Book<J>) -> Vault<A, J>
+        requires empty { book.entries ≡ [] }
+        requires none { calls.total ≡ 0 }
+        requires of_model { book.model ≡ J.model }
+        ensures book { result.book ≡ book }
+        ensures calls { result.calls ≡ calls }
     {
-        Ok(PlainDesk {
-            seat,
-            book: Book::new(alloc, model)?,
-        })
+        Vault { book, calls }
+    }
+
+    /// Takes one event as `Book::take` does (ours); where it makes an entry, the share counts one more, and else it stays.
+    pub fn take(
+        &mut self,
+        seat: u8,
+        event: Event<A>,
+        mine: &mut Share<J>,
+    ) -> Result<Entry<A>, TakeError>
+        requires { 0 < mine.old.parts }
+        ensures entry { IfOk result (λ entry. entry ≡ entry_of self.old.book seat event) }
+        ensures ok { IfOk result (λ entry. self.new.book ≡ entered self.old.book entry) }
+        ensures counted { OnOk result (mine.new.amount ≡ mine.old.amount + 1) }
+        ensures err { OnErr result (self.new.book ≡ self.old.book) }
+        ensures same { OnErr result (mine.new.amount ≡ mine.old.amount) }
+        ensures parts { mine.new.parts ≡ mine.old.parts }
+        ensures full { result ≡ Err TakeError.BookFull → length self.old.book.entries ≡ MOST_EVENTS }
+        ensures run { IsRun self.new.book }
+        ensures barred { length self.old.book.entries ≡ MOST_EVENTS → result ≡ Err TakeError.BookFull }
+    {
+        let Vault { book, calls } = self;
+        let entry = book.take(seat, event)?;
+        calls.add(mine, 1);
+        Ok(entry)
+    }
+
+    /// A copy of the history that the machine keeps, on which a verdict has no fault (ours). `Err` where there is no memory.
+    pub fn history(&self, alloc: A) -> Result<Vec<Kept<A>, A>, AllocError>
+        ensures all { IfOk result (λ copy. copy.items ≡ (state_of self.now.book).kept) }
+        ensures few { IfOk result (λ copy. length copy.items ≤ MOST_EVENTS) }
+        ensures faultless { IfOk result (λ copy. (verdict J.model copy.items).faults ≡ []) }
+    {
+        self.book.history(alloc)
+    }
+
+    /// The book, once all shares are back (ours): it has as many entries as they counted.
+    pub fn close(self, all: &mut Share<J>) -> Book<A>
+        requires { all.old.parts ≡ J.parts }
+        ensures book { result ≡ self.book }
+        ensures of_model { result.model ≡ J.model }
+        ensures counted { length result.entries ≡ all.old.amount }
+        ensures same { all.new.amount ≡ all.old.amount }
+        ensures parts { all.new.parts ≡ all.old.parts }
+    {
+        let Vault { book, mut calls } = self;
+        calls.audit(all);
+        book
     }
 }
 
-impl<A: Handle> Desk<Event<A>, Entry<A>> for PlainDesk<A> {
-    ghost use Rattle.acta_table.specs.declared.limits.TheConstants.{MOST_EVENTS};
-    ghost use Rattle.acta_locked.specs.Desks.{Gives};
-    ghost use Rattle.acta_locked.specs.inside.Growth.{book-nothing, book-further, gives-nothing, gives-further};
+/// A worker's desk at the shared book (ours): its seat, its share of the ledger, and the lock.
+#[derive(Drop)]
+pub struct LockedDesk<'a, A: Handle, J: Job<A>, R: Wait> {
+    pub seat: u8,
+    pub share: Share<J>,
+    pub vault: &'a Mutex<Vault<A, J>>,
+    pub rt: &'a R,
+    pub ghost some: { 0 < share.parts },
+}
+
+impl<'a, A: Handle, J: Job<A>, R: Wait> Desk<Event<A>, Entry<A>> for LockedDesk<'a, A, J, R> {
+    ghost use Rattle.std.specs.Prelude.{◌≡◌, ◌∷◌, [], Err, IfOk, OnErr};
+    ghost use Rattle.acta_locked.specs.Desks.{Counts, IsOfSomeRun, entries_in};
+    ghost use Rattle.acta_locked.specs.inside.Growth.{count-nothing, count-further, counts-nothing, counts-further};
 
     ghost seat_of = { λ d. d.seat };
 
@@ -79,34 +177,38 @@ impl<A: Handle> Desk<Event<A>, Entry<A>> for PlainDesk<A> {
 
     ghost event_in = { λ e. e.event };
 
-    ghost answered = { λ d xs e. e.book ≡ with_entries d.book xs };
+    ghost answered = { λ d es e. Counts d.share.parts d.share.amount es e.share.parts e.share.amount };
 
-    ghost gave = { λ d answers e. Gives d.book answers e.book };
+    ghost gave = { λ d answers e. Counts d.share.parts d.share.amount (entries_in answers) e.share.parts e.share.amount };
 
     fn seat(&self) -> u8 {
         self.seat
     }
 
-    /// As `Book::take` on the desk's book.
+    /// Takes the lock, and the event as `Vault::take` does: the desk's share grows by one with one more entry in the
+    /// locked book, and stays where there is none.
     fn hand(&mut self, event: Event<A>) -> Result<Entry<A>, TakeError>
         ensures same_seat { self.new.seat ≡ self.old.seat }
         ensures seat { IfOk result (λ entry. entry.seat ≡ self.old.seat) }
         ensures event { IfOk result (λ entry. entry.event ≡ event) }
-        ensures entry { IfOk result (λ entry. entry ≡ entry_of self.old.book self.old.seat event) }
-        ensures answered { IfOk result (λ entry. self.new.book ≡ entered self.old.book entry) }
-        ensures none { OnErr result (self.new.book ≡ with_entries self.old.book []) }
-        ensures gave { Gives self.old.book (result ∷ []) self.new.book }
-        ensures full { result ≡ Err TakeError.BookFull → length self.old.book.entries ≡ MOST_EVENTS }
-        ensures barred { length self.old.book.entries ≡ MOST_EVENTS → result ≡ Err TakeError.BookFull }
+        ensures entry { IfOk result (IsOfSomeRun J.model self.old.seat event) }
+        ensures answered { IfOk result (λ entry.
+            Counts self.old.share.parts self.old.share.amount (entry ∷ []) self.new.share.parts self.new.share.amount) }
+        ensures none { OnErr result
+            (Counts {A = A} self.old.share.parts self.old.share.amount [] self.new.share.parts self.new.share.amount) }
+        ensures gave { Counts self.old.share.parts self.old.share.amount (entries_in (result ∷ [])) self.new.share.parts self.new.share.amount }
     {
-        self.book.take(self.seat, event)
+        let mut vault = self.vault.lock(self.rt);
+        vault.take(self.seat, event, &mut self.share)
     }
 
-    ghost nothing = { λ d. book-nothing d.book };
+    ghost nothing = { λ d. count-nothing d.share.parts d.share.amount };
 
-    ghost further = { λ d e f xs ys p q. book-further d.book e.book f.book xs ys p q };
+    ghost further = { λ d e f xs ys one two. count-further d.share.parts d.share.amount e.share.parts e.share.amount
+        f.share.parts f.share.amount xs ys one two };
 
-    ghost silent = { λ d. gives-nothing d.book };
+    ghost silent = { λ d. counts-nothing d.share.parts d.share.amount };
 
-    ghost onward = { λ d e f xs ys one two. gives-further d.book e.book f.book xs ys one two };
+    ghost onward = { λ d e f xs ys one two. counts-further d.share.parts d.share.amount e.share.parts e.share.amount
+        f.share.parts f.share.amount xs ys one two };
 }

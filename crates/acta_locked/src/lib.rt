@@ -4,20 +4,14 @@
 
 mod book;
 mod desk;
-mod laws;
 mod limits;
 mod run;
-mod settle;
-mod threads;
-mod vault;
 mod watch;
 mod worker;
 
-pub use book::{Book, Entry, TakeError};
-pub use desk::{Desk, PlainDesk};
-pub use laws::runs_are_faultless;
+pub use book::{Book, Entry, PlainDesk, TakeError, runs_are_faultless};
+pub use desk::{Desk, Job, LockedDesk, Vault};
 pub use limits::MOST_WORKERS;
 pub use run::{DriveError, Driven};
-pub use vault::{Job, LockedDesk, Vault};
 pub use watch::{Front, Watched, drive, drive_watched};
 pub use worker::{Gate, OpenGate, Report, Script, WorkError, work};

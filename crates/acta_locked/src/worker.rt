@@ -17,8 +17,7 @@ pub trait Gate<X> {
     // At which calls of which seats the gate may give up; at any, where it doesn't say.
     ghost may_stop: { Self → ℕ → ℕ → Type 0 } = { λ _ _ _. Unit {0} };
 
-    // Before which calls of which seats the gate may be true; before any, where it doesn't say. So where it may not be,
-    // it gives up.
+    // Before which calls of which seats the gate may be true, and gives up at others; before any, where it doesn't say.
     ghost may_pass: { Self → ℕ → ℕ → Type 0 } = { λ _ _ _. Unit {0} };
 
     // Behind which calls of which seats, answered what, it may be true; behind any, where it doesn't say.
@@ -34,8 +33,7 @@ pub trait Gate<X> {
         ensures stops { result ≡ false → may_stop self.now seat call }
         ensures goes_on { result ≡ true → may_go_on self.now seat call entry.now };
 
-    /// Called by a judging thread after each front, outside the lock, with which of its turns it is, from 1. It may
-    /// wait.
+    /// Called by a judging thread after each front, outside the lock, with the number of its turn, from 1. It may wait.
     fn judged<A: Allocator>(&self, turn: u8, front: &Front<A>);
 }
 
@@ -153,8 +151,6 @@ pub fn work<A: Allocator + Copy, D: Desk<Event<A>, Entry<A>>, G: Gate<Entry<A>>>
             return Err(WorkError::Memory);
         }
     }
-    Ok(Report {
-        seat,
-        entries: Items::of(entries),
-    })
+    let entries = Items::of(entries);
+    Ok(Report { seat, entries })
 }

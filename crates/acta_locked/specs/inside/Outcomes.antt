@@ -1,13 +1,18 @@
 -- What the threads of a driven run hand back.
-use Rattle.std.specs.Prelude.{◌≡◌, ◌+◌, ◌<◌, ◌≤◌, ℕ, Bool, true, false, List, [], length, get_or, Result, Ok, Err, ⊤}
+use Rattle.std.specs.Prelude.{◌≡◌, ◌≤◌, ℕ, Bool, true, false, List, length, Result, Ok, Err, ⊤}
 use Rattle.acta_table.specs.declared.event.Event.{Event}
+use Rattle.acta_table.specs.declared.event.Kept.{Kept}
+use Rattle.acta_table.specs.declared.model.Parts.{Parts}
 use Rattle.acta_locked.specs.declared.book.Entry.{Entry}
 use Rattle.acta_locked.specs.declared.run.DriveError.{DriveError}
 use Rattle.acta_locked.specs.declared.run.DriveError.TheVariants as drive
+use Rattle.acta_locked.specs.declared.watch.Front.{Front}
 use Rattle.acta_locked.specs.declared.worker.Report.{Report}
 use Rattle.acta_locked.specs.declared.worker.WorkError.{WorkError}
 use Rattle.acta_locked.specs.declared.worker.WorkError.TheVariants.{GaveUp}
 use Rattle.acta_locked.specs.Desks.{IsReport}
+use Rattle.acta_locked.specs.Drives.{MayFail, is_of_scripts}
+use Rattle.acta_locked.specs.Fronts.{AreFronts}
 use Rattle.acta_locked.specs.Gates.{LetOn}
 
 -- what the worker of a seat, with a script, at a gate, may hand back
@@ -26,21 +31,17 @@ IsOfGate {A} may_stop may_pass may_go_on stop pass go_on =
     ((seat k : ℕ) → may_stop seat k → stop seat k) × ((seat k : ℕ) → may_pass seat k → pass seat k)
     × ((seat k : ℕ) (e : Entry A) → may_go_on seat k e → go_on seat k e)
 
--- each of the things has the outcome of its seat, from 1
-abbrev pub AreOutcomes : {A D : Type 0} → (D → Result (Report A) WorkError) → (ℕ → ℕ → Type 0) → (ℕ → ℕ → Type 0)
-    → (ℕ → ℕ → Entry A → Type 0) → List (List (Event A)) → List D → Type 0
-AreOutcomes {A} {D} outcome may_stop may_pass may_go_on scripts done =
-    (k : ℕ) (d : D) → k < length scripts
-    → IsOutcome may_stop may_pass may_go_on (k + 1) (get_or scripts k []) (outcome (get_or done k d))
+-- why a run whose scripts nothing bars may have no result
+abbrev pub MayEnd : {A : Type 0} → (ℕ → ℕ → Type 0) → List (List (Event A)) → DriveError → Type 0
+MayEnd may_stop scripts e = (is_of_scripts e ≡ false) × MayFail may_stop scripts e
 
--- whether the fault is that there was no memory, or that a thread could not be started
-abbrev pub is_scarce : DriveError → Bool
-is_scarce drive.Memory = true
-is_scarce drive.NoThread = true
-is_scarce _ = false
+-- whether nothing is known where a run has no result for this reason: of memory, of threads, or of a run that is unsettled
+abbrev pub is_free : DriveError → Bool
+is_free drive.Memory = true
+is_free drive.NoThread = true
+is_free drive.Unsettled = true
+is_free _ = false
 
--- whether the fault is one that a judging thread may have: there was no memory, or a copy does not begin with the last
-abbrev pub is_of_judging : DriveError → Bool
-is_of_judging drive.Memory = true
-is_of_judging drive.Unsettled = true
-is_of_judging _ = false
+-- what a judging thread keeps: so many fronts, of its last copy of the history
+abbrev pub AreSeen : {A : Type 0} → Parts A → ℕ → List (Kept A) → List (Front A) → Type 0
+AreSeen m turns history fronts = (length fronts ≡ turns) × AreFronts m history fronts

@@ -54,7 +54,7 @@ loop-k-preserved g c =
 pub returns-clause-report : goal.returns-clause-report
 returns-clause-report g c =
     let i = c.loop-k.invariant in
-    let of = c.of.ensures in
+    let of = c.of-entries.ensures in
     let past : length c.as_slice-events.result.now ≤ c.loop-k.k = search rules in
     record {
       seat_is = sym i.opened;
@@ -151,7 +151,7 @@ returns-clause-let_on g c =
     let P = g.G.Gate.may_pass c.args.gate.now in
     let Q = g.G.Gate.may_go_on c.args.gate.now in
     let es = c.loop-k.entries.items in
-    subst (λ l. LetOn (P (g.D.Desk.seat_of c.args.desk.now)) (Q (g.D.Desk.seat_of c.args.desk.now)) 1 l) (sym c.of.ensures) (subst (λ n. LetOn (P n) (Q n) 1 es) (sym i.opened) i.let_on)
+    subst (λ l. LetOn (P (g.D.Desk.seat_of c.args.desk.now)) (Q (g.D.Desk.seat_of c.args.desk.now)) 1 l) (sym c.of-entries.ensures) (subst (λ n. LetOn (P n) (Q n) 1 es) (sym i.opened) i.let_on)
 
 pub returns-clause-gave : goal.returns-clause-gave
 returns-clause-gave g c =
@@ -159,4 +159,4 @@ returns-clause-gave g c =
     let P = g.G.Gate.may_pass c.args.gate.now in
     let Q = g.G.Gate.may_go_on c.args.gate.now in
     let es = c.loop-k.entries.items in
-    subst (λ (l : List (Entry g.row.A.Denot)). g.D.Desk.gave c.args.desk.now (map Ok l) c.loop-k.desk) (sym c.of.ensures) i.gave
+    subst (λ (l : List (Entry g.row.A.Denot)). g.D.Desk.gave c.args.desk.now (map Ok l) c.loop-k.desk) (sym c.of-entries.ensures) i.gave

@@ -1,6 +1,0 @@
-use Rattle.std.proofs.Common.{◌≡◌, take}
-use Rattle.acta_locked.proofs.book.copied.Given as goal
-
--- those so far
-abbrev pub invariant-loop-item : goal.invariant-loop-item
-invariant-loop-item g l = l.copied.items ≡ take l.item-index l.items

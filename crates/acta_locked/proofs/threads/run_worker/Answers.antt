@@ -1,8 +1,0 @@
-use Rattle.acta_locked.proofs.Handing.{outcome-of}
-use Rattle.acta_locked.proofs.threads.run_worker.Goals as goal
-
-pub returns : goal.returns
-returns g c =
-    let told = c.work-outcome.ensures in
-    outcome-of (g.G.Gate.may_stop c.args.gate.now) (g.G.Gate.may_pass c.args.gate.now) (g.G.Gate.may_go_on c.args.gate.now) g.J.Job.may_stop g.J.Job.may_pass g.J.Job.may_go_on c.args.seat c.args.script.now c.requires.of_gate
-    _ c.work-outcome.result c.requires.of_seat told.report told.let_on told.gave_up told.stopped
