@@ -1,6 +1,8 @@
 //! The command, over any console.
 
-ghost use Rattle.std.specs.Prelude.{◌≡◌};
+ghost use Rattle.std.specs.Prelude.{◌≡◌, ◌≢◌, [], false};
+ghost use Rattle.acta_io.specs.declared.outcome.Outcome.TheVariants.{Done};
+ghost use Rattle.acta_shell.specs.Sessions.{IsSession, IsSessionOn};
 
 use crate::words::ShellWords;
 use acta_args::ModelName;
@@ -72,7 +74,9 @@ fn put_count<A: Handle>(prose: Prose<A>, count: usize, one: &str, more: &str) ->
 }
 
 // Shows this, and ends so if that works.
-fn show<C: Console>(console: &mut C, bytes: &[u8], ended: Outcome) -> Outcome {
+fn show<C: Console>(console: &mut C, bytes: &[u8], ended: Outcome) -> Outcome
+    ensures { result ≡ Done → ended ≡ Done }
+{
     match console.show(bytes) {
         Ok(()) => ended,
         Err(_) => Outcome::Unwritten,
@@ -86,7 +90,9 @@ fn refuse<A: Handle, C: Console>(
     bytes: &[u8],
     fault: NoModel,
     console: &mut C,
-) -> Outcome {
+) -> Outcome
+    ensures { result ≢ Done }
+{
     match explain_no_model(alloc, name, bytes, fault) {
         Ok(report) => show(console, report.text.as_slice(), Outcome::Refused),
         Err(_) => Outcome::Unread(ReadFault::Memory),
@@ -100,7 +106,9 @@ fn answer<A: Handle, C: Console>(
     screen: Screen,
     prompt: &[u8],
     console: &mut C,
-) -> Outcome {
+) -> Outcome
+    ensures { result ≡ Done → IsSession prompt.now model (C.since console.old) console.new }
+{
     match Shell::new(alloc, model, ShellWords::new(alloc, screen)) {
         Ok(mut shell) => converse(alloc, console, &mut shell, prompt),
         Err(_) => Outcome::Unread(ReadFault::Memory),
@@ -138,7 +146,9 @@ pub fn shell_tool<A: Handle, C: Console>(
     screen: Screen,
     is_terminal: bool,
     console: &mut NotingEnd<C>,
-) -> Outcome {
+) -> Outcome
+    ensures piped { is_terminal ≡ false → result ≡ Done → IsSessionOn {A = A} [] bytes.now (C.since console.old.inner) console.new.inner }
+{
     match read_model(alloc, bytes) {
         Ok(model) if is_terminal => answer_terminal(alloc, name, model, screen, console),
         Ok(model) => answer(alloc, model, screen, b"", console),
