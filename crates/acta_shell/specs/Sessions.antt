@@ -13,7 +13,7 @@ pub record IsSession {A C : Type 0} (prompt : List ℕ) (m : Parts A) (since : L
   pub dialogue : IsDialogue prompt (opened m []) acts last
 
 -- the bytes mean a model, and what was read and shown is a whole session on it
-pub record IsSessionOn {A C : Type 0} (prompt : List ℕ) (bytes : List ℕ) (since : List Act → C → Type 0) (console : C) : Type 0 where
+pub record IsSessionOn (A : Type 0) {C : Type 0} (prompt : List ℕ) (bytes : List ℕ) (since : List Act → C → Type 0) (console : C) : Type 0 where
   pub model : Parts A
   pub means : of_either bytes ≡ Ok model
   pub session : IsSession prompt model since console

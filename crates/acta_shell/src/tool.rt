@@ -147,7 +147,7 @@ pub fn shell_tool<A: Handle, C: Console>(
     is_terminal: bool,
     console: &mut NotingEnd<C>,
 ) -> Outcome
-    ensures piped { is_terminal ≡ false → result ≡ Done → IsSessionOn {A = A} [] bytes.now (C.since console.old.inner) console.new.inner }
+    ensures piped { is_terminal ≡ false → result ≡ Done → IsSessionOn A [] bytes.now (C.since console.old.inner) console.new.inner }
 {
     match read_model(alloc, bytes) {
         Ok(model) if is_terminal => answer_terminal(alloc, name, model, screen, console),
