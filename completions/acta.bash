@@ -48,7 +48,7 @@ _acta() {
             --*)
                 case " $values " in
                     *" ${COMP_WORDS[at]} "*)
-                        [ "${COMP_WORDS[at + 1]}" != = ] || ((++at))
+                        [ "${COMP_WORDS[at + 1]-}" != = ] || ((++at))
                         ((++at < COMP_CWORD)) || return ;;
                 esac ;;
             @) ;;
