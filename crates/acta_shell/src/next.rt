@@ -155,7 +155,7 @@ impl<A: Handle> Found<A> {
 }
 
 // What is asked: the events of a transaction, where this is the first number that no transaction has.
-#[derive(Clone, Copy)]
+#[derive(Drop)]
 struct Asked<'a, A: Handle> {
     alloc: A,
     machine: &'a Machine<A>,
@@ -165,11 +165,14 @@ struct Asked<'a, A: Handle> {
 
 // Adds the edges by which the transaction owes this event.
 fn put_paid<A: Handle>(mut prose: Prose<A>, owed: &[Owed], t: TxnId, missing: Missing) -> Prose<A> {
-    let mut gap = " (pays edge ";
     for one in owed {
         if one.txn == t && one.missing == missing {
+            let gap = if prose.is_empty() {
+                " (pays edge "
+            } else {
+                ", edge "
+            };
             prose = put!(prose; gap, one.edge.0);
-            gap = ", edge ";
         }
     }
     if prose.is_empty() {
@@ -180,17 +183,17 @@ fn put_paid<A: Handle>(mut prose: Prose<A>, owed: &[Owed], t: TxnId, missing: Mi
 }
 
 impl<'a, A: Handle> Asked<'a, A> {
-    fn prose(self) -> Prose<A> {
+    fn prose(&self) -> Prose<A> {
         Prose::new(self.alloc)
     }
 
     // With an event more.
-    fn add(self, found: Found<A>, event: &Event<A>, text: Prose<A>) -> Found<A> {
+    fn add(&self, found: Found<A>, event: &Event<A>, text: Prose<A>) -> Found<A> {
         found.with(self.machine, event, text, self.prose())
     }
 
     // Whether the class of the transaction has a word for events of the kind.
-    fn has_word(self, kind: EventKind) -> bool {
+    fn has_word(&self, kind: EventKind) -> bool {
         match class_at(self.machine.model(), self.machine.class(self.t)) {
             Some(class) => class.may.has(kind),
             None => false,
@@ -198,7 +201,7 @@ impl<'a, A: Handle> Asked<'a, A> {
     }
 
     // The name of the class of this number.
-    fn class_name(self, class: ClassId) -> &'a str {
+    fn class_name(&self, class: ClassId) -> &str {
         match self.machine.model().class(class) {
             Some(class) => name_text(class.name.as_slice()),
             None => "?",
@@ -206,43 +209,45 @@ impl<'a, A: Handle> Asked<'a, A> {
     }
 
     // Adds the begin of the transaction with each class.
-    fn add_begins(self, mut found: Found<A>) -> Found<A> {
+    fn add_begins(&self, mut found: Found<A>) -> Found<A> {
         for number in 0..self.machine.model().classes().len() {
             let class = ClassId(number as u8);
+            let event = Event::Begin(self.t, class);
             let text = put!(self.prose(); "begin ", self.class_name(class));
-            found = self.add(found, &Event::Begin(self.t, class), text);
+            found = self.add(found, &event, text);
         }
         found
     }
 
     // Adds a spawn with each class.
-    fn add_spawns(self, mut found: Found<A>) -> Found<A> {
+    fn add_spawns(&self, mut found: Found<A>) -> Found<A> {
         for number in 0..self.machine.model().classes().len() {
             let class = ClassId(number as u8);
-            let event = Event::Spawn(self.t, self.unused, class);
-            let text = put!(self.prose(); "spawn ", self.unused.0, " ", self.class_name(class));
+            let child = self.unused;
+            let event = Event::Spawn(self.t, child, class);
+            let text = put!(self.prose(); "spawn ", child.0, " ", self.class_name(class));
             found = self.add(found, &event, text);
         }
         found
     }
 
     // Adds a split with each class, by which the new transaction gets no operation.
-    fn add_splits(self, mut found: Found<A>) -> Found<A> {
+    fn add_splits(&self, mut found: Found<A>) -> Found<A> {
         for number in 0..self.machine.model().classes().len() {
             let class = ClassId(number as u8);
             let Ok(none) = OpSet::of(self.alloc, &[]) else {
                 return found.fail();
             };
-            let event = Event::Split(self.t, self.unused, class, none);
-            let text =
-                put!(self.prose(); "split ", self.unused.0, " ", self.class_name(class), " -");
+            let part = self.unused;
+            let event = Event::Split(self.t, part, class, none);
+            let text = put!(self.prose(); "split ", part.0, " ", self.class_name(class), " -");
             found = self.add(found, &event, text);
         }
         found
     }
 
     // Adds a join of each other transaction in progress.
-    fn add_joins(self, mut found: Found<A>) -> Found<A> {
+    fn add_joins(&self, mut found: Found<A>) -> Found<A> {
         let mut tried = 0usize;
         for number in 0..self.machine.known_txns() {
             let u = TxnId(number as u16);
@@ -254,20 +259,22 @@ impl<'a, A: Handle> Asked<'a, A> {
             }
             tried = tried.saturating_add(1);
             let text = put!(self.prose(); "join ", u.0);
-            found = self.add(found, &Event::Join(self.t, u), text);
+            let event = Event::Join(self.t, u);
+            found = self.add(found, &event, text);
         }
         found
     }
 
     // Adds an operation on an object.
-    fn add_operation(self, found: Found<A>, object: ObjId, op: Op, word: &str) -> Found<A> {
+    fn add_operation(&self, found: Found<A>, object: ObjId, op: Op, word: &str) -> Found<A> {
         let name = name_text(object_name(self.machine.model(), object));
         let text = put!(self.prose(); "do ", name, " ", word);
-        self.add(found, &Event::Operate(self.t, object, op), text)
+        let event = Event::Operate(self.t, object, op);
+        self.add(found, &event, text)
     }
 
     // Adds two operations on an object: one that reads, and one that writes.
-    fn add_operations_on(self, found: Found<A>, object: ObjId, kind: Kind) -> Found<A> {
+    fn add_operations_on(&self, found: Found<A>, object: ObjId, kind: Kind) -> Found<A> {
         match kind {
             Kind::Register(_) => {
                 let found = self.add_operation(found, object, Op::Read, "read");
@@ -285,31 +292,31 @@ impl<'a, A: Handle> Asked<'a, A> {
     }
 
     // Adds operations on the first objects.
-    fn add_operations(self, mut found: Found<A>) -> Found<A> {
+    fn add_operations(&self, mut found: Found<A>) -> Found<A> {
         let objects = self.machine.model().objects();
-        let first = first_listed(objects);
-        for (number, object) in first.iter().enumerate() {
+        let count = first_listed(objects).len();
+        for (number, object) in objects.iter().take(count).enumerate() {
             found = self.add_operations_on(found, ObjId(number as u16), object.kind);
         }
-        if first.len() < objects.len() {
-            found.with_untried("do on other objects")
-        } else {
-            found
+        if count == objects.len() {
+            return found;
         }
+        found.with_untried("do on other objects")
     }
 
     // Adds an event that ends the transaction, with the edges that it pays.
-    fn add_end(self, found: Found<A>, event: &Event<A>, word: &str, missing: Missing) -> Found<A> {
+    fn add_end(&self, found: Found<A>, event: &Event<A>, word: &str, missing: Missing) -> Found<A> {
+        let t = self.t;
         let text = put!(self.prose(); word);
         let note = match self.machine.owed() {
-            Ok(owed) => put_paid(self.prose(), owed.as_slice(), self.t, missing),
+            Ok(owed) => put_paid(self.prose(), owed.as_slice(), t, missing),
             Err(_) => self.prose().fail(),
         };
         found.with(self.machine, event, text, note)
     }
 
     // Adds events of the kind.
-    fn add_kind(self, found: Found<A>, kind: EventKind) -> Found<A> {
+    fn add_kind(&self, found: Found<A>, kind: EventKind) -> Found<A> {
         match kind {
             EventKind::Begin => found,
             EventKind::Spawn => self.add_spawns(found),
@@ -317,10 +324,12 @@ impl<'a, A: Handle> Asked<'a, A> {
             EventKind::Join => self.add_joins(found),
             EventKind::Operate => self.add_operations(found),
             EventKind::Commit => {
-                self.add_end(found, &Event::Commit(self.t), "commit", Missing::Commit)
+                let event = Event::Commit(self.t);
+                self.add_end(found, &event, "commit", Missing::Commit)
             }
             EventKind::Abort => {
-                self.add_end(found, &Event::Abort(self.t), "abort", Missing::Abort)
+                let event = Event::Abort(self.t);
+                self.add_end(found, &event, "abort", Missing::Abort)
             }
             EventKind::Delegate | EventKind::Form | EventKind::Permit => {
                 found.with_untried(allowing_word(kind))
@@ -329,7 +338,7 @@ impl<'a, A: Handle> Asked<'a, A> {
     }
 
     // The events of a transaction that has not begun, or is in progress.
-    fn found(self) -> Found<A> {
+    fn found(&self) -> Found<A> {
         let mut found = Found::new(self.alloc);
         if self.machine.status(self.t) == Status::NotBegun {
             return self.add_begins(found);
@@ -354,12 +363,13 @@ fn put_list<A: Handle>(prose: Prose<A>, front: &str, list: Prose<A>) -> Prose<A>
     }
 }
 
-// Adds what a transaction may do next.
-fn put_next<A: Handle>(prose: Prose<A>, lines: LineIndex<'_, A>, asked: Asked<'_, A>) -> Prose<A> {
-    let status = asked.machine.status(asked.t);
+// Adds what the transaction that is asked about may do next.
+fn put_next<A: Handle>(prose: Prose<A>, lines: LineIndex<'_, A>, asked: &Asked<'_, A>) -> Prose<A> {
+    let t = asked.t;
+    let status = asked.machine.status(t);
     if !matches!(status, Status::NotBegun | Status::InProgress) {
-        let prose = put!(prose; asked.t.0, " may: nothing, it ");
-        return put_standing(prose, lines, asked.t, status).put("\n");
+        let prose = put!(prose; t.0, " may: nothing, it ");
+        return put_standing(prose, lines, t, status).put("\n");
     }
     let Found {
         may,
@@ -372,7 +382,7 @@ fn put_next<A: Handle>(prose: Prose<A>, lines: LineIndex<'_, A>, asked: Asked<'_
     } else {
         may
     };
-    let prose = put!(put!(prose; asked.t.0, " may: ").add(may); "\n");
+    let prose = put!(put!(prose; t.0, " may: ").add(may); "\n");
     let prose = put_list(prose, "refused", not);
     let prose = put_list(prose, "not tried", untried);
     put_list(prose, "its class has no", never)
@@ -388,36 +398,54 @@ fn first_unused<A: Handle>(machine: &Machine<A>) -> TxnId {
     TxnId(LAST_TXN)
 }
 
-/// What a transaction may do next; or each that is in progress, and the first that has not begun.
-pub(crate) fn next_text<A: Handle>(
-    notes: &Notes<A>,
-    machine: &Machine<A>,
-    t: Option<TxnId>,
+// Adds what a transaction may do next.
+fn put_next_of<'a, A: Handle>(
+    prose: Prose<A>,
+    notes: &'a Notes<A>,
+    machine: &'a Machine<A>,
+    t: TxnId,
 ) -> Prose<A> {
-    let lines = notes.lines(machine);
-    let unused = Asked {
+    let asked = Asked {
         alloc: notes.allocator(),
         machine,
-        t: first_unused(machine),
+        t,
         unused: first_unused(machine),
     };
-    let mut prose = unused.prose();
-    if let Some(t) = t {
-        return put_next(prose, lines, Asked { t, ..unused });
-    }
+    put_next(prose, notes.lines(machine), &asked)
+}
+
+// Adds what each transaction in progress may do next, and the first that has not begun.
+fn put_next_of_all<'a, A: Handle>(
+    mut prose: Prose<A>,
+    notes: &'a Notes<A>,
+    machine: &'a Machine<A>,
+) -> Prose<A> {
     let mut listed = 0usize;
     for number in 1..machine.known_txns() {
         let t = TxnId(number as u16);
         if machine.status(t) == Status::InProgress {
             listed = listed.saturating_add(1);
             if listed <= MOST_TXNS {
-                prose = put_next(prose, lines, Asked { t, ..unused });
+                prose = put_next_of(prose, notes, machine, t);
             }
         }
     }
     if listed > MOST_TXNS {
-        prose =
-            put!(prose; "and ", listed.saturating_sub(MOST_TXNS), " more in progress (`next T` asks about one)\n");
+        let more = listed.saturating_sub(MOST_TXNS);
+        prose = put!(prose; "and ", more, " more in progress (`next T` asks about one)\n");
     }
-    put_next(prose, lines, unused)
+    put_next_of(prose, notes, machine, first_unused(machine))
+}
+
+/// What a transaction may do next; or each that is in progress, and the first that has not begun.
+pub(crate) fn next_text<'a, A: Handle>(
+    notes: &'a Notes<A>,
+    machine: &'a Machine<A>,
+    t: Option<TxnId>,
+) -> Prose<A> {
+    let prose = Prose::new(notes.allocator());
+    match t {
+        Some(t) => put_next_of(prose, notes, machine, t),
+        None => put_next_of_all(prose, notes, machine),
+    }
 }

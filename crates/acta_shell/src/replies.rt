@@ -115,10 +115,10 @@ pub(crate) fn admitted_text<A: Handle>(
 }
 
 // Why the machine refuses an event, in lines; nothing if it would admit it.
-fn reason_text<A: Handle>(
-    notes: &mut Notes<A>,
-    machine: &Machine<A>,
-    event: &Event<A>,
+fn reason_text<'a, A: Handle>(
+    notes: &'a mut Notes<A>,
+    machine: &'a Machine<A>,
+    event: &'a Event<A>,
 ) -> Result<String<A>, AllocError> {
     let may_look = notes.may_look(machine.edges().len());
     let refused = Refused {
