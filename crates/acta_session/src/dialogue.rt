@@ -10,13 +10,14 @@ use crate::console::Console;
 use crate::shell::{Reply, Shell};
 use crate::words::Words;
 use acta_io::{Outcome, ReadFault};
-use acta_machine::Handle;
+use acta_machine::{Handle, Machine};
+use acta_table::{Event, Model};
 
 // The most reads of a session.
 const MOST_READS: u32 = u32::MAX;
 
 // Shows the reply to a line, and then the prompt, unless the line ends the session. Answers whether it does.
-fn answer<A: Handle, W: Words<A>, C: Console>(
+fn answer<A: Handle, W: Words<Event<A>, Machine<A>, Model<A>, Vec<u8, A>>, C: Console>(
     console: &mut C,
     shell: &mut Shell<A, W>,
     prompt: &[u8],
@@ -41,7 +42,7 @@ fn answer<A: Handle, W: Words<A>, C: Console>(
 }
 
 // Takes a byte: the end of a line, which is answered, or one byte more of it. Answers whether the line ends the session.
-fn take_byte<A: Handle, W: Words<A>, C: Console>(
+fn take_byte<A: Handle, W: Words<Event<A>, Machine<A>, Model<A>, Vec<u8, A>>, C: Console>(
     console: &mut C,
     shell: &mut Shell<A, W>,
     prompt: &[u8],
@@ -66,7 +67,7 @@ fn take_byte<A: Handle, W: Words<A>, C: Console>(
 
 // Answers the lines that the bytes end, after the front of the first of them. Answers whether one of them ends the session;
 // no line behind it is answered.
-fn answer_lines<A: Handle, W: Words<A>, C: Console>(
+fn answer_lines<A: Handle, W: Words<Event<A>, Machine<A>, Model<A>, Vec<u8, A>>, C: Console>(
     console: &mut C,
     shell: &mut Shell<A, W>,
     prompt: &[u8],
@@ -91,7 +92,7 @@ fn answer_lines<A: Handle, W: Words<A>, C: Console>(
 /// It reads on only where every line that was read has been answered, and the answers were written and flushed. `Done` at the end.
 /// `Unread(Device)` if a read fails, `Unread(Memory)` if memory runs out, `Unwritten` if a reply cannot be shown, and
 /// `Unread(TooMuch)` after 4,294,967,295 reads. If memory runs out, what was shown until then are the replies to the first lines.
-pub fn converse<A: Handle, W: Words<A>, C: Console>(
+pub fn converse<A: Handle, W: Words<Event<A>, Machine<A>, Model<A>, Vec<u8, A>>, C: Console>(
     alloc: A,
     console: &mut C,
     shell: &mut Shell<A, W>,
@@ -120,7 +121,7 @@ pub fn converse<A: Handle, W: Words<A>, C: Console>(
 }
 
 // Answers the last line, which has no line feed, if it has a byte.
-fn answer_last<A: Handle, W: Words<A>, C: Console>(
+fn answer_last<A: Handle, W: Words<Event<A>, Machine<A>, Model<A>, Vec<u8, A>>, C: Console>(
     console: &mut C,
     shell: &mut Shell<A, W>,
     prompt: &[u8],

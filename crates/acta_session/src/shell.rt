@@ -39,13 +39,14 @@ pub struct Reply<A: Handle> {
 /// A session: the events that were admitted so far, with those that were taken back and can be done again, and the machine
 /// after them. Contracts see these as a debugger's: a model, a history, and a place in it.
 #[derive(Drop)]
-pub struct Shell<A: Handle, W: Words<A>> {
+pub struct Shell<A: Handle, W: Words<Event<A>, Machine<A>, Model<A>, Vec<u8, A>>> {
     alloc: A,
     debugger: Debugger<A>,
     words: W,
 }
 
-impl<A: Handle, W: Words<A>> std::marker::Model for Shell<A, W> {
+impl<A: Handle, W: Words<Event<A>, Machine<A>, Model<A>, Vec<u8, A>>> std::marker::Model
+    for Shell<A, W> {
     ghost use Rattle.acta_debug.specs.Sessions.{Session};
 
     ghost Value = { Session A };
@@ -97,7 +98,7 @@ fn place_text<A: Handle>(alloc: A, place: u32) -> Result<Vec<u8, A>, AllocError>
     Ok(text)
 }
 
-impl<A: Handle, W: Words<A>> Shell<A, W> {
+impl<A: Handle, W: Words<Event<A>, Machine<A>, Model<A>, Vec<u8, A>>> Shell<A, W> {
     /// A session on the model, before any event, whose replies have these words.
     pub fn new(alloc: A, model: Model<A>, words: W) -> Result<Shell<A, W>, AllocError>
         ensures { IfOk result (λ shell. shell ≡ opened model []) }

@@ -5,7 +5,7 @@ ghost use Rattle.acta_machine.specs.Table.{edges_in, operations_in};
 
 use acta_machine::{Handle, Machine};
 use acta_script::{Diagnostic, ShellCommand};
-use acta_table::{Answer, Event, Model};
+use acta_table::Answer;
 use std::alloc::AllocError;
 
 /// How many operations and edges there were before an event.
@@ -28,46 +28,29 @@ impl Before {
     }
 }
 
-/// What replies say beside the answers, the places and the histories. It may keep what it needs for later replies.
-pub trait Words<A: Handle>: Drop {
+/// What replies say beside the answers, the places and the histories, where E is an event, M a machine, D a model and T a text.
+/// It may keep what it needs for later replies.
+pub trait Words<E, M, D, T>: Drop {
     /// What follows the answer to an event, with a line feed in the end: the machine has taken it, and this is its line.
     fn of_event(
         &mut self,
-        machine: &Machine<A>,
+        machine: &M,
         before: Before,
-        event: Event<A>,
-        line: Vec<u8, A>,
+        event: E,
+        line: T,
         answer: Answer,
-    ) -> Result<Vec<u8, A>, AllocError>;
+    ) -> Result<T, AllocError>;
 
     /// What follows the answer that the machine would give to an event, with a line feed in the end.
-    fn of_question(
-        &mut self,
-        machine: &Machine<A>,
-        event: &Event<A>,
-    ) -> Result<Vec<u8, A>, AllocError>;
+    fn of_question(&mut self, machine: &M, event: &E) -> Result<T, AllocError>;
 
     /// The reply to a command that leads nowhere, after this many of so many events.
-    fn of_no_move(
-        &mut self,
-        at: u32,
-        last: u32,
-        command: ShellCommand,
-    ) -> Result<Vec<u8, A>, AllocError>;
+    fn of_no_move(&mut self, at: u32, last: u32, command: ShellCommand) -> Result<T, AllocError>;
 
     /// The reply to a faulty line.
-    fn of_fault(
-        &mut self,
-        model: &Model<A>,
-        line: &[u8],
-        found: Diagnostic,
-    ) -> Result<Vec<u8, A>, AllocError>;
+    fn of_fault(&mut self, model: &D, line: &[u8], found: Diagnostic) -> Result<T, AllocError>;
 
     /// What follows the lines of the reply to a command, if they are followed by something. It is the whole reply where a
     /// command has no lines: `draw`, `why`, `next` and `help`.
-    fn of_command(
-        &mut self,
-        machine: &Machine<A>,
-        command: ShellCommand,
-    ) -> Result<Vec<u8, A>, AllocError>;
+    fn of_command(&mut self, machine: &M, command: ShellCommand) -> Result<T, AllocError>;
 }

@@ -163,6 +163,16 @@ struct Asked<'a, A: Handle> {
     unused: TxnId,
 }
 
+// The class of this number: a model has fewer than 256.
+fn class_numbered(number: usize) -> ClassId {
+    ClassId(number.min(255) as u8)
+}
+
+// The object of this number: a model has fewer than 65,536.
+fn object_numbered(number: usize) -> ObjId {
+    ObjId(number.min(65_535) as u16)
+}
+
 // Adds the edges by which the transaction owes this event.
 fn put_paid<A: Handle>(mut prose: Prose<A>, owed: &[Owed], t: TxnId, missing: Missing) -> Prose<A> {
     for one in owed {
@@ -211,7 +221,7 @@ impl<'a, A: Handle> Asked<'a, A> {
     // Adds the begin of the transaction with each class.
     fn add_begins(&self, mut found: Found<A>) -> Found<A> {
         for number in 0..self.machine.model().classes().len() {
-            let class = ClassId(number as u8);
+            let class = class_numbered(number);
             let event = Event::Begin(self.t, class);
             let text = put!(self.prose(); "begin ", self.class_name(class));
             found = self.add(found, &event, text);
@@ -222,7 +232,7 @@ impl<'a, A: Handle> Asked<'a, A> {
     // Adds a spawn with each class.
     fn add_spawns(&self, mut found: Found<A>) -> Found<A> {
         for number in 0..self.machine.model().classes().len() {
-            let class = ClassId(number as u8);
+            let class = class_numbered(number);
             let child = self.unused;
             let event = Event::Spawn(self.t, child, class);
             let text = put!(self.prose(); "spawn ", child.0, " ", self.class_name(class));
@@ -234,7 +244,7 @@ impl<'a, A: Handle> Asked<'a, A> {
     // Adds a split with each class, by which the new transaction gets no operation.
     fn add_splits(&self, mut found: Found<A>) -> Found<A> {
         for number in 0..self.machine.model().classes().len() {
-            let class = ClassId(number as u8);
+            let class = class_numbered(number);
             let Ok(none) = OpSet::of(self.alloc, &[]) else {
                 return found.fail();
             };
@@ -296,7 +306,7 @@ impl<'a, A: Handle> Asked<'a, A> {
         let objects = self.machine.model().objects();
         let count = first_listed(objects).len();
         for (number, object) in objects.iter().take(count).enumerate() {
-            found = self.add_operations_on(found, ObjId(number as u16), object.kind);
+            found = self.add_operations_on(found, object_numbered(number), object.kind);
         }
         if count == objects.len() {
             return found;

@@ -69,7 +69,7 @@ fn bytes_of<A: Handle>(prose: Prose<A>) -> Result<Vec<u8, A>, AllocError> {
     Ok(prose.done()?.into_bytes())
 }
 
-impl<A: Handle> Words<A> for ShellWords<A> {
+impl<A: Handle> Words<Event<A>, Machine<A>, Model<A>, Vec<u8, A>> for ShellWords<A> {
     fn of_event(
         &mut self,
         machine: &Machine<A>,
