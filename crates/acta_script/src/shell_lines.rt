@@ -44,7 +44,7 @@ pub enum ShellCommand {
     Value(ObjId),
     /// The operations that the transaction holds.
     Held(TxnId),
-    /// The operations that conflict with those that the transaction holds.
+    /// The conflict set of the transaction: the operations in progress that others hold.
     Conflicts(TxnId),
     /// The edges, or those of the transaction.
     Edges(Option<TxnId>),

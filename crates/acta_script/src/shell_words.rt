@@ -21,7 +21,7 @@ pub enum ShellKind {
     Value,
     /// The operations that a transaction holds.
     Held,
-    /// The operations that conflict with those that a transaction holds.
+    /// The conflict set of a transaction: the operations in progress that others hold.
     Conflicts,
     /// The edges, or those of a transaction.
     Edges,
