@@ -9,6 +9,7 @@ use acta_hope::{never_begin, operation_at};
 use acta_machine::{Handle, Machine};
 use acta_script::missing_word;
 use acta_table::{OpNo, Owed, TxnId};
+use acta_trace::is_edge_of;
 
 // The lines, each after a bar.
 fn barred<A: Handle>(alloc: A, lines: Prose<A>) -> Prose<A> {
@@ -124,7 +125,7 @@ pub(crate) fn edges_remark<A: Handle>(
     let mut number = 0u64;
     for edge in machine.edges() {
         number = number.saturating_add(1);
-        if t.is_none_or(|t| edge.i == t || edge.j == t) {
+        if is_edge_of(edge, t) {
             prose = put_formed_edge(prose, notes.lines(machine), number).put("\n");
         }
     }
