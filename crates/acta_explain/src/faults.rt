@@ -159,6 +159,10 @@ fn wrong_word_at<'a>(stop: &Stop<'a>, place: WordPlace) -> WrongWord<'a> {
 const CARRIAGE_RETURN: &str =
     "\nthe line ends in CR LF; here a line ends in LF alone, and the CR belongs to the last word";
 
+// What is written where a word begins with a byte order mark.
+const BYTE_ORDER_MARK: &str =
+    "\nthe word begins with a byte order mark (EF BB BF), which some editors put at the start of a file: save it without one";
+
 // Adds what is expected in the place of the wrong word, where these are the words that would do.
 fn put_expected<A: Handle>(
     prose: Prose<A>,
@@ -186,7 +190,7 @@ fn put_part<A: Handle>(
 ) -> Prose<A> {
     match part {
         LinePart::Event => put_event(prose, wrong, known),
-        LinePart::Transaction => prose.put("the number of a transaction, digits up to 65535"),
+        LinePart::Transaction => prose.put("the number of a transaction, from 1 to 16383"),
         LinePart::Integer => prose.put("a whole number from -2147483648 to 2147483647"),
         LinePart::Operations => prose.put(
             "`-` for no operation, or numbers of operations with commas between them, and no space",
@@ -255,6 +259,8 @@ fn put_wrong_word<A: Handle>(
     let prose = put_expected(prose, wrong, expected, known);
     if word.last() == Some(&b'\r') {
         prose.put(CARRIAGE_RETURN)
+    } else if word.starts_with(b"\xef\xbb\xbf") {
+        prose.put(BYTE_ORDER_MARK)
     } else {
         put_hint(prose, alloc, word, known)
     }

@@ -14,14 +14,14 @@ use Rattle.std.proofs.lemmas.List.Elements.{All-from_recursion, filter_more, rec
 use Rattle.acta_explore.specs.declared.key.Key.{Key}
 use Rattle.acta_explore.specs.declared.outcome.Outcome.{Outcome}
 use Rattle.acta_explore.specs.declared.point.Turn.{Turn}
-use Rattle.acta_table.specs.declared.model.Parts.{Parts}
-use Rattle.acta_explore.specs.Ends.{AreAllEnds, HaveSameOutcome}
+use Rattle.acta_explore.specs.Ends.{AreAllEndsFrom, HaveSameOutcome}
 use Rattle.acta_explore.specs.Equivalence.{AreEquivalent}
 use Rattle.acta_explore.specs.Outcomes.{outcome}
-use Rattle.acta_explore.specs.Points.{Point, start, stepped}
+use Rattle.acta_explore.specs.Points.{Point, stepped}
 use Rattle.acta_explore.specs.Programs.{Programs, lines_done}
 use Rattle.acta_explore.specs.inside.Keys.{IsKeyOf}
 use Rattle.acta_explore.specs.inside.Merging.{AreAny, AreKeyed, AreOutcomes, HaveOthers, IsMerged, IsPut, outcomes_of, points_of}
+use Rattle.acta_explore.specs.inside.Numbered.{IsNumbered}
 use Rattle.acta_explore.specs.inside.Shown.{shown}
 use Rattle.acta_explore.specs.inside.Turns.{ends_among, is_nil, successors, turns_at}
 use Rattle.acta_explore.proofs.Looping.{some-filter, none-filter, not-less}
@@ -190,35 +190,35 @@ outcomes-kept {A = A} programs entries all = by entries (recursion_from_All (λ 
     by [] h = refl
     by (x ∷ xs) h = λ i. h.0 i ∷ by xs h.1 i
 
--- all orders of n steps are searched, with as many points as may be
-pub record IsExploredTo {A : Type 0} (programs : Programs A) (m : Parts A) (most points : ℕ) (level : List (Key A × Point A)) (ends : List (Outcome A × Point A)) : Type 0 where
+-- all orders of n steps from the root are searched, with as many points as may be
+pub record IsExploredTo {A : Type 0} (programs : Programs A) (root : Point A) (most points : ℕ) (level : List (Key A × Point A)) (ends : List (Outcome A × Point A)) : Type 0 where
   pub n : ℕ
-  pub searched : IsSearchedTo programs m n (points_of level) (points_of ends)
+  pub searched : IsSearchedTo programs root n (points_of level) (points_of ends)
   pub outcomes : AreOutcomes programs ends
   pub few : points ≤ most
 
-module _ {A : Type 0} (programs : Programs A) (m : Parts A) (most : ℕ) where
-  pub explored-start : (level : List (Key A × Point A)) (ends : List (Outcome A × Point A)) → points_of level ≡ start m ∷ [] → ends ≡ [] → 1 ≤ most → IsExploredTo programs m most 1 level ends
-  explored-start level ends first none one = record {
+module _ {A : Type 0} (programs : Programs A) (root : Point A) (most : ℕ) where
+  pub explored-start : (level : List (Key A × Point A)) (ends : List (Outcome A × Point A)) → IsNumbered root → points_of level ≡ root ∷ [] → ends ≡ [] → 1 ≤ most → IsExploredTo programs root most 1 level ends
+  explored-start level ends numbered first none one = record {
     n = 0;
-    searched = subst (λ (es : List (Outcome A × Point A)). IsSearchedTo programs m 0 (points_of level) (points_of es)) (sym none) (subst (λ (ps : List (Point A)). IsSearchedTo programs m 0 ps []) (sym first) (searched-start programs m));
+    searched = subst (λ (es : List (Outcome A × Point A)). IsSearchedTo programs root 0 (points_of level) (points_of es)) (sym none) (subst (λ (ps : List (Point A)). IsSearchedTo programs root 0 ps []) (sym first) (searched-start programs root numbered));
     outcomes = none-outcomes programs ends none;
     few = one;
   }
 
   pub explored-next : (points count : ℕ) (plan : Programs A) (level next : List (Key A × Point A)) (ends more : List (Outcome A × Point A)) → plan ≡ programs
-      → IsExploredTo programs m most points level ends → AreOutcomes plan more → points + count ≤ most
+      → IsExploredTo programs root most points level ends → AreOutcomes plan more → points + count ≤ most
       → IsMerged (AreEquivalent plan) AreAny [] (flat_map (successors plan) (points_of level)) (points_of next)
       → IsMerged (HaveSameOutcome plan) (HaveOthers plan) (points_of ends) (ends_among plan (points_of level)) (points_of more)
-      → IsExploredTo programs m most (points + count) next more
+      → IsExploredTo programs root most (points + count) next more
   explored-next points count plan level next ends more e s outcomes few merged ended = record {
     n = s.n + 1;
-    searched = searched-next programs m s.n (points_of level) (points_of ends) (points_of next) (points_of more) s.searched
+    searched = searched-next programs root s.n (points_of level) (points_of ends) (points_of next) (points_of more) s.searched
         (subst (λ (ps : Programs A). IsMerged (AreEquivalent ps) AreAny [] (flat_map (successors ps) (points_of level)) (points_of next)) e merged)
         (subst (λ (ps : Programs A). IsMerged (HaveSameOutcome ps) (HaveOthers ps) (points_of ends) (ends_among ps (points_of level)) (points_of more)) e ended);
     outcomes = subst (λ (ps : Programs A). AreOutcomes ps more) e outcomes;
     few = few;
   }
 
-  pub explored-all : (points : ℕ) (level : List (Key A × Point A)) (ends : List (Outcome A × Point A)) → level ≡ [] → IsExploredTo programs m most points level ends → AreAllEnds programs m (points_of ends)
-  explored-all points level ends none s = searched-all programs m s.n (points_of ends) (subst (λ (es : List (Key A × Point A)). IsSearchedTo programs m s.n (points_of es) (points_of ends)) none s.searched)
+  pub explored-all : (points : ℕ) (level : List (Key A × Point A)) (ends : List (Outcome A × Point A)) → level ≡ [] → IsExploredTo programs root most points level ends → AreAllEndsFrom programs root (points_of ends)
+  explored-all points level ends none s = searched-all programs root s.n (points_of ends) (subst (λ (es : List (Key A × Point A)). IsSearchedTo programs root s.n (points_of es) (points_of ends)) none s.searched)

@@ -4,13 +4,12 @@ use Rattle.std.specs.Prelude.{if◌then◌else◌, option_map, find}
 use Rattle.std.specs.List.{cons_option, range_with_len, AllByRecursion}
 use Rattle.std.specs.Option.{option_or}
 use Rattle.std.proofs.lemmas.Bool.{eq-eqb, ne_eqb}
-use Rattle.std.proofs.lemmas.List.{map-append}
 use Rattle.acta_table.specs.declared.answer.Refusal.{Refusal}
 use Rattle.acta_table.specs.declared.event.Event.{Event}
 use Rattle.acta_table.specs.declared.event.Ret.{Ret}
 use Rattle.acta_table.specs.declared.model.Parts.{Parts}
 use Rattle.acta_table.specs.Sets.{each_once}
-use Rattle.acta_machine.specs.Changes.{effect, summary_of}
+use Rattle.acta_machine.specs.Changes.{effect}
 use Rattle.acta_machine.specs.Rules.{lowest_broken}
 use Rattle.acta_machine.specs.Summary.{Summary}
 use Rattle.acta_machine.specs.Table.{kept_as, refusal_in}
@@ -19,14 +18,16 @@ use Rattle.acta_explore.specs.declared.point.Done.{Done}
 use Rattle.acta_explore.specs.declared.point.Step.{Step}
 use Rattle.acta_explore.specs.declared.point.Turn.{Turn}
 use Rattle.acta_explore.specs.Equivalence.{known, line_ops, AreSameByObject, AreEquivalent}
-use Rattle.acta_explore.specs.Points.{Point, start, gone_on, stepped, IsEnd}
+use Rattle.acta_explore.specs.Points.{Point, gone_on, stepped, IsEnd}
 use Rattle.acta_explore.specs.Programs.{Programs, is_of_line, done_by, done_at, lines_done, next_line, next_from, operated_lines, event_now}
 use Rattle.acta_explore.specs.inside.Noting.{noted, noted_at}
+pub use Rattle.acta_explore.specs.inside.Numbered.{IsNumbered}
 use Rattle.acta_explore.proofs.Effects.{AreLike, AreNamedAlike, lines_after, like-refused, like-return, like-effect}
 use Rattle.acta_explore.proofs.Numbering.{Differ, numbered_lines, is_line_named, are-named, unknown-same}
-use Rattle.acta_explore.proofs.Pairs.{Pairs, pairs-push}
+use Rattle.acta_explore.proofs.Pairs.{Pairs}
 use Rattle.acta_explore.proofs.Rules.{with_ops, rule_in}
 use Rattle.acta_explore.proofs.Stepping.{is_step, stepped_so, lines_named, now-with, next-new, summary-after, lines-gone}
+use Rattle.acta_explore.proofs.Taking.{own-more}
 
 -- what lines did, with one step more
 done-last : (s : Step) (b : Bool) → option_map done_by (cond b (Some s) None) ≡ (if b then Some (done_by s) else None)
@@ -67,11 +68,6 @@ pub lines-noted : {A : Type 0} (programs : Programs A) (steps : List Step) (s : 
 lines-noted programs steps s = noted-from (done_at steps) (done_at (steps ++ s ∷ [])) (done_by s) s.line 0 (length programs) (λ l.
     let plus : 0 + s.line ≡ s.line = omega arith in
     done-more steps s l ∙ ap (λ (k : ℕ). option_or (done_at steps l) (if k == l then Some (done_by s) else None)) (sym plus))
-
--- each line was done at most once, and the machine has as many operations as lines did
-pub record IsNumbered {A : Type 0} (p : Point A) : Type 0 where
-  pub lines : Pairs Differ (map (λ s. s.line) p.steps)
-  pub counted : length (operated_lines p.steps) ≡ length (known p).operations
 
 operated-one : (P : ℕ → Type 0) (l : ℕ) (ret : Option Ret) (ls : List ℕ) → P l → AllByRecursion P ls → AllByRecursion P (cons_option (option_map (λ r. l) ret) ls)
 operated-one P l None ls one all = all
@@ -177,15 +173,6 @@ module _ {A : Type 0} (programs : Programs A) (p q : Point A) (here : IsNumbered
         operations = like.operations;
       }
 
--- at the start nothing was done
-pub numbered-start : {A : Type 0} (m : Parts A) → IsNumbered (start m)
-unfolding summary_of
-numbered-start m = record { lines = tt; counted = refl }
-
-lines-new : (l : ℕ) (steps : List Step) → AllByRecursion (λ r. Differ r.line l) steps → AllByRecursion (λ k. Differ k l) (map (λ s. s.line) steps)
-lines-new l [] all = tt
-lines-new l (s ∷ steps) all = (all.0, lines-new l steps all.1)
-
 -- a step does a line that was not done
 pub numbered-step : {A : Type 0} (programs : Programs A) (p : Point A) (turn : Turn) (q : Point A) → IsNumbered p → stepped programs p turn ≡ Some q → IsNumbered q
 numbered-step programs p turn q here h =
@@ -194,8 +181,7 @@ numbered-step programs p turn q here h =
     let step : Step = record { seat = turn.seat; line = one.line; alternative = turn.alternative; ret = (kept_as p.state e).ret } in
     let like = like-gone programs p p here here refl (equivalent-refl programs p) turn one.line one.event one.admitted one.admitted in
     subst IsNumbered (sym one.gone) (record {
-      lines = subst (Pairs Differ) (sym (map-append (λ s. s.line) p.steps (step ∷ [])))
-          (pairs-push Differ (map (λ s. s.line) p.steps) one.line here.lines (lines-new one.line p.steps (next-new programs p.steps turn.seat one.line one.next)));
+      lines = own-more p.steps step here.lines (next-new programs p.steps turn.seat one.line one.next);
       counted = like.here;
     })
 

@@ -17,6 +17,8 @@ mod OrderedSets
 mod Orders
 mod Owing
 mod Pairs
+mod Remembering
+mod Returning
 mod Rules
 mod Searching
 mod Stepping

@@ -14,6 +14,7 @@ use Rattle.acta_sets.specs.declared.held_op.HeldOp.{HeldOp}
 use Rattle.acta_sets.specs.Operations.{operation_at}
 use Rattle.acta_explore.specs.Equivalence.{by_line, AreSameByObject}
 use Rattle.acta_explore.proofs.Anys.{any-map}
+pub use Rattle.acta_explore.specs.inside.Numbered.{Differ}
 use Rattle.acta_explore.proofs.Named.{AreNamed}
 use Rattle.acta_explore.proofs.OrderedSets.{or-three, or-false}
 use Rattle.acta_explore.proofs.Pairs.{Pairs, all-at}
@@ -39,10 +40,6 @@ any-each_once test ops = ap (list_any test) (numbers-numbered (ascending (number
 
 named-numbers : (ops : List OpNo) (n : ℕ) → is_named ops n ≡ list_any (λ k. k == n) (numbers_of ops)
 named-numbers ops n = sym (any-map (λ o. o.0) (λ k. k == n) ops)
-
--- lines that are all different
-abbrev pub Differ : ℕ → ℕ → Type 0
-Differ a b = (a == b) ≡ false
 
 -- the number of a line among those that did operations, or 0
 abbrev pub number_among : List ℕ → Option ℕ → ℕ

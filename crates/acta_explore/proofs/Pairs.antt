@@ -1,12 +1,7 @@
 -- Lists in which each element stands in a relation to all that come after it.
 use Rattle.std.proofs.Common.{◌<◌, ℕ, zero, suc, List, [], ◌∷◌, ◌++◌, length, get_or, arith}
-use Rattle.std.specs.Prelude.{⊤}
 use Rattle.std.specs.List.{AllByRecursion}
-
--- each element and each after it
-abbrev pub Pairs : {X : Type 0} → (X → X → Type 0) → List X → Type 0
-Pairs B [] = ⊤
-Pairs B (x ∷ xs) = AllByRecursion (B x) xs × Pairs B xs
+pub use Rattle.acta_explore.specs.inside.Numbered.{Pairs}
 
 module _ {X : Type 0} where
   pub all-append : (P : X → Type 0) (xs ys : List X) → AllByRecursion P xs → AllByRecursion P ys → AllByRecursion P (xs ++ ys)

@@ -4,18 +4,17 @@ use Rattle.std.specs.Prelude.{option_and_then}
 use Rattle.std.specs.List.{AllByRecursion, Contains, flat_map}
 use Rattle.std.specs.Ordering.{is_le}
 use Rattle.std.proofs.lemmas.Bool.{cases_lt}
-use Rattle.std.proofs.lemmas.List.{length-append, length-take-le, take-append-drop}
+use Rattle.std.proofs.lemmas.List.{append_assoc, append-nil, length-append, length-take-le, take-append-drop}
 use Rattle.std.proofs.lemmas.List.Elements.{All-from_recursion, All-contains}
-use Rattle.acta_table.specs.declared.model.Parts.{Parts}
 use Rattle.acta_explore.specs.declared.point.Turn.{Turn}
-use Rattle.acta_explore.specs.Ends.{order_cmp, AreAllEnds, HaveSameOutcome, IsAmong}
+use Rattle.acta_explore.specs.Ends.{order_cmp, AreAllEndsFrom, HaveSameOutcome, IsAmong}
 use Rattle.acta_explore.specs.Equivalence.{AreEquivalent}
-use Rattle.acta_explore.specs.Points.{Point, start, stepped, played, order_of, IsEnd, IsReached, IsEndReached}
+use Rattle.acta_explore.specs.Points.{Point, stepped, played, order_of, IsEnd, IsReached, IsEndReached}
 use Rattle.acta_explore.specs.Programs.{Programs}
 use Rattle.acta_explore.specs.inside.Merging.{AreAny, HaveOthers, IsMerged}
 use Rattle.acta_explore.specs.inside.Turns.{successors, is_nil, ends_among}
 use Rattle.acta_explore.proofs.Ending.{outcome-same}
-use Rattle.acta_explore.proofs.Going.{IsNumbered, numbered-start, numbered-step, step-like, end-like, equivalent-refl, equivalent-trans}
+use Rattle.acta_explore.proofs.Going.{IsNumbered, numbered-step, step-like, end-like, equivalent-refl, equivalent-trans}
 use Rattle.acta_explore.proofs.Merging.{IsBefore, all-merged, kept-merged, rise-merged, among-merged, unlike-merged}
 use Rattle.acta_explore.proofs.Orders.{order-same, short-less, le-more, le-trans}
 use Rattle.acta_explore.proofs.Pairs.{Pairs, all-append, all-map, pairs-append, pairs-at}
@@ -74,52 +73,61 @@ numbered-played programs [] p q here h = let same : p ≡ q = cc in subst IsNumb
 numbered-played programs (t ∷ turns) p q here h =
     numbered-by programs (stepped programs p t) turns q (λ r e. numbered-step programs p t r here e) (λ r n k. numbered-played programs turns r q n k) h
 
-numbered-reached : {A : Type 0} (programs : Programs A) (m : Parts A) (turns : List Turn) (q : Point A) → played programs (start m) turns ≡ Some q → IsNumbered q
-numbered-reached programs m turns q h = numbered-played programs turns (start m) q (numbered-start m) h
-
 model-by : {A : Type 0} (programs : Programs A) (p : Point A) (t : Turn) (turns : List Turn) (q : Point A) (o : Option (Point A)) → stepped programs p t ≡ o → ((r : Point A) → played programs r turns ≡ Some q → q.state.model ≡ r.state.model) → option_and_then (λ r. played programs r turns) o ≡ Some q → q.state.model ≡ p.state.model
 model-by programs p t turns q None e later h = absurd cc
 model-by programs p t turns q (Some r) e later h = later r h ∙ model-step programs p t r e
 
--- and is on the model of the start
+-- and is on the model of the root
 model-played : {A : Type 0} (programs : Programs A) (turns : List Turn) (p q : Point A) → played programs p turns ≡ Some q → q.state.model ≡ p.state.model
 model-played programs [] p q h = let same : p ≡ q = cc in ap (λ (r : Point _). r.state.model) (sym same)
 model-played programs (t ∷ turns) p q h = model-by programs p t turns q (stepped programs p t) refl (λ r k. model-played programs turns r q k) h
 
-model-reached : {A : Type 0} (programs : Programs A) (m : Parts A) (turns others : List Turn) (p q : Point A) → played programs (start m) turns ≡ Some p → played programs (start m) others ≡ Some q → p.state.model ≡ q.state.model
-model-reached programs m turns others p q h k = model-played programs turns (start m) p h ∙ sym (model-played programs others (start m) q k)
+model-reached : {A : Type 0} (programs : Programs A) (root : Point A) (turns others : List Turn) (p q : Point A) → played programs root turns ≡ Some p → played programs root others ≡ Some q → p.state.model ≡ q.state.model
+model-reached programs root turns others p q h k = model-played programs turns root p h ∙ sym (model-played programs others root q k)
 
-reached-step : {A : Type 0} (programs : Programs A) (m : Parts A) (p : Point A) (t : Turn) (q : Point A) → IsReached programs m p → stepped programs p t ≡ Some q → IsReached programs m q
-reached-step programs m p t q here h =
-    ap (played programs (start m)) (order-step programs p t q h)
-    ∙ (played-push programs (start m) (order_of p) t
-    ∙ (ap (option_and_then (λ r. stepped programs r t)) here ∙ h))
+reached-step : {A : Type 0} (programs : Programs A) (root : Point A) (p : Point A) (t : Turn) (q : Point A) → IsReached programs root p → stepped programs p t ≡ Some q → IsReached programs root q
+reached-step programs root p t q here h = record {
+  turns = here.turns ++ t ∷ [];
+  own = order-step programs p t q h ∙ (ap (λ (ts : List Turn). ts ++ t ∷ []) here.own ∙ append_assoc (order_of root) here.turns (t ∷ []));
+  leads = played-push programs root here.turns t ∙ (ap (option_and_then (λ r. stepped programs r t)) here.leads ∙ h);
+}
+
+-- how long the orders are that are n turns longer than the root's
+abbrev pub longer : {A : Type 0} → Point A → ℕ → ℕ
+longer root n = length (order_of root) + n
 
 -- a search has come to level n
-pub record IsSearchedTo {A : Type 0} (programs : Programs A) (m : Parts A) (n : ℕ) (level ends : List (Point A)) : Type 0 where
-  pub reached : AllByRecursion (IsReached programs m) level
-  pub long : AllByRecursion (HasLength n) level
+pub record IsSearchedTo {A : Type 0} (programs : Programs A) (root : Point A) (n : ℕ) (level ends : List (Point A)) : Type 0 where
+  pub numbered : IsNumbered root
+  pub reached : AllByRecursion (IsReached programs root) level
+  pub long : AllByRecursion (HasLength (longer root n)) level
   pub rise : Pairs IsBefore level
-  pub covers : (turns : List Turn) (q : Point A) → length turns ≡ n → played programs (start m) turns ≡ Some q → IsAmong (AreEquivalent programs) level turns q
-  pub sound : AllByRecursion (IsEndReached programs m) ends
-  pub short : AllByRecursion (λ p. length (order_of p) < n) ends
+  pub covers : (turns : List Turn) (q : Point A) → length turns ≡ n → played programs root turns ≡ Some q → IsAmong (AreEquivalent programs) level (order_of root ++ turns) q
+  pub sound : AllByRecursion (IsEndReached programs root) ends
+  pub short : AllByRecursion (λ p. length (order_of p) < longer root n) ends
   pub in_order : Pairs IsBefore ends
   pub distinct : Pairs (HaveOthers programs) ends
-  pub complete : (turns : List Turn) (q : Point A) → length turns < n → played programs (start m) turns ≡ Some q → IsEnd programs q → IsAmong (HaveSameOutcome programs) ends turns q
+  pub complete : (turns : List Turn) (q : Point A) → length turns < n → played programs root turns ≡ Some q → IsEnd programs q → IsAmong (HaveSameOutcome programs) ends (order_of root ++ turns) q
 
-no-turns : {A : Type 0} (programs : Programs A) (m : Parts A) (turns : List Turn) (q : Point A) → length turns ≡ 0 → played programs (start m) turns ≡ Some q → IsAmong (AreEquivalent programs) (start m ∷ []) turns q
-no-turns programs m [] q e h =
-    let same : start m ≡ q = cc in
-    record { by = start m; within = (0, omega arith, refl); related = subst (AreEquivalent programs (start m)) same (equivalent-refl programs (start m)); first = ap is_le (order-same []) }
-no-turns programs m (t ∷ turns) q e h = absurd (omega arith)
+no-turns : {A : Type 0} (programs : Programs A) (root : Point A) (turns : List Turn) (q : Point A) → length turns ≡ 0 → played programs root turns ≡ Some q → IsAmong (AreEquivalent programs) (root ∷ []) (order_of root ++ turns) q
+no-turns programs root [] q e h =
+    let same : root ≡ q = cc in
+    record {
+      by = root;
+      within = (0, omega arith, refl);
+      related = subst (AreEquivalent programs root) same (equivalent-refl programs root);
+      first = ap (λ (ts : List Turn). is_le (order_cmp (order_of root) ts)) (append-nil (order_of root)) ∙ ap is_le (order-same (order_of root));
+    }
+no-turns programs root (t ∷ turns) q e h = absurd (omega arith)
 
--- at the start
-pub searched-start : {A : Type 0} (programs : Programs A) (m : Parts A) → IsSearchedTo programs m 0 (start m ∷ []) []
-searched-start programs m = record {
-  reached = (refl, tt);
-  long = (refl, tt);
+-- at the root
+pub searched-start : {A : Type 0} (programs : Programs A) (root : Point A) → IsNumbered root → IsSearchedTo programs root 0 (root ∷ []) []
+searched-start programs root numbered = record {
+  numbered = numbered;
+  reached = (record { turns = []; own = sym (append-nil (order_of root)); leads = refl }, tt);
+  long = (omega arith, tt);
   rise = (tt, tt);
-  covers = no-turns programs m;
+  covers = no-turns programs root;
   sound = tt;
   short = tt;
   in_order = tt;
@@ -187,52 +195,54 @@ both-all P Q R f [] here there = tt
 both-all P Q R f (x ∷ xs) here there = (f x here.0 there.0, both-all P Q R f xs here.1 there.1)
 
 -- from a level to the next
-module _ {A : Type 0} (programs : Programs A) (m : Parts A) (n : ℕ) (level ends next more : List (Point A)) (s : IsSearchedTo programs m n level ends) (merged : IsMerged (AreEquivalent programs) AreAny [] (flat_map (successors programs) level) next) (ended : IsMerged (HaveSameOutcome programs) (HaveOthers programs) ends (ends_among programs level) more) where
+module _ {A : Type 0} (programs : Programs A) (root : Point A) (n : ℕ) (level ends next more : List (Point A)) (s : IsSearchedTo programs root n level ends) (merged : IsMerged (AreEquivalent programs) AreAny [] (flat_map (successors programs) level) next) (ended : IsMerged (HaveSameOutcome programs) (HaveOthers programs) ends (ends_among programs level) more) where
   -- each point of the level and each step from it
-  after-reached : (p : Point A) → IsReached programs m p → (qs : List (Point A)) → AllByRecursion (IsSuccessor programs p) qs → AllByRecursion (IsReached programs m) qs
+  after-reached : (p : Point A) → IsReached programs root p → (qs : List (Point A)) → AllByRecursion (IsSuccessor programs p) qs → AllByRecursion (IsReached programs root) qs
   after-reached p here [] all = tt
-  after-reached p here (q ∷ qs) all = (reached-step programs m p all.0.0 q here all.0.1, after-reached p here qs all.1)
+  after-reached p here (q ∷ qs) all = (reached-step programs root p all.0.0 q here all.0.1, after-reached p here qs all.1)
 
-  all-reached : (ps : List (Point A)) → AllByRecursion (IsReached programs m) ps → AllByRecursion (IsReached programs m) (flat_map (successors programs) ps)
+  all-reached : (ps : List (Point A)) → AllByRecursion (IsReached programs root) ps → AllByRecursion (IsReached programs root) (flat_map (successors programs) ps)
   all-reached [] all = tt
-  all-reached (p ∷ ps) all = all-append (IsReached programs m) (successors programs p) (flat_map (successors programs) ps) (after-reached p all.0 (successors programs p) (successors-step programs p)) (all-reached ps all.1)
+  all-reached (p ∷ ps) all = all-append (IsReached programs root) (successors programs p) (flat_map (successors programs) ps) (after-reached p all.0 (successors programs p) (successors-step programs p)) (all-reached ps all.1)
 
-  after-long : (p : Point A) → HasLength n p → (qs : List (Point A)) → AllByRecursion (IsSuccessor programs p) qs → AllByRecursion (HasLength (n + 1)) qs
+  after-long : (p : Point A) → HasLength (longer root n) p → (qs : List (Point A)) → AllByRecursion (IsSuccessor programs p) qs → AllByRecursion (HasLength (longer root (n + 1))) qs
   after-long p here [] all = tt
   after-long p here (q ∷ qs) all =
-      (ap (λ (ts : List Turn). length ts) (order-step programs p all.0.0 q all.0.1) ∙ (length-append (order_of p) (all.0.0 ∷ []) ∙ ap (λ (k : ℕ). k + 1) here), after-long p here qs all.1)
+      let more : length (order_of q) ≡ length (order_of p) + 1 = ap (λ (ts : List Turn). length ts) (order-step programs p all.0.0 q all.0.1) ∙ length-append (order_of p) (all.0.0 ∷ []) in
+      (omega (arith, more, here), after-long p here qs all.1)
 
-  all-long : (ps : List (Point A)) → AllByRecursion (HasLength n) ps → AllByRecursion (HasLength (n + 1)) (flat_map (successors programs) ps)
+  all-long : (ps : List (Point A)) → AllByRecursion (HasLength (longer root n)) ps → AllByRecursion (HasLength (longer root (n + 1))) (flat_map (successors programs) ps)
   all-long [] all = tt
-  all-long (p ∷ ps) all = all-append (HasLength (n + 1)) (successors programs p) (flat_map (successors programs) ps) (after-long p all.0 (successors programs p) (successors-step programs p)) (all-long ps all.1)
+  all-long (p ∷ ps) all = all-append (HasLength (longer root (n + 1))) (successors programs p) (flat_map (successors programs) ps) (after-long p all.0 (successors programs p) (successors-step programs p)) (all-long ps all.1)
 
   level-rises : Pairs IsBefore (flat_map (successors programs) level)
-  level-rises = level-rise programs n level s.long s.rise
+  level-rises = level-rise programs (longer root n) level s.long s.rise
 
   -- a point of the level that is equivalent to one that an order leads to, and the same turn
-  covers-last : (turns : List Turn) (t : Turn) (r q : Point A) → length turns ≡ n → played programs (start m) turns ≡ Some r → stepped programs r t ≡ Some q → IsAmong (AreEquivalent programs) next (turns ++ t ∷ []) q
+  covers-last : (turns : List Turn) (t : Turn) (r q : Point A) → length turns ≡ n → played programs root turns ≡ Some r → stepped programs r t ≡ Some q → IsAmong (AreEquivalent programs) next (order_of root ++ (turns ++ t ∷ [])) q
   covers-last turns t r q e h step =
       let c = s.covers turns r e h in
-      let by-reached = All-contains (IsReached programs m) level c.by (All-from_recursion (IsReached programs m) level s.reached) c.within in
-      let by-long = All-contains (HasLength n) level c.by (All-from_recursion (HasLength n) level s.long) c.within in
-      let like = step-like programs c.by r t q (numbered-reached programs m (order_of c.by) c.by by-reached) (numbered-reached programs m turns r h) (model-reached programs m (order_of c.by) turns c.by r by-reached h) c.related step in
+      let by-reached = All-contains (IsReached programs root) level c.by (All-from_recursion (IsReached programs root) level s.reached) c.within in
+      let by-long = All-contains (HasLength (longer root n)) level c.by (All-from_recursion (HasLength (longer root n)) level s.long) c.within in
+      let long : length (order_of c.by) ≡ length (order_of root ++ turns) = by-long ∙ (ap (λ (k : ℕ). length (order_of root) + k) (sym e) ∙ sym (length-append (order_of root) turns)) in
+      let like = step-like programs c.by r t q (numbered-played programs by-reached.turns root c.by s.numbered by-reached.leads) (numbered-played programs turns root r s.numbered h) (model-reached programs root by-reached.turns turns c.by r by-reached.leads h) c.related step in
       let among = among-merged (AreEquivalent programs) AreAny (equivalent-refl programs) (flat_map (successors programs) level) [] next like.to merged level-rises
       (contains-flat_map (successors programs) level c.by like.to c.within (successor-among programs c.by t like.to like.stepped)) in
-      record {
+      subst (λ (ts : List Turn). IsAmong (AreEquivalent programs) next ts q) (append_assoc (order_of root) turns (t ∷ [])) (record {
         by = among.by;
         within = among.within;
         related = equivalent-trans programs among.by like.to q among.related like.equivalent;
-        first = le-trans (order_of among.by) (order_of like.to) (turns ++ t ∷ []) among.first
-            (ap (λ (ts : List Turn). is_le (order_cmp ts (turns ++ t ∷ []))) (order-step programs c.by t like.to like.stepped)
-            ∙ le-more (order_of c.by) turns t (by-long ∙ sym e) c.first);
-      }
+        first = le-trans (order_of among.by) (order_of like.to) ((order_of root ++ turns) ++ t ∷ []) among.first
+            (ap (λ (ts : List Turn). is_le (order_cmp ts ((order_of root ++ turns) ++ t ∷ []))) (order-step programs c.by t like.to like.stepped)
+            ∙ le-more (order_of c.by) (order_of root ++ turns) t long c.first);
+      })
 
-  covers-next : (turns : List Turn) (q : Point A) → length turns ≡ n + 1 → played programs (start m) turns ≡ Some q → IsAmong (AreEquivalent programs) next turns q
+  covers-next : (turns : List Turn) (q : Point A) → length turns ≡ n + 1 → played programs root turns ≡ Some q → IsAmong (AreEquivalent programs) next (order_of root ++ turns) q
   covers-next turns q e h =
       let split = with-last turns n e in
       let front-long : length split.front ≡ n = front-length split.front split.last turns split.is e in
-      let last = played-last programs (start m) split.front split.last q (ap (played programs (start m)) (sym split.is) ∙ h) in
-      subst (λ (ts : List Turn). IsAmong (AreEquivalent programs) next ts q) (sym split.is)
+      let last = played-last programs root split.front split.last q (ap (played programs root) (sym split.is) ∙ h) in
+      subst (λ (ts : List Turn). IsAmong (AreEquivalent programs) next (order_of root ++ ts) q) (sym split.is)
       (covers-last split.front split.last last.point q front-long last.before last.last)
     where
       front-length : (front : List Turn) (t : Turn) (turns : List Turn) → turns ≡ front ++ t ∷ [] → length turns ≡ n + 1 → length front ≡ n
@@ -242,31 +252,31 @@ module _ {A : Type 0} (programs : Programs A) (m : Parts A) (n : ℕ) (level end
   here_ended : Point A → Bool
   here_ended p = is_nil (successors programs p)
 
-  ends-sound : AllByRecursion (IsEndReached programs m) (ends_among programs level)
+  ends-sound : AllByRecursion (IsEndReached programs root) (ends_among programs level)
   ends-sound =
-      both-all (IsReached programs m) (λ p. is_nil (successors programs p) ≡ true) (IsEndReached programs m) (λ p reached none. record { reached = reached; ended = is-end programs p none }) (ends_among programs level)
-      (filter-all (IsReached programs m) (λ p. is_nil (successors programs p)) level s.reached)
+      both-all (IsReached programs root) (λ p. is_nil (successors programs p) ≡ true) (IsEndReached programs root) (λ p reached none. record { reached = reached; ended = is-end programs p none }) (ends_among programs level)
+      (filter-all (IsReached programs root) (λ p. is_nil (successors programs p)) level s.reached)
       (filter-passes (λ p. is_nil (successors programs p)) level)
 
-  ends-long : AllByRecursion (HasLength n) (ends_among programs level)
-  ends-long = filter-all (HasLength n) (λ p. is_nil (successors programs p)) level s.long
+  ends-long : AllByRecursion (HasLength (longer root n)) (ends_among programs level)
+  ends-long = filter-all (HasLength (longer root n)) (λ p. is_nil (successors programs p)) level s.long
 
   ends-rise : Pairs IsBefore (ends ++ ends_among programs level)
   ends-rise =
       pairs-append IsBefore ends (ends_among programs level) s.in_order (filter-pairs IsBefore (λ p. is_nil (successors programs p)) level s.rise)
-      (all-map (λ p. length (order_of p) < n) (λ p. AllByRecursion (IsBefore p) (ends_among programs level)) (λ p less.
-      all-map (HasLength n) (IsBefore p) (λ q long. short-less (order_of p) (order_of q) (subst (λ (k : ℕ). length (order_of p) < k) (sym long) less)) (ends_among programs level) ends-long) ends s.short)
+      (all-map (λ p. length (order_of p) < longer root n) (λ p. AllByRecursion (IsBefore p) (ends_among programs level)) (λ p less.
+      all-map (HasLength (longer root n)) (IsBefore p) (λ q long. short-less (order_of p) (order_of q) (subst (λ (k : ℕ). length (order_of p) < k) (sym long) less)) (ends_among programs level) ends-long) ends s.short)
 
   same-outcome-refl : (p : Point A) → HaveSameOutcome programs p p
   same-outcome-refl p = refl
 
-  complete-here : (turns : List Turn) (q : Point A) → length turns ≡ n → played programs (start m) turns ≡ Some q → IsEnd programs q → IsAmong (HaveSameOutcome programs) more turns q
+  complete-here : (turns : List Turn) (q : Point A) → length turns ≡ n → played programs root turns ≡ Some q → IsEnd programs q → IsAmong (HaveSameOutcome programs) more (order_of root ++ turns) q
   complete-here turns q e h done =
       let c = s.covers turns q e h in
-      let by-reached = All-contains (IsReached programs m) level c.by (All-from_recursion (IsReached programs m) level s.reached) c.within in
-      let here = numbered-reached programs m (order_of c.by) c.by by-reached in
-      let there = numbered-reached programs m turns q h in
-      let on = model-reached programs m (order_of c.by) turns c.by q by-reached h in
+      let by-reached = All-contains (IsReached programs root) level c.by (All-from_recursion (IsReached programs root) level s.reached) c.within in
+      let here = numbered-played programs by-reached.turns root c.by s.numbered by-reached.leads in
+      let there = numbered-played programs turns root q s.numbered h in
+      let on = model-reached programs root by-reached.turns turns c.by q by-reached.leads h in
       let by-ended = end-like programs c.by q here there on c.related done in
       let among = among-merged (HaveSameOutcome programs) (HaveOthers programs) same-outcome-refl (ends_among programs level) ends more c.by ended ends-rise
       (filter-contains (λ p. is_nil (successors programs p)) level c.by c.within (ended-nil programs c.by by-ended)) in
@@ -274,25 +284,26 @@ module _ {A : Type 0} (programs : Programs A) (m : Parts A) (n : ℕ) (level end
         by = among.by;
         within = among.within;
         related = among.related ∙ outcome-same programs c.by q here there on c.related;
-        first = le-trans (order_of among.by) (order_of c.by) turns among.first c.first;
+        first = le-trans (order_of among.by) (order_of c.by) (order_of root ++ turns) among.first c.first;
       }
 
-  complete-by : (turns : List Turn) (q : Point A) → ((length turns < n) ⊎ (length turns ≡ n)) → played programs (start m) turns ≡ Some q → IsEnd programs q → IsAmong (HaveSameOutcome programs) more turns q
+  complete-by : (turns : List Turn) (q : Point A) → ((length turns < n) ⊎ (length turns ≡ n)) → played programs root turns ≡ Some q → IsEnd programs q → IsAmong (HaveSameOutcome programs) more (order_of root ++ turns) q
   complete-by turns q (inl less) h done =
       let old = s.complete turns q less h done in
       record { by = old.by; within = kept-merged (HaveSameOutcome programs) (HaveOthers programs) (ends_among programs level) ends more old.by ended old.within; related = old.related; first = old.first }
   complete-by turns q (inr e) h done = complete-here turns q e h done
 
-  pub searched-next : IsSearchedTo programs m (n + 1) next more
+  pub searched-next : IsSearchedTo programs root (n + 1) next more
   searched-next = record {
-    reached = all-merged (AreEquivalent programs) AreAny (IsReached programs m) (flat_map (successors programs) level) [] next merged tt (all-reached level s.reached);
-    long = all-merged (AreEquivalent programs) AreAny (HasLength (n + 1)) (flat_map (successors programs) level) [] next merged tt (all-long level s.long);
+    numbered = s.numbered;
+    reached = all-merged (AreEquivalent programs) AreAny (IsReached programs root) (flat_map (successors programs) level) [] next merged tt (all-reached level s.reached);
+    long = all-merged (AreEquivalent programs) AreAny (HasLength (longer root (n + 1))) (flat_map (successors programs) level) [] next merged tt (all-long level s.long);
     rise = rise-merged (AreEquivalent programs) AreAny (flat_map (successors programs) level) [] next merged level-rises;
     covers = covers-next;
-    sound = all-merged (HaveSameOutcome programs) (HaveOthers programs) (IsEndReached programs m) (ends_among programs level) ends more ended s.sound ends-sound;
-    short = all-merged (HaveSameOutcome programs) (HaveOthers programs) (λ p. length (order_of p) < n + 1) (ends_among programs level) ends more ended
-        (all-map (λ p. length (order_of p) < n) (λ p. length (order_of p) < n + 1) (λ p less. omega arith) ends s.short)
-        (all-map (HasLength n) (λ p. length (order_of p) < n + 1) (λ p long. subst (λ (k : ℕ). k < n + 1) (sym long) (omega arith)) (ends_among programs level) ends-long);
+    sound = all-merged (HaveSameOutcome programs) (HaveOthers programs) (IsEndReached programs root) (ends_among programs level) ends more ended s.sound ends-sound;
+    short = all-merged (HaveSameOutcome programs) (HaveOthers programs) (λ p. length (order_of p) < longer root (n + 1)) (ends_among programs level) ends more ended
+        (all-map (λ p. length (order_of p) < longer root n) (λ p. length (order_of p) < longer root (n + 1)) (λ p less. omega arith) ends s.short)
+        (all-map (HasLength (longer root n)) (λ p. length (order_of p) < longer root (n + 1)) (λ p long. subst (λ (k : ℕ). k < longer root (n + 1)) (sym long) (omega arith)) (ends_among programs level) ends-long);
     in_order = rise-merged (HaveSameOutcome programs) (HaveOthers programs) (ends_among programs level) ends more ended ends-rise;
     distinct = unlike-merged (HaveSameOutcome programs) (HaveOthers programs) (ends_among programs level) ends more ended s.distinct;
     complete = λ turns q less h done. complete-by turns q (less-or (length turns) n less) h done;
@@ -314,20 +325,20 @@ none-some : {X : Type 0} {x : X} → None ≡ Some x → ⊥
 none-some e = cc
 
 -- no order leads on from an empty level
-beyond : {A : Type 0} (programs : Programs A) (m : Parts A) (n : ℕ) (ends : List (Point A)) → IsSearchedTo programs m n [] ends → (front back : List Turn) (q : Point A) → length front ≡ n → played programs (start m) (front ++ back) ≡ Some q → ⊥
-beyond {A} programs m n ends s front back q e h = by-front (played programs (start m) front) refl
+beyond : {A : Type 0} (programs : Programs A) (root : Point A) (n : ℕ) (ends : List (Point A)) → IsSearchedTo programs root n [] ends → (front back : List Turn) (q : Point A) → length front ≡ n → played programs root (front ++ back) ≡ Some q → ⊥
+beyond {A} programs root n ends s front back q e h = by-front (played programs root front) refl
   where
-    by-front : (o : Option (Point A)) → played programs (start m) front ≡ o → ⊥
-    by-front None f = none-some (sym (front-none programs (start m) front back f) ∙ h)
+    by-front : (o : Option (Point A)) → played programs root front ≡ o → ⊥
+    by-front None f = none-some (sym (front-none programs root front back f) ∙ h)
     by-front (Some r) f = let c = s.covers front r e f in contains-nil c.by c.within
 
 -- where a level is empty, all ends were found
-pub searched-all : {A : Type 0} (programs : Programs A) (m : Parts A) (n : ℕ) (ends : List (Point A)) → IsSearchedTo programs m n [] ends → AreAllEnds programs m ends
-searched-all {A} programs m n ends s = record {
-  sound = All-from_recursion (IsEndReached programs m) ends s.sound;
+pub searched-all : {A : Type 0} (programs : Programs A) (root : Point A) (n : ℕ) (ends : List (Point A)) → IsSearchedTo programs root n [] ends → AreAllEndsFrom programs root ends
+searched-all {A} programs root n ends s = record {
+  sound = All-from_recursion (IsEndReached programs root) ends s.sound;
   complete = λ turns q h done. elim (cases_lt (length turns) n) [
     | inl less ↦ s.complete turns q less h done
-    | inr long ↦ absurd (beyond programs m n ends s (take n turns) (drop n turns) q (length-take-le n turns (omega arith)) (ap (played programs (start m)) (take-append-drop n turns) ∙ h))
+    | inr long ↦ absurd (beyond programs root n ends s (take n turns) (drop n turns) q (length-take-le n turns (omega arith)) (ap (played programs root) (take-append-drop n turns) ∙ h))
   ];
   distinct = λ i j d less within. pairs-at (HaveOthers programs) ends i j d less within s.distinct;
   in_order = λ i j d less within. pairs-at IsBefore ends i j d less within s.in_order;

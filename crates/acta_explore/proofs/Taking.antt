@@ -1,11 +1,13 @@
 -- What a machine's answer says of a step.
-use Rattle.std.proofs.Common.{◌≡◌, ℕ, ◌+◌, List, [], ◌∷◌, ◌++◌, length, Option, Some, None, is_none, refl, sym, ap, ◌∙◌}
+use Rattle.std.proofs.Common.{◌≡◌, ℕ, List, [], ◌∷◌, ◌++◌, length, map, Option, Some, None, is_none, refl, sym, ap, subst, ◌∙◌}
 use Rattle.std.specs.Prelude.{if◌then◌else◌, option_and_then}
-use Rattle.std.proofs.lemmas.List.{length-append}
+use Rattle.std.specs.List.{AllByRecursion}
+use Rattle.std.proofs.lemmas.List.{length-map, map-append}
 use Rattle.acta_table.specs.declared.answer.Answer.TheVariants.{Admitted, Refused}
 use Rattle.acta_table.specs.declared.answer.Refusal.{Refusal}
 use Rattle.acta_table.specs.declared.answer.Rule.{Rule}
 use Rattle.acta_table.specs.declared.event.Event.{Event}
+use Rattle.acta_table.specs.declared.event.Kept.{Kept}
 use Rattle.acta_table.specs.declared.event.Ret.{Ret}
 use Rattle.acta_machine.specs.Table.{State, kept_as, answered, refusal_in, answer_to, after}
 use Rattle.acta_explore.specs.declared.point.Done.{Done}
@@ -13,6 +15,8 @@ use Rattle.acta_explore.specs.declared.point.Step.{Step}
 use Rattle.acta_explore.specs.declared.point.Turn.{Turn}
 use Rattle.acta_explore.specs.Points.{Point, gone_on, tried, stepped}
 use Rattle.acta_explore.specs.Programs.{Programs, lines_done, next_from, event_at}
+use Rattle.acta_explore.specs.inside.Numbered.{Differ, HaveOwnLines, IsUndone, ReturnAsKept}
+use Rattle.acta_explore.proofs.Pairs.{Pairs, pairs-push}
 use Rattle.acta_explore.proofs.Stepping.{after-admitted}
 
 from-answered : {A : Type 0} (s : State A) (e : Event A) (r : Option Refusal) (place : ℕ) (ret : Option Ret) → answered s e r ≡ Admitted place ret → (r ≡ None) × (ret ≡ (kept_as s e).ret)
@@ -38,12 +42,28 @@ went-on p turn l e place ret steps state h m s =
     let same : steps ≡ p.steps ++ step_by turn l (kept_as p.state e).ret ∷ [] = m ∙ ap (λ (r : Option Ret). p.steps ++ step_by turn l r ∷ []) told.1 in
     (λ i. Some (record { steps = same i; state = s i })) ∙ sym (tried-so p turn l e (refusal_in p.state e) told.0)
 
--- it has as many steps as its machine has events
-pub counted-on : {A : Type 0} (p : Point A) (turn : Turn) (l : ℕ) (e : Event A) (place : ℕ) (ret : Option Ret) (steps : List Step) (state : State A) → length p.steps ≡ length p.state.kept → answer_to p.state e ≡ Admitted place ret → steps ≡ p.steps ++ step_by turn l ret ∷ [] → state ≡ after p.state e → length steps ≡ length state.kept
-counted-on p turn l e place ret steps state many h m s =
+lines-new : (l : ℕ) (steps : List Step) → IsUndone steps l → AllByRecursion (λ k. Differ k l) (map (λ s. s.line) steps)
+lines-new l [] all = tt
+lines-new l (s ∷ steps) all = (all.0, lines-new l steps all.1)
+
+-- one more step does a line that no step did
+pub own-more : (steps : List Step) (s : Step) → HaveOwnLines steps → IsUndone steps s.line → HaveOwnLines (steps ++ s ∷ [])
+own-more steps s own new =
+    subst (Pairs Differ) (sym (map-append (λ r. r.line) steps (s ∷ []))) (pairs-push Differ (map (λ r. r.line) steps) s.line own (lines-new s.line steps new))
+
+-- it returns what the event does
+pub returns-on : {A : Type 0} (p : Point A) (turn : Turn) (l : ℕ) (e : Event A) (place : ℕ) (ret : Option Ret) (steps : List Step) (state : State A) → ReturnAsKept p.steps p.state.kept → answer_to p.state e ≡ Admitted place ret → steps ≡ p.steps ++ step_by turn l ret ∷ [] → state ≡ after p.state e → ReturnAsKept steps state.kept
+returns-on p turn l e place ret steps state so h m s =
     let told = admission p.state e place ret h in
-    ap (λ (ss : List Step). length ss) m ∙ (length-append p.steps (step_by turn l ret ∷ []) ∙ (ap (λ (n : ℕ). n + 1) many
-    ∙ (sym (length-append p.state.kept (kept_as p.state e ∷ [])) ∙ ap (λ (t : State _). length t.kept) (sym (s ∙ after-admitted p.state e told.0)))))
+    ap (map (λ (r : Step). r.ret)) m
+    ∙ (map-append (λ r. r.ret) p.steps (step_by turn l ret ∷ [])
+    ∙ ((λ i. so i ++ told.1 i ∷ [])
+    ∙ (sym (map-append (λ k. k.ret) p.state.kept (kept_as p.state e ∷ []))
+    ∙ ap (λ (t : State _). map (λ k. k.ret) t.kept) (sym (s ∙ after-admitted p.state e told.0)))))
+
+-- there are as many steps as events
+pub as-many : {A : Type 0} (steps : List Step) (kept : List (Kept A)) → ReturnAsKept steps kept → length steps ≡ length kept
+as-many steps kept so = sym (length-map steps (λ s. s.ret)) ∙ (ap (λ (rs : List (Option Ret)). length rs) so ∙ length-map kept (λ k. k.ret))
 
 from-refused : {A : Type 0} (p : Point A) (turn : Turn) (l : ℕ) (e : Event A) (r : Option Refusal) (rule : Rule) (by : Option ℕ) → answered p.state e r ≡ Refused rule by → None ≡ (if is_none r then Some (gone_on p turn l e) else None)
 from-refused p turn l e None rule by h = absurd cc

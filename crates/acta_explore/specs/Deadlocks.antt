@@ -1,7 +1,9 @@
 -- Seats that wait for one another.
-use Rattle.std.specs.Prelude.{◌≡◌, ℕ, ◌+◌, ◌-◌, ◌<◌, ◌≤◌, Bool, true, false, ◌&&◌, ◌==◌, List, length, get_or, if◌then◌else◌, Option, Some, None, is_none}
+use Rattle.std.specs.Prelude.{◌≡◌, ℕ, ◌+◌, ◌-◌, ◌<◌, ◌≤◌, Bool, true, false, ◌&&◌, ◌==◌, List, drop, length, get_or, if◌then◌else◌, Option, Some, None, is_none}
 use Rattle.std.specs.List.{list_any, zip}
 use Rattle.std.specs.Option.{option_map_or}
+use Rattle.acta_table.specs.declared.answer.Rule.{Rule}
+use Rattle.acta_table.specs.declared.answer.Rule.TheVariants.{BeginDep, SerialDep, BeginOnCommit, BeginOnAbort, TerminationDep}
 use Rattle.acta_table.specs.declared.event.Event.{Event}
 use Rattle.acta_table.specs.declared.event.TxnId.{TxnId}
 use Rattle.acta_table.specs.Events.{acting, started}
@@ -16,13 +18,23 @@ use Rattle.acta_explore.specs.declared.point.Done.{Done}
 use Rattle.acta_explore.specs.Points.{Point}
 use Rattle.acta_explore.specs.Programs.{Programs, lines_done, next_line, event_at}
 
+-- whether the rule bars the j of an edge only until the i begins, commits or aborts; the other rules on dependencies bar
+-- an event for good
+abbrev pub bars_until : Rule → Bool
+bars_until BeginDep = true
+bars_until SerialDep = true
+bars_until BeginOnCommit = true
+bars_until BeginOnAbort = true
+bars_until TerminationDep = true
+bars_until _ = false
+
 -- the transaction for which an event waits that is refused for this reason: one that has not begun, the holder of the
--- operation that it conflicts with, or one on which it depends by an edge, while that one may still commit or abort
+-- operation that it conflicts with, or the i of an edge that bars the j until then, while i may still commit or abort
 abbrev pub waited_for : Reason → Option TxnId
 waited_for (NotInProgress t status) = if is_new status then Some t else None
 waited_for (PartnerNotInProgress t status) = if is_new status then Some t else None
 waited_for (Conflict op) = Some op.held.holder
-waited_for (Barred b) = if may_end b.i then Some b.by.edge.i else None
+waited_for (Barred b) = if bars_until b.rule && may_end b.i then Some b.by.edge.i else None
 waited_for _ = None
 
 -- the event is refused, and waits for t
@@ -38,9 +50,8 @@ pub record AlternativeWaits {A : Type 0} (programs : Programs A) (p : Point A) (
   pub is_event : event_at programs p.steps l alternative ≡ Some event
   pub waits : EventWaits p event t
 
--- an alternative of the seat's next line waits for t
-pub record SeatWaits {A : Type 0} (programs : Programs A) (p : Point A) (seat : ℕ) (t : TxnId) : Type 0 where
-  pub line : ℕ
+-- the seat's next line is the one at this position, and an alternative of it waits for t
+pub record SeatWaits {A : Type 0} (programs : Programs A) (p : Point A) (seat line : ℕ) (t : TxnId) : Type 0 where
   pub is_next : next_line programs p.steps seat ≡ Some line
   pub alternative : ℕ
   pub waits : AlternativeWaits programs p line alternative t
@@ -58,16 +69,21 @@ moves false t e = is_txn (acting e) t
 abbrev pub is_left : {A : Type 0} → Bool → ℕ → ℕ → ProgramLine A × Option Done → Bool
 is_left new seat t (line, done) = (line.seat == seat) && (is_none done && list_any (moves new t) line.alternatives)
 
--- whether t goes on by a line of the seat that was not done
-abbrev pub has_left : {A : Type 0} → Programs A → Point A → ℕ → ℕ → Bool
-has_left programs p seat t =
-    list_any (is_left (is_new (status_in p.state t)) seat t) (zip programs (lines_done programs p.steps))
+-- whether t goes on by a line of the seat, from this position on, that was not done
+abbrev pub has_left : {A : Type 0} → Programs A → Point A → ℕ → ℕ → ℕ → Bool
+has_left programs p first seat t =
+    list_any (is_left (is_new (status_in p.state t)) seat t) (zip (drop first programs) (drop first (lines_done programs p.steps)))
+
+-- the first position of the lines of seat u for which seat s can wait at the line at position l: of its own, a later one
+abbrev pub first_for : ℕ → ℕ → ℕ → ℕ
+first_for s l u = if s == u then l + 1 else 0
 
 -- seat s waits for seat u: for a transaction that goes on by a line that u has not done
 pub record WaitsForSeat {A : Type 0} (programs : Programs A) (p : Point A) (s u : ℕ) : Type 0 where
+  pub line : ℕ
   pub txn : TxnId
-  pub waits : SeatWaits programs p s txn
-  pub left : has_left programs p u txn.0 ≡ true
+  pub waits : SeatWaits programs p s line txn
+  pub left : has_left programs p (first_for s line u) u txn.0 ≡ true
 
 -- at least two seats, each of which waits for the next; the last is the first again
 pub record IsCircle {A : Type 0} (programs : Programs A) (p : Point A) (chain : List ℕ) : Type 0 where

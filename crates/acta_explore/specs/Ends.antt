@@ -1,5 +1,5 @@
 -- All ways in which programs can end, each with its first order.
-use Rattle.std.specs.Prelude.{◌≡◌, ◌<◌, ⊤, ℕ, List, length, true, get_or, Some}
+use Rattle.std.specs.Prelude.{◌≡◌, ◌<◌, ◌++◌, ⊤, ℕ, List, length, true, get_or, Some}
 use Rattle.std.specs.List.{All, Contains}
 use Rattle.std.specs.Cmp.Lexicographic.{slice_cmp}
 use Rattle.std.specs.declared.cmp.Ordering.{Ordering}
@@ -32,13 +32,18 @@ pub record IsAmong {A : Type 0} (R : Point A → Point A → Type 0) (points : L
 abbrev pub HaveSameOutcome : {A : Type 0} → Programs A → Point A → Point A → Type 0
 HaveSameOutcome programs p q = outcome programs p ≡ outcome programs q
 
--- these are all ends, without one that is no end: each order of steps that leads to an end is accounted for, each outcome
--- is there once, with the first order of all that lead to it, and the ends are in the order of these
-pub record AreAllEnds {A : Type 0} (programs : Programs A) (m : Parts A) (ends : List (Point A)) : Type 0 where
-  pub sound : All (IsEndReached programs m) ends
-  pub complete : (turns : List Turn) (q : Point A) → played programs (start m) turns ≡ Some q → IsEnd programs q → IsAmong (HaveSameOutcome programs) ends turns q
+-- these are all ends to which programs can go on from the root, without one that is no end: each order of steps that leads
+-- from there to an end is accounted for, each outcome is there once, with the first order of all that lead to it, and the
+-- ends are in the order of these
+pub record AreAllEndsFrom {A : Type 0} (programs : Programs A) (root : Point A) (ends : List (Point A)) : Type 0 where
+  pub sound : All (IsEndReached programs root) ends
+  pub complete : (turns : List Turn) (q : Point A) → played programs root turns ≡ Some q → IsEnd programs q → IsAmong (HaveSameOutcome programs) ends (order_of root ++ turns) q
   pub distinct : (i j : ℕ) (d : Point A) → i < j → j < length ends → HaveSameOutcome programs (get_or ends i d) (get_or ends j d) → ⊥
   pub in_order : (i j : ℕ) (d : Point A) → i < j → j < length ends → order_cmp (order_of (get_or ends i d)) (order_of (get_or ends j d)) ≡ Less
+
+-- the same from the start, on a new machine on the model
+abbrev pub AreAllEnds : {A : Type 0} → Programs A → Parts A → List (Point A) → Type 0
+AreAllEnds programs m ends = AreAllEndsFrom programs (start m) ends
 
 -- what a search found: the ends, and the outcome of each, in the same order; and how many points it took
 pub record Found (A : Type 0) : Type 0 where

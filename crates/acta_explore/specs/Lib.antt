@@ -1,5 +1,6 @@
 pub mod Programs
 pub mod Points
+pub mod Histories
 pub mod Outcomes
 pub mod Equivalence
 pub mod Ends

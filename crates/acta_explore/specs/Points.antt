@@ -49,11 +49,13 @@ order_of p = map turn_of p.steps
 abbrev pub IsEnd : {A : Type 0} → Programs A → Point A → Type 0
 IsEnd programs p = (turn : Turn) → stepped programs p turn ≡ None
 
--- on this model, the point's own order leads to it from the start
-abbrev pub IsReached : {A : Type 0} → Programs A → Parts A → Point A → Type 0
-IsReached programs m p = played programs (start m) (order_of p) ≡ Some p
+-- the turns of the point's order that come after those of the root lead from the root to it
+pub record IsReached {A : Type 0} (programs : Programs A) (root p : Point A) : Type 0 where
+  pub turns : List Turn
+  pub own : order_of p ≡ order_of root ++ turns
+  pub leads : played programs root turns ≡ Some p
 
 -- the same, and it is an end
-pub record IsEndReached {A : Type 0} (programs : Programs A) (m : Parts A) (p : Point A) : Type 0 where
-  pub reached : IsReached programs m p
+pub record IsEndReached {A : Type 0} (programs : Programs A) (root p : Point A) : Type 0 where
+  pub reached : IsReached programs root p
   pub ended : IsEnd programs p

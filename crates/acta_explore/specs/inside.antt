@@ -4,5 +4,6 @@ pub mod Debts
 pub mod Keys
 pub mod Merging
 pub mod Noting
+pub mod Numbered
 pub mod Shown
 pub mod Turns

@@ -1,10 +1,10 @@
 //! Seats that wait for one another, so that none of them has a step.
 
-ghost use Rattle.std.specs.Prelude.{◌≡◌, ◌-◌, ◌≤◌, ◌==◌, false, true, length, get_or, option_map, IfOk, IfSome, OnOk};
+ghost use Rattle.std.specs.Prelude.{◌≡◌, ◌-◌, ◌≤◌, ◌==◌, false, true, drop, length, get_or, option_map, IfOk, IfSome, OnOk};
 ghost use Rattle.std.specs.List.{list_any, zip};
 ghost use Rattle.acta_deps.specs.Statuses.{is_new};
 ghost use Rattle.acta_machine.specs.Table.{status_in};
-ghost use Rattle.acta_explore.specs.Deadlocks.{waited_for, EventWaits, AlternativeWaits, SeatWaits, WaitsForSeat, is_txn, moves, is_left, IsCircle, BeginsWith};
+ghost use Rattle.acta_explore.specs.Deadlocks.{bars_until, first_for, waited_for, EventWaits, AlternativeWaits, SeatWaits, WaitsForSeat, is_txn, moves, is_left, IsCircle, BeginsWith};
 ghost use Rattle.acta_explore.specs.Programs.{lines_done};
 ghost use Rattle.acta_explore.specs.inside.Circles.{AreWaits, AreLinks, is_linked, IsChain};
 
@@ -12,16 +12,17 @@ use crate::plan::Plan;
 use crate::point::{Done, Point};
 use acta_machine::{Handle, Reason};
 use acta_script::ProgramLine;
-use acta_table::{Event, Status, TxnId};
+use acta_table::{Event, Rule, Status, TxnId};
 use std::alloc::{AllocError, Allocator};
 
 // How many seats there can be.
 const MOST_SEATS: usize = 1 + u8::MAX as usize;
 
-// A seat that waits for a transaction.
+// A seat that waits at a line for a transaction.
 #[derive(Clone, Copy)]
 struct SeatWait {
     seat: u8,
+    line: usize,
     txn: TxnId,
 }
 
@@ -39,6 +40,20 @@ struct Reached {
     from: usize,
 }
 
+// Whether the rule bars the j of an edge only until the i begins, commits or aborts.
+fn bars_until(rule: Rule) -> bool
+    ensures { result ≡ bars_until rule }
+{
+    matches!(
+        rule,
+        Rule::BeginDep
+            | Rule::SerialDep
+            | Rule::BeginOnCommit
+            | Rule::BeginOnAbort
+            | Rule::TerminationDep
+    )
+}
+
 // The transaction for which an event waits that is refused for this reason.
 fn waited_for(reason: Reason) -> Option<TxnId>
     ensures { result ≡ waited_for reason }
@@ -51,10 +66,15 @@ fn waited_for(reason: Reason) -> Option<TxnId>
             }
         }
         Reason::Conflict(op) => Some(op.held.holder),
-        Reason::Barred(barring) => match barring.i {
-            Status::NotBegun | Status::InProgress => Some(barring.by.edge.i),
-            _ => None,
-        },
+        Reason::Barred(barring) => {
+            if !bars_until(barring.rule) {
+                return None;
+            }
+            match barring.i {
+                Status::NotBegun | Status::InProgress => Some(barring.by.edge.i),
+                _ => None,
+            }
+        }
         _ => None,
     }
 }
@@ -100,17 +120,19 @@ fn is_left<A: Handle>(
     line.seat == seat && done.is_none() && some_moves(line.alternatives.as_slice(), txn, is_new)
 }
 
-// Whether the transaction goes on by a line of the seat that was not done, where this is what each line did.
+// Whether the transaction goes on by a line of the seat, from this position on, that was not done, where this is what each
+// line did.
 fn has_left<A: Handle>(
     lines: &[ProgramLine<A>],
     done: &[Option<Done>],
+    first: usize,
     seat: u8,
     txn: TxnId,
     is_new: bool,
 ) -> bool
-    ensures { result ≡ list_any (is_left is_new seat txn.0) (zip lines.now done.now) }
+    ensures { result ≡ list_any (is_left is_new seat txn.0) (zip (drop first lines.now) (drop first done.now)) }
 {
-    for line in 0..lines.len() {
+    for line in first..lines.len() {
         let Some(did) = done.get(line) else {
             return false;
         };
@@ -180,7 +202,7 @@ fn push_waits<A: Handle>(
         let Some(txn) = alternative_waits(alloc, plan, point, line, alternative)? else {
             continue;
         };
-        waits.push(SeatWait { seat, txn })?;
+        waits.push(SeatWait { seat, line, txn })?;
     }
     Ok(())
 }
@@ -202,6 +224,16 @@ fn waits<A: Handle>(
     Ok(waits)
 }
 
+// The first position of the lines of the seat for which the other can wait.
+fn first_for(wait: SeatWait, next: u8) -> Option<usize>
+    ensures { IfSome result (λ first. first ≡ first_for wait.seat wait.line next) }
+{
+    if wait.seat != next {
+        return Some(0);
+    }
+    wait.line.checked_add(1)
+}
+
 // A link to the seat, if the wait is for it. `done` is what each line did.
 fn link_to<A: Handle>(
     plan: &Plan<'_, A>,
@@ -211,11 +243,12 @@ fn link_to<A: Handle>(
     next: u8,
 ) -> Option<Link>
     requires done { done.now ≡ lines_done plan.now point.now.steps }
-    requires wait { SeatWaits plan.now point.now wait.seat wait.txn }
+    requires wait { SeatWaits plan.now point.now wait.seat wait.line wait.txn }
     ensures { IfSome result (λ link. WaitsForSeat plan.now point.now link.seat link.next) }
 {
+    let first = first_for(wait, next)?;
     let is_new = is_new(point, wait.txn);
-    if !has_left(plan.lines(), done, next, wait.txn, is_new) {
+    if !has_left(plan.lines(), done, first, next, wait.txn, is_new) {
         return None;
     }
     Some(Link {
@@ -233,7 +266,7 @@ fn push_links<A: Handle>(
     links: &mut Vec<Link, A>,
 ) -> Result<(), AllocError>
     requires done { done.now ≡ lines_done plan.now point.now.steps }
-    requires wait { SeatWaits plan.now point.now wait.seat wait.txn }
+    requires wait { SeatWaits plan.now point.now wait.seat wait.line wait.txn }
     requires links { AreLinks plan.now point.now links.old.items }
     ensures { OnOk result (AreLinks plan.now point.now links.new.items) }
 {
@@ -357,8 +390,8 @@ fn way_back<A: Handle>(alloc: A, links: &[Link], seat: u8) -> Result<Vec<u8, A>,
 
 /// A deadlock: seats from `seat` on, each of which waits for the next, where the last is `seat` again. A seat waits for
 /// another where the machine refuses an alternative of its next line until some transaction begins, commits or aborts,
-/// and the other seat still has a line by which that transaction acts or starts. Both can be the same seat. The search is
-/// for a circle of as few seats as possible. `None` where it finds none.
+/// and the other seat still has a line by which that transaction acts or starts. Both can be the same seat: it then waits
+/// for a later line of its own. The search is for a circle of as few seats as possible. `None` where it finds none.
 pub fn deadlock<A: Handle>(
     alloc: A,
     plan: &Plan<'_, A>,

@@ -18,6 +18,6 @@ pub use circle::deadlock;
 pub use debt::Debt;
 pub use outcome::{Outcome, TxnStatus, Value, Wait, debts};
 pub use plan::Plan;
-pub use point::{Done, Point, Step, Turn};
-pub use search::{ExploreError, Explored, explore};
+pub use point::{Done, Point, Step, Turn, history_lines};
+pub use search::{ExploreError, Explored, explore, explore_from};
 pub use watch::Watch;

@@ -1,13 +1,16 @@
 //! A point that programs can come to: the steps that were taken, and the machine after them.
 
-ghost use Rattle.std.specs.Prelude.{◌≡◌, ◌≤◌, length, IfOk};
+ghost use Rattle.std.specs.Prelude.{◌≡◌, ◌≤◌, length, map, IfOk};
 ghost use Rattle.acta_table.specs.declared.limits.TheConstants.{MOST_EVENTS};
+ghost use Rattle.acta_explore.specs.Histories.{after_history, history_line, history_steps};
 ghost use Rattle.acta_explore.specs.Points.{start, tried, stepped};
 ghost use Rattle.acta_explore.specs.Programs.{done_by, lines_done};
+ghost use Rattle.acta_explore.specs.inside.Numbered.{IsNumbered, IsUndone};
 
 use crate::plan::Plan;
 use acta_machine::{Handle, Machine};
-use acta_table::{Answer, Event, Model, Ret};
+use acta_script::ProgramLine;
+use acta_table::{Answer, Event, Items, Kept, Model, Ret};
 use std::alloc::AllocError;
 
 /// Whose turn it is, and which alternative of the seat's next line is tried.
@@ -59,14 +62,61 @@ pub struct Point<A: Handle> {
 }
 
 impl<A: Handle> std::marker::Model for Point<A> {
-    ghost use Rattle.std.specs.Prelude.{◌≡◌, length};
     ghost use Rattle.acta_explore.specs.Points.{Point as a_point};
+    ghost use Rattle.acta_explore.specs.inside.Numbered.{HaveOwnLines, ReturnAsKept};
 
     ghost Value = { a_point A };
 
     ghost view = { λ p. record { steps = p.steps.items; state = p.machine } };
 
-    ghost invariant = { λ p. length p.steps.items ≡ length p.machine.kept };
+    ghost invariant = { λ p. record {
+      lines : HaveOwnLines p.steps.items;
+      returns : ReturnAsKept p.steps.items p.machine.kept;
+    } };
+}
+
+// The line of seat 0 that does the event alone.
+fn history_line<A: Handle>(alloc: A, kept: &Kept<A>) -> Result<ProgramLine<A>, AllocError>
+    ensures { IfOk result (λ line. line ≡ history_line kept.now) }
+{
+    let mut events = Vec::with_capacity(alloc, 1)?;
+    events.push(kept.event.copy()?)?;
+    Ok(ProgramLine {
+        seat: 0,
+        alternatives: Items::of(events),
+    })
+}
+
+/// The events that the machine has kept as lines of programs: lines of seat 0, an event each. Programs that go on after
+/// them have them in front.
+pub fn history_lines<A: Handle>(
+    alloc: A,
+    machine: &Machine<A>,
+) -> Result<Vec<ProgramLine<A>, A>, AllocError>
+    ensures { IfOk result (λ lines. lines.items ≡ map history_line machine.now.kept) }
+{
+    let history = machine.history();
+    let mut lines = Vec::with_capacity(alloc, history.len())?;
+    for kept in history {
+        lines.push(history_line(alloc, kept)?)?;
+    }
+    Ok(lines)
+}
+
+// The steps that do the lines of a history.
+fn history_steps<A: Handle>(alloc: A, history: &[Kept<A>]) -> Result<Vec<Step, A>, AllocError>
+    ensures { IfOk result (λ steps. steps.items ≡ history_steps 0 history.now) }
+{
+    let mut steps = Vec::with_capacity(alloc, history.len())?;
+    for line in 0..history.len() {
+        steps.push(Step {
+            seat: 0,
+            line,
+            alternative: 0,
+            ret: history[line].ret,
+        })?;
+    }
+    Ok(steps)
 }
 
 impl<A: Handle> Point<A> {
@@ -74,9 +124,20 @@ impl<A: Handle> Point<A> {
     pub(crate) fn start(alloc: A, model: &Model<A>) -> Result<Point<A>, AllocError>
         ensures { IfOk result (λ point. point ≡ start model.now) }
     {
+        let machine = Machine::new(alloc, model.copy()?)?;
+        Point::after(alloc, &machine)
+    }
+
+    /// The point from which programs go on after the events that a machine has kept: the lines of `history_lines` were
+    /// done, and no others.
+    pub fn after(alloc: A, machine: &Machine<A>) -> Result<Point<A>, AllocError>
+        ensures { IfOk result (λ point. point ≡ after_history machine.now) }
+    {
+        let steps = history_steps(alloc, machine.history())?;
+        let copy = machine.copy()?;
         Ok(Point {
-            steps: Vec::new(alloc),
-            machine: Machine::new(alloc, model.copy()?)?,
+            steps,
+            machine: copy,
         })
     }
 
@@ -98,10 +159,9 @@ impl<A: Handle> Point<A> {
     pub fn copy(&self, alloc: A) -> Result<Point<A>, AllocError>
         ensures { IfOk result (λ point. point ≡ self.now) }
     {
-        Ok(Point {
-            steps: Vec::from_slice(alloc, self.steps.as_slice())?,
-            machine: self.machine.copy()?,
-        })
+        let steps = Vec::from_slice(alloc, self.steps.as_slice())?;
+        let machine = self.machine.copy()?;
+        Ok(Point { steps, machine })
     }
 
     /// Does nothing: a proof learns from the call that there are at most `MOST_EVENTS` steps.
@@ -111,7 +171,15 @@ impl<A: Handle> Point<A> {
         self.machine.history();
     }
 
-    // The point after an event of a line, if the event is admitted.
+    /// Does nothing: a proof learns from the call that each step did a line of its own, and that the machine has as many
+    /// operations as lines that did one.
+    pub(crate) fn lemma_numbered(&self)
+        ensures { IsNumbered self.now }
+    {
+        self.machine.history();
+    }
+
+    // The point after an event of a line, if the event is admitted. No step did the line.
     fn try_event(
         &self,
         alloc: A,
@@ -119,6 +187,7 @@ impl<A: Handle> Point<A> {
         line: usize,
         event: &Event<A>,
     ) -> Result<Option<Point<A>>, AllocError>
+        requires { IsUndone self.now.steps line }
         ensures { IfOk result (λ next. next ≡ tried self.now turn line event.now) }
     {
         if self.machine.why(event)?.is_some() {

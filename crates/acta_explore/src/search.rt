@@ -1,12 +1,11 @@
 //! The search through all orders of steps, one level after another: a level has the points that are as many steps from the
-//! start, in the order of their first orders.
+//! root, in the order of their first orders.
 
 ghost use Rattle.std.specs.Prelude.{◌≡◌, ◌<◌, ◌≤◌, ◌∷◌, [], length, map, not, option_map, slice_get, IfOk, IfErr, IfSome, OnOk};
 ghost use Rattle.std.specs.List.{flat_map};
-ghost use Rattle.acta_explore.specs.Ends.{AreAllEnds, HaveSameOutcome, IsOver};
+ghost use Rattle.acta_explore.specs.Ends.{AreAllEnds, AreAllEndsFrom, HaveSameOutcome, IsOver};
 ghost use Rattle.acta_explore.specs.Equivalence.{AreEquivalent};
 ghost use Rattle.acta_explore.specs.Outcomes.{outcome};
-ghost use Rattle.acta_explore.specs.Points.{start};
 ghost use Rattle.acta_explore.specs.declared.search.ExploreError.TheVariants as fault;
 ghost use Rattle.acta_explore.specs.inside.Keys.{IsKeyOf};
 ghost use Rattle.acta_explore.specs.inside.Merging.{AreAny, AreKeyed, AreOutcomes, HaveOthers, IsMerged, IsPut, points_of};
@@ -176,17 +175,17 @@ fn next_level<A: Handle, W: Watch>(
     Ok(next)
 }
 
-// The start alone.
+// The root alone.
 fn first_level<A: Handle>(
     alloc: A,
     plan: &Plan<'_, A>,
-    model: &Model<A>,
+    root: &Point<A>,
 ) -> Result<Level<A>, AllocError>
     ensures keyed { IfOk result (λ level. AreKeyed plan.now level.entries) }
-    ensures level { IfOk result (λ level. points_of level.entries ≡ start model.now ∷ []) }
+    ensures level { IfOk result (λ level. points_of level.entries ≡ root.now ∷ []) }
 {
     let mut level = IndexMap::new(alloc);
-    let point = Point::start(alloc, model)?;
+    let point = root.copy(alloc)?;
     let key = Key::of(alloc, plan, &point)?;
     level.insert(key, point)?;
     Ok(level)
@@ -257,11 +256,31 @@ pub fn explore<A: Handle, W: Watch>(
     ensures few { IfOk result (λ explored. explored.points ≤ most) }
     ensures too_many { IfErr result (λ error. IsOver most error) }
 {
+    let start = Point::start(alloc, model)?;
+    explore_from(alloc, &start, lines, most, watch)
+}
+
+/// Every way in which programs can end that go on from this point, as `explore` answers it for a new machine. `lines` has
+/// the lines that were done by then, too: see `Point::after` for the point after a machine's history. An order begins with
+/// the steps of the point.
+pub fn explore_from<A: Handle, W: Watch>(
+    alloc: A,
+    root: &Point<A>,
+    lines: &[ProgramLine<A>],
+    most: u32,
+    watch: &mut W,
+) -> Result<Explored<A>, ExploreError>
+    ensures all { IfOk result (λ explored. AreAllEndsFrom lines.now root.now explored.ends) }
+    ensures outcomes { IfOk result (λ explored. explored.outcomes ≡ map (outcome lines.now) explored.ends) }
+    ensures few { IfOk result (λ explored. explored.points ≤ most) }
+    ensures too_many { IfErr result (λ error. IsOver most error) }
+{
     if most == 0 {
         return Err(ExploreError::TooMany { points: 1, ends: 0 });
     }
+    root.lemma_numbered();
     let plan = Plan::of(alloc, lines)?;
-    let mut level = first_level(alloc, &plan, model)?;
+    let mut level = first_level(alloc, &plan, root)?;
     let mut ends = IndexMap::new(alloc);
     let mut points: u64 = 1;
     while !level.is_empty() {

@@ -9,7 +9,7 @@ use Rattle.acta_explore.specs.Programs.{Programs}
 
 -- each is so at the point
 abbrev pub AreWaits : {A : Type 0} → Programs A → Point A → List SeatWait → Type 0
-AreWaits programs p waits = All (λ w. SeatWaits programs p w.seat w.txn) waits
+AreWaits programs p waits = All (λ w. SeatWaits programs p w.seat w.line w.txn) waits
 
 abbrev pub AreLinks : {A : Type 0} → Programs A → Point A → List Link → Type 0
 AreLinks programs p links = All (λ link. WaitsForSeat programs p link.seat link.next) links

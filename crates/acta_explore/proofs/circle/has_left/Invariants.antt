@@ -5,4 +5,4 @@ use Rattle.acta_explore.proofs.circle.has_left.Given as goal
 
 -- the line is looked for among those that are left
 abbrev pub invariant-loop-line : goal.invariant-loop-line
-invariant-loop-line g l = list_any (is_left l.is_new l.seat l.txn.0) (zip l.lines l.done) ≡ list_any (is_left l.is_new l.seat l.txn.0) (zip (drop l.line l.lines) (drop l.line l.done))
+invariant-loop-line g l = list_any (is_left l.is_new l.seat l.txn.0) (zip (drop l.first l.lines) (drop l.first l.done)) ≡ list_any (is_left l.is_new l.seat l.txn.0) (zip (drop l.line l.lines) (drop l.line l.done))

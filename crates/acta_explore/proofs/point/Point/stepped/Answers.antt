@@ -1,5 +1,8 @@
-use Rattle.std.proofs.Common.{◌∙◌, sym}
+use Rattle.std.proofs.Common.{◌∙◌, sym, ap, List, Option}
 use Rattle.std.proofs.lemmas.Result.{IfOk-weaker}
+use Rattle.acta_explore.specs.declared.point.Done.{Done}
+use Rattle.acta_explore.specs.Programs.{next_from}
+use Rattle.acta_explore.proofs.Stepping.{next-new}
 use Rattle.acta_explore.proofs.Taking.{no-line, no-event, the-event}
 use Rattle.acta_explore.proofs.point.Point.stepped.Goals as goal
 
@@ -15,3 +18,8 @@ pub returns-in-None : goal.returns-in-None
 returns-in-None g c =
     no-event c.args.plan.now c.args.self.now c.args.turn c.args.done.now c.in-Some.line c.requires (sym c.next_line.ensures ∙ c.in-Some.is)
     (sym c.in_ok-event.ensures ∙ c.in-None.is)
+
+pub try_event-requires : goal.try_event-requires
+try_event-requires g c =
+    next-new c.args.plan.now c.args.self.now.steps c.args.turn.seat c.in-Some.line
+    (ap (λ (done : List (Option Done)). next_from 0 c.args.plan.now done c.args.turn.seat) (sym c.requires) ∙ (sym c.next_line.ensures ∙ c.in-Some.is))
