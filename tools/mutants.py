@@ -24,7 +24,9 @@ from functions import functions_in, homes_of, modules_of, read, without_bodies
 ROOT = os.path.dirname(os.path.dirname(os.path.abspath(__file__)))
 BODIES = "must-fail/bodies.md"
 # What is to be free, in kibibytes, before one more check begins beside rt ci.
-ROOM = 11_000_000
+ROOM = 6_000_000
+# Runs a command that gives way to what else runs, and that is the first to be killed where memory runs out.
+GIVES_WAY = ["sh", "-c", 'echo 1000 > /proc/self/oom_score_adj; exec nice -n 19 "$@"', "sh"]
 # How the last line of a check of some functions begins.
 VERDICT = r"(?m)^only=\d+ holes=\d+"
 # The proof of a function that is left open, so that its callers take it by its contract.
@@ -337,10 +339,11 @@ class Workshop:
         return said
 
     def run_check(self, folder, crate, only):
-        """Runs a check, once there is a slot and memory for it, and returns its output."""
+        """Runs a check, once there is a slot and memory for it, and returns its output. It gives way, so that rt ci gets on
+        with the crates on which others wait."""
         with self.slots:
             self.wait_for_memory()
-            return self.run(folder, f"{self.kit}/bin/rattle", *self.words(crate), *only)
+            return self.run(folder, *GIVES_WAY, f"{self.kit}/bin/rattle", *self.words(crate), *only)
 
     def try_crate(self, crate):
         """Tries the mutants of a crate, once the libraries below it are there, and returns how many there are, and how
