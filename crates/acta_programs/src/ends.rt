@@ -12,6 +12,7 @@ use acta_io::Report;
 use acta_machine::Handle;
 use acta_table::{Ret, Status};
 use std::alloc::AllocError;
+use std::fmt;
 
 // How a transaction ended, in words.
 fn status_words(status: Status) -> &'static str {
@@ -90,14 +91,15 @@ fn is_named(alternatives: usize, done: &Done) -> bool {
     alternatives > 1 || matches!(done.ret, Some(Ret::Value(_) | Ret::Flag(_)))
 }
 
-// Adds which alternatives were taken, and what operations returned.
+// Adds which alternatives were taken, and what operations returned, except by the first `past` lines.
 fn put_lines<A: Handle>(
     mut prose: Prose<A>,
     programs: &Programs<'_, A>,
     lines: &[Option<Done>],
+    past: usize,
 ) -> Prose<A> {
     let mut is_first = true;
-    for (line, done) in lines.iter().enumerate() {
+    for (line, done) in lines.iter().enumerate().skip(past) {
         let Some(done) = done else {
             continue;
         };
@@ -155,12 +157,13 @@ fn put_open<A: Handle>(
     put_debts(prose, &run, outcome.debts.as_slice())
 }
 
-/// Adds the end at this place, from 0.
-pub fn put_end<A: Handle>(
+// Adds the end at this place, from 0, without the first `past` lines and steps: these were done before.
+fn put_end_after<A: Handle>(
     prose: Prose<A>,
     programs: &Programs<'_, A>,
     explored: &Explored<A>,
     place: usize,
+    past: usize,
 ) -> Prose<A> {
     let Some(outcome) = explored.outcome(place) else {
         return prose;
@@ -172,19 +175,67 @@ pub fn put_end<A: Handle>(
     let prose = put_statuses(prose, outcome.statuses.as_slice());
     let prose = put_values(prose, programs, outcome.values.as_slice());
     let prose = put_open(prose, programs, outcome, point);
-    let prose = put_lines(prose, programs, outcome.lines.as_slice());
-    programs
-        .put_order(prose.put("  order:"), point.steps())
-        .put("\n")
+    let prose = put_lines(prose, programs, outcome.lines.as_slice(), past);
+    let steps = point.steps().get(past..).unwrap_or(&[]);
+    programs.put_order(prose.put("  order:"), steps).put("\n")
+}
+
+/// Adds the end at this place, from 0.
+pub fn put_end<A: Handle>(
+    prose: Prose<A>,
+    programs: &Programs<'_, A>,
+    explored: &Explored<A>,
+    place: usize,
+) -> Prose<A> {
+    put_end_after(prose, programs, explored, place, 0)
+}
+
+/// Adds the ends at these places, each without the first `past` lines and steps: these were done before.
+pub(crate) fn put_ends<A: Handle>(
+    mut prose: Prose<A>,
+    programs: &Programs<'_, A>,
+    explored: &Explored<A>,
+    places: &[usize],
+    past: usize,
+) -> Prose<A> {
+    for place in places {
+        prose = put_end_after(prose, programs, explored, *place, past);
+    }
+    prose
+}
+
+/// How many ends there are, in words.
+#[derive(Clone, Copy)]
+pub(crate) struct EndCount(pub(crate) usize);
+
+impl fmt::Display for EndCount {
+    ghost use Rattle.std.specs.Prelude.{Some};
+    ghost use Rattle.acta_programs.specs.From.{ends_line};
+
+    ghost output = { λ count. Some (ends_line count.0) };
+
+    fn fmt<W: fmt::Write>(&self, f: &mut fmt::Formatter<W>) -> fmt::Result {
+        match self.0 {
+            0 => f.write_str("no end"),
+            1 => f.write_str("1 end"),
+            count => write!(f, "{count} ends"),
+        }
+    }
 }
 
 /// Adds how many ends there are.
 pub fn put_count<A: Handle>(prose: Prose<A>, count: usize) -> Prose<A> {
-    match count {
-        0 => prose.put("no end"),
-        1 => prose.put("1 end"),
-        _ => put!(prose; count, " ends"),
-    }
+    prose.put(EndCount(count))
+}
+
+/// Adds how many of the ends at these places are of each kind, and how many points were searched.
+pub(crate) fn put_kinds<A: Handle>(
+    prose: Prose<A>,
+    explored: &Explored<A>,
+    places: &[usize],
+) -> Prose<A> {
+    let prose = put!(prose; ", every order tried (", explored.points(), " points): ");
+    Totals::of(explored, places).put(prose)
 }
 
 // Adds how many ends there are: of each kind, or of all those for which the condition holds.
@@ -197,9 +248,7 @@ fn put_head<A: Handle>(
 ) -> Prose<A> {
     let prose = put_count(prose, places.len());
     if condition.terms.is_empty() {
-        let totals = Totals::of(explored, places);
-        let prose = put!(prose; ", every order tried (", explored.points(), " points): ");
-        return totals.put(prose);
+        return put_kinds(prose, explored, places);
     }
     let prose = programs.put_condition(prose.put(": "), condition);
     put_count(prose.put(" (of "), explored.len()).put(", every order tried)")
@@ -222,10 +271,7 @@ pub(crate) fn explain_ends<A: Handle>(
         explored,
         places.as_slice(),
     );
-    let mut prose = prose.put("\n");
-    for place in places.as_slice() {
-        prose = put_end(prose, programs, explored, *place);
-    }
+    let prose = put_ends(prose.put("\n"), programs, explored, places.as_slice(), 0);
     Ok(Report {
         text: prose.done()?.into_bytes(),
         is_refused: false,

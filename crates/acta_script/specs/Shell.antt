@@ -36,7 +36,7 @@ use Rattle.acta_script.specs.Words.{can_word, shell_word}
 abbrev pub shell_kinds : List ShellKind
 shell_kinds =
     kind.Undo ∷ kind.Redo ∷ kind.Goto ∷ kind.State ∷ kind.Status ∷ kind.Value ∷ kind.Held ∷ kind.Conflicts ∷ kind.Edges
-    ∷ kind.Permits ∷ kind.Owed ∷ kind.History ∷ kind.Events ∷ kind.Draw ∷ kind.Why ∷ kind.Next ∷ kind.Help ∷ kind.Quit ∷ []
+    ∷ kind.Permits ∷ kind.Owed ∷ kind.History ∷ kind.Events ∷ kind.Draw ∷ kind.Why ∷ kind.Next ∷ kind.Explore ∷ kind.Help ∷ kind.Quit ∷ []
 
 -- the kind of command that has this word
 abbrev pub shell_kind_of : List ℕ → Option ShellKind
@@ -132,6 +132,7 @@ shell_command_of m kind.Events words = alone_said kind.Events command.Events wor
 shell_command_of m kind.Draw words = alone_said kind.Draw command.Draw words
 shell_command_of m kind.Why words = map_said (λ n. command.Why n) (maybe_count_said kind.Why words)
 shell_command_of m kind.Next words = map_said (λ t. command.Next t) (maybe_txn_said kind.Next words)
+shell_command_of m kind.Explore words = alone_said kind.Explore command.Explore words
 shell_command_of m kind.Help words = map_said (λ topic. command.Help topic) (maybe_topic_said kind.Help words)
 shell_command_of m kind.Quit words = alone_said kind.Quit command.Quit words
 

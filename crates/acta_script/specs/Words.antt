@@ -1,4 +1,5 @@
--- The words of events, operations, returns, commands to a debugger and commands of a session, and the forms of their lines.
+-- The words of events, operations, returns, commands to a debugger and commands of a session, the forms of their lines,
+-- and the names of a line's faults.
 use Rattle.std.specs.Prelude.{ℕ, Bool, true, false, List, codes}
 use Rattle.acta_table.specs.declared.event.EventKind.{EventKind}
 use Rattle.acta_table.specs.declared.event.EventKind.TheVariants.{Begin, Spawn, Split, Join, Delegate, Form, Operate, Commit, Abort, Permit}
@@ -6,6 +7,8 @@ use Rattle.acta_script.specs.declared.command_words.BreakKind.{BreakKind}
 use Rattle.acta_script.specs.declared.command_words.BreakKind.TheVariants as break_kind
 use Rattle.acta_script.specs.declared.command_words.CommandKind.{CommandKind}
 use Rattle.acta_script.specs.declared.command_words.CommandKind.TheVariants as command_kind
+use Rattle.acta_script.specs.declared.fault.LineFault.{LineFault}
+use Rattle.acta_script.specs.declared.fault.LineFault.TheVariants as fault
 use Rattle.acta_script.specs.declared.op_kind.OpKind.{OpKind}
 use Rattle.acta_script.specs.declared.op_kind.OpKind.TheVariants as op_kind
 use Rattle.acta_script.specs.declared.shell_words.ShellKind.{ShellKind}
@@ -136,6 +139,7 @@ shell_word shell_kind.Events = codes "events"
 shell_word shell_kind.Draw = codes "draw"
 shell_word shell_kind.Why = codes "why"
 shell_word shell_kind.Next = codes "next"
+shell_word shell_kind.Explore = codes "explore"
 shell_word shell_kind.Help = codes "help"
 shell_word shell_kind.Quit = codes "quit"
 
@@ -157,9 +161,18 @@ shell_form shell_kind.Events = codes "events"
 shell_form shell_kind.Draw = codes "draw"
 shell_form shell_kind.Why = codes "why [N]"
 shell_form shell_kind.Next = codes "next [T]"
+shell_form shell_kind.Explore = codes "explore"
 shell_form shell_kind.Help = codes "help [COMMAND]"
 shell_form shell_kind.Quit = codes "quit"
 
 -- the word before an event that is asked about
 abbrev pub can_word : List ℕ
 can_word = codes "can"
+
+-- the name of what is wrong with a line
+abbrev pub fault_name : LineFault → List ℕ
+fault_name fault.Empty = codes "Empty"
+fault_name fault.Word = codes "Word"
+fault_name fault.Arity = codes "Arity"
+fault_name fault.Number = codes "Number"
+fault_name fault.Name = codes "Name"

@@ -1,12 +1,17 @@
 //! The faults of lines in words: what each is called, and what it says in a sentence.
 
+ghost use Rattle.std.specs.Prelude.{◌≡◌};
+ghost use Rattle.acta_script.specs.Words.{fault_name};
+
 use crate::fault::LineFault;
 use std::error::Error;
 use std::fmt;
 
 impl LineFault {
     /// The name of the fault.
-    pub fn name(self) -> &'static str {
+    pub fn name(self) -> &'static str
+        ensures { result.now ≡ fault_name self }
+    {
         match self {
             LineFault::Empty => "Empty",
             LineFault::Word => "Word",

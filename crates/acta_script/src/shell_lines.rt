@@ -62,6 +62,8 @@ pub enum ShellCommand {
     Why(Option<u32>),
     /// Which events would be admitted, or which of the transaction.
     Next(Option<TxnId>),
+    /// How programs can end from here, whose lines follow.
+    Explore,
     /// The commands, or one topic.
     Help(Option<Topic>),
     /// The end of the session.
@@ -280,6 +282,7 @@ fn shell_command_of<A: Allocator>(
         ShellKind::Draw => alone_said(kind, ShellCommand::Draw, words)?,
         ShellKind::Why => ShellCommand::Why(maybe_count_said(kind, words)?),
         ShellKind::Next => ShellCommand::Next(maybe_txn_said(kind, words)?),
+        ShellKind::Explore => alone_said(kind, ShellCommand::Explore, words)?,
         ShellKind::Help => ShellCommand::Help(maybe_topic_said(kind, words)?),
         ShellKind::Quit => alone_said(kind, ShellCommand::Quit, words)?,
     })

@@ -39,6 +39,8 @@ pub enum ShellKind {
     Why,
     /// Which events would be admitted.
     Next,
+    /// How programs can end from here.
+    Explore,
     /// The commands, or one of them.
     Help,
     /// The end of the session.
@@ -47,7 +49,7 @@ pub enum ShellKind {
 
 impl ShellKind {
     /// All of them.
-    pub const ALL: [ShellKind; 18] = [
+    pub const ALL: [ShellKind; 19] = [
         ShellKind::Undo,
         ShellKind::Redo,
         ShellKind::Goto,
@@ -64,6 +66,7 @@ impl ShellKind {
         ShellKind::Draw,
         ShellKind::Why,
         ShellKind::Next,
+        ShellKind::Explore,
         ShellKind::Help,
         ShellKind::Quit,
     ];
@@ -89,6 +92,7 @@ impl ShellKind {
             ShellKind::Draw => "draw",
             ShellKind::Why => "why",
             ShellKind::Next => "next",
+            ShellKind::Explore => "explore",
             ShellKind::Help => "help",
             ShellKind::Quit => "quit",
         }
@@ -116,6 +120,7 @@ impl ShellKind {
             ShellKind::Draw => "draw",
             ShellKind::Why => "why [N]",
             ShellKind::Next => "next [T]",
+            ShellKind::Explore => "explore",
             ShellKind::Help => "help [COMMAND]",
             ShellKind::Quit => "quit",
         }

@@ -1,9 +1,9 @@
 //! A session at a console, from its first line to its end.
 
-ghost use Rattle.std.specs.Prelude.{◌≡◌, ◌≢◌, ℕ, List, [], ◌∷◌, if◌then◌else◌, false, true, Err, IfOk, IfErr, OnOk};
+ghost use Rattle.std.specs.Prelude.{◌≡◌, ◌≢◌, ◌++◌, ℕ, List, [], ◌∷◌, if◌then◌else◌, false, true, Err, IfOk, IfErr, OnOk};
 ghost use Rattle.acta_io.specs.declared.outcome.Outcome.TheVariants.{Done, Unread};
-ghost use Rattle.acta_session.specs.Dialogues.{Act, Shown, HasBegun, IsDialogue, IsShownFor, at_start, cut, last_line};
-ghost use Rattle.acta_session.specs.Replies.{after_line, quits};
+ghost use Rattle.acta_session.specs.Dialogues.{Act, Shown, HasBegun, IsDialogue, IsShownFor, at_start, cut, ending, last_lines};
+ghost use Rattle.acta_session.specs.Shells.{after_line, quits};
 ghost use Rattle.acta_session.specs.inside.Talks.{HasTalked, at_front};
 
 use crate::console::Console;
@@ -11,30 +11,45 @@ use crate::shell::{Reply, Shell};
 use crate::words::Words;
 use acta_io::{Outcome, ReadFault};
 use acta_machine::{Handle, Machine};
+use acta_script::ProgramLine;
 use acta_table::{Event, Model};
+use std::alloc::{AllocError, Allocator};
 
 // The most reads of a session.
 const MOST_READS: u32 = u32::MAX;
 
-// Shows the reply to a line, and then the prompt, unless the line ends the session. Answers whether it does.
-fn answer<A: Handle, W: Words<Event<A>, Machine<A>, Model<A>, Vec<u8, A>>, C: Console>(
-    console: &mut C,
-    shell: &mut Shell<A, W>,
+// A reply, and then the prompt, unless the session is over.
+fn with_prompt<A: Allocator>(
+    mut text: Vec<u8, A>,
     prompt: &[u8],
-    line: &[u8],
-) -> Result<bool, Outcome>
-    ensures shown { IfOk result (λ over. (bytes : List _) × IsShownFor prompt.now shell.old line.now bytes × C.since console.old (Shown bytes ∷ []) console.new) }
+    is_over: bool,
+) -> Result<Vec<u8, A>, AllocError>
+    ensures { IfOk result (λ shown. shown.items ≡ text.items ++ (if is_over then [] else prompt.now)) }
+{
+    if !is_over {
+        text.extend_from_slice(prompt)?;
+    }
+    Ok(text)
+}
+
+// Shows the reply to a line, and then the prompt, unless the line ends the session. Answers whether it does.
+fn answer<
+    A: Handle,
+    W: Words<Event<A>, Machine<A>, Model<A>, ProgramLine<A>, Vec<u8, A>>,
+    C: Console,
+>(console: &mut C, shell: &mut Shell<A, W>, prompt: &[u8], line: &[u8]) -> Result<bool, Outcome>
+    ensures shown { IfOk result (λ over. (bytes : List _) × IsShownFor W.says W.says_ends prompt.now shell.old line.now bytes × C.since console.old (Shown bytes ∷ []) console.new) }
     ensures session { OnOk result (shell.new ≡ after_line shell.old line.now) }
     ensures over { IfOk result (λ over. over ≡ quits shell.old line.now) }
     ensures failed { IfErr result (λ outcome. outcome ≢ Done) }
     ensures silent { result ≡ Err (Unread ReadFault.Memory) → console.new ≡ console.old }
 {
-    let Ok(Reply { mut text, is_over }) = shell.respond(line) else {
+    let Ok(Reply { text, is_over }) = shell.respond(line) else {
         return Err(Outcome::Unread(ReadFault::Memory));
     };
-    if !is_over && text.extend_from_slice(prompt).is_err() {
+    let Ok(text) = with_prompt(text, prompt, is_over) else {
         return Err(Outcome::Unread(ReadFault::Memory));
-    }
+    };
     match console.show(text.as_slice()) {
         Ok(()) => Ok(is_over),
         Err(_) => Err(Outcome::Unwritten),
@@ -42,14 +57,18 @@ fn answer<A: Handle, W: Words<Event<A>, Machine<A>, Model<A>, Vec<u8, A>>, C: Co
 }
 
 // Takes a byte: the end of a line, which is answered, or one byte more of it. Answers whether the line ends the session.
-fn take_byte<A: Handle, W: Words<Event<A>, Machine<A>, Model<A>, Vec<u8, A>>, C: Console>(
+fn take_byte<
+    A: Handle,
+    W: Words<Event<A>, Machine<A>, Model<A>, ProgramLine<A>, Vec<u8, A>>,
+    C: Console,
+>(
     console: &mut C,
     shell: &mut Shell<A, W>,
     prompt: &[u8],
     front: &mut Vec<u8, A>,
     byte: u8,
 ) -> Result<bool, Outcome>
-    ensures talked { IfOk result (λ over. (rest : List ℕ) → HasTalked prompt.now (C.since console.old) console.new (at_front shell.old (cut front.old.items (byte ∷ rest))) shell.new (if over then [] else (cut front.new.items rest).lines) (cut front.old.items (byte ∷ rest)).front over) }
+    ensures talked { IfOk result (λ over. (rest : List ℕ) → HasTalked (IsShownFor W.says W.says_ends prompt.now) (C.since console.old) console.new (at_front shell.old (cut front.old.items (byte ∷ rest))) shell.new (if over then [] else (cut front.new.items rest).lines) (cut front.old.items (byte ∷ rest)).front over) }
     ensures front { IfOk result (λ over. over ≡ false → (rest : List ℕ) → (cut front.old.items (byte ∷ rest)).front ≡ (cut front.new.items rest).front) }
     ensures failed { IfErr result (λ outcome. outcome ≢ Done) }
     ensures silent { result ≡ Err (Unread ReadFault.Memory) → console.new ≡ console.old }
@@ -67,17 +86,21 @@ fn take_byte<A: Handle, W: Words<Event<A>, Machine<A>, Model<A>, Vec<u8, A>>, C:
 
 // Answers the lines that the bytes end, after the front of the first of them. Answers whether one of them ends the session;
 // no line behind it is answered.
-fn answer_lines<A: Handle, W: Words<Event<A>, Machine<A>, Model<A>, Vec<u8, A>>, C: Console>(
+fn answer_lines<
+    A: Handle,
+    W: Words<Event<A>, Machine<A>, Model<A>, ProgramLine<A>, Vec<u8, A>>,
+    C: Console,
+>(
     console: &mut C,
     shell: &mut Shell<A, W>,
     prompt: &[u8],
     front: &mut Vec<u8, A>,
     bytes: &[u8],
 ) -> Result<bool, Outcome>
-    ensures talked { IfOk result (λ over. HasTalked prompt.now (C.since console.old) console.new (at_front shell.old (cut front.old.items bytes.now)) shell.new [] (cut front.old.items bytes.now).front over) }
+    ensures talked { IfOk result (λ over. HasTalked (IsShownFor W.says W.says_ends prompt.now) (C.since console.old) console.new (at_front shell.old (cut front.old.items bytes.now)) shell.new [] (cut front.old.items bytes.now).front over) }
     ensures front { IfOk result (λ over. over ≡ false → front.new.items ≡ (cut front.old.items bytes.now).front) }
     ensures failed { IfErr result (λ outcome. outcome ≢ Done) }
-    ensures partly { result ≡ Err (Unread ReadFault.Memory) → HasBegun prompt.now (C.since console.old) console.new (at_front shell.old (cut front.old.items bytes.now)) }
+    ensures partly { result ≡ Err (Unread ReadFault.Memory) → HasBegun (IsShownFor W.says W.says_ends prompt.now) (C.since console.old) console.new (at_front shell.old (cut front.old.items bytes.now)) }
 {
     for byte in bytes {
         let is_over = take_byte(console, shell, prompt, front, *byte)?;
@@ -92,14 +115,13 @@ fn answer_lines<A: Handle, W: Words<Event<A>, Machine<A>, Model<A>, Vec<u8, A>>,
 /// It reads on only where every line that was read has been answered, and the answers were written and flushed. `Done` at the end.
 /// `Unread(Device)` if a read fails, `Unread(Memory)` if memory runs out, `Unwritten` if a reply cannot be shown, and
 /// `Unread(TooMuch)` after 4,294,967,295 reads. If memory runs out, what was shown until then are the replies to the first lines.
-pub fn converse<A: Handle, W: Words<Event<A>, Machine<A>, Model<A>, Vec<u8, A>>, C: Console>(
-    alloc: A,
-    console: &mut C,
-    shell: &mut Shell<A, W>,
-    prompt: &[u8],
-) -> Outcome
-    ensures done { result ≡ Done → (acts : List Act) × C.since console.old acts console.new × IsDialogue prompt.now shell.old acts shell.new }
-    ensures partly { result ≡ Unread ReadFault.Memory → HasBegun prompt.now (C.since console.old) console.new (at_start shell.old) }
+pub fn converse<
+    A: Handle,
+    W: Words<Event<A>, Machine<A>, Model<A>, ProgramLine<A>, Vec<u8, A>>,
+    C: Console,
+>(alloc: A, console: &mut C, shell: &mut Shell<A, W>, prompt: &[u8]) -> Outcome
+    ensures done { result ≡ Done → (acts : List Act) × C.since console.old acts console.new × IsDialogue (IsShownFor W.says W.says_ends prompt.now) shell.old acts shell.new }
+    ensures partly { result ≡ Unread ReadFault.Memory → HasBegun (IsShownFor W.says W.says_ends prompt.now) (C.since console.old) console.new (at_start shell.old) }
 {
     let mut front = Vec::new(alloc);
     let mut chunk = [0u8; 4096];
@@ -120,21 +142,39 @@ pub fn converse<A: Handle, W: Words<Event<A>, Machine<A>, Model<A>, Vec<u8, A>>,
     Outcome::Unread(ReadFault::TooMuch)
 }
 
-// Answers the last line, which has no line feed, if it has a byte.
-fn answer_last<A: Handle, W: Words<Event<A>, Machine<A>, Model<A>, Vec<u8, A>>, C: Console>(
-    console: &mut C,
-    shell: &mut Shell<A, W>,
-    prompt: &[u8],
-    line: &[u8],
-) -> Outcome
-    ensures done { result ≡ Done → HasTalked prompt.now (C.since console.old) console.new (record { session = shell.old; due = last_line line.now; front = []; is_over = true }) shell.new [] [] true }
+// Answers the end of the input, if lines of programs are read: it ends them as an empty line does.
+fn answer_end<
+    A: Handle,
+    W: Words<Event<A>, Machine<A>, Model<A>, ProgramLine<A>, Vec<u8, A>>,
+    C: Console,
+>(console: &mut C, shell: &mut Shell<A, W>, prompt: &[u8]) -> Outcome
+    ensures done { result ≡ Done → HasTalked (IsShownFor W.says W.says_ends prompt.now) (C.since console.old) console.new (record { session = shell.old; due = ending shell.old; front = []; is_over = true }) shell.new [] [] true }
     ensures silent { result ≡ Unread ReadFault.Memory → console.new ≡ console.old }
 {
-    if line.is_empty() {
+    if !shell.is_exploring() {
         return Outcome::Done;
     }
-    match answer(console, shell, prompt, line) {
+    match answer(console, shell, prompt, b"") {
         Ok(_) => Outcome::Done,
+        Err(outcome) => outcome,
+    }
+}
+
+// Answers the last line, which has no line feed, if it has a byte, and then the end of the input.
+fn answer_last<
+    A: Handle,
+    W: Words<Event<A>, Machine<A>, Model<A>, ProgramLine<A>, Vec<u8, A>>,
+    C: Console,
+>(console: &mut C, shell: &mut Shell<A, W>, prompt: &[u8], line: &[u8]) -> Outcome
+    ensures done { result ≡ Done → HasTalked (IsShownFor W.says W.says_ends prompt.now) (C.since console.old) console.new (record { session = shell.old; due = last_lines shell.old line.now; front = []; is_over = true }) shell.new [] [] true }
+    ensures partly { result ≡ Unread ReadFault.Memory → HasBegun (IsShownFor W.says W.says_ends prompt.now) (C.since console.old) console.new (record { session = shell.old; due = last_lines shell.old line.now; front = []; is_over = true }) }
+{
+    if line.is_empty() {
+        return answer_end(console, shell, prompt);
+    }
+    match answer(console, shell, prompt, line) {
+        Ok(true) => Outcome::Done,
+        Ok(false) => answer_end(console, shell, prompt),
         Err(outcome) => outcome,
     }
 }

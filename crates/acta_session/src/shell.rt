@@ -1,31 +1,38 @@
 //! A session, line by line.
 
-ghost use Rattle.std.specs.Prelude.{◌≡◌, ◌≤◌, ◌∷◌, ℕ, List, [], false, true, Ok, Some, None, if◌then◌else◌, length, IfOk, IfSome, OnOk};
-ghost use Rattle.std.specs.Io.{StartsWith};
+ghost use Rattle.std.specs.Prelude.{◌≡◌, ◌≤◌, ◌≢◌, ◌++◌, ◌∷◌, ℕ, List, [], false, true, Ok, Some, None, if◌then◌else◌, length, IfOk, IfSome, OnOk};
 ghost use Rattle.acta_script.specs.Answers.{answer_line};
 ghost use Rattle.acta_script.specs.Laws.{IsInModel};
-ghost use Rattle.acta_script.specs.Shell.{IsShellInModel};
-ghost use Rattle.acta_words.specs.Text.{text_of};
+ghost use Rattle.acta_script.specs.Shell.{IsShellInModel, shell_line_of};
+ghost use Rattle.acta_script.specs.Words.{fault_name};
+ghost use Rattle.acta_table.specs.Numbered.{item_at};
+ghost use Rattle.acta_words.specs.Text.{text_of, words_of};
 ghost use Rattle.acta_script.specs.declared.shell_lines.ShellCommand.TheVariants as shell_command;
 ghost use Rattle.acta_machine.specs.Table.{answer_to};
 ghost use Rattle.acta_debug.specs.Moves.{taken};
-ghost use Rattle.acta_debug.specs.Sessions.{moved_to, opened};
+ghost use Rattle.acta_debug.specs.Sessions.{moved_to};
 ghost use Rattle.acta_trace.specs.States.{ArePermitLines};
-ghost use Rattle.acta_session.specs.Replies.{IsReply, Says, SaysOf, after_line, after_said, can_move, lines_for, moved, place_after, place_line, quits, quits_by, state_of};
+ghost use Rattle.acta_session.specs.Remarks.{AreRemarked, IsRemarked};
+ghost use Rattle.acta_session.specs.Replies.{IsReply, Says, SaysFault, SaysOf, SaysTyped, SaysWhy, after_answer, after_name, lines_for, move_line, no_move_line, refusal_number};
+ghost use Rattle.acta_session.specs.Shells.{after_command, after_event, after_line, after_said, after_typed, begun, can_move, moved, place_after, quits, quits_by, refusal_by, state_of, typed_of};
 
+use crate::moves::{explore_text, left_text, place_text, places_text, refused_text};
+use crate::remarks::{Remark, push_bars, remarked};
+use crate::typed::{Typed, typed_of};
 use crate::words::{Before, Words};
 use acta_debug::Debugger;
 use acta_machine::{Handle, Machine};
 use acta_script::{
-    Diagnostic, ShellCommand, ShellFault, ShellLine, answer_line, read_shell_line, write_event,
+    Diagnostic, LineFault, ProgramLine, ShellCommand, ShellFault, ShellLine, answer_line,
+    read_shell_line, write_event,
 };
 use acta_table::{Answer, Event, Model, Refusal};
 use acta_trace::{
     push_conflicts_line, push_debt_lines, push_edge_lines, push_event_lines, push_held_line,
     push_kept_lines, push_permit_lines, push_state_lines, push_status_line, push_value_line,
 };
-use acta_words::{has_words, push_line, push_natural};
-use std::alloc::AllocError;
+use acta_words::{has_words, push_line};
+use std::alloc::{AllocError, Allocator};
 
 /// The reply to a line.
 #[derive(Drop)]
@@ -37,30 +44,26 @@ pub struct Reply<A: Handle> {
 }
 
 /// A session: the events that were admitted so far, with those that were taken back and can be done again, and the machine
-/// after them. Contracts see these as a debugger's: a model, a history, and a place in it.
+/// after them; the answers to the events that were refused; and the lines of programs that were read since `explore`.
+/// Contracts see all but the words.
 #[derive(Drop)]
-pub struct Shell<A: Handle, W: Words<Event<A>, Machine<A>, Model<A>, Vec<u8, A>>> {
+pub struct Shell<A: Handle, W: Drop> {
     alloc: A,
     debugger: Debugger<A>,
+    refusals: Vec<Answer, A>,
+    is_exploring: bool,
+    programs: Vec<ProgramLine<A>, A>,
+    // The lines of the programs, as they were typed.
+    typed: Vec<u8, A>,
     words: W,
 }
 
-impl<A: Handle, W: Words<Event<A>, Machine<A>, Model<A>, Vec<u8, A>>> std::marker::Model
-    for Shell<A, W> {
-    ghost use Rattle.acta_debug.specs.Sessions.{Session};
+impl<A: Handle, W: Drop> std::marker::Model for Shell<A, W> {
+    ghost use Rattle.acta_session.specs.Shells.{ShellState};
 
-    ghost Value = { Session A };
+    ghost Value = { ShellState A };
 
-    ghost view = { λ s. s.debugger };
-}
-
-// A text that begins with the line of the answer.
-fn answer_text<A: Handle>(alloc: A, answer: &Answer, rest: &[u8]) -> Result<Vec<u8, A>, AllocError>
-    ensures { IfOk result (λ text. StartsWith text.items (answer_line answer.now)) }
-{
-    let mut text = answer_line(alloc, answer)?;
-    text.extend_from_slice(rest)?;
-    Ok(text)
+    ghost view = { λ s. record { session = s.debugger; refusals = s.refusals.items; is_exploring = s.is_exploring; programs = s.programs.items } };
 }
 
 // What the machine would answer to an event. A copy takes it only if nothing refuses it.
@@ -87,26 +90,74 @@ fn answer_of_copy<A: Handle>(machine: &Machine<A>, event: &Event<A>) -> Result<A
     answer
 }
 
-// The line that says the place.
-fn place_text<A: Handle>(alloc: A, place: u32) -> Result<Vec<u8, A>, AllocError>
-    ensures { IfOk result (λ text. text.items ≡ text_of (place_line place ∷ [])) }
+// The answer with a remark.
+fn answer_text<A: Handle>(
+    alloc: A,
+    answer: &Answer,
+    remark: Remark<Vec<u8, A>>,
+) -> Result<Vec<u8, A>, AllocError>
+    ensures { IfOk result (λ text. IsRemarked (answer_line answer.now) after_answer text.items) }
 {
-    let mut text = Vec::new(alloc);
-    text.extend_from_slice(b"at")?;
-    push_natural(&mut text, u64::from(place))?;
-    push_line(&mut text, b"")?;
-    Ok(text)
+    let line = answer_line(alloc, answer)?;
+    remarked(line, b"    ", remark)
 }
 
-impl<A: Handle, W: Words<Event<A>, Machine<A>, Model<A>, Vec<u8, A>>> Shell<A, W> {
+// The name of a fault with a remark.
+fn fault_text<A: Handle>(
+    alloc: A,
+    fault: LineFault,
+    remark: Remark<Vec<u8, A>>,
+) -> Result<Vec<u8, A>, AllocError>
+    ensures { IfOk result (λ text. IsRemarked (fault_name fault) after_name text.items) }
+{
+    let line = Vec::from_slice(alloc, fault.name().as_bytes())?;
+    remarked(line, b", ", remark)
+}
+
+// A reply by which the session goes on.
+fn going_on<A: Handle>(text: Vec<u8, A>) -> Reply<A>
+    ensures text { result.text ≡ text }
+    ensures over { result.is_over ≡ false }
+{
+    Reply {
+        text,
+        is_over: false,
+    }
+}
+
+// The number of the refusal that is asked about.
+fn refusal_number(refusals: &[Answer], number: Option<u32>) -> usize
+    ensures { result ≡ refusal_number refusals.now number }
+{
+    match number {
+        Some(number) => number as usize,
+        None => refusals.len(),
+    }
+}
+
+// The answer to the refused event of this number, from 1, if there is one.
+fn refusal_at(refusals: &[Answer], number: usize) -> Option<Answer>
+    ensures { result ≡ item_at refusals.now number }
+{
+    if number == 0 {
+        return None;
+    }
+    refusals.get(number - 1).copied()
+}
+
+impl<A: Handle, W: Words<Event<A>, Machine<A>, Model<A>, ProgramLine<A>, Vec<u8, A>>> Shell<A, W> {
     /// A session on the model, before any event, whose replies have these words.
     pub fn new(alloc: A, model: Model<A>, words: W) -> Result<Shell<A, W>, AllocError>
-        ensures { IfOk result (λ shell. shell ≡ opened model []) }
+        ensures { IfOk result (λ shell. shell ≡ begun model) }
     {
         match Debugger::new(alloc, model, Vec::new(alloc)) {
             Ok(debugger) => Ok(Shell {
                 alloc,
                 debugger,
+                refusals: Vec::new(alloc),
+                is_exploring: false,
+                programs: Vec::new(alloc),
+                typed: Vec::new(alloc),
                 words,
             }),
             Err(_) => {
@@ -116,22 +167,43 @@ impl<A: Handle, W: Words<Event<A>, Machine<A>, Model<A>, Vec<u8, A>>> Shell<A, W
         }
     }
 
+    /// Whether lines of programs are read, since `explore`.
+    pub fn is_exploring(&self) -> bool
+        ensures { result ≡ self.now.is_exploring }
+    {
+        self.is_exploring
+    }
+
     // The machine after the events so far.
     fn machine(&self) -> &Machine<A>
-        ensures state { result.now ≡ state_of self.now }
-        ensures model { result.now.model ≡ self.now.model }
+        ensures state { result.now ≡ state_of self.now.session }
+        ensures model { result.now.model ≡ self.now.session.model }
     {
         self.debugger.machine()
     }
 
     /// Answers a line. An event is taken, and its answer is the machine's; `can` and an event is answered as the event would be,
-    /// and changes nothing; `undo`, `redo` and `goto` move to another place, if there is one; other commands and faulty lines
-    /// change nothing, and a line without a word has no reply. `Err` comes if memory runs out: the session is then at an end.
-    #[tactic(auto, unfolding(crate::specs::Replies::after_line, crate::specs::Replies::quits, crate::specs::Replies::IsReply))]
+    /// and changes nothing; `undo`, `redo` and `goto` move to another place, if there is one; after `explore` lines of programs
+    /// are read, up to an empty line, which is answered by how the programs can end; other commands and faulty lines change
+    /// nothing, and a line without a word has no reply. `Err` comes if memory runs out: the session is then at an end.
+    #[tactic(auto, unfolding(crate::specs::Shells::after_line, crate::specs::Shells::quits, crate::specs::Replies::IsReply))]
     pub fn respond(&mut self, line: &[u8]) -> Result<Reply<A>, AllocError>
         ensures session { OnOk result (self.new ≡ after_line self.old line.now) }
         ensures over { IfOk result (λ reply. reply.is_over ≡ quits self.old line.now) }
-        ensures says { IfOk result (λ reply. IsReply self.old line.now reply.text.items) }
+        ensures says { IfOk result (λ reply. IsReply W.says W.says_ends self.old line.now reply.text) }
+    {
+        if self.is_exploring {
+            self.read_typed(line)
+        } else {
+            self.read(line)
+        }
+    }
+
+    // Answers a line of a session.
+    fn read(&mut self, line: &[u8]) -> Result<Reply<A>, AllocError>
+        ensures session { OnOk result (self.new ≡ after_said self.old (shell_line_of self.old.session.model line.now)) }
+        ensures over { IfOk result (λ reply. reply.is_over ≡ quits_by (shell_line_of self.old.session.model line.now)) }
+        ensures says { IfOk result (λ reply. Says W.says self.old (words_of line.now) (shell_line_of self.old.session.model line.now) reply.text) }
     {
         match read_shell_line(self.alloc, self.debugger.machine().model(), line) {
             Ok(said) => self.obey(said),
@@ -144,35 +216,26 @@ impl<A: Handle, W: Words<Event<A>, Machine<A>, Model<A>, Vec<u8, A>>> Shell<A, W
     fn refuse(&mut self, line: &[u8], found: Diagnostic) -> Result<Reply<A>, AllocError>
         ensures same { self.new ≡ self.old }
         ensures over { IfOk result (λ reply. reply.is_over ≡ false) }
+        ensures says { IfOk result (λ reply. SaysFault (words_of line.now) found reply.text.items) }
     {
-        let text = if has_words(line) {
-            self.words
-                .of_fault(self.debugger.machine().model(), line, found)?
-        } else {
-            Vec::new(self.alloc)
-        };
-        Ok(Reply {
-            text,
-            is_over: false,
-        })
+        if !has_words(line) {
+            return Ok(going_on(Vec::new(self.alloc)));
+        }
+        let model = self.debugger.machine().model();
+        let remark = self.words.of_fault(model, line, found)?;
+        Ok(going_on(fault_text(self.alloc, found.fault, remark)?))
     }
 
     // Answers a line that was read.
     fn obey(&mut self, said: ShellLine<A>) -> Result<Reply<A>, AllocError>
-        requires in_model { IsShellInModel self.old.model said }
+        requires in_model { IsShellInModel self.old.session.model said }
         ensures session { OnOk result (self.new ≡ after_said self.old (Ok said)) }
         ensures over { IfOk result (λ reply. reply.is_over ≡ quits_by {A = A} (Ok said)) }
-        ensures says { IfOk result (λ reply. Says self.old (Ok said) reply.text.items) }
+        ensures says { IfOk result (λ reply. (words : List (List ℕ)) → Says W.says self.old words (Ok said) reply.text) }
     {
         match said {
-            ShellLine::Event(event) => Ok(Reply {
-                text: self.take(event)?,
-                is_over: false,
-            }),
-            ShellLine::Can(event) => Ok(Reply {
-                text: self.ask(&event)?,
-                is_over: false,
-            }),
+            ShellLine::Event(event) => Ok(going_on(self.take(event)?)),
+            ShellLine::Can(event) => Ok(going_on(self.ask(&event)?)),
             ShellLine::Command(command) => Ok(Reply {
                 text: self.carry_out(command)?,
                 is_over: matches!(command, ShellCommand::Quit),
@@ -182,33 +245,49 @@ impl<A: Handle, W: Words<Event<A>, Machine<A>, Model<A>, Vec<u8, A>>> Shell<A, W
 
     // Has the machine take an event.
     fn take(&mut self, event: Event<A>) -> Result<Vec<u8, A>, AllocError>
-        requires in_model { IsInModel self.old.model event }
-        ensures session { OnOk result (self.new ≡ taken self.old event) }
-        ensures answer { IfOk result (λ text. StartsWith text.items (answer_line (answer_to (state_of self.old) event))) }
+        requires in_model { IsInModel self.old.session.model event }
+        ensures session { OnOk result (self.new ≡ after_event self.old event) }
+        ensures answer { IfOk result (λ text. IsRemarked (answer_line (answer_to (state_of self.old.session) event)) after_answer text.items) }
     {
         let line = write_event(self.alloc, self.machine().model(), &event)?;
         let before = Before::of(self.machine());
         let answer = self.debugger.take(&event)?;
-        let rest = self
-            .words
-            .of_event(self.debugger.machine(), before, event, line, answer)?;
-        answer_text(self.alloc, &answer, rest.as_slice())
+        self.note(answer)?;
+        let machine = self.debugger.machine();
+        let remark = self.words.of_event(machine, before, event, line, answer)?;
+        answer_text(self.alloc, &answer, remark)
+    }
+
+    // Notes an answer if it is a refusal.
+    fn note(&mut self, answer: Answer) -> Result<(), AllocError>
+        ensures session { self.new.session ≡ self.old.session }
+        ensures refusals { OnOk result (self.new.refusals ≡ self.old.refusals ++ refusal_by answer) }
+        ensures exploring { self.new.is_exploring ≡ self.old.is_exploring }
+        ensures programs { self.new.programs ≡ self.old.programs }
+    {
+        match answer {
+            Answer::Admitted { .. } => Ok(()),
+            Answer::Refused { .. } => {
+                self.refusals.push(answer)?;
+                Ok(())
+            }
+        }
     }
 
     // The reply to the question whether an event would be admitted.
     fn ask(&mut self, event: &Event<A>) -> Result<Vec<u8, A>, AllocError>
         ensures same { self.new ≡ self.old }
-        ensures answer { IfOk result (λ text. StartsWith text.items (answer_line (answer_to (state_of self.old) event.now))) }
+        ensures answer { IfOk result (λ text. IsRemarked (answer_line (answer_to (state_of self.old.session) event.now)) after_answer text.items) }
     {
         let answer = answer_of(self.machine(), event)?;
-        let rest = self.words.of_question(self.debugger.machine(), event)?;
-        answer_text(self.alloc, &answer, rest.as_slice())
+        let remark = self.words.of_question(self.debugger.machine(), event)?;
+        answer_text(self.alloc, &answer, remark)
     }
 
     // The place to which a command moves, if there is one.
     fn place_after(&self, command: ShellCommand) -> Option<u32>
-        ensures place { result ≡ (if can_move self.now command then Some (place_after self.now command) else None) }
-        ensures within { IfSome result (λ place. place ≤ length self.now.history) }
+        ensures place { result ≡ (if can_move self.now.session command then Some (place_after self.now.session command) else None) }
+        ensures within { IfSome result (λ place. place ≤ length self.now.session.history) }
     {
         let at = self.debugger.at();
         let last = self.debugger.last();
@@ -222,8 +301,8 @@ impl<A: Handle, W: Words<Event<A>, Machine<A>, Model<A>, Vec<u8, A>>> Shell<A, W
 
     // Moves to a place of the history.
     fn move_to(&mut self, place: u32) -> Result<(), AllocError>
-        requires { place ≤ length self.old.history }
-        ensures ok { OnOk result (self.new ≡ moved_to self.old place) }
+        requires { place ≤ length self.old.session.history }
+        ensures ok { OnOk result (self.new ≡ record self.old { session = moved_to self.old.session place }) }
     {
         match self.debugger.goto(place) {
             Ok(()) => Ok(()),
@@ -231,25 +310,36 @@ impl<A: Handle, W: Words<Event<A>, Machine<A>, Model<A>, Vec<u8, A>>> Shell<A, W
         }
     }
 
+    // The line that says that a move can't be made.
+    fn no_move(&self, command: ShellCommand) -> Result<Vec<u8, A>, AllocError>
+        ensures { IfOk result (λ text. text.items ≡ text_of (no_move_line self.now.session command ∷ [])) }
+    {
+        let at = self.debugger.at();
+        let last = self.debugger.last();
+        match command {
+            ShellCommand::Undo(_) => left_text(self.alloc, at, b"taken back"),
+            ShellCommand::Redo(_) => left_text(self.alloc, last - at, b"done again"),
+            _ => places_text(self.alloc, last),
+        }
+    }
+
     // Carries out a command that moves, if it can.
     fn go(&mut self, command: ShellCommand) -> Result<Vec<u8, A>, AllocError>
-        ensures session { OnOk result (self.new ≡ moved self.old command) }
-        ensures says { IfOk result (λ text. can_move self.old command ≡ true → text.items ≡ text_of (place_line (place_after self.old command) ∷ [])) }
+        ensures session { OnOk result (self.new ≡ record self.old { session = moved self.old.session command }) }
+        ensures says { IfOk result (λ text. text.items ≡ text_of (move_line self.old.session command ∷ [])) }
     {
         match self.place_after(command) {
             Some(place) => {
                 self.move_to(place)?;
                 place_text(self.alloc, place)
             }
-            None => self
-                .words
-                .of_no_move(self.debugger.at(), self.debugger.last(), command),
+            None => self.no_move(command),
         }
     }
 
     // The kept lines of the history.
     fn history(&self) -> Result<Vec<u8, A>, AllocError>
-        ensures { IfOk result (λ text. SaysOf self.now shell_command.History text.items) }
+        ensures { IfOk result (λ text. SaysOf W.says self.now shell_command.History text) }
     {
         let mut text = Vec::new(self.alloc);
         push_kept_lines(self.alloc, self.machine(), &mut text)?;
@@ -258,7 +348,7 @@ impl<A: Handle, W: Words<Event<A>, Machine<A>, Model<A>, Vec<u8, A>>> Shell<A, W
 
     // The event lines of the history.
     fn events(&self) -> Result<Vec<u8, A>, AllocError>
-        ensures { IfOk result (λ text. SaysOf self.now shell_command.Events text.items) }
+        ensures { IfOk result (λ text. SaysOf W.says self.now shell_command.Events text) }
     {
         let mut text = Vec::new(self.alloc);
         push_event_lines(self.alloc, self.machine(), &mut text)?;
@@ -267,7 +357,7 @@ impl<A: Handle, W: Words<Event<A>, Machine<A>, Model<A>, Vec<u8, A>>> Shell<A, W
 
     // The lines that say of the state what the command asks for; permits have their own.
     fn lines_for(&self, command: ShellCommand) -> Result<Vec<u8, A>, AllocError>
-        ensures { IfOk result (λ text. text.items ≡ text_of (lines_for self.now command)) }
+        ensures { IfOk result (λ text. text.items ≡ text_of (lines_for self.now.session command)) }
     {
         let mut text = Vec::new(self.alloc);
         let machine = self.machine();
@@ -286,49 +376,60 @@ impl<A: Handle, W: Words<Event<A>, Machine<A>, Model<A>, Vec<u8, A>>> Shell<A, W
 
     // The lines of the permits.
     fn permits(&self) -> Result<Vec<u8, A>, AllocError>
-        ensures { IfOk result (λ text. (lines : List (List ℕ)) × ArePermitLines (state_of self.now) lines × (text.items ≡ text_of lines)) }
+        ensures { IfOk result (λ text. SaysOf W.says self.now shell_command.Permits text) }
     {
         let mut text = Vec::new(self.alloc);
         push_permit_lines(self.machine(), &mut text)?;
         Ok(text)
     }
 
-    // A reply that begins with this text, and goes on in words.
-    fn with_words(
-        &mut self,
-        command: ShellCommand,
-        mut text: Vec<u8, A>,
-    ) -> Result<Vec<u8, A>, AllocError>
+    // The reply to a command that asks for the state.
+    fn say(&mut self, command: ShellCommand) -> Result<Vec<u8, A>, AllocError>
         ensures same { self.new ≡ self.old }
-        ensures front { IfOk result (λ reply. StartsWith reply.items text.items) }
+        ensures says { IfOk result (λ text. AreRemarked (lines_for self.old.session command) text.items) }
     {
-        let words = self.words.of_command(self.debugger.machine(), command)?;
-        text.extend_from_slice(words.as_slice())?;
+        let mut text = self.lines_for(command)?;
+        let below = self.words.of_state(self.debugger.machine(), command)?;
+        push_bars(&mut text, below.as_slice())?;
         Ok(text)
     }
 
-    // The reply to a command that asks for the state, or for words.
-    fn say(&mut self, command: ShellCommand) -> Result<Vec<u8, A>, AllocError>
+    // Why an event was refused.
+    fn why(&mut self, number: Option<u32>) -> Result<Vec<u8, A>, AllocError>
         ensures same { self.new ≡ self.old }
-        ensures says { IfOk result (λ text. StartsWith text.items (text_of (lines_for self.old command))) }
+        ensures says { IfOk result (λ text. SaysWhy self.old.refusals (item_at self.old.refusals (refusal_number self.old.refusals number)) text.items) }
     {
-        let lines = self.lines_for(command)?;
-        self.with_words(command, lines)
+        let number = refusal_number(self.refusals.as_slice(), number);
+        let Some(answer) = refusal_at(self.refusals.as_slice(), number) else {
+            return refused_text(self.alloc, self.refusals.len());
+        };
+        let remark = self.words.of_refusal(number)?;
+        answer_text(self.alloc, &answer, remark)
     }
 
-    // The reply to `permits`.
-    fn say_permits(&mut self) -> Result<Vec<u8, A>, AllocError>
+    // The words of a command that has no lines.
+    fn words_of(&mut self, command: ShellCommand) -> Result<Vec<u8, A>, AllocError>
         ensures same { self.new ≡ self.old }
-        ensures says { IfOk result (λ text. SaysOf self.old shell_command.Permits text.items) }
+        ensures says { IfOk result (λ text. W.says (state_of self.old.session) command text) }
     {
-        let lines = self.permits()?;
-        self.with_words(ShellCommand::Permits, lines)
+        self.words.of_command(self.debugger.machine(), command)
+    }
+
+    // From now on lines of programs are read.
+    fn explore(&mut self) -> Result<Vec<u8, A>, AllocError>
+        ensures session { self.new ≡ record self.old { is_exploring = true; programs = [] } }
+        ensures says { IfOk result (λ text. SaysOf W.says self.old shell_command.Explore text) }
+    {
+        self.is_exploring = true;
+        self.programs.clear();
+        self.typed.clear();
+        explore_text(self.alloc)
     }
 
     // Carries out a command.
     fn carry_out(&mut self, command: ShellCommand) -> Result<Vec<u8, A>, AllocError>
-        ensures session { OnOk result (self.new ≡ moved self.old command) }
-        ensures says { IfOk result (λ text. SaysOf self.old command text.items) }
+        ensures session { OnOk result (self.new ≡ after_command self.old command) }
+        ensures says { IfOk result (λ text. SaysOf W.says self.old command text) }
     {
         match command {
             ShellCommand::Undo(_) | ShellCommand::Redo(_) | ShellCommand::Goto(_) => self.go(
@@ -336,9 +437,65 @@ impl<A: Handle, W: Words<Event<A>, Machine<A>, Model<A>, Vec<u8, A>>> Shell<A, W
             ),
             ShellCommand::History => self.history(),
             ShellCommand::Events => self.events(),
-            ShellCommand::Permits => self.say_permits(),
+            ShellCommand::Permits => self.permits(),
+            ShellCommand::Explore => self.explore(),
+            ShellCommand::Why(number) => self.why(number),
+            ShellCommand::Draw | ShellCommand::Next(_) | ShellCommand::Help(_) => self.words_of(
+                command,
+            ),
             ShellCommand::Quit => Ok(Vec::new(self.alloc)),
             _ => self.say(command),
         }
+    }
+
+    // Answers a line where lines of programs are read.
+    fn read_typed(&mut self, line: &[u8]) -> Result<Reply<A>, AllocError>
+        ensures session { OnOk result (self.new ≡ after_typed self.old (typed_of self.old.session.model line.now)) }
+        ensures over { IfOk result (λ reply. reply.is_over ≡ false) }
+        ensures says { IfOk result (λ reply. SaysTyped W.says_ends self.old (typed_of self.old.session.model line.now) reply.text) }
+    {
+        let typed = typed_of(self.alloc, self.debugger.machine().model(), line)?;
+        Ok(going_on(match typed {
+            Typed::Comment => Vec::new(self.alloc),
+            Typed::End => self.end_programs()?,
+            Typed::Line(said) => self.add_program(said, line)?,
+            Typed::Faulty(fault) => self.refuse_program(line, fault)?,
+        }))
+    }
+
+    // How the programs can end. No line of them is read after that.
+    fn end_programs(&mut self) -> Result<Vec<u8, A>, AllocError>
+        ensures session { OnOk result (self.new ≡ record self.old { is_exploring = false; programs = [] }) }
+        ensures says { IfOk result (λ text. W.says_ends (state_of self.old.session) self.old.programs text) }
+    {
+        let machine = self.debugger.machine();
+        let programs = self.programs.as_slice();
+        let text = self
+            .words
+            .of_programs(machine, programs, self.typed.as_slice())?;
+        self.is_exploring = false;
+        self.programs.clear();
+        self.typed.clear();
+        Ok(text)
+    }
+
+    // Adds a line to the programs.
+    fn add_program(&mut self, said: ProgramLine<A>, line: &[u8]) -> Result<Vec<u8, A>, AllocError>
+        ensures session { OnOk result (self.new ≡ record self.old { programs = self.old.programs ++ said ∷ [] }) }
+        ensures says { IfOk result (λ text. text.items ≡ []) }
+    {
+        self.programs.push(said)?;
+        push_line(&mut self.typed, line)?;
+        Ok(Vec::new(self.alloc))
+    }
+
+    // The reply to a faulty line of programs.
+    fn refuse_program(&mut self, line: &[u8], fault: LineFault) -> Result<Vec<u8, A>, AllocError>
+        ensures same { self.new ≡ self.old }
+        ensures says { IfOk result (λ text. IsRemarked (fault_name fault) after_name text.items) }
+    {
+        let model = self.debugger.machine().model();
+        let remark = self.words.of_program_fault(model, line, fault)?;
+        fault_text(self.alloc, fault, remark)
     }
 }

@@ -1,10 +1,12 @@
 //! The words of a session's replies.
 
-ghost use Rattle.std.specs.Prelude.{◌≡◌, length};
+ghost use Rattle.std.specs.Prelude.{◌≡◌, List, length, IfOk};
 ghost use Rattle.acta_machine.specs.Table.{edges_in, operations_in};
+ghost use Rattle.acta_script.specs.declared.shell_lines.ShellCommand.{ShellCommand as a_command};
 
+use crate::remarks::Remark;
 use acta_machine::{Handle, Machine};
-use acta_script::{Diagnostic, ShellCommand};
+use acta_script::{Diagnostic, LineFault, ShellCommand};
 use acta_table::Answer;
 use std::alloc::AllocError;
 
@@ -28,10 +30,15 @@ impl Before {
     }
 }
 
-/// What replies say beside the answers, the places and the histories, where E is an event, M a machine, D a model and T a text.
-/// It may keep what it needs for later replies.
-pub trait Words<E, M, D, T>: Drop {
-    /// What follows the answer to an event, with a line feed in the end: the machine has taken it, and this is its line.
+/// What replies say beside the answers, the places and the lines, where E is an event, M a machine, D a model, P a line of
+/// programs and T a text. It may keep what it needs for later replies. Each answers `Err` if memory runs out.
+pub trait Words<E, M, D, P, T: Drop>: Drop {
+    // What a text says of a command on a machine, and of programs that go on from there.
+    ghost says: { M → a_command → T → Type 0 };
+
+    ghost says_ends: { M → List P → T → Type 0 };
+
+    /// The remark on an event: the machine has taken it and answered this, and the event has this line.
     fn of_event(
         &mut self,
         machine: &M,
@@ -39,18 +46,38 @@ pub trait Words<E, M, D, T>: Drop {
         event: E,
         line: T,
         answer: Answer,
-    ) -> Result<T, AllocError>;
+    ) -> Result<Remark<T>, AllocError>;
 
-    /// What follows the answer that the machine would give to an event, with a line feed in the end.
-    fn of_question(&mut self, machine: &M, event: &E) -> Result<T, AllocError>;
+    /// The remark on the answer that the machine would give to an event.
+    fn of_question(&mut self, machine: &M, event: &E) -> Result<Remark<T>, AllocError>;
 
-    /// The reply to a command that leads nowhere, after this many of so many events.
-    fn of_no_move(&mut self, at: u32, last: u32, command: ShellCommand) -> Result<T, AllocError>;
+    /// The remark on a faulty line.
+    fn of_fault(
+        &mut self,
+        model: &D,
+        line: &[u8],
+        found: Diagnostic,
+    ) -> Result<Remark<T>, AllocError>;
 
-    /// The reply to a faulty line.
-    fn of_fault(&mut self, model: &D, line: &[u8], found: Diagnostic) -> Result<T, AllocError>;
+    /// The remark on a faulty line of programs.
+    fn of_program_fault(
+        &mut self,
+        model: &D,
+        line: &[u8],
+        fault: LineFault,
+    ) -> Result<Remark<T>, AllocError>;
 
-    /// What follows the lines of the reply to a command, if they are followed by something. It is the whole reply where a
-    /// command has no lines: `draw`, `why`, `next` and `help`.
-    fn of_command(&mut self, machine: &M, command: ShellCommand) -> Result<T, AllocError>;
+    /// The remark on the refused event of this number, from 1.
+    fn of_refusal(&mut self, number: usize) -> Result<Remark<T>, AllocError>;
+
+    /// What stands below the lines of a command that asks for the state.
+    fn of_state(&mut self, machine: &M, command: ShellCommand) -> Result<T, AllocError>;
+
+    /// The reply to a command that has no lines: `draw`, `next` or `help`.
+    fn of_command(&mut self, machine: &M, command: ShellCommand) -> Result<T, AllocError>
+        ensures { IfOk result (says machine.now command) };
+
+    /// The reply to programs that go on from the machine, with their lines as they were typed.
+    fn of_programs(&mut self, machine: &M, lines: &[P], typed: &[u8]) -> Result<T, AllocError>
+        ensures { IfOk result (says_ends machine.now lines.now) };
 }

@@ -1,9 +1,14 @@
 //! What the lines of a session do, in words.
 
+ghost use Rattle.std.specs.Prelude.{◌≡◌, IfOk};
+ghost use Rattle.std.specs.Io.{StartsWith};
+ghost use Rattle.acta_shell.specs.Said.{form_of, help_front};
+
 use acta_explain::{Prose, put};
 use acta_machine::Handle;
 use acta_script::{CAN_FORM, EVENT_KINDS, ShellKind, Topic, event_form};
 use acta_table::EventKind;
+use std::alloc::{AllocError, Allocator};
 
 // What a line does, and a line that does it.
 type Entry = (&'static str, &'static str);
@@ -33,6 +38,7 @@ fn command_words(kind: ShellKind) -> &'static str {
         ShellKind::Draw => "draws the history",
         ShellKind::Why => "says why the last refused event was refused, or the Nth",
         ShellKind::Next => "lists which events would be admitted now, or those of T",
+        ShellKind::Explore => "reads lines of programs, and lists how these can end from here",
         ShellKind::Help => "lists all lines, or explains one by its first word",
         ShellKind::Quit => "ends the session, as Ctrl-D does",
     }
@@ -57,6 +63,7 @@ fn command_example(kind: ShellKind) -> &'static str {
         ShellKind::Draw => "draw",
         ShellKind::Why => "why 1",
         ShellKind::Next => "next 1",
+        ShellKind::Explore => "explore",
         ShellKind::Help => "help undo",
         ShellKind::Quit => "quit",
     }
@@ -99,21 +106,15 @@ fn put_listed<A: Handle>(prose: Prose<A>, form: &str, entry: Entry) -> Prose<A> 
     put!(prose; words, "\n")
 }
 
-// Adds a form, what it does, and an example.
-fn put_alone<A: Handle>(prose: Prose<A>, form: &str, entry: Entry) -> Prose<A> {
+// Adds what a line does, and an example.
+fn put_alone<A: Handle>(prose: Prose<A>, entry: Entry) -> Prose<A> {
     let (words, example) = entry;
-    put!(prose; "`", form, "` ", words, "\nfor example `", example, "`\n")
-}
-
-// Adds an event, which has no verb of its own.
-fn put_event<A: Handle>(prose: Prose<A>, kind: EventKind) -> Prose<A> {
-    let (words, example) = event_entry(kind);
-    put!(prose; "`", event_form(kind), "`: ", words, "\nfor example `", example, "`\n")
+    put!(prose; words, "\nfor example `", example, "`\n")
 }
 
 // Adds all lines.
 fn put_all<A: Handle>(prose: Prose<A>) -> Prose<A> {
-    let mut prose = prose.put("events:\n");
+    let mut prose = prose.put("\n");
     for kind in EVENT_KINDS {
         prose = put_listed(prose, event_form(kind), event_entry(kind));
     }
@@ -124,13 +125,50 @@ fn put_all<A: Handle>(prose: Prose<A>) -> Prose<A> {
     prose.put("`help WORD` explains the line that begins with the word\n")
 }
 
-/// All lines of a session, or one of them with an example.
-pub(crate) fn help_text<A: Handle>(alloc: A, topic: Option<Topic>) -> Prose<A> {
+// What follows the front of the help. An event has no verb of its own.
+fn help_rest<A: Handle>(alloc: A, topic: Option<Topic>) -> Prose<A> {
     let prose = Prose::new(alloc);
     match topic {
         None => put_all(prose),
-        Some(Topic::Can) => put_alone(prose, CAN_FORM, CAN),
-        Some(Topic::Command(kind)) => put_alone(prose, kind.form(), command_entry(kind)),
-        Some(Topic::Event(kind)) => put_event(prose, kind),
+        Some(Topic::Can) => put_alone(prose.put(" "), CAN),
+        Some(Topic::Command(kind)) => put_alone(prose.put(" "), command_entry(kind)),
+        Some(Topic::Event(kind)) => put_alone(prose.put(": "), event_entry(kind)),
     }
+}
+
+// The form of the line that is explained.
+fn form_of(topic: Topic) -> &'static str
+    ensures { result.now ≡ form_of topic }
+{
+    match topic {
+        Topic::Event(kind) => event_form(kind),
+        Topic::Can => CAN_FORM,
+        Topic::Command(kind) => kind.form(),
+    }
+}
+
+// How the help begins: with the form of the line, or with the list of events.
+fn help_front<A: Allocator>(alloc: A, topic: Option<Topic>) -> Result<Vec<u8, A>, AllocError>
+    ensures { IfOk result (λ text. text.items ≡ help_front topic) }
+{
+    let mut text = Vec::new(alloc);
+    match topic {
+        None => text.extend_from_slice(b"events:")?,
+        Some(topic) => {
+            text.extend_from_slice(b"`")?;
+            text.extend_from_slice(form_of(topic).as_bytes())?;
+            text.extend_from_slice(b"`")?;
+        }
+    }
+    Ok(text)
+}
+
+/// All lines of a session, or one of them with an example.
+pub(crate) fn help_text<A: Handle>(alloc: A, topic: Option<Topic>) -> Result<Vec<u8, A>, AllocError>
+    ensures { IfOk result (λ text. StartsWith text.items (help_front topic)) }
+{
+    let mut text = help_front(alloc, topic)?;
+    let rest = help_rest(alloc, topic).done()?;
+    text.extend_from_slice(rest.as_str().as_bytes())?;
+    Ok(text)
 }

@@ -1,7 +1,8 @@
 //! Which events would be admitted next, and which would not.
 
-ghost use Rattle.std.specs.Prelude.{◌≡◌, IfOk, option_map};
-ghost use Rattle.acta_machine.specs.Table.{refusal_in};
+ghost use Rattle.std.specs.Prelude.{◌≡◌, ◌++◌, ◌∷◌, ℕ, List, [], decimal, IfOk, OnOk, option_map};
+ghost use Rattle.acta_machine.specs.Table.{refusal_in, status_in};
+ghost use Rattle.acta_shell.specs.Next.{AreNextOf, IsNext, IsNextOf, admitted_item, ended_line, has_ended, list_line, may_line, more_line, next_lines, onto_list, or_nothing, refused_item, refused_words, with_item};
 
 use crate::notes::Notes;
 use acta_explain::{
@@ -12,7 +13,9 @@ use acta_script::object_name;
 use acta_table::{
     ClassId, Event, EventKind, Kind, LAST_TXN, Missing, ObjId, Op, OpSet, Owed, Rule, Status, TxnId,
 };
-use std::alloc::AllocError;
+use acta_words::push_line;
+use itoa::Buffer;
+use std::alloc::{AllocError, Allocator};
 
 // The kinds of event of a transaction in progress, in the order in which they are listed.
 const KINDS: [EventKind; 9] = [
@@ -43,114 +46,136 @@ fn refused_by<A: Handle>(machine: &Machine<A>, event: &Event<A>) -> Result<Optio
     }
 }
 
-// Adds what separates an item of a list from those before it.
-fn put_gap<A: Handle>(prose: Prose<A>) -> Prose<A> {
-    let gap = if prose.is_empty() { "" } else { ", " };
-    prose.put(gap)
+/// An event that was tried, and the words for it.
+#[derive(Drop)]
+pub(crate) struct Tried<A: Handle> {
+    event: Event<A>,
+    words: Vec<u8, A>,
+    // What an event pays that would be admitted, or the name of the rule that refuses another.
+    note: Vec<u8, A>,
 }
 
-// The events of a transaction, in lists.
+// The events of a transaction.
 #[derive(Drop)]
 struct Found<A: Handle> {
-    // Those that would be admitted.
-    may: Prose<A>,
-    // Those that would be refused, each with the rule.
-    not: Prose<A>,
+    tried: Vec<Tried<A>, A>,
     // The kinds for which its class has no word.
-    never: Prose<A>,
+    never: Vec<u8, A>,
     // The kinds for which it has one, and of which not all events are tried.
-    untried: Prose<A>,
+    untried: Vec<u8, A>,
 }
 
 impl<A: Handle> Found<A> {
     fn new(alloc: A) -> Found<A> {
         Found {
-            may: Prose::new(alloc),
-            not: Prose::new(alloc),
-            never: Prose::new(alloc),
-            untried: Prose::new(alloc),
-        }
-    }
-
-    // Without memory for an event.
-    fn fail(self) -> Found<A> {
-        let Found {
-            may,
-            not,
-            never,
-            untried,
-        } = self;
-        Found {
-            may: may.fail(),
-            not,
-            never,
-            untried,
-        }
-    }
-
-    // With an event more, whose text this is. The note follows the text if the event would be admitted.
-    fn with(
-        self,
-        machine: &Machine<A>,
-        event: &Event<A>,
-        text: Prose<A>,
-        note: Prose<A>,
-    ) -> Found<A> {
-        let Ok(rule) = refused_by(machine, event) else {
-            return self.fail();
-        };
-        let Found {
-            may,
-            not,
-            never,
-            untried,
-        } = self;
-        match rule {
-            None => Found {
-                may: put_gap(may).add(text).add(note),
-                not,
-                never,
-                untried,
-            },
-            Some(rule) => Found {
-                may,
-                not: put!(put_gap(not).add(text); " (", rule.name(), ")"),
-                never,
-                untried,
-            },
+            tried: Vec::new(alloc),
+            never: Vec::new(alloc),
+            untried: Vec::new(alloc),
         }
     }
 
     // With a kind more for which the class has no word.
-    fn without(self, kind: EventKind) -> Found<A> {
-        let Found {
-            may,
-            not,
-            never,
-            untried,
-        } = self;
-        Found {
-            may,
-            not,
-            never: put_gap(never).put(allowing_word(kind)),
-            untried,
-        }
+    fn without(&mut self, kind: EventKind) -> Result<(), AllocError> {
+        push_gap(&mut self.never)?;
+        self.never.extend_from_slice(allowing_word(kind).as_bytes())
     }
 
     // With events more that are not tried.
-    fn with_untried(self, what: &str) -> Found<A> {
-        let Found {
-            may,
-            not,
-            never,
-            untried,
-        } = self;
-        Found {
-            may,
-            not,
-            never,
-            untried: put_gap(untried).put(what),
+    fn with_untried(&mut self, what: &str) -> Result<(), AllocError> {
+        push_gap(&mut self.untried)?;
+        self.untried.extend_from_slice(what.as_bytes())
+    }
+}
+
+// Adds the digits of a number.
+fn push_digits<A: Allocator>(text: &mut Vec<u8, A>, number: u64) -> Result<(), AllocError>
+    ensures { OnOk result (text.new.items ≡ text.old.items ++ decimal number) }
+{
+    let mut digits = Buffer::new();
+    text.extend_from_slice(digits.format(number).as_bytes())
+}
+
+// Adds what separates an item of a list from those before it.
+fn push_gap<A: Allocator>(list: &mut Vec<u8, A>) -> Result<(), AllocError>
+    ensures { (item : List ℕ) → OnOk result (list.new.items ++ item ≡ with_item list.old.items item) }
+{
+    if list.is_empty() {
+        return Ok(());
+    }
+    list.extend_from_slice(b", ")
+}
+
+// Adds an item to a list.
+fn push_item<A: Allocator>(list: &mut Vec<u8, A>, item: &[u8]) -> Result<(), AllocError>
+    ensures { OnOk result (list.new.items ≡ with_item list.old.items item.now) }
+{
+    push_gap(list)?;
+    list.extend_from_slice(item)
+}
+
+// The words for an event that would be admitted.
+fn admitted_words<A: Handle>(alloc: A, tried: &Tried<A>) -> Result<Vec<u8, A>, AllocError>
+    ensures { IfOk result (λ item. item.items ≡ tried.now.words.items ++ tried.now.note.items) }
+{
+    let mut item = Vec::from_slice(alloc, tried.words.as_slice())?;
+    item.extend_from_slice(tried.note.as_slice())?;
+    Ok(item)
+}
+
+// The words for an event that would be refused, with the number of the rule.
+fn refused_words<A: Handle>(
+    alloc: A,
+    tried: &Tried<A>,
+    rule: Rule,
+) -> Result<Vec<u8, A>, AllocError>
+    ensures { IfOk result (λ item. item.items ≡ refused_words rule tried.now) }
+{
+    let mut item = Vec::from_slice(alloc, tried.words.as_slice())?;
+    item.extend_from_slice(b" (")?;
+    push_digits(&mut item, u64::from(rule.number()))?;
+    item.extend_from_slice(tried.note.as_slice())?;
+    item.extend_from_slice(b")")?;
+    Ok(item)
+}
+
+// The events that were tried, in two lists: those that would be admitted, and those that would be refused.
+#[derive(Drop)]
+struct Sorted<A: Handle> {
+    may: Vec<u8, A>,
+    not: Vec<u8, A>,
+}
+
+impl<A: Handle> Sorted<A> {
+    // Adds an event to the list to which it belongs.
+    fn push(&mut self, alloc: A, machine: &Machine<A>, tried: &Tried<A>) -> Result<(), AllocError>
+        ensures may { OnOk result (self.new.may.items ≡ onto_list (admitted_item machine.now) self.old.may.items (tried.now ∷ [])) }
+        ensures not { OnOk result (self.new.not.items ≡ onto_list (refused_item machine.now) self.old.not.items (tried.now ∷ [])) }
+    {
+        match refused_by(machine, &tried.event)? {
+            None => {
+                let item = admitted_words(alloc, tried)?;
+                push_item(&mut self.may, item.as_slice())
+            }
+            Some(rule) => {
+                let item = refused_words(alloc, tried, rule)?;
+                push_item(&mut self.not, item.as_slice())
+            }
         }
+    }
+
+    // The events in two lists.
+    fn of(alloc: A, machine: &Machine<A>, tried: &[Tried<A>]) -> Result<Sorted<A>, AllocError>
+        ensures may { IfOk result (λ sorted. sorted.may.items ≡ onto_list (admitted_item machine.now) [] tried.now) }
+        ensures not { IfOk result (λ sorted. sorted.not.items ≡ onto_list (refused_item machine.now) [] tried.now) }
+    {
+        let mut sorted = Sorted {
+            may: Vec::new(alloc),
+            not: Vec::new(alloc),
+        };
+        for one in tried {
+            sorted.push(alloc, machine, one)?;
+        }
+        Ok(sorted)
     }
 }
 
@@ -197,9 +222,32 @@ impl<'a, A: Handle> Asked<'a, A> {
         Prose::new(self.alloc)
     }
 
-    // With an event more.
-    fn add(&self, found: Found<A>, event: &Event<A>, text: Prose<A>) -> Found<A> {
-        found.with(self.machine, event, text, self.prose())
+    // Adds an event.
+    fn add(
+        &self,
+        found: &mut Found<A>,
+        event: Event<A>,
+        words: Prose<A>,
+    ) -> Result<(), AllocError> {
+        self.add_paying(found, event, words, self.prose())
+    }
+
+    // Adds an event with what it pays, which is told if it would be admitted.
+    fn add_paying(
+        &self,
+        found: &mut Found<A>,
+        event: Event<A>,
+        words: Prose<A>,
+        pays: Prose<A>,
+    ) -> Result<(), AllocError> {
+        let note = match refused_by(self.machine, &event)? {
+            None => pays,
+            Some(rule) => put!(self.prose(); " ", rule.name()),
+        };
+        let words = words.done()?.into_bytes();
+        let note = note.done()?.into_bytes();
+        found.tried.push(Tried { event, words, note })?;
+        Ok(())
     }
 
     // Whether the class of the transaction has a word for events of the kind.
@@ -219,45 +267,40 @@ impl<'a, A: Handle> Asked<'a, A> {
     }
 
     // Adds the begin of the transaction with each class.
-    fn add_begins(&self, mut found: Found<A>) -> Found<A> {
+    fn add_begins(&self, found: &mut Found<A>) -> Result<(), AllocError> {
         for number in 0..self.machine.model().classes().len() {
             let class = class_numbered(number);
-            let event = Event::Begin(self.t, class);
-            let text = put!(self.prose(); "begin ", self.class_name(class));
-            found = self.add(found, &event, text);
+            let words = put!(self.prose(); "begin ", self.class_name(class));
+            self.add(found, Event::Begin(self.t, class), words)?;
         }
-        found
+        Ok(())
     }
 
     // Adds a spawn with each class.
-    fn add_spawns(&self, mut found: Found<A>) -> Found<A> {
+    fn add_spawns(&self, found: &mut Found<A>) -> Result<(), AllocError> {
         for number in 0..self.machine.model().classes().len() {
             let class = class_numbered(number);
             let child = self.unused;
-            let event = Event::Spawn(self.t, child, class);
-            let text = put!(self.prose(); "spawn ", child.0, " ", self.class_name(class));
-            found = self.add(found, &event, text);
+            let words = put!(self.prose(); "spawn ", child.0, " ", self.class_name(class));
+            self.add(found, Event::Spawn(self.t, child, class), words)?;
         }
-        found
+        Ok(())
     }
 
     // Adds a split with each class, by which the new transaction gets no operation.
-    fn add_splits(&self, mut found: Found<A>) -> Found<A> {
+    fn add_splits(&self, found: &mut Found<A>) -> Result<(), AllocError> {
         for number in 0..self.machine.model().classes().len() {
             let class = class_numbered(number);
-            let Ok(none) = OpSet::of(self.alloc, &[]) else {
-                return found.fail();
-            };
+            let none = OpSet::of(self.alloc, &[])?;
             let part = self.unused;
-            let event = Event::Split(self.t, part, class, none);
-            let text = put!(self.prose(); "split ", part.0, " ", self.class_name(class), " -");
-            found = self.add(found, &event, text);
+            let words = put!(self.prose(); "split ", part.0, " ", self.class_name(class), " -");
+            self.add(found, Event::Split(self.t, part, class, none), words)?;
         }
-        found
+        Ok(())
     }
 
     // Adds a join of each other transaction in progress.
-    fn add_joins(&self, mut found: Found<A>) -> Found<A> {
+    fn add_joins(&self, found: &mut Found<A>) -> Result<(), AllocError> {
         let mut tried = 0usize;
         for number in 0..self.machine.known_txns() {
             let u = TxnId(number as u16);
@@ -268,78 +311,88 @@ impl<'a, A: Handle> Asked<'a, A> {
                 return found.with_untried("join with others");
             }
             tried = tried.saturating_add(1);
-            let text = put!(self.prose(); "join ", u.0);
-            let event = Event::Join(self.t, u);
-            found = self.add(found, &event, text);
+            let words = put!(self.prose(); "join ", u.0);
+            self.add(found, Event::Join(self.t, u), words)?;
         }
-        found
+        Ok(())
     }
 
     // Adds an operation on an object.
-    fn add_operation(&self, found: Found<A>, object: ObjId, op: Op, word: &str) -> Found<A> {
+    fn add_operation(
+        &self,
+        found: &mut Found<A>,
+        object: ObjId,
+        op: Op,
+        word: &str,
+    ) -> Result<(), AllocError> {
         let name = name_text(object_name(self.machine.model(), object));
-        let text = put!(self.prose(); "do ", name, " ", word);
-        let event = Event::Operate(self.t, object, op);
-        self.add(found, &event, text)
+        let words = put!(self.prose(); "do ", name, " ", word);
+        self.add(found, Event::Operate(self.t, object, op), words)
     }
 
     // Adds two operations on an object: one that reads, and one that writes.
-    fn add_operations_on(&self, found: Found<A>, object: ObjId, kind: Kind) -> Found<A> {
+    fn add_operations_on(
+        &self,
+        found: &mut Found<A>,
+        object: ObjId,
+        kind: Kind,
+    ) -> Result<(), AllocError> {
         match kind {
             Kind::Register(_) => {
-                let found = self.add_operation(found, object, Op::Read, "read");
+                self.add_operation(found, object, Op::Read, "read")?;
                 self.add_operation(found, object, Op::Write(0), "write 0")
             }
             Kind::Counter(_) => {
-                let found = self.add_operation(found, object, Op::Get, "get");
+                self.add_operation(found, object, Op::Get, "get")?;
                 self.add_operation(found, object, Op::Add(1), "add 1")
             }
             Kind::Elements => {
-                let found = self.add_operation(found, object, Op::Size, "size");
+                self.add_operation(found, object, Op::Size, "size")?;
                 self.add_operation(found, object, Op::Insert(0), "insert 0")
             }
         }
     }
 
     // Adds operations on the first objects.
-    fn add_operations(&self, mut found: Found<A>) -> Found<A> {
+    fn add_operations(&self, found: &mut Found<A>) -> Result<(), AllocError> {
         let objects = self.machine.model().objects();
         let count = first_listed(objects).len();
         for (number, object) in objects.iter().take(count).enumerate() {
-            found = self.add_operations_on(found, object_numbered(number), object.kind);
+            self.add_operations_on(found, object_numbered(number), object.kind)?;
         }
         if count == objects.len() {
-            return found;
+            return Ok(());
         }
         found.with_untried("do on other objects")
     }
 
     // Adds an event that ends the transaction, with the edges that it pays.
-    fn add_end(&self, found: Found<A>, event: &Event<A>, word: &str, missing: Missing) -> Found<A> {
-        let t = self.t;
-        let text = put!(self.prose(); word);
-        let note = match self.machine.owed() {
-            Ok(owed) => put_paid(self.prose(), owed.as_slice(), t, missing),
-            Err(_) => self.prose().fail(),
-        };
-        found.with(self.machine, event, text, note)
+    fn add_end(
+        &self,
+        found: &mut Found<A>,
+        event: Event<A>,
+        word: &str,
+        missing: Missing,
+    ) -> Result<(), AllocError> {
+        let owed = self.machine.owed()?;
+        let pays = put_paid(self.prose(), owed.as_slice(), self.t, missing);
+        let words = put!(self.prose(); word);
+        self.add_paying(found, event, words, pays)
     }
 
     // Adds events of the kind.
-    fn add_kind(&self, found: Found<A>, kind: EventKind) -> Found<A> {
+    fn add_kind(&self, found: &mut Found<A>, kind: EventKind) -> Result<(), AllocError> {
         match kind {
-            EventKind::Begin => found,
+            EventKind::Begin => Ok(()),
             EventKind::Spawn => self.add_spawns(found),
             EventKind::Split => self.add_splits(found),
             EventKind::Join => self.add_joins(found),
             EventKind::Operate => self.add_operations(found),
             EventKind::Commit => {
-                let event = Event::Commit(self.t);
-                self.add_end(found, &event, "commit", Missing::Commit)
+                self.add_end(found, Event::Commit(self.t), "commit", Missing::Commit)
             }
             EventKind::Abort => {
-                let event = Event::Abort(self.t);
-                self.add_end(found, &event, "abort", Missing::Abort)
+                self.add_end(found, Event::Abort(self.t), "abort", Missing::Abort)
             }
             EventKind::Delegate | EventKind::Form | EventKind::Permit => {
                 found.with_untried(allowing_word(kind))
@@ -348,54 +401,93 @@ impl<'a, A: Handle> Asked<'a, A> {
     }
 
     // The events of a transaction that has not begun, or is in progress.
-    fn found(&self) -> Found<A> {
+    fn found(&self) -> Result<Found<A>, AllocError> {
         let mut found = Found::new(self.alloc);
         if self.machine.status(self.t) == Status::NotBegun {
-            return self.add_begins(found);
+            self.add_begins(&mut found)?;
+            return Ok(found);
         }
         for kind in KINDS {
-            found = if self.has_word(kind) {
-                self.add_kind(found, kind)
+            if self.has_word(kind) {
+                self.add_kind(&mut found, kind)?;
             } else {
-                found.without(kind)
-            };
+                found.without(kind)?;
+            }
         }
-        found
+        Ok(found)
     }
 }
 
-// Adds a list, if it has an item.
-fn put_list<A: Handle>(prose: Prose<A>, front: &str, list: Prose<A>) -> Prose<A> {
+// Adds a line with a list, if it has an item.
+fn push_list<A: Allocator>(
+    text: &mut Vec<u8, A>,
+    front: &[u8],
+    list: &[u8],
+) -> Result<(), AllocError>
+    ensures { OnOk result (text.new.items ≡ text.old.items ++ list_line front.now list.now) }
+{
     if list.is_empty() {
-        prose.add(list)
+        return Ok(());
+    }
+    text.extend_from_slice(front)?;
+    push_line(text, list)
+}
+
+// The list, or that it has no item.
+fn or_nothing(list: &[u8]) -> &[u8]
+    ensures { result.now ≡ or_nothing list.now }
+{
+    if list.is_empty() {
+        b"nothing that was tried"
     } else {
-        put!(put!(prose; "  ", front, ": ").add(list); "\n")
+        list
     }
 }
 
-// Adds what the transaction that is asked about may do next.
-fn put_next<A: Handle>(prose: Prose<A>, lines: LineIndex<'_, A>, asked: &Asked<'_, A>) -> Prose<A> {
-    let t = asked.t;
-    let status = asked.machine.status(t);
-    if !matches!(status, Status::NotBegun | Status::InProgress) {
-        let prose = put!(prose; t.0, " may: nothing, it ");
-        return put_standing(prose, lines, t, status).put("\n");
-    }
-    let Found {
-        may,
-        not,
-        never,
-        untried,
-    } = asked.found();
-    let may = if may.is_empty() {
-        may.put("nothing that was tried")
-    } else {
-        may
-    };
-    let prose = put!(put!(prose; t.0, " may: ").add(may); "\n");
-    let prose = put_list(prose, "refused", not);
-    let prose = put_list(prose, "not tried", untried);
-    put_list(prose, "its class has no", never)
+// Adds the line of the events that would be admitted.
+fn push_may<A: Allocator>(text: &mut Vec<u8, A>, t: TxnId, may: &[u8]) -> Result<(), AllocError>
+    ensures { OnOk result (text.new.items ≡ text.old.items ++ may_line t may.now) }
+{
+    push_digits(text, u64::from(t.0))?;
+    text.extend_from_slice(b" may: ")?;
+    push_line(text, or_nothing(may))
+}
+
+// Adds what a transaction may do next that has not begun, or is in progress.
+fn push_found<A: Handle>(
+    alloc: A,
+    text: &mut Vec<u8, A>,
+    machine: &Machine<A>,
+    t: TxnId,
+    found: &Found<A>,
+) -> Result<(), AllocError>
+    ensures { OnOk result (text.new.items ≡ text.old.items ++ next_lines machine.now t found.now.tried.items found.now.untried.items found.now.never.items) }
+{
+    let sorted = Sorted::of(alloc, machine, found.tried.as_slice())?;
+    push_may(text, t, sorted.may.as_slice())?;
+    push_list(text, b"  refused: ", sorted.not.as_slice())?;
+    push_list(text, b"  not tried: ", found.untried.as_slice())?;
+    push_list(text, b"  its class has no: ", found.never.as_slice())
+}
+
+// Adds how a transaction has ended, which may do nothing more.
+fn push_ended<A: Allocator>(
+    text: &mut Vec<u8, A>,
+    t: TxnId,
+    standing: &[u8],
+) -> Result<(), AllocError>
+    ensures { OnOk result (text.new.items ≡ text.old.items ++ ended_line t standing.now) }
+{
+    push_digits(text, u64::from(t.0))?;
+    text.extend_from_slice(b" may: nothing, it ")?;
+    push_line(text, standing)
+}
+
+// Whether a transaction has ended.
+fn has_ended<A: Handle>(machine: &Machine<A>, t: TxnId) -> bool
+    ensures { result ≡ has_ended (status_in machine.now t.0) }
+{
+    !matches!(machine.status(t), Status::NotBegun | Status::InProgress)
 }
 
 // The first number that no transaction has.
@@ -408,43 +500,110 @@ fn first_unused<A: Handle>(machine: &Machine<A>) -> TxnId {
     TxnId(LAST_TXN)
 }
 
+// How a transaction has ended, in words.
+fn standing_text<A: Handle>(
+    alloc: A,
+    lines: LineIndex<'_, A>,
+    machine: &Machine<A>,
+    t: TxnId,
+) -> Result<Vec<u8, A>, AllocError> {
+    let prose = put_standing(Prose::new(alloc), lines, t, machine.status(t));
+    Ok(prose.done()?.into_bytes())
+}
+
 // Adds what a transaction may do next.
-fn put_next_of<'a, A: Handle>(
-    prose: Prose<A>,
+fn push_next_of<'a, A: Handle>(
+    text: &mut Vec<u8, A>,
     notes: &'a Notes<A>,
     machine: &'a Machine<A>,
     t: TxnId,
-) -> Prose<A> {
+) -> Result<(), AllocError>
+    ensures { OnOk result ((block : List ℕ) × IsNextOf machine.now t block × (text.new.items ≡ text.old.items ++ block)) }
+{
+    let alloc = notes.allocator();
+    if has_ended(machine, t) {
+        let standing = standing_text(alloc, notes.lines(machine), machine, t)?;
+        return push_ended(text, t, standing.as_slice());
+    }
     let asked = Asked {
-        alloc: notes.allocator(),
+        alloc,
         machine,
         t,
         unused: first_unused(machine),
     };
-    put_next(prose, notes.lines(machine), &asked)
+    let found = asked.found()?;
+    push_found(alloc, text, machine, t, &found)
 }
 
-// Adds what each transaction in progress may do next, and the first that has not begun.
-fn put_next_of_all<'a, A: Handle>(
-    mut prose: Prose<A>,
+// Adds what the first transactions in progress may do next. Answers how many are in progress.
+fn push_next_of_first<'a, A: Handle>(
+    text: &mut Vec<u8, A>,
     notes: &'a Notes<A>,
     machine: &'a Machine<A>,
-) -> Prose<A> {
+) -> Result<usize, AllocError>
+    ensures { OnOk result (AreNextOf machine.now text.old.items → AreNextOf machine.now text.new.items) }
+{
     let mut listed = 0usize;
     for number in 1..machine.known_txns() {
         let t = TxnId(number as u16);
         if machine.status(t) == Status::InProgress {
             listed = listed.saturating_add(1);
             if listed <= MOST_TXNS {
-                prose = put_next_of(prose, notes, machine, t);
+                push_next_of(text, notes, machine, t)?;
             }
         }
     }
-    if listed > MOST_TXNS {
-        let more = listed.saturating_sub(MOST_TXNS);
-        prose = put!(prose; "and ", more, " more in progress (`next T` asks about one)\n");
+    Ok(listed)
+}
+
+// Adds that more transactions are in progress than are listed, if they are.
+fn push_more<A: Allocator>(text: &mut Vec<u8, A>, listed: usize) -> Result<(), AllocError>
+    ensures { OnOk result (text.new.items ≡ text.old.items ++ more_line listed) }
+{
+    if listed <= MOST_TXNS {
+        return Ok(());
     }
-    put_next_of(prose, notes, machine, first_unused(machine))
+    text.extend_from_slice(b"and ")?;
+    push_digits(text, (listed - MOST_TXNS) as u64)?;
+    push_line(text, b" more in progress (`next T` asks about one)")
+}
+
+// Adds what each transaction in progress may do next, and the first that has not begun.
+fn push_next_of_all<'a, A: Handle>(
+    text: &mut Vec<u8, A>,
+    notes: &'a Notes<A>,
+    machine: &'a Machine<A>,
+) -> Result<(), AllocError>
+    ensures { OnOk result (AreNextOf machine.now text.old.items → AreNextOf machine.now text.new.items) }
+{
+    let listed = push_next_of_first(text, notes, machine)?;
+    push_more(text, listed)?;
+    push_next_of(text, notes, machine, first_unused(machine))
+}
+
+// What a transaction may do next.
+fn next_of<'a, A: Handle>(
+    notes: &'a Notes<A>,
+    machine: &'a Machine<A>,
+    t: TxnId,
+) -> Result<Vec<u8, A>, AllocError>
+    ensures { IfOk result (λ text. IsNextOf machine.now t text.items) }
+{
+    let mut text = Vec::new(notes.allocator());
+    push_next_of(&mut text, notes, machine, t)?;
+    Ok(text)
+}
+
+// What each transaction in progress may do next, and the first that has not begun.
+fn next_of_all<'a, A: Handle>(
+    notes: &'a Notes<A>,
+    machine: &'a Machine<A>,
+) -> Result<Vec<u8, A>, AllocError>
+    ensures { IfOk result (λ text. AreNextOf machine.now text.items) }
+{
+    let mut text = Vec::new(notes.allocator());
+    push_next_of_all(&mut text, notes, machine)?;
+    Ok(text)
 }
 
 /// What a transaction may do next; or each that is in progress, and the first that has not begun.
@@ -452,10 +611,11 @@ pub(crate) fn next_text<'a, A: Handle>(
     notes: &'a Notes<A>,
     machine: &'a Machine<A>,
     t: Option<TxnId>,
-) -> Prose<A> {
-    let prose = Prose::new(notes.allocator());
+) -> Result<Vec<u8, A>, AllocError>
+    ensures { IfOk result (λ text. IsNext machine.now t text.items) }
+{
     match t {
-        Some(t) => put_next_of(prose, notes, machine, t),
-        None => put_next_of_all(prose, notes, machine),
+        Some(t) => next_of(notes, machine, t),
+        None => next_of_all(notes, machine),
     }
 }

@@ -18,7 +18,6 @@ pub(crate) struct Notes<A: Handle> {
     texts: Vec<StepText<A>, A>,
     // The first refused events, with the reasons.
     refusals: Vec<StepText<A>, A>,
-    refused: usize,
     looks_left: usize,
 }
 
@@ -29,7 +28,6 @@ impl<A: Handle> Notes<A> {
             steps: Steps::new(alloc),
             texts: Vec::new(alloc),
             refusals: Vec::new(alloc),
-            refused: 0,
             looks_left: MOST_LOOKS,
         }
     }
@@ -63,16 +61,10 @@ impl<A: Handle> Notes<A> {
 
     /// Notes an event that was refused, with its line and the reason. Only the first `MOST_RENDERED` reasons are kept.
     pub(crate) fn refuse(&mut self, event: String<A>, reason: String<A>) -> Result<(), AllocError> {
-        self.refused = self.refused.saturating_add(1);
-        if self.refused <= MOST_RENDERED {
+        if self.refusals.len() < MOST_RENDERED {
             self.refusals.push(StepText { event, reason })?;
         }
         Ok(())
-    }
-
-    /// How many events were refused.
-    pub(crate) fn refused(&self) -> usize {
-        self.refused
     }
 
     /// The refused event of this number, from 1, if its reason is kept.

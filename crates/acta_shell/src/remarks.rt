@@ -1,24 +1,17 @@
-//! The remarks after the lines that answer a command: the same in words, with the events to which it goes back.
+//! The remarks below the lines that answer a command: the same in words, with the events to which it goes back.
 
 use crate::notes::Notes;
 use acta_explain::{
-    LineIndex, MOST_RENDERED, Prose, class_at, name_text, put, put_barred, put_formed_edge,
-    put_line_text, put_operation, put_prospect, put_standing,
+    LineIndex, MOST_RENDERED, Prose, class_at, name_text, put, put_formed_edge, put_line_text,
+    put_operation, put_prospect, put_standing,
 };
 use acta_hope::{never_begin, operation_at};
 use acta_machine::{Handle, Machine};
 use acta_script::missing_word;
+use acta_session::Remark;
 use acta_table::{OpNo, Owed, TxnId};
 use acta_trace::is_edge_of;
-
-// The lines, each after a bar.
-fn barred<A: Handle>(alloc: A, lines: Prose<A>) -> Prose<A> {
-    let prose = Prose::new(alloc);
-    match lines.done() {
-        Ok(lines) => put_barred(prose, 2, lines.as_str()),
-        Err(_) => prose.fail(),
-    }
-}
+use std::alloc::AllocError;
 
 // Adds how a transaction stands, its class, its parent, and the event that began it.
 fn put_txn<A: Handle>(
@@ -48,17 +41,13 @@ pub(crate) fn status_remark<A: Handle>(
     machine: &Machine<A>,
     t: TxnId,
 ) -> Prose<A> {
-    let alloc = notes.allocator();
-    barred(
-        alloc,
-        put_txn(Prose::new(alloc), notes.lines(machine), machine, t),
-    )
+    let prose = Prose::new(notes.allocator());
+    put_txn(prose, notes.lines(machine), machine, t)
 }
 
 /// The operations that a transaction holds, each with its event.
 pub(crate) fn held_remark<A: Handle>(notes: &Notes<A>, machine: &Machine<A>, t: TxnId) -> Prose<A> {
-    let alloc = notes.allocator();
-    let mut prose = Prose::new(alloc);
+    let mut prose = Prose::new(notes.allocator());
     let Ok(held) = machine.access_set(t) else {
         return prose.fail();
     };
@@ -68,7 +57,7 @@ pub(crate) fn held_remark<A: Handle>(notes: &Notes<A>, machine: &Machine<A>, t: 
     if held.is_empty() {
         prose = put!(prose; t.0, " holds no operation in progress");
     }
-    barred(alloc, prose)
+    prose
 }
 
 // Adds an operation with its event and its holder.
@@ -91,8 +80,7 @@ pub(crate) fn conflicts_remark<A: Handle>(
     machine: &Machine<A>,
     t: TxnId,
 ) -> Prose<A> {
-    let alloc = notes.allocator();
-    let mut prose = Prose::new(alloc);
+    let mut prose = Prose::new(notes.allocator());
     let Ok(set) = machine.conflict_set(t) else {
         return prose.fail();
     };
@@ -103,7 +91,7 @@ pub(crate) fn conflicts_remark<A: Handle>(
         prose =
             put!(prose; "no other transaction holds an operation in progress that can conflict with one of ", t.0);
     }
-    barred(alloc, prose)
+    prose
 }
 
 // Adds that no edge is in force, or none of this transaction.
@@ -120,8 +108,7 @@ pub(crate) fn edges_remark<A: Handle>(
     machine: &Machine<A>,
     t: Option<TxnId>,
 ) -> Prose<A> {
-    let alloc = notes.allocator();
-    let mut prose = Prose::new(alloc);
+    let mut prose = Prose::new(notes.allocator());
     let mut number = 0u64;
     for edge in machine.edges() {
         number = number.saturating_add(1);
@@ -132,7 +119,7 @@ pub(crate) fn edges_remark<A: Handle>(
     if prose.is_empty() {
         prose = put_no_edge(prose, t);
     }
-    barred(alloc, prose)
+    prose
 }
 
 // Adds a debt with its edge, and whether it can be paid. `lost` is what `never_begin` says of the machine.
@@ -163,33 +150,40 @@ pub(crate) fn owed_remark<A: Handle>(notes: &Notes<A>, machine: &Machine<A>) -> 
     if owed.is_empty() {
         prose = prose.put("nothing is owed");
     }
-    barred(alloc, prose)
+    prose
 }
 
-// Adds that no refused event has this number, where there were so many.
-fn put_no_refusal<A: Handle>(prose: Prose<A>, number: usize, refused: usize) -> Prose<A> {
-    if refused == 0 {
-        prose.put("no event was refused\n")
-    } else if number > MOST_RENDERED && number <= refused {
-        put!(prose; "only the reasons of the first ", MOST_RENDERED, " refused events are kept\n")
-    } else {
-        put!(prose; "the refused events have the numbers 1 to ", refused, "\n")
+/// The words beside the answer to the refused event of this number, and those below it.
+pub(crate) fn refusal_remark<A: Handle>(
+    notes: &Notes<A>,
+    number: usize,
+) -> Result<Remark<Vec<u8, A>>, AllocError> {
+    let alloc = notes.allocator();
+    match notes.refusal(number) {
+        Some(refusal) => {
+            let beside =
+                put!(Prose::new(alloc); "refused event ", number, ": ", refusal.event.as_str());
+            let below = Prose::new(alloc).put(refusal.reason.as_str());
+            remark_of(beside, below)
+        }
+        None => {
+            let below = put!(Prose::new(alloc); "only the reasons of the first ", MOST_RENDERED,
+                " refused events are kept");
+            remark_of(Prose::new(alloc), below)
+        }
     }
 }
 
-/// Why the refused event of this number was refused, or the last one.
-pub(crate) fn why_text<A: Handle>(notes: &Notes<A>, number: Option<u32>) -> Prose<A> {
-    let prose = Prose::new(notes.allocator());
-    let refused = notes.refused();
-    let number = match number {
-        Some(number) => number as usize,
-        None => refused,
-    };
-    match notes.refusal(number) {
-        Some(refusal) => {
-            let prose = put!(prose; "refused event ", number, ": ", refusal.event.as_str(), "\n");
-            put_barred(prose, 2, refusal.reason.as_str())
-        }
-        None => put_no_refusal(prose, number, refused),
+/// The remark with these texts.
+pub(crate) fn remark_of<A: Handle>(
+    beside: Prose<A>,
+    below: Prose<A>,
+) -> Result<Remark<Vec<u8, A>>, AllocError> {
+    match (beside.done(), below.done()) {
+        (Ok(beside), Ok(below)) => Ok(Remark {
+            beside: beside.into_bytes(),
+            below: below.into_bytes(),
+        }),
+        _ => Err(AllocError),
     }
 }

@@ -1,14 +1,16 @@
-//! The words of replies to events, to questions, to moves and to faulty lines.
+//! The words of replies to events, to questions and to faulty lines.
 
 use crate::notes::Notes;
-use acta_explain::{
-    LineForm, Prose, Refused, Stop, fault_text, name_text, put, put_barred, put_formed,
-};
+use crate::remarks::remark_of;
+use acta_explain::{LineForm, Prose, Refused, Stop, fault_text, name_text, put, put_formed};
 use acta_hope::why_and_hope;
+use acta_io::MOST_SEATS;
 use acta_machine::{Handle, Machine};
 use acta_objects::{Members, ObjectState};
-use acta_script::{CAN_WORD, Diagnostic, ShellCommand, WordPlace, object_name, push_elements};
-use acta_session::Before;
+use acta_script::{
+    CAN_WORD, Diagnostic, LineFault, WordPlace, diagnose_seated, object_name, push_elements,
+};
+use acta_session::{Before, Remark};
 use acta_table::{Answer, Event, Model, ObjId, Op, OpNo, Ret};
 use acta_trace::Step;
 use acta_words::word_span;
@@ -97,7 +99,7 @@ fn step_of<A: Handle>(
     }
 }
 
-/// What follows the answer to an event that was admitted. The event is noted, with its text.
+/// What stands beside the answer to an event that was admitted. The event is noted, with its text.
 pub(crate) fn admitted_text<A: Handle>(
     notes: &mut Notes<A>,
     machine: &Machine<A>,
@@ -105,13 +107,12 @@ pub(crate) fn admitted_text<A: Handle>(
     event: Event<A>,
     answer: Answer,
     text: String<A>,
-) -> Result<Prose<A>, AllocError> {
+) -> Result<Remark<Vec<u8, A>>, AllocError> {
     let alloc = notes.allocator();
     let step = step_of(machine, before, event, answer);
     let change = put_change(Prose::new(alloc), alloc, machine, &step);
     notes.admit(step, text)?;
-    let gap = if change.is_empty() { "" } else { "    " };
-    Ok(Prose::new(alloc).put(gap).add(change).put("\n"))
+    remark_of(change, Prose::new(alloc))
 }
 
 // Why the machine refuses an event, in lines; nothing if it would admit it.
@@ -133,54 +134,28 @@ fn reason_text<'a, A: Handle>(
     }
 }
 
-/// What follows the answer to an event that was refused. The event is noted, with its text and the reason.
+/// What stands below the answer to an event that was refused. The event is noted, with its text and the reason.
 pub(crate) fn refused_text<A: Handle>(
     notes: &mut Notes<A>,
     machine: &Machine<A>,
     event: &Event<A>,
     text: String<A>,
-) -> Result<Prose<A>, AllocError> {
+) -> Result<Remark<Vec<u8, A>>, AllocError> {
     let reason = reason_text(notes, machine, event)?;
-    let prose = Prose::new(notes.allocator()).put("\n");
-    let prose = put_barred(prose, 2, reason.as_str());
+    let below = Prose::new(notes.allocator()).put(reason.as_str());
     notes.refuse(text, reason)?;
-    Ok(prose)
+    remark_of(Prose::new(notes.allocator()), below)
 }
 
-/// What follows the answer that the machine would give to an event.
+/// What stands below the answer that the machine would give to an event.
 pub(crate) fn question_text<A: Handle>(
     notes: &mut Notes<A>,
     machine: &Machine<A>,
     event: &Event<A>,
-) -> Result<Prose<A>, AllocError> {
+) -> Result<Remark<Vec<u8, A>>, AllocError> {
     let reason = reason_text(notes, machine, event)?;
-    let prose = Prose::new(notes.allocator()).put("\n");
-    Ok(put_barred(prose, 2, reason.as_str()))
-}
-
-// Adds that only so many events can be moved over.
-fn put_events_left<A: Handle>(prose: Prose<A>, count: u32, action: &str) -> Prose<A> {
-    match count {
-        0 => put!(prose; "no event can be ", action),
-        1 => put!(prose; "only 1 event can be ", action),
-        _ => put!(prose; "only ", count, " events can be ", action),
-    }
-}
-
-/// The reply to a command that cannot move, after this many of so many events.
-pub(crate) fn no_move_text<A: Handle>(
-    alloc: A,
-    at: u32,
-    last: u32,
-    command: ShellCommand,
-) -> Prose<A> {
-    let prose = Prose::new(alloc);
-    let prose = match command {
-        ShellCommand::Undo(_) => put_events_left(prose, at, "taken back"),
-        ShellCommand::Redo(_) => put_events_left(prose, last.saturating_sub(at), "done again"),
-        _ => put!(prose; "the places are 0 to ", last),
-    };
-    prose.put(" (nothing was done)\n")
+    let alloc = notes.allocator();
+    remark_of(Prose::new(alloc), Prose::new(alloc).put(reason.as_str()))
 }
 
 // What the line should have been: after the word `can` an event, and otherwise any line of a session.
@@ -195,25 +170,93 @@ fn form_of(line: &[u8], found: Diagnostic) -> LineForm {
     }
 }
 
-/// The reply to a faulty line: what is wrong and where, and below it what is expected there.
-pub(crate) fn fault_reply<A: Handle>(
+// What is wrong with a faulty line, after the name of its fault, and below that what is expected.
+fn worded<A: Handle>(
+    alloc: A,
+    fault: LineFault,
+    first: &str,
+    below: &str,
+) -> Result<Remark<Vec<u8, A>>, AllocError> {
+    let first = first.strip_prefix(fault.name()).unwrap_or(first);
+    let first = first.strip_prefix(", ").unwrap_or(first);
+    remark_of(
+        put!(Prose::new(alloc); first, " (nothing was done)"),
+        Prose::new(alloc).put(below),
+    )
+}
+
+// What is wrong with a faulty line and where.
+fn wrong_remark<A: Handle>(
+    alloc: A,
+    model: &Model<A>,
+    stop: &Stop<'_>,
+    found: Diagnostic,
+) -> Result<Remark<Vec<u8, A>>, AllocError> {
+    let text = fault_text(alloc, model, stop, found)?;
+    match text.as_str().split_once('\n') {
+        Some((first, below)) => worded(alloc, stop.fault, first, below),
+        None => worded(alloc, stop.fault, text.as_str(), ""),
+    }
+}
+
+/// The remark on a faulty line.
+pub(crate) fn fault_remark<A: Handle>(
     alloc: A,
     model: &Model<A>,
     line: &[u8],
     found: Diagnostic,
-) -> Result<Prose<A>, AllocError> {
+) -> Result<Remark<Vec<u8, A>>, AllocError> {
     let stop = Stop {
         line: 1,
         bytes: line,
         fault: found.fault,
         form: form_of(line, found),
     };
-    let text = fault_text(alloc, model, &stop, found)?;
-    let prose = Prose::new(alloc);
-    Ok(match text.as_str().split_once('\n') {
-        Some((first, others)) => {
-            put_barred(put!(prose; first, " (nothing was done)\n"), 2, others)
+    wrong_remark(alloc, model, &stop, found)
+}
+
+// The remark on a faulty line of programs with several alternatives, or where no word was found to be wrong.
+fn plain_remark<A: Handle>(alloc: A, fault: LineFault) -> Result<Remark<Vec<u8, A>>, AllocError> {
+    remark_of(
+        Prose::new(alloc).put("in a line of programs (nothing was done)"),
+        Prose::new(alloc).put(fault.sentence()),
+    )
+}
+
+// The remark on a faulty line of programs, where one is found.
+fn seated_remark<A: Handle>(
+    alloc: A,
+    model: &Model<A>,
+    line: &[u8],
+    fault: LineFault,
+) -> Result<Remark<Vec<u8, A>>, AllocError> {
+    if line.contains(&b'|') {
+        return plain_remark(alloc, fault);
+    }
+    match diagnose_seated(alloc, model, MOST_SEATS, line)? {
+        Some(found) if found.fault == fault => {
+            let stop = Stop {
+                line: 1,
+                bytes: line,
+                fault,
+                form: LineForm::Seated,
+            };
+            wrong_remark(alloc, model, &stop, found)
         }
-        None => put!(prose; text.as_str(), " (nothing was done)\n"),
-    })
+        _ => plain_remark(alloc, fault),
+    }
+}
+
+/// The remark on a faulty line of programs. Where the line has several alternatives, it says no place.
+pub(crate) fn program_fault_remark<A: Handle>(
+    alloc: A,
+    model: &Model<A>,
+    line: &[u8],
+    fault: LineFault,
+) -> Result<Remark<Vec<u8, A>>, AllocError> {
+    let mut remark = seated_remark(alloc, model, line, fault)?;
+    remark.below.extend_from_slice(
+        b"\na line of programs is SEAT EVENT [| EVENT]..., and an empty line ends them",
+    )?;
+    Ok(remark)
 }

@@ -4,19 +4,23 @@ use crate::help::help_text;
 use crate::next::next_text;
 use crate::notes::Notes;
 use crate::remarks::{
-    conflicts_remark, edges_remark, held_remark, owed_remark, status_remark, why_text,
+    conflicts_remark, edges_remark, held_remark, owed_remark, refusal_remark, status_remark,
 };
-use crate::replies::{admitted_text, fault_reply, no_move_text, question_text, refused_text};
+use crate::replies::{
+    admitted_text, fault_remark, program_fault_remark, question_text, refused_text,
+};
 use acta_draw::{Choice, Drawing, Form, Screen, draw_run};
 use acta_explain::{Prose, name_text};
 use acta_machine::{Handle, Machine};
-use acta_script::{Diagnostic, ShellCommand};
-use acta_session::{Before, Words};
+use acta_programs::{MOST_POINTS, explain_from};
+use acta_script::{Diagnostic, LineFault, ProgramLine, ShellCommand};
+use acta_session::{Before, Remark, Words};
 use acta_table::{Answer, Event, Model};
 use acta_trace::push_event_lines;
 use std::alloc::AllocError;
 
-/// The words of a session: those of `explain` and `draw`, with the events of the session in place of the lines of an input.
+/// The words of a session: those of `explain`, `draw` and `explore`, with the events of the session in place of the lines
+/// of an input.
 #[derive(Drop)]
 pub struct ShellWords<A: Handle> {
     notes: Notes<A>,
@@ -33,8 +37,8 @@ impl<A: Handle> ShellWords<A> {
         }
     }
 
-    // The remarks of a command, or its whole reply.
-    fn command_text(&self, machine: &Machine<A>, command: ShellCommand) -> Prose<A> {
+    // What stands below the lines of a command.
+    fn state_text(&self, machine: &Machine<A>, command: ShellCommand) -> Prose<A> {
         let notes = &self.notes;
         match command {
             ShellCommand::Status(t) => status_remark(notes, machine, t),
@@ -42,9 +46,6 @@ impl<A: Handle> ShellWords<A> {
             ShellCommand::Conflicts(t) => conflicts_remark(notes, machine, t),
             ShellCommand::Edges(t) => edges_remark(notes, machine, t),
             ShellCommand::Owed => owed_remark(notes, machine),
-            ShellCommand::Why(number) => why_text(notes, number),
-            ShellCommand::Next(t) => next_text(notes, machine, t),
-            ShellCommand::Help(topic) => help_text(notes.allocator(), topic),
             _ => Prose::new(notes.allocator()),
         }
     }
@@ -69,7 +70,14 @@ fn bytes_of<A: Handle>(prose: Prose<A>) -> Result<Vec<u8, A>, AllocError> {
     Ok(prose.done()?.into_bytes())
 }
 
-impl<A: Handle> Words<Event<A>, Machine<A>, Model<A>, Vec<u8, A>> for ShellWords<A> {
+impl<A: Handle> Words<Event<A>, Machine<A>, Model<A>, ProgramLine<A>, Vec<u8, A>>
+    for ShellWords<A> {
+    ghost use Rattle.acta_shell.specs.Sessions.{says as say, says_ends as say_ends};
+
+    ghost says = { say };
+
+    ghost says_ends = { say_ends };
+
     fn of_event(
         &mut self,
         machine: &Machine<A>,
@@ -77,34 +85,23 @@ impl<A: Handle> Words<Event<A>, Machine<A>, Model<A>, Vec<u8, A>> for ShellWords
         event: Event<A>,
         line: Vec<u8, A>,
         answer: Answer,
-    ) -> Result<Vec<u8, A>, AllocError> {
+    ) -> Result<Remark<Vec<u8, A>>, AllocError> {
         let notes = &mut self.notes;
         let text = Prose::new(notes.allocator())
             .put(name_text(line.as_slice()))
             .done()?;
-        bytes_of(match answer {
-            Answer::Admitted { .. } => {
-                admitted_text(notes, machine, before, event, answer, text)?
-            }
-            Answer::Refused { .. } => refused_text(notes, machine, &event, text)?,
-        })
+        match answer {
+            Answer::Admitted { .. } => admitted_text(notes, machine, before, event, answer, text),
+            Answer::Refused { .. } => refused_text(notes, machine, &event, text),
+        }
     }
 
     fn of_question(
         &mut self,
         machine: &Machine<A>,
         event: &Event<A>,
-    ) -> Result<Vec<u8, A>, AllocError> {
-        bytes_of(question_text(&mut self.notes, machine, event)?)
-    }
-
-    fn of_no_move(
-        &mut self,
-        at: u32,
-        last: u32,
-        command: ShellCommand,
-    ) -> Result<Vec<u8, A>, AllocError> {
-        bytes_of(no_move_text(self.notes.allocator(), at, last, command))
+    ) -> Result<Remark<Vec<u8, A>>, AllocError> {
+        question_text(&mut self.notes, machine, event)
     }
 
     fn of_fault(
@@ -112,8 +109,29 @@ impl<A: Handle> Words<Event<A>, Machine<A>, Model<A>, Vec<u8, A>> for ShellWords
         model: &Model<A>,
         line: &[u8],
         found: Diagnostic,
+    ) -> Result<Remark<Vec<u8, A>>, AllocError> {
+        fault_remark(self.notes.allocator(), model, line, found)
+    }
+
+    fn of_program_fault(
+        &mut self,
+        model: &Model<A>,
+        line: &[u8],
+        fault: LineFault,
+    ) -> Result<Remark<Vec<u8, A>>, AllocError> {
+        program_fault_remark(self.notes.allocator(), model, line, fault)
+    }
+
+    fn of_refusal(&mut self, number: usize) -> Result<Remark<Vec<u8, A>>, AllocError> {
+        refusal_remark(&self.notes, number)
+    }
+
+    fn of_state(
+        &mut self,
+        machine: &Machine<A>,
+        command: ShellCommand,
     ) -> Result<Vec<u8, A>, AllocError> {
-        bytes_of(fault_reply(self.notes.allocator(), model, line, found)?)
+        bytes_of(self.state_text(machine, command))
     }
 
     fn of_command(
@@ -123,7 +141,25 @@ impl<A: Handle> Words<Event<A>, Machine<A>, Model<A>, Vec<u8, A>> for ShellWords
     ) -> Result<Vec<u8, A>, AllocError> {
         match command {
             ShellCommand::Draw => self.picture(machine),
-            _ => bytes_of(self.command_text(machine, command)),
+            ShellCommand::Next(t) => next_text(&self.notes, machine, t),
+            ShellCommand::Help(topic) => help_text(self.notes.allocator(), topic),
+            _ => Ok(Vec::new(self.notes.allocator())),
         }
+    }
+
+    fn of_programs(
+        &mut self,
+        machine: &Machine<A>,
+        lines: &[ProgramLine<A>],
+        typed: &[u8],
+    ) -> Result<Vec<u8, A>, AllocError> {
+        explain_from(
+            self.notes.allocator(),
+            MOST_POINTS,
+            machine,
+            lines,
+            typed,
+            &mut (),
+        )
     }
 }

@@ -47,6 +47,13 @@ events
 goto 9
 gotto 1
 value y
+why 9
+explore
+1 begin 7 try
+1 do 7 x write 1 | abort 7
+2 begin
+# no end yet
+
 quit";
 
 // Holds a session.

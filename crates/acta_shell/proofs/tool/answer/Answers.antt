@@ -1,6 +1,7 @@
 use Rattle.std.proofs.Common.{subst}
-use Rattle.acta_debug.specs.Sessions.{Session}
 use Rattle.acta_session.specs.Dialogues.{IsDialogue}
+use Rattle.acta_session.specs.Shells.{ShellState}
+use Rattle.acta_shell.specs.Sessions.{shows}
 use Rattle.acta_shell.proofs.tool.answer.Goals as goal
 
 pub returns-in-Ok : goal.returns-in-Ok
@@ -10,5 +11,5 @@ returns-in-Ok g c = λ done.
       acts = talk.0;
       last = c.converse.new.shell;
       happened = talk.1;
-      dialogue = subst (λ (s : Session g.row.A.Denot). IsDialogue c.args.prompt.now s talk.0 c.converse.new.shell) c.in-Ok.ensures talk.2;
+      dialogue = subst (λ (s : ShellState g.row.A.Denot). IsDialogue (shows c.args.prompt.now) s talk.0 c.converse.new.shell) c.in-Ok.ensures talk.2;
     }
