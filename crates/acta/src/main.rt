@@ -73,6 +73,29 @@ fn model_bytes<R: Files + AllocGlobal>(rt: &R, name: ModelName<'_>) -> Result<Ve
     }
 }
 
+// Which of the standard streams are terminals.
+#[derive(Clone, Copy)]
+struct Terminals {
+    input: bool,
+    output: bool,
+    error: bool,
+}
+
+// Says that lines are read, if they are typed: no answer comes before their end.
+fn tell_reading<R: Eprint>(rt: &R, terminals: Terminals) {
+    if terminals.input && terminals.error {
+        let _ = eprintln!(rt; "reading lines until Ctrl-D; the answers come then");
+    }
+}
+
+// Whether a command with a specified format reads the standard input.
+fn reads_lines(command: Command) -> bool {
+    !matches!(
+        command,
+        Command::Assemble | Command::CheckImage | Command::Upgrade
+    )
+}
+
 // Names the command that shows the fault for which an input was refused, if there is one.
 fn hint_at_explain<R: Eprint>(rt: &R, command: Command) {
     let (flag, limit) = match command {
@@ -139,10 +162,10 @@ fn judge_told<R: Eprint + Input + Print + AllocGlobal + Threads + Sync>(
     outcome
 }
 
-// Runs a command with a specified format over the standard input and output; the standard error may be a terminal.
+// Runs a command with a specified format over the standard input and output.
 fn serve_run<R: Eprint + Files + Input + Print + AllocGlobal + Threads + Wait + Sync>(
     rt: &R,
-    is_terminal: bool,
+    terminals: Terminals,
     args: &Args<'_>,
 ) -> Result<Outcome, Failure> {
     let model = match model_bytes(rt, args.model) {
@@ -150,6 +173,10 @@ fn serve_run<R: Eprint + Files + Input + Print + AllocGlobal + Threads + Wait + 
         Err(reason) => return Ok(Outcome::Unread(reason)),
     };
     let model = model.as_slice();
+    if reads_lines(args.command) {
+        tell_reading(rt, terminals);
+    }
+    let is_terminal = terminals.error;
     if is_terminal && matches!(args.command, Command::Judge) {
         return Ok(judge_told(rt, args, model));
     }
@@ -178,8 +205,9 @@ fn serve_run<R: Eprint + Files + Input + Print + AllocGlobal + Threads + Wait + 
 }
 
 // Explains the lines of the standard input, which are of this kind, on the model of this name.
-fn explain_by<R: Files + Input + Print + AllocGlobal + Threads + Sync>(
+fn explain_by<R: Eprint + Files + Input + Print + AllocGlobal + Threads + Sync>(
     rt: &R,
+    terminals: Terminals,
     kind: LineKind,
     name: ModelName<'_>,
 ) -> Outcome {
@@ -187,6 +215,7 @@ fn explain_by<R: Files + Input + Print + AllocGlobal + Threads + Sync>(
         Ok(model) => model,
         Err(reason) => return Outcome::Unread(reason),
     };
+    tell_reading(rt, terminals);
     explain_tool(
         rt,
         rt.alloc(),
@@ -199,28 +228,30 @@ fn explain_by<R: Files + Input + Print + AllocGlobal + Threads + Sync>(
 }
 
 // Explains what the words ask for.
-fn serve_explain<R: Files + Input + Print + AllocGlobal + Threads + Sync>(
+fn serve_explain<R: Eprint + Files + Input + Print + AllocGlobal + Threads + Sync>(
     rt: &R,
+    terminals: Terminals,
     words: &[String],
 ) -> Result<Outcome, UsageFault> {
     Ok(match parse::<ExplainLine>(rt.alloc(), words)? {
-        Asked::Lines(kind, name) => explain_by(rt, kind, name),
+        Asked::Lines(kind, name) => explain_by(rt, terminals, kind, name),
         Asked::Words(told) => write_words(told, &mut Watched::new(io::writer(rt))),
     })
 }
 
 // Draws what the words ask for.
-fn serve_draw<R: Env + Files + Input + Print + AllocGlobal>(
+fn serve_draw<R: Env + Eprint + Files + Input + Print + AllocGlobal>(
     rt: &R,
-    is_terminal: bool,
+    terminals: Terminals,
     words: &[String],
 ) -> Result<Outcome, UsageFault> {
-    let screen = Screen::of(rt, is_terminal);
+    let screen = Screen::of(rt, terminals.output);
     let asked = parse::<DrawLine>(rt.alloc(), words)?;
     let model = match model_bytes(rt, asked.model) {
         Ok(model) => model,
         Err(reason) => return Ok(Outcome::Unread(reason)),
     };
+    tell_reading(rt, terminals);
     Ok(draw_tool(
         rt.alloc(),
         &asked.drawing,
@@ -231,10 +262,10 @@ fn serve_draw<R: Env + Files + Input + Print + AllocGlobal>(
     ))
 }
 
-// Finds how the programs of the standard input can end; the standard error may be a terminal.
+// Finds how the programs of the standard input can end.
 fn serve_explore<R: Clock + Eprint + Files + Input + Print + AllocGlobal>(
     rt: &R,
-    is_terminal: bool,
+    terminals: Terminals,
     words: &[String],
 ) -> Result<Outcome, UsageFault> {
     let asked = parse::<ExploreLine>(rt.alloc(), words)?;
@@ -242,20 +273,21 @@ fn serve_explore<R: Clock + Eprint + Files + Input + Print + AllocGlobal>(
         Ok(model) => model,
         Err(reason) => return Ok(Outcome::Unread(reason)),
     };
+    tell_reading(rt, terminals);
     Ok(explore_tool(
         rt.alloc(),
         asked,
         model.as_slice(),
         &mut Metered::new(rt.reader()),
         &mut Watched::new(io::writer(rt)),
-        &mut Progress::new(rt, is_terminal),
+        &mut Progress::new(rt, terminals.error),
     ))
 }
 
-// Compares two models on the standard input; the standard error may be a terminal.
+// Compares two models on the standard input.
 fn serve_compare<R: Clock + Eprint + Files + Input + Print + AllocGlobal>(
     rt: &R,
-    is_terminal: bool,
+    terminals: Terminals,
     words: &[String],
 ) -> Result<Outcome, UsageFault> {
     let asked = parse::<CompareLine>(rt.alloc(), words)?;
@@ -267,6 +299,7 @@ fn serve_compare<R: Clock + Eprint + Files + Input + Print + AllocGlobal>(
         Ok(other) => other,
         Err(reason) => return Ok(Outcome::Unread(reason)),
     };
+    tell_reading(rt, terminals);
     Ok(compare_tool(
         rt.alloc(),
         asked,
@@ -274,13 +307,14 @@ fn serve_compare<R: Clock + Eprint + Files + Input + Print + AllocGlobal>(
         other.as_slice(),
         &mut Metered::new(rt.reader()),
         &mut Watched::new(io::writer(rt)),
-        &mut Progress::new(rt, is_terminal),
+        &mut Progress::new(rt, terminals.error),
     ))
 }
 
 // Finds a serial order of the kept lines of the standard input.
-fn serve_serialize<R: Files + Input + Print + AllocGlobal>(
+fn serve_serialize<R: Eprint + Files + Input + Print + AllocGlobal>(
     rt: &R,
+    terminals: Terminals,
     words: &[String],
 ) -> Result<Outcome, UsageFault> {
     let asked = parse::<SerializeLine>(rt.alloc(), words)?;
@@ -288,6 +322,7 @@ fn serve_serialize<R: Files + Input + Print + AllocGlobal>(
         Ok(model) => model,
         Err(reason) => return Ok(Outcome::Unread(reason)),
     };
+    tell_reading(rt, terminals);
     Ok(serialize_tool(
         rt.alloc(),
         asked,
@@ -394,14 +429,6 @@ fn tell_version<R: Print>(rt: &R) -> Outcome {
     }
 }
 
-// Which of the standard streams are terminals.
-#[derive(Clone, Copy)]
-struct Terminals {
-    input: bool,
-    output: bool,
-    error: bool,
-}
-
 // Runs the command that the words name.
 fn serve<R: Clock + Env + Eprint + Files + Input + Print + AllocGlobal + Threads + Wait + Sync>(
     rt: &R,
@@ -413,17 +440,17 @@ fn serve<R: Clock + Env + Eprint + Files + Input + Print + AllocGlobal + Threads
         None => "",
     };
     Ok(match command {
-        "draw" => serve_draw(rt, terminals.output, words)?,
-        "explain" => serve_explain(rt, words)?,
-        "explore" => serve_explore(rt, terminals.error, words)?,
-        "compare" => serve_compare(rt, terminals.error, words)?,
-        "serialize" => serve_serialize(rt, words)?,
+        "draw" => serve_draw(rt, terminals, words)?,
+        "explain" => serve_explain(rt, terminals, words)?,
+        "explore" => serve_explore(rt, terminals, words)?,
+        "compare" => serve_compare(rt, terminals, words)?,
+        "serialize" => serve_serialize(rt, terminals, words)?,
         "shell" => serve_shell(rt, terminals, words)?,
         "--version" | "-V" => tell_version(rt),
         "--models" => tell_models(rt, words.get(1..).unwrap_or(&[]))?,
         _ if is_command(command) => {
             let args = acta_tool::parse(rt.alloc(), words)?;
-            serve_run(rt, terminals.error, &args)?
+            serve_run(rt, terminals, &args)?
         }
         _ => return Err(Failure::Words(refuse_words(rt.alloc(), words))),
     })
