@@ -46,6 +46,37 @@ fn object_named<A: Allocator>(model: &Model<A>, word: &[u8]) -> Option<ObjId> {
     Some(ObjId(u16::try_from(place).ok()?))
 }
 
+// Adds the element that the word says; answers whether it says one.
+fn add_element<A: Allocator + Copy>(
+    members: &mut Members<A>,
+    word: &[u8],
+) -> Result<bool, AllocError> {
+    match read_i32(word) {
+        Some(element) => {
+            members.insert(element)?;
+            Ok(true)
+        }
+        None => Ok(false),
+    }
+}
+
+// Adds the elements that the word says, with commas between them; answers whether each part says one.
+fn add_elements<A: Allocator + Copy>(
+    members: &mut Members<A>,
+    word: &[u8],
+) -> Result<bool, AllocError> {
+    let mut start = 0;
+    for (place, byte) in word.iter().enumerate() {
+        if *byte == b',' {
+            if !add_element(members, &word[start..place])? {
+                return Ok(false);
+            }
+            start = place + 1;
+        }
+    }
+    add_element(members, &word[start..])
+}
+
 // The elements of the set that the word says, ascending, each once.
 fn elements_of<A: Allocator + Copy>(
     alloc: A,
@@ -55,16 +86,11 @@ fn elements_of<A: Allocator + Copy>(
         return Ok(None);
     };
     let mut members = Members::new(alloc);
-    if inside.is_empty() {
+    if inside.is_empty() || add_elements(&mut members, inside)? {
         return Ok(Some(members.listed(alloc)?));
     }
-    for part in inside.split(|byte| *byte == b',') {
-        let Some(element) = read_i32(part) else {
-            return Ok(None);
-        };
-        members.insert(element)?;
-    }
-    Ok(Some(members.listed(alloc)?))
+    drop(members);
+    Ok(None)
 }
 
 // The test that an object of this kind has the value that the word says.
