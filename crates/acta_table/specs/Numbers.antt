@@ -1,5 +1,5 @@
--- The numbers of the rules and of the faults of models: they are read in this order.
-use Rattle.std.specs.Prelude.{ℕ}
+-- The numbers and names of the rules, and the numbers of the faults of models: they are read in this order.
+use Rattle.std.specs.Prelude.{ℕ, List, codes}
 use Rattle.acta_table.specs.declared.answer.Rule.{Rule}
 use Rattle.acta_table.specs.declared.answer.Rule.TheVariants.{Full, BadNumber, BadClass, BadObject, BadOperation, SameTransaction, NotInProgress, AlreadyBegun, NotInModel, PartnerNotInProgress, NotResponsible, PartialDelegation, BadSet, Conflict, FormTooLate, EdgesFull, BeginDep, SerialDep, BeginOnCommit, BeginOnAbort, TerminationDep, OwesAbort, OwesCommit, CommitOrder, WeakBegin, Unpayable, Clash, NoHeir}
 use Rattle.acta_table.specs.declared.model.ModelFault.{ModelFault}
@@ -34,6 +34,36 @@ rule_number WeakBegin = 25
 rule_number Unpayable = 26
 rule_number Clash = 27
 rule_number NoHeir = 28
+
+abbrev pub rule_name : Rule → List ℕ
+rule_name Full = codes "Full"
+rule_name BadNumber = codes "BadNumber"
+rule_name BadClass = codes "BadClass"
+rule_name BadObject = codes "BadObject"
+rule_name BadOperation = codes "BadOperation"
+rule_name SameTransaction = codes "SameTransaction"
+rule_name NotInProgress = codes "NotInProgress"
+rule_name AlreadyBegun = codes "AlreadyBegun"
+rule_name NotInModel = codes "NotInModel"
+rule_name PartnerNotInProgress = codes "PartnerNotInProgress"
+rule_name NotResponsible = codes "NotResponsible"
+rule_name PartialDelegation = codes "PartialDelegation"
+rule_name BadSet = codes "BadSet"
+rule_name Conflict = codes "Conflict"
+rule_name FormTooLate = codes "FormTooLate"
+rule_name EdgesFull = codes "EdgesFull"
+rule_name BeginDep = codes "BeginDep"
+rule_name SerialDep = codes "SerialDep"
+rule_name BeginOnCommit = codes "BeginOnCommit"
+rule_name BeginOnAbort = codes "BeginOnAbort"
+rule_name TerminationDep = codes "TerminationDep"
+rule_name OwesAbort = codes "OwesAbort"
+rule_name OwesCommit = codes "OwesCommit"
+rule_name CommitOrder = codes "CommitOrder"
+rule_name WeakBegin = codes "WeakBegin"
+rule_name Unpayable = codes "Unpayable"
+rule_name Clash = codes "Clash"
+rule_name NoHeir = codes "NoHeir"
 
 abbrev pub model_fault_number : ModelFault → ℕ
 model_fault_number fault.NoClass = 1

@@ -1,5 +1,8 @@
 //! Rules, kinds of dependency and faults of models in words: what each is called, and what it says in a sentence.
 
+ghost use Rattle.std.specs.Prelude.{◌≡◌};
+ghost use Rattle.acta_table.specs.Numbers.{rule_name};
+
 use crate::answer::Rule;
 use crate::dep::Dep;
 use crate::model::ModelFault;
@@ -8,7 +11,9 @@ use std::fmt;
 
 impl Rule {
     /// The name of the rule.
-    pub fn name(self) -> &'static str {
+    pub fn name(self) -> &'static str
+        ensures { result.now ≡ rule_name self }
+    {
         match self {
             Rule::Full => "Full",
             Rule::BadNumber => "BadNumber",
