@@ -23,6 +23,9 @@ use acta_table::{Answer, Event, Kept, MOST_EVENTS, Model};
 use std::alloc::AllocError;
 use std::mem::replace;
 
+// How many events before a place its checkpoint stands at most, where moves go back one by one.
+const NEAR: usize = 512;
+
 /// A history, a place in it, the machine as it was there, and breaks (ours). Contracts see the model, the history, how
 /// many of its events are behind the debugger, and the breaks: the machine is what these events leave.
 #[derive(Drop)]
@@ -83,6 +86,17 @@ fn has_between<A: Handle>(machines: &[Machine<A>], least: usize, most: usize) ->
         }
     }
     false
+}
+
+// How many events the machine has kept that is so many from the end, of which the last is one; 0 where there is none.
+fn kept_from_end<A: Handle>(machines: &[Machine<A>], number: usize) -> usize {
+    let Some(place) = machines.len().checked_sub(number) else {
+        return 0;
+    };
+    match machines.get(place) {
+        Some(machine) => machine.history().len(),
+        None => 0,
+    }
 }
 
 // Whether the machine has kept at most so many events.
@@ -249,22 +263,33 @@ impl<A: Handle> Debugger<A> {
         Ok(answer)
     }
 
-    // Leaves a checkpoint if the nearest one is far back: the distance grows with the history, so that all together keep some
-    // seventeen times its items.
+    // Leaves a checkpoint if the last one is not near. It takes the place of the last one where that stands close behind
+    // the one before it: so all together keep some seventeen times the items of the history.
     fn mark(&mut self) -> Result<(), AllocError>
         ensures { self.new ≡ self.old }
     {
         let kept = self.machine.history().len();
-        let last = match nearest_of(self.checkpoints.as_slice(), kept) {
-            Some(k) => self.checkpoints[k].history().len(),
-            None => 0,
-        };
-        if kept.saturating_sub(last) < LEAST_DISTANCE.max(kept / 16) {
+        let last = kept_from_end(self.checkpoints.as_slice(), 1);
+        if kept.saturating_sub(last) < LEAST_DISTANCE.max(kept / 64) {
             return Ok(());
         }
+        let step = last.saturating_sub(kept_from_end(self.checkpoints.as_slice(), 2));
+        self.leave(step < LEAST_DISTANCE.max(kept / 16))
+    }
+
+    // Leaves a copy of the machine as a checkpoint, in the place of the last one if it replaces that. `Err`, where there
+    // is no memory, leaves none.
+    fn leave(&mut self, replaces: bool) -> Result<(), AllocError>
+        ensures { self.new ≡ self.old }
+    {
         self.checkpoints.reserve(1)?;
         let checkpoint = self.machine.copy()?;
-        self.checkpoints.push_reserved(checkpoint);
+        let count = self.checkpoints.len();
+        if replaces && count > 0 {
+            drop(replace(&mut self.checkpoints[count - 1], checkpoint));
+        } else {
+            self.checkpoints.push_reserved(checkpoint);
+        }
         Ok(())
     }
 
@@ -336,24 +361,60 @@ impl<A: Handle> Debugger<A> {
         }
     }
 
-    // Sees to it that a checkpoint stands behind no more than n events, and not many fewer: where none does, the last of
-    // them is brought there. So one move back after another takes few events. `Err`, where there is no memory, leaves
-    // all as it was.
+    // Sees to it that a checkpoint stands behind no more than n events, and not many fewer. So one move back after another
+    // takes few events. `Err`, where there is no memory, leaves the debugger as it was.
     fn draw_near(&mut self, n: usize) -> Result<(), AllocError>
         requires { n ≤ length self.old.history }
         ensures { self.new ≡ self.old }
     {
-        let start = n.saturating_sub(LEAST_DISTANCE);
+        let start = n.saturating_sub(NEAR);
         if has_between(self.checkpoints.as_slice(), start, n) {
             return Ok(());
         }
-        let machine = self.machine_behind(start)?;
+        if has_between(self.checkpoints.as_slice(), start.saturating_sub(NEAR), start) {
+            self.bring(start)
+        } else {
+            self.bring_copy(start)
+        }
+    }
+
+    // Brings the last of the checkpoints that stand behind no more than n events to behind the first n. `Err`, where there
+    // is no memory, may leave one that stands at the start in its place.
+    fn bring(&mut self, n: usize) -> Result<(), AllocError>
+        requires { n ≤ length self.old.history }
+        ensures { self.new ≡ self.old }
+    {
+        let Some(k) = nearest_of(self.checkpoints.as_slice(), n) else {
+            return Ok(());
+        };
+        let model = self.machine.model().copy()?;
+        let at_start = Machine::new(*self.history.allocator(), model)?;
+        let mut machine = replace(&mut self.checkpoints[k], at_start);
+        let taken = machine.history().len();
+        match take_events(&mut machine, &self.history.as_slice()[taken..n]) {
+            Ok(()) => {
+                drop(replace(&mut self.checkpoints[k], machine));
+                Ok(())
+            }
+            Err(error) => {
+                drop(machine);
+                Err(error)
+            }
+        }
+    }
+
+    // Puts a machine that stands behind the first n events in the place of the last of the checkpoints, if there is one.
+    // `Err`, where there is no memory, leaves them as they were.
+    fn bring_copy(&mut self, n: usize) -> Result<(), AllocError>
+        requires { n ≤ length self.old.history }
+        ensures { self.new ≡ self.old }
+    {
         let count = self.checkpoints.len();
         if count == 0 {
-            drop(machine);
-        } else {
-            drop(replace(&mut self.checkpoints[count - 1], machine));
+            return Ok(());
         }
+        let machine = self.machine_behind(n)?;
+        drop(replace(&mut self.checkpoints[count - 1], machine));
         Ok(())
     }
 

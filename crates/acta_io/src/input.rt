@@ -1,6 +1,6 @@
 //! The lines of an input, read one by one, up to the first line that says nothing.
 
-ghost use Rattle.std.specs.Prelude.{◌≡◌, ◌==◌, ◌<◌, ◌+◌, ◌^◌, ℕ, List, Result, Ok, false, length, option_map, All, IfOk, IfErr, IfSome, IfNone};
+ghost use Rattle.std.specs.Prelude.{◌≡◌, ◌==◌, ◌<◌, ◌+◌, ◌^◌, ℕ, List, Result, Ok, false, length, option_map, IfOk, IfErr, IfNone};
 ghost use Rattle.acta_script.specs.declared.fault.LineFault.{LineFault};
 ghost use Rattle.acta_script.specs.Reading.{IsWhy};
 ghost use Rattle.acta_words.specs.Text.{words_of};
@@ -33,16 +33,13 @@ pub enum LineKind {
 
 /// How a line is read, as an X.
 pub trait LineReader<X> {
-    // What a line says, and what holds of it.
+    // What a line says.
     ghost said: { Self → List ℕ → Result X LineFault };
-
-    ghost fits: { Self → X → Type 0 };
 
     /// What the line says, its fault, or want of memory.
     fn read(&self, line: &[u8]) -> Result<X, LineError>
         ensures ok { IfOk result (λ x. said self.now line.now ≡ Ok x) }
-        ensures fault { IfErr result (IsWhy (said self.now line.now)) }
-        ensures fits { IfOk result (fits self.now) };
+        ensures fault { IfErr result (IsWhy (said self.now line.now)) };
 }
 
 /// Reads lines as events.
@@ -53,12 +50,9 @@ pub struct EventLines<'a, A: Allocator + Copy> {
 }
 
 impl<'a, A: Allocator + Copy> LineReader<Event<A>> for EventLines<'a, A> {
-    ghost use Rattle.acta_script.specs.Laws.{IsInModel};
     ghost use Rattle.acta_script.specs.Reading.{event_of};
 
     ghost said = { λ r. event_of r.model.now };
-
-    ghost fits = { λ r event. IsInModel r.model.now event };
 
     fn read(&self, line: &[u8]) -> Result<Event<A>, LineError> {
         read_event(self.alloc, self.model, line)
@@ -73,12 +67,9 @@ pub struct KeptLines<'a, A: Allocator + Copy> {
 }
 
 impl<'a, A: Allocator + Copy> LineReader<Kept<A>> for KeptLines<'a, A> {
-    ghost use Rattle.acta_script.specs.Laws.{IsInModel};
     ghost use Rattle.acta_script.specs.Reading.{kept_of};
 
     ghost said = { λ r. kept_of r.model.now };
-
-    ghost fits = { λ r kept. IsInModel r.model.now kept.event };
 
     fn read(&self, line: &[u8]) -> Result<Kept<A>, LineError> {
         read_kept(self.alloc, self.model, line)
@@ -93,12 +84,9 @@ pub struct CommandLines<'a, A: Allocator + Copy> {
 }
 
 impl<'a, A: Allocator + Copy> LineReader<DebugCommand> for CommandLines<'a, A> {
-    ghost use Rattle.std.specs.Prelude.{⊤};
     ghost use Rattle.acta_script.specs.Commands.{command_of};
 
     ghost said = { λ r. command_of r.model.now };
-
-    ghost fits = { λ r command. ⊤ };
 
     fn read(&self, line: &[u8]) -> Result<DebugCommand, LineError> {
         read_command(self.alloc, self.model, line)
@@ -114,12 +102,9 @@ pub struct SeatedLines<'a, A: Allocator + Copy> {
 }
 
 impl<'a, A: Allocator + Copy> LineReader<Seated<A>> for SeatedLines<'a, A> {
-    ghost use Rattle.acta_script.specs.Laws.{IsInModel};
     ghost use Rattle.acta_script.specs.Reading.{seated_of};
 
     ghost said = { λ r. seated_of r.model.now r.seats };
-
-    ghost fits = { λ r seated. IsInModel r.model.now seated.event };
 
     fn read(&self, line: &[u8]) -> Result<Seated<A>, LineError> {
         read_seated(self.alloc, self.model, self.seats, line)
@@ -135,12 +120,9 @@ pub struct ProgramLines<'a, A: Allocator + Copy> {
 }
 
 impl<'a, A: Allocator + Copy> LineReader<ProgramLine<A>> for ProgramLines<'a, A> {
-    ghost use Rattle.acta_script.specs.Laws.{IsInModel};
     ghost use Rattle.acta_script.specs.Reading.{program_line_of};
 
     ghost said = { λ r. program_line_of r.model.now r.seats };
-
-    ghost fits = { λ r step. All (IsInModel r.model.now) step.alternatives };
 
     fn read(&self, line: &[u8]) -> Result<ProgramLine<A>, LineError> {
         read_program_line(self.alloc, self.model, self.seats, line)
@@ -166,7 +148,6 @@ fn said_by<X, L: LineReader<X>>(reader: &L, line: &[u8]) -> Result<Option<X>, Li
     ensures ok { IfOk result (λ x. said_by (L.said reader.now) line.now ≡ option_map Ok x) }
     ensures words { IfErr result (λ _. (length (words_of line.now) == 0) ≡ false) }
     ensures fault { IfErr result (IsWhy (L.said reader.now line.now)) }
-    ensures fits { IfOk result (λ x. IfSome x (L.fits reader.now)) }
 {
     if has_words(line) {
         Ok(Some(reader.read(line)?))
@@ -185,7 +166,6 @@ pub fn read_left<X: Drop, A: Allocator, L: LineReader<X>>(
 ) -> Result<Input<X, A>, AllocError>
     requires { taken + length (lines_to_come left) < 2 ^ 64 }
     ensures said { IfOk result (λ read. said_from (L.said reader.now) (taken + 1) (lines_to_come left.entry) ≡ record { said = read.said.items; stop = read.stop }) }
-    ensures fits { IfOk result (λ read. All (L.fits reader.now) read.said.items) }
 {
     let mut said = Vec::new(alloc);
     let mut lines = left;
@@ -217,7 +197,6 @@ pub fn read_lines<X: Drop, A: Allocator, L: LineReader<X>>(
     input: &[u8],
 ) -> Result<Input<X, A>, AllocError>
     ensures said { IfOk result (λ read. said_in (L.said reader.now) input.now ≡ record { said = read.said.items; stop = read.stop }) }
-    ensures fits { IfOk result (λ read. All (L.fits reader.now) read.said.items) }
     ensures numbered { IfOk result (λ read. IfNone read.stop (length (line_numbers input.now) ≡ length read.said.items)) }
 {
     let lines = Lines::of(input);

@@ -3,7 +3,6 @@
 ghost use Rattle.std.specs.Prelude.{◌≡◌, ◌<◌, ◌++◌, ◌∷◌, [], false, length, map, option_map, IfOk, OnOk};
 ghost use Rattle.acta_table.specs.Numbered.{item_at};
 ghost use Rattle.acta_words.specs.Text.{text_of};
-ghost use Rattle.acta_script.specs.Laws.{IsInModel};
 ghost use Rattle.acta_script.specs.Writing.{event_line};
 ghost use Rattle.acta_explore.specs.Outcomes.{outcome};
 ghost use Rattle.acta_io.specs.inside.Reports.{output_of};
@@ -74,7 +73,6 @@ fn push_event<A: Allocator + Copy>(
     model: &Model<A>,
     event: &Event<A>,
 ) -> Result<(), AllocError>
-    requires { IsInModel model.now event.now }
     ensures { OnOk result (text.new.items ≡ text.old.items ++ text_of (event_line model.now event.now ∷ [])) }
 {
     let line = write_event(alloc, model, event)?;

@@ -63,16 +63,15 @@ pub fn read_kept<A: Allocator + Copy>(
 }
 
 /// The line of the kept item: that of its event, and for a return ` = ` and its word (ours). Read again it gives the
-/// item. `Err` where there is no memory.
+/// item, if the class and the object of the event are in the model. `Err` where there is no memory.
 #[tactic(auto, using(crate::proofs::Lines::kept_line_plain, crate::proofs::Lines::kept_line_with))]
 pub fn write_kept<A: Allocator + Copy>(
     alloc: A,
     model: &Model<A>,
     kept: &Kept<A>,
 ) -> Result<Vec<u8, A>, AllocError>
-    requires { IsInModel model.now kept.now.event }
     ensures line { IfOk result (λ line. line.items ≡ kept_line model.now kept.now) }
-    ensures again { kept_of model.now (kept_line model.now kept.now) ≡ Ok kept.now }
+    ensures again { IsInModel model.now kept.now.event → kept_of model.now (kept_line model.now kept.now) ≡ Ok kept.now }
 {
     kept_again(model, kept);
     let mut line = Vec::new(alloc);

@@ -102,8 +102,7 @@ fn return_range(ret: Option<Ret>)
 /// What is written of the event is read again as the event. Takes no memory.
 #[tactic(auto, using(crate::proofs::Again::event_line_again))]
 pub(crate) fn event_again<A: Allocator>(model: &Model<A>, event: &Event<A>)
-    requires { IsInModel model.now event.now }
-    ensures { IsReadAgain model.now event.now }
+    ensures { IsInModel model.now event.now → IsReadAgain model.now event.now }
 {
     model.classes();
     event_ranges(event);
@@ -112,8 +111,7 @@ pub(crate) fn event_again<A: Allocator>(model: &Model<A>, event: &Event<A>)
 /// What is written of the kept item is read again as the item. Takes no memory.
 #[tactic(auto, using(crate::proofs::Again::kept_line_again))]
 pub(crate) fn kept_again<A: Allocator>(model: &Model<A>, kept: &Kept<A>)
-    requires { IsInModel model.now kept.now.event }
-    ensures { IsKeptAgain model.now kept.now }
+    ensures { IsInModel model.now kept.now.event → IsKeptAgain model.now kept.now }
 {
     model.classes();
     event_ranges(&kept.event);

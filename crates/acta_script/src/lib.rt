@@ -62,4 +62,4 @@ pub use seated::{Seated, read_seated};
 pub use shell_lines::{ShellCommand, ShellFault, ShellLine, Topic, read_shell_line};
 pub use shell_words::{CAN_FORM, CAN_WORD, ShellKind};
 pub use states::{push_elements, status_word};
-pub use writing::write_event;
+pub use writing::{push_event, write_event};

@@ -66,12 +66,14 @@ pub(crate) fn kind_said(word: &[u8]) -> Result<Dep, LineFault>
     kind_named(word).ok_or(LineFault::Word)
 }
 
-/// The name of the class.
+/// The name of the class. One that is not in the model has an empty one.
 pub(crate) fn class_name<A: Allocator>(model: &Model<A>, class: ClassId) -> &[u8]
-    requires { class.0 < length model.now.classes }
     ensures { result.now ≡ class_word model.now class }
 {
-    model.classes()[usize::from(class.0)].name.as_slice()
+    match model.class(class) {
+        Some(found) => found.name.as_slice(),
+        None => b"",
+    }
 }
 
 /// The name of the object. One that is not in the model has an empty one.

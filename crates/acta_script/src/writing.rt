@@ -1,6 +1,6 @@
 //! The line of an event.
 
-ghost use Rattle.std.specs.Prelude.{◌≡◌, ◌<◌, ◌++◌, ◌∷◌, Ok, IfOk, OnOk, length};
+ghost use Rattle.std.specs.Prelude.{◌≡◌, ◌++◌, ◌∷◌, Ok, IfOk, OnOk};
 ghost use Rattle.acta_table.specs.Dependencies.{word_of};
 ghost use Rattle.acta_words.specs.Text.{line_of};
 ghost use Rattle.acta_table.specs.declared.event.EventKind.{EventKind};
@@ -53,7 +53,6 @@ fn push_started<A: Allocator>(
     u: TxnId,
     class: ClassId,
 ) -> Result<(), AllocError>
-    requires { class.0 < length model.now.classes }
     ensures { OnOk result (line.new.items ≡
         line.old.items ++ event_word kind ++ 32 ∷ txn_word t ++ 32 ∷ txn_word u ++ 32 ∷ class_word model.now class) }
 {
@@ -68,7 +67,6 @@ fn push_begin<A: Allocator>(
     t: TxnId,
     class: ClassId,
 ) -> Result<(), AllocError>
-    requires { class.0 < length model.now.classes }
     ensures { OnOk result (line.new.items ≡
         line.old.items ++ event_word EventKind.Begin ++ 32 ∷ txn_word t ++ 32 ∷ class_word model.now class) }
 {
@@ -100,7 +98,6 @@ fn push_do<A: Allocator>(
     object: ObjId,
     op: Op,
 ) -> Result<(), AllocError>
-    requires { object.0 < length model.now.objects }
     ensures { OnOk result (line.new.items ≡ line.old.items
         ++ event_word EventKind.Operate ++ 32 ∷ txn_word t ++ 32 ∷ object_word model.now object ++ 32 ∷ line_of (operation_words op)) }
 {
@@ -117,7 +114,6 @@ fn push_permit<A: Allocator>(
     u: TxnId,
     object: ObjId,
 ) -> Result<(), AllocError>
-    requires { object.0 < length model.now.objects }
     ensures { OnOk result (line.new.items ≡ line.old.items
         ++ event_word EventKind.Permit ++ 32 ∷ txn_word t ++ 32 ∷ txn_word u ++ 32 ∷ object_word model.now object) }
 {
@@ -125,14 +121,14 @@ fn push_permit<A: Allocator>(
     push_word(line, object_name(model, object))
 }
 
-/// Writes the line of the event behind what the line has. `Err` where there is no memory.
+/// Adds the line of the event, with single spaces and its operations ascending, each once (ours). A class or an object that
+/// is not in the model has an empty name. `Err` where there is no memory.
 #[tactic(auto, unfolding(crate::specs::Writing::event_line))]
-pub(crate) fn push_event<A: Allocator>(
+pub fn push_event<A: Allocator>(
     line: &mut Vec<u8, A>,
     model: &Model<A>,
     event: &Event<A>,
 ) -> Result<(), AllocError>
-    requires { IsInModel model.now event.now }
     ensures { OnOk result (line.new.items ≡ line.old.items ++ event_line model.now event.now) }
 {
     match event {
@@ -155,16 +151,15 @@ pub(crate) fn push_event<A: Allocator>(
     }
 }
 
-/// The line of the event, with single spaces and its operations ascending, each once (ours). Read again it gives the
-/// event. `Err` where there is no memory.
+/// The line of the event, as `push_event` adds it. Read again it gives the event, if its class and its object are in the
+/// model. `Err` where there is no memory.
 pub fn write_event<A: Allocator + Copy>(
     alloc: A,
     model: &Model<A>,
     event: &Event<A>,
 ) -> Result<Vec<u8, A>, AllocError>
-    requires { IsInModel model.now event.now }
     ensures line { IfOk result (λ line. line.items ≡ event_line model.now event.now) }
-    ensures again { event_of model.now (event_line model.now event.now) ≡ Ok event.now }
+    ensures again { IsInModel model.now event.now → event_of model.now (event_line model.now event.now) ≡ Ok event.now }
 {
     event_again(model, event);
     let mut line = Vec::new(alloc);

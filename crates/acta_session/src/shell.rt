@@ -2,8 +2,7 @@
 
 ghost use Rattle.std.specs.Prelude.{◌≡◌, ◌≤◌, ◌≢◌, ◌++◌, ◌∷◌, ℕ, List, [], false, true, Ok, Some, None, if◌then◌else◌, length, IfOk, IfSome, OnOk};
 ghost use Rattle.acta_script.specs.Answers.{answer_line};
-ghost use Rattle.acta_script.specs.Laws.{IsInModel};
-ghost use Rattle.acta_script.specs.Shell.{IsShellInModel, shell_line_of};
+ghost use Rattle.acta_script.specs.Shell.{shell_line_of};
 ghost use Rattle.acta_script.specs.Words.{fault_name};
 ghost use Rattle.acta_table.specs.Numbered.{item_at};
 ghost use Rattle.acta_words.specs.Text.{text_of, words_of};
@@ -228,7 +227,6 @@ impl<A: Handle, W: Words<Event<A>, Machine<A>, Model<A>, ProgramLine<A>, Vec<u8,
 
     // Answers a line that was read.
     fn obey(&mut self, said: ShellLine<A>) -> Result<Reply<A>, AllocError>
-        requires in_model { IsShellInModel self.old.session.model said }
         ensures session { OnOk result (self.new ≡ after_said self.old (Ok said)) }
         ensures over { IfOk result (λ reply. reply.is_over ≡ quits_by {A = A} (Ok said)) }
         ensures says { IfOk result (λ reply. (words : List (List ℕ)) → Says W.says self.old words (Ok said) reply.text) }
@@ -245,7 +243,6 @@ impl<A: Handle, W: Words<Event<A>, Machine<A>, Model<A>, ProgramLine<A>, Vec<u8,
 
     // Has the machine take an event.
     fn take(&mut self, event: Event<A>) -> Result<Vec<u8, A>, AllocError>
-        requires in_model { IsInModel self.old.session.model event }
         ensures session { OnOk result (self.new ≡ after_event self.old event) }
         ensures answer { IfOk result (λ text. IsRemarked (answer_line (answer_to (state_of self.old.session) event)) after_answer text.items) }
     {

@@ -3,7 +3,6 @@ pub mod DebugOutputs
 pub mod EntryLines
 pub mod Named
 pub mod Outputs
-pub mod Seats
 pub mod SeatsInTurn
 pub mod Serials
 pub mod Tasks

@@ -1,8 +1,7 @@
 //! The driven run of the tool: the lines of each seat in a thread of its own.
 
-ghost use Rattle.std.specs.Prelude.{◌≡◌, ◌≤◌, ◌+◌, ◌∷◌, [], All, codes, false, true, length, Err, None, Some, IfErr, IfOk, IfSome, MatchResult};
+ghost use Rattle.std.specs.Prelude.{◌≡◌, ◌≤◌, ◌+◌, ◌∷◌, [], codes, false, true, length, Err, None, Some, IfErr, IfOk, IfSome, MatchResult};
 ghost use Rattle.std.specs.Io.KnownBytes.{Keeps};
-ghost use Rattle.acta_script.specs.Laws.{IsInModel};
 ghost use Rattle.acta_script.specs.Reading.{seated_of};
 ghost use Rattle.acta_words.specs.Text.{text_of};
 ghost use Rattle.acta_locked.specs.declared.run.DriveError.TheVariants.{Memory};
@@ -68,7 +67,6 @@ fn report_book<A: Handle>(
     book: &Book<A>,
     fronts: &[Front<A>],
 ) -> Result<Report<A>, DriveError>
-    requires { All (λ e. IsInModel book.now.model e.event) book.now.entries }
     ensures told { IfOk result (λ report. output_of report ≡ record { is_refused = false; text = text_of (book_lines book.now fronts.now) }) }
     ensures memory { IfErr result (λ e. e ≡ Memory) }
 {
@@ -88,7 +86,6 @@ fn drive_scripts<A: Handle + Send + Sync, R: Threads + Wait + Sync>(
     scripts: &[Script<A>],
     turns: u8,
 ) -> Result<Report<A>, DriveError>
-    requires { All (All (IsInModel model)) scripts.now }
     ensures { MayComeOf (unless_too_long (record { model = model; scripts = scripts.now; turns = turns })) result }
 {
     match drive_watched(rt, alloc, model, scripts, &OpenGate, turns) {
@@ -117,7 +114,6 @@ fn drive_said<A: Handle + Send + Sync, R: Threads + Wait + Sync>(
     model: Model<A>,
     said: &[Seated<A>],
 ) -> Result<Report<A>, DriveError>
-    requires { All (λ s. IsInModel model s.event) said.now }
     ensures { MayComeOf (unless_too_long (record { model = model; scripts = scripts_of workers said.now; turns = turns })) result }
 {
     match scripts_of(alloc, workers, said) {

@@ -1,10 +1,9 @@
 //! What a run tells, line by line.
 
-ghost use Rattle.std.specs.Prelude.{◌≡◌, ◌++◌, ◌∷◌, [], All, decimal, flat_map, map, OnOk};
+ghost use Rattle.std.specs.Prelude.{◌≡◌, ◌++◌, ◌∷◌, [], decimal, flat_map, map, OnOk};
 ghost use Rattle.acta_machine.specs.Table.{debts_in};
 ghost use Rattle.acta_axioms.specs.Axioms.{axiom_number};
 ghost use Rattle.acta_script.specs.Answers.{answer_line, fault_line, owed_line};
-ghost use Rattle.acta_script.specs.Laws.{IsInModel};
 ghost use Rattle.acta_words.specs.Text.{line_of, text_of};
 ghost use Rattle.acta_tool.specs.Driving.{book_lines, entry_line, front_line};
 ghost use Rattle.acta_io.specs.Reports.{fault_number_words, fault_words, image_line, model_line, no_model_line, stop_line};
@@ -71,7 +70,6 @@ fn tell_entry<A: Allocator + Copy>(
     entry: &Entry<A>,
     text: &mut Vec<u8, A>,
 ) -> Result<(), AllocError>
-    requires { IsInModel model.now entry.now.event }
     ensures { OnOk result (text.new.items ≡ text.old.items ++ text_of (entry_line model.now entry.now ∷ [])) }
 {
     let mut digits = Buffer::new();
@@ -91,7 +89,6 @@ fn tell_entries<A: Allocator + Copy>(
     entries: &[Entry<A>],
     text: &mut Vec<u8, A>,
 ) -> Result<(), AllocError>
-    requires { All (λ e. IsInModel model.now e.event) entries.now }
     ensures { OnOk result (text.new.items ≡ text.old.items ++ text_of (map (entry_line model.now) entries.now)) }
 {
     for entry in entries {
@@ -128,7 +125,6 @@ pub fn tell_book<A: Handle>(
     fronts: &[Front<A>],
     text: &mut Vec<u8, A>,
 ) -> Result<(), AllocError>
-    requires { All (λ e. IsInModel book.now.model e.event) book.now.entries }
     ensures { OnOk result (text.new.items ≡ text.old.items ++ text_of (book_lines book.now fronts.now)) }
 {
     let machine = book.machine();

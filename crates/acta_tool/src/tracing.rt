@@ -1,8 +1,7 @@
 //! The command `trace`: the answer to each event, with the line in which it stands and what it formed.
 
-ghost use Rattle.std.specs.Prelude.{◌≡◌, ◌<◌, ◌≤◌, ◌+◌, ◌++◌, ◌∷◌, [], All, drop, flat_map, get_or, length, IfOk, OnOk};
+ghost use Rattle.std.specs.Prelude.{◌≡◌, ◌<◌, ◌≤◌, ◌+◌, ◌++◌, ◌∷◌, [], drop, flat_map, get_or, length, IfOk, OnOk};
 ghost use Rattle.acta_machine.specs.Table.{after_all, edges_in};
-ghost use Rattle.acta_script.specs.Laws.{IsInModel};
 ghost use Rattle.acta_script.specs.Reading.{event_of};
 ghost use Rattle.acta_words.specs.Text.{text_of};
 ghost use Rattle.acta_tool.specs.Output.{edge_words, formed_line, op_words, trace_lines, trace_on};
@@ -85,7 +84,6 @@ fn tell_formed<A: Handle>(
     formed: &Formed,
     text: &mut Vec<u8, A>,
 ) -> Result<(), AllocError>
-    requires { IsInModel machine.now.model event.now }
     ensures { OnOk result (text.new.items ≡ text.old.items ++ text_of (formed_line machine.now.model line event.now formed.now.answer formed.now.op formed.now.edges_before (edges_in machine.now) ∷ [])) }
 {
     let mut digits = Buffer::new();
@@ -118,7 +116,6 @@ fn tell_traced<A: Handle>(
     events: &[Event<A>],
     text: &mut Vec<u8, A>,
 ) -> Result<(), AllocError>
-    requires { All (IsInModel machine.old.model) events.now }
     ensures told { OnOk result (text.new.items ≡ text.old.items ++ text_of (trace_lines machine.old lines.now events.now)) }
     ensures machine { OnOk result (machine.new ≡ after_all machine.old events.now) }
 {

@@ -1,4 +1,3 @@
-pub mod KeptInModel
 mod Counting
 mod Noting
 mod Taking

@@ -1,7 +1,6 @@
 //! The history of a machine, as lines.
 
 ghost use Rattle.std.specs.Prelude.{◌≡◌, ◌++◌, map, IfOk, OnOk};
-ghost use Rattle.acta_script.specs.Laws.{IsInModel};
 ghost use Rattle.acta_script.specs.Writing.{kept_line};
 ghost use Rattle.acta_trace.specs.Lines.{event_line_in};
 ghost use Rattle.acta_words.specs.Text.{text_of};
@@ -33,7 +32,6 @@ fn event_line_of<A: Handle>(
     model: &Model<A>,
     kept: &Kept<A>,
 ) -> Result<Vec<u8, A>, AllocError>
-    requires { IsInModel model.now kept.now.event }
     ensures { IfOk result (λ line. line.items ≡ event_line_in model.now kept.now) }
 {
     write_event(alloc, model, &kept.event)

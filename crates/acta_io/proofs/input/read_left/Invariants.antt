@@ -1,4 +1,4 @@
-use Rattle.std.proofs.Common.{◌≡◌, ◌<◌, ◌+◌, ◌^◌, length, All}
+use Rattle.std.proofs.Common.{◌≡◌, ◌<◌, ◌+◌, ◌^◌, length}
 use Rattle.acta_words.specs.inside.LinesToCome.{lines_to_come}
 use Rattle.acta_io.specs.Input.{said_from}
 use Rattle.acta_io.proofs.Lines.{put_before}
@@ -8,7 +8,6 @@ use Rattle.acta_io.proofs.input.read_left.Given as goal
 abbrev pub invariant-loop-line : goal.invariant-loop-line
 invariant-loop-line g l = record {
   says : put_before l.said.items (said_from (g.L.LineReader.said l.reader) (l.number + 1) (lines_to_come l.lines)) ≡ said_from (g.L.LineReader.said l.reader) (l.taken + 1) (lines_to_come l.initial.lines);
-  fits : All (g.L.LineReader.fits l.reader) l.said.items;
   counts : l.number + length (lines_to_come l.lines) < 2 ^ 64;
 }
 

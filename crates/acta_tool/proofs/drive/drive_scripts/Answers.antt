@@ -1,19 +1,11 @@
-use Rattle.std.proofs.Common.{sym, subst}
-use Rattle.std.specs.Prelude.{◌≡◌, All, IfOk, List, false}
+use Rattle.std.proofs.Common.{subst}
+use Rattle.std.specs.Prelude.{◌≡◌, IfOk, List, false}
 use Rattle.acta_locked.specs.declared.watch.Front.{Front}
-use Rattle.acta_script.specs.Laws.{IsInModel}
 use Rattle.acta_tool.specs.Driving.{Task, book_lines}
 use Rattle.acta_io.specs.inside.Reports.{output_of}
 use Rattle.acta_words.specs.Text.{text_of}
-use Rattle.acta_tool.proofs.Seats.{of_entries}
 use Rattle.acta_tool.proofs.Tasks.{driven, undriven, unstopped}
 use Rattle.acta_tool.proofs.drive.drive_scripts.Goals as goal
-
-pub report_book-told-requires : goal.report_book-told-requires
-report_book-told-requires g c =
-    let d = c.in-Ok.watched.driven in
-    subst (λ m. All (λ e. IsInModel m e.event) d.book.entries) (sym c.in-Ok.ensures.driven.model)
-    (of_entries (IsInModel c.args.model) c.args.model c.args.scripts.now d c.in-Ok.ensures.driven c.requires)
 
 pub returns-in-Ok : goal.returns-in-Ok
 returns-in-Ok g c =

@@ -1,12 +1,6 @@
-use Rattle.std.proofs.Common.{◌∙◌, sym, subst₂}
-use Rattle.std.specs.Prelude.{All}
-use Rattle.acta_script.specs.Laws.{IsInModel}
+use Rattle.std.proofs.Common.{◌∙◌}
 use Rattle.acta_tool.proofs.BookLines.{whole}
 use Rattle.acta_tool.proofs.telling.tell_book.Goals as goal
-
-pub tell_entries-requires : goal.tell_entries-requires
-tell_entries-requires g c =
-    subst₂ (λ m es. All (λ e. IsInModel m e.event) es) (sym (c.model.ensures ∙ c.machine-machine.ensures.model)) (sym c.entries.ensures.entries) c.requires
 
 pub returns : goal.returns
 returns g c =

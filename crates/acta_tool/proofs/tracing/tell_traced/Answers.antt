@@ -1,20 +1,12 @@
-use Rattle.std.proofs.Common.{◌≡◌, ◌+◌, ◌++◌, ◌∷◌, [], ◌∙◌, ℕ, List, ap, drop, sym, subst, arith}
+use Rattle.std.proofs.Common.{◌≡◌, ◌+◌, ◌++◌, ◌∷◌, [], ◌∙◌, ℕ, List, ap, drop, sym, arith}
 use Rattle.std.proofs.lemmas.List.{drop_more}
 use Rattle.acta_table.specs.declared.event.Event.{Event}
 use Rattle.acta_machine.specs.Table.{after_all, edges_in}
 use Rattle.acta_machine.proofs.Runs.{model-after}
-use Rattle.acta_script.specs.Laws.{IsInModel}
 use Rattle.acta_words.specs.Text.{text_of}
 use Rattle.acta_tool.specs.Output.{formed_line}
 use Rattle.acta_tool.proofs.TraceLines.{turn}
 use Rattle.acta_tool.proofs.tracing.tell_traced.Goals as goal
-
-pub tell_formed-requires : goal.tell_formed-requires
-tell_formed-requires g c =
-    let e = c.event-item.result in
-    let fits : IsInModel c.args.machine.now.model e = subst (IsInModel c.args.machine.now.model) (sym c.event-item.is) (c.requires c.loop-event.event-index e c.loop-event-test.true) in
-    let same : c.take_forming.new.self.model ≡ c.args.machine.now.model = ap (λ s. s.model) c.in_ok-formed.ensures.ok ∙ model-after c.loop-event.machine e ∙ c.loop-event.invariant.model in
-    subst (λ m. IsInModel m e) (sym same) fits
 
 pub loop-event-preserved : goal.loop-event-preserved
 loop-event-preserved g c =

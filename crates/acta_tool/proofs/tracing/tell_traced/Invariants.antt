@@ -1,6 +1,5 @@
-use Rattle.std.proofs.Common.{◌≡◌, ◌++◌, All, drop}
+use Rattle.std.proofs.Common.{◌≡◌, ◌++◌, drop}
 use Rattle.acta_machine.specs.Table.{after_all}
-use Rattle.acta_script.specs.Laws.{IsInModel}
 use Rattle.acta_words.specs.Text.{text_of}
 use Rattle.acta_tool.specs.Output.{trace_lines}
 use Rattle.acta_tool.proofs.tracing.tell_traced.Given as goal

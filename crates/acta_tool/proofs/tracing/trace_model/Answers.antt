@@ -1,19 +1,10 @@
-use Rattle.std.proofs.Common.{◌≡◌, ◌<◌, ◌++◌, ◌∙◌, ℕ, List, ap, get_or, length, sym, subst}
+use Rattle.std.proofs.Common.{◌++◌, ◌∙◌, ℕ, List, ap}
 use Rattle.acta_machine.specs.Table.{after_all}
-use Rattle.acta_script.specs.Laws.{IsInModel}
 use Rattle.acta_words.specs.Text.{text_of}
 use Rattle.acta_io.specs.Input.{line_numbers}
 use Rattle.acta_tool.specs.Output.{trace_lines}
 use Rattle.acta_tool.proofs.TraceLines.{traced}
 use Rattle.acta_tool.proofs.tracing.trace_model.Goals as goal
-
-pub tell_traced-requires : goal.tell_traced-requires
-tell_traced-requires g c =
-    λ k d within.
-    let value = c.as_slice.ensures.value in
-    let fits : IsInModel c.args.model (get_or c.in_ok-read.read.said.items k d) = c.in_ok-read.ensures.fits k d (subst (λ xs. k < length xs) value within) in
-    subst (λ m. IsInModel m (get_or c.as_slice.result.now k d)) (sym (ap (λ s. s.model) c.in_ok-machine.ensures.fresh))
-    (subst (λ xs. IsInModel c.args.model (get_or xs k d)) (sym value) fits)
 
 pub returns : goal.returns
 returns g c =

@@ -1,0 +1,144 @@
+//! Lists of words with commas between them, and what of a transaction is not tried.
+
+ghost use Rattle.std.specs.Prelude.{◌≡◌, ◌++◌, ◌∷◌, ℕ, List, decimal, IfOk, OnOk, Some};
+ghost use Rattle.acta_next.specs.Candidates.{lacking_for, lacking_of, untried_for, untried_of, untried_of_kind};
+ghost use Rattle.acta_next.specs.Next.{listed, onto_list, with_item};
+
+use crate::candidates::{KINDS, has_more, may, others};
+use acta_machine::{Handle, Machine};
+use acta_script::event_word;
+use acta_table::{EventKind, Model, Status, TxnId};
+use itoa::Buffer;
+use std::alloc::{AllocError, Allocator};
+
+/// Adds the digits of a number.
+pub(crate) fn push_digits<A: Allocator>(
+    text: &mut Vec<u8, A>,
+    number: u64,
+) -> Result<(), AllocError>
+    ensures { OnOk result (text.new.items ≡ text.old.items ++ decimal number) }
+{
+    let mut digits = Buffer::new();
+    text.extend_from_slice(digits.format(number).as_bytes())
+}
+
+// Adds what separates an item of a list from those before it.
+fn push_gap<A: Allocator>(list: &mut Vec<u8, A>) -> Result<(), AllocError>
+    ensures { (item : List ℕ) → OnOk result (list.new.items ++ item ≡ with_item list.old.items item) }
+{
+    if list.is_empty() {
+        return Ok(());
+    }
+    list.extend_from_slice(b", ")
+}
+
+/// Adds an item to a list.
+pub(crate) fn push_item<A: Allocator>(list: &mut Vec<u8, A>, item: &[u8]) -> Result<(), AllocError>
+    ensures { OnOk result (list.new.items ≡ with_item list.old.items item.now) }
+{
+    push_gap(list)?;
+    list.extend_from_slice(item)
+}
+
+// Adds what is not tried of a kind.
+fn push_untried_of_kind<A: Handle>(
+    alloc: A,
+    list: &mut Vec<u8, A>,
+    model: &Model<A>,
+    active: &[TxnId],
+    t: TxnId,
+    kind: EventKind,
+) -> Result<(), AllocError>
+    ensures { OnOk result (list.new.items ≡ onto_list (λ word. Some word) list.old.items (untried_of_kind model.now active.now t kind)) }
+{
+    match kind {
+        EventKind::Join => {
+            let found = others(alloc, t, active)?;
+            if has_more(found.as_slice()) {
+                push_item(list, b"join with others")?;
+            }
+            Ok(())
+        }
+        EventKind::Operate => {
+            if has_more(model.objects()) {
+                push_item(list, b"do on other objects")?;
+            }
+            Ok(())
+        }
+        EventKind::Delegate | EventKind::Form | EventKind::Permit => {
+            push_item(list, event_word(kind).as_bytes())
+        }
+        _ => Ok(()),
+    }
+}
+
+// Adds what is not tried of these kinds.
+fn push_untried_of<A: Handle>(
+    alloc: A,
+    list: &mut Vec<u8, A>,
+    machine: &Machine<A>,
+    active: &[TxnId],
+    t: TxnId,
+    kinds: &[EventKind],
+) -> Result<(), AllocError>
+    ensures { OnOk result (list.new.items ≡ onto_list (λ word. Some word) list.old.items (untried_of machine.now active.now t kinds.now)) }
+{
+    for kind in kinds {
+        if may(machine, t, *kind) {
+            push_untried_of_kind(alloc, list, machine.model(), active, t, *kind)?;
+        }
+    }
+    Ok(())
+}
+
+/// What is not tried of a transaction that has not ended.
+pub(crate) fn untried_for<A: Handle>(
+    alloc: A,
+    machine: &Machine<A>,
+    active: &[TxnId],
+    t: TxnId,
+    status: Status,
+) -> Result<Vec<u8, A>, AllocError>
+    ensures { IfOk result (λ list. list.items ≡ listed (untried_for status machine.now active.now t)) }
+{
+    let mut list = Vec::new(alloc);
+    match status {
+        Status::NotBegun => {}
+        _ => push_untried_of(alloc, &mut list, machine, active, t, &KINDS)?,
+    }
+    Ok(list)
+}
+
+// Adds the words of those of these kinds that the class doesn't have.
+fn push_lacking_of<A: Handle>(
+    list: &mut Vec<u8, A>,
+    machine: &Machine<A>,
+    t: TxnId,
+    kinds: &[EventKind],
+) -> Result<(), AllocError>
+    ensures { OnOk result (list.new.items ≡ onto_list (λ word. Some word) list.old.items (lacking_of machine.now t kinds.now)) }
+{
+    for kind in kinds {
+        if !may(machine, t, *kind) {
+            push_item(list, event_word(*kind).as_bytes())?;
+        }
+    }
+    Ok(())
+}
+
+/// The words of the kinds of event that the class of a transaction doesn't have, if it has not ended.
+pub(crate) fn lacking_for<A: Handle>(
+    alloc: A,
+    machine: &Machine<A>,
+    t: TxnId,
+    status: Status,
+) -> Result<Vec<u8, A>, AllocError>
+    ensures { IfOk result (λ list. list.items ≡ listed (lacking_for status machine.now t)) }
+{
+    let mut list = Vec::new(alloc);
+    match status {
+        Status::NotBegun => {}
+        _ => push_lacking_of(&mut list, machine, t, &KINDS)?,
+    }
+    Ok(list)
+}
