@@ -8,6 +8,7 @@ use crate::put;
 use crate::shown::{column_of_missing, put_shown};
 use acta_lang::{ClassLines, Expected, PartLines, TextDiagnostic, diagnose};
 use acta_machine::Handle;
+use acta_script::{EVENT_KINDS, event_word};
 use acta_words::{Lines, Span, word_span, words_of};
 
 // A line that is faulty, how many words it has, the word at fault, if there is one, and what is wrong with it.
@@ -26,6 +27,16 @@ const OBJECT_FORMS: &str =
 const SPAWN_FORMS: &str = "`spawn starter KIND started` or `spawn started KIND starter`";
 
 const SPLIT_FORMS: &str = "`split starter KIND started` or `split started KIND starter`";
+
+// Whether the line of an event begins with the word.
+fn is_event_word(word: &[u8]) -> bool {
+    for kind in EVENT_KINDS {
+        if event_word(kind).as_bytes() == word {
+            return true;
+        }
+    }
+    false
+}
 
 // What is expected in the place of a word.
 fn expected_text(expected: Expected) -> &'static str {
@@ -93,6 +104,11 @@ impl<'a, A: Handle> BadText<'a, A> {
         let word = self.word_text();
         let prose = put_shown(prose.put(": `"), word);
         let prose = put!(prose; "`\nexpected ", expected_text(expected));
+        if matches!(expected, Expected::FirstWord) && is_event_word(word) {
+            return prose.put(
+                "\nthe line is one of an event: the model is the file that the command names, and events are its input",
+            );
+        }
         put_hint(prose, self.alloc, word, expected.words())
     }
 
@@ -105,7 +121,7 @@ impl<'a, A: Handle> BadText<'a, A> {
                 ": \\r\nthe line ends in CR LF; here a line ends in LF alone, and a text has no CR",
             ),
             byte => prose.put(format_args!(
-                ": the byte {byte:02x}, in hexadecimal digits\nexpected tabs and the characters of ASCII from the space to `~`"
+                ": the byte {byte:02x}, in hexadecimal digits\nexpected tabs and the characters of ASCII from the space to `~`, in a comment too"
             )),
         }
     }

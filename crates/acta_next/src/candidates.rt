@@ -3,11 +3,11 @@
 ghost use Rattle.std.specs.Prelude.{◌≡◌, ◌++◌, [], IfOk, OnOk, length, nat_lt, take};
 ghost use Rattle.acta_table.specs.declared.event.Event.TheVariants as event;
 ghost use Rattle.acta_table.specs.Events.{started};
-ghost use Rattle.acta_next.specs.Candidates.{MOST_TRIED, changing, class_allows, events_of_kind, if_in_progress, in_progress, is_in_progress, joins, may, operations_from, others, reading, tried_for, tried_of, with_each};
+ghost use Rattle.acta_next.specs.Candidates.{MOST_TRIED, changing, class_allows, events_of_kind, if_in_progress, in_progress, is_in_progress, joins, may, operations, others, reading, tried_for, tried_of, with_each};
 
 use acta_machine::{Handle, Machine};
 use acta_table::{
-    ClassId, Event, EventKind, Kept, Kind, Model, ObjId, Object, Op, OpSet, Status, TxnId,
+    ClassId, Event, EventKind, Kept, Kind, Model, ObjId, Op, OpSet, Status, TxnId,
 };
 use std::alloc::{AllocError, Allocator};
 
@@ -174,15 +174,15 @@ fn changing(kind: Kind) -> Op
     }
 }
 
-// Adds both operations on each of these objects, the first of the model.
+// Adds both operations on each of the first objects.
 fn push_operations<A: Handle>(
     events: &mut Vec<Event<A>, A>,
+    model: &Model<A>,
     t: TxnId,
-    objects: &[Object<A>],
 ) -> Result<(), AllocError>
-    ensures { OnOk result (events.new.items ≡ events.old.items ++ operations_from t 0 objects.now) }
+    ensures { OnOk result (events.new.items ≡ events.old.items ++ operations model.now t) }
 {
-    for (number, object) in objects.iter().enumerate() {
+    for (number, object) in first_of(model.objects()).iter().enumerate() {
         let id = ObjId(number as u16);
         events.push(Event::Operate(t, id, reading(object.kind)))?;
         events.push(Event::Operate(t, id, changing(object.kind)))?;
@@ -209,9 +209,9 @@ fn push_events_of_kind<A: Handle>(
             let list = others(alloc, t, active)?;
             push_joins(events, t, first_of(list.as_slice()))
         }
-        EventKind::Operate => push_operations(events, t, first_of(model.objects())),
-        EventKind::Commit => events.push(Event::Commit(t)),
-        EventKind::Abort => events.push(Event::Abort(t)),
+        EventKind::Operate => push_operations(events, model, t),
+        EventKind::Commit => Ok(events.push(Event::Commit(t))?),
+        EventKind::Abort => Ok(events.push(Event::Abort(t))?),
         EventKind::Begin | EventKind::Delegate | EventKind::Form | EventKind::Permit => Ok(()),
     }
 }

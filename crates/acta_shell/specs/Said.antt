@@ -7,7 +7,7 @@ use Rattle.acta_script.specs.declared.shell_lines.Topic.{Topic}
 use Rattle.acta_script.specs.declared.shell_lines.Topic.TheVariants as topic
 use Rattle.acta_script.specs.Words.{event_form, shell_form}
 use Rattle.acta_machine.specs.Table.{State}
-use Rattle.acta_shell.specs.Next.{IsNext}
+use Rattle.acta_next.specs.Next.{IsNext}
 
 -- the form of the line that is explained
 abbrev pub form_of : Topic → List ℕ

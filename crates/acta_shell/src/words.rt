@@ -1,7 +1,6 @@
 //! The words of a session.
 
 use crate::help::help_text;
-use crate::next::next_text;
 use crate::notes::Notes;
 use crate::remarks::{
     conflicts_remark, edges_remark, held_remark, owed_remark, refusal_remark, status_remark,
@@ -12,6 +11,7 @@ use crate::replies::{
 use acta_draw::{Choice, Drawing, Form, Screen, draw_run};
 use acta_explain::{Prose, name_text};
 use acta_machine::{Handle, Machine};
+use acta_next::next_text;
 use acta_programs::{MOST_POINTS, explain_from};
 use acta_script::{Diagnostic, LineFault, ProgramLine, ShellCommand};
 use acta_session::{Before, Remark, Words};
@@ -141,7 +141,7 @@ impl<A: Handle> Words<Event<A>, Machine<A>, Model<A>, ProgramLine<A>, Vec<u8, A>
     ) -> Result<Vec<u8, A>, AllocError> {
         match command {
             ShellCommand::Draw => self.picture(machine),
-            ShellCommand::Next(t) => next_text(&self.notes, machine, t),
+            ShellCommand::Next(t) => next_text(self.notes.allocator(), machine, t),
             ShellCommand::Help(topic) => help_text(self.notes.allocator(), topic),
             _ => Ok(Vec::new(self.notes.allocator())),
         }
