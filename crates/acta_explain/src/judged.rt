@@ -278,7 +278,7 @@ impl<'a, A: Handle> Scene<'a, A> {
         let skipped = faults.len().saturating_sub(MOST_RENDERED);
         if skipped > 0 {
             prose =
-                put!(prose; "and ", skipped, " faults more: the first ", MOST_RENDERED, " are told\n");
+                put!(prose; "and ", skipped, " faults more: the first ", MOST_RENDERED, " are explained\n");
         }
         for owed in verdict.owed.as_slice() {
             prose = self.put_debt(prose, owed);
@@ -297,7 +297,7 @@ fn too_long<A: Handle>(alloc: A) -> Result<Report<A>, AllocError>
 {
     let prose = put_lines(
         Prose::new(alloc).put("judge fault 1\n"),
-        "the lines that say something are more than 65,536, the most that are judged",
+        "more than 65,536 lines have a word, and at most so many are judged",
     );
     report_of(prose, true)
 }

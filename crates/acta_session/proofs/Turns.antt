@@ -97,6 +97,14 @@ module _ {A C : Type 0} (shows : Shows A) (since : C → List Act → C → Type
     last = λ i. moment (sym same i) (if sym quit i then [] else rest) last (b || sym quit i);
   }
 
+  -- the same, where it is known whether the line ends the session
+  pub talked-last : (first d : C) (s t : ShellState A) (line bytes last : List ℕ) (rest : List (List ℕ)) (b over ends : Bool)
+      → shows s line bytes → since first (Shown bytes ∷ []) d → t ≡ after_line s line → over ≡ quits s line → over ≡ ends
+      → HasTalked shows (since first) d (moment s (line ∷ rest) last b) t (if ends then [] else rest) last (b || ends)
+  talked-last first d s t line bytes last rest b over ends shown happened same quit is =
+      subst (λ (v : Bool). HasTalked shows (since first) d (moment s (line ∷ rest) last b) t (if v then [] else rest) last (b || v)) is
+      (talked-line first d s t line bytes last rest b over shown happened same quit)
+
 -- a last line that has a byte is due before the end of the input is
 pub last-some : {A : Type 0} (s : ShellState A) (line : List ℕ) → false ≡ (length line == 0) → last_lines s line ≡ line ∷ ending (after_line s line)
 last-some s [] some = absurd cc

@@ -1,9 +1,8 @@
-use Rattle.std.proofs.Common.{◌∷◌, [], Bool, List, ℕ, true, ap, subst, sym}
-use Rattle.std.specs.Prelude.{◌||◌, if◌then◌else◌}
+use Rattle.std.proofs.Common.{◌∷◌, [], List, ℕ, true, false, ap, subst, sym}
 use Rattle.acta_session.specs.Dialogues.{HasBegun, IsShownFor, ending}
 use Rattle.acta_session.specs.Shells.{after_line}
 use Rattle.acta_session.specs.inside.Talks.{HasTalked}
-use Rattle.acta_session.proofs.Turns.{begun-of, last-some, moment, talked-both, talked-line}
+use Rattle.acta_session.proofs.Turns.{begun-of, last-some, moment, talked-both, talked-last}
 use Rattle.acta_session.proofs.dialogue.answer_last.Goals as goal
 
 pub returns-in-Ok-true-clause-done : goal.returns-in-Ok-true-clause-done
@@ -17,9 +16,8 @@ returns-in-Ok-true-clause-done g c = λ done.
     let rest = ending (after_line s line) in
     let shown = c.in-Ok-true.ensures.shown in
     subst (λ (due : List (List ℕ)). HasTalked shows since d (moment s due [] true) t [] [] true) (sym (last-some s line c.if-is_empty.ensures))
-    (subst (λ (over : Bool). HasTalked shows since d (moment s (line ∷ rest) [] true) t (if over then [] else rest) [] (true || over)) c.in-Ok-true.field-0-test
-    (talked-line shows g.C.Console.since g.met.C.Console.further c.args.console.now d s t line shown.0 [] rest true c.in-Ok-true.field-0
-    shown.1 shown.2 c.in-Ok-true.ensures.session c.in-Ok-true.ensures.over))
+    (talked-last shows g.C.Console.since g.met.C.Console.further c.args.console.now d s t line shown.0 [] rest true c.in-Ok-true.field-0 true
+    shown.1 shown.2 c.in-Ok-true.ensures.session c.in-Ok-true.ensures.over c.in-Ok-true.field-0-test)
 
 pub returns-in-Ok-false-clause-done : goal.returns-in-Ok-false-clause-done
 returns-in-Ok-false-clause-done g c = λ done.
@@ -34,9 +32,8 @@ returns-in-Ok-false-clause-done g c = λ done.
     let rest = ending (after_line s line) in
     let shown = c.in-Ok-false.ensures.shown in
     let one =
-    subst (λ (over : Bool). HasTalked shows since d (moment s (line ∷ rest) [] true) t (if over then [] else rest) [] (true || over)) c.in-Ok-false.field-0-test
-    (talked-line shows g.C.Console.since g.met.C.Console.further c.args.console.now d s t line shown.0 [] rest true c.in-Ok-false.field-0
-    shown.1 shown.2 c.in-Ok-false.ensures.session c.in-Ok-false.ensures.over) in
+    talked-last shows g.C.Console.since g.met.C.Console.further c.args.console.now d s t line shown.0 [] rest true c.in-Ok-false.field-0 false
+    shown.1 shown.2 c.in-Ok-false.ensures.session c.in-Ok-false.ensures.over c.in-Ok-false.field-0-test in
     subst (λ (due : List (List ℕ)). HasTalked shows since e (moment s due [] true) u [] [] true) (sym (last-some s line c.if-is_empty.ensures))
     (talked-both shows g.C.Console.since g.met.C.Console.further c.args.console.now d e (moment s (line ∷ rest) [] true) (moment t (ending t) [] true) t u
     rest [] [] [] true true one (ap (λ after. moment t (ending after) [] true) (sym c.in-Ok-false.ensures.session)) (c.answer_end-in-Ok-false.ensures.done done))
@@ -54,9 +51,8 @@ returns-in-Ok-false-clause-partly g c = λ short.
     let rest = ending (after_line s line) in
     let shown = c.in-Ok-false.ensures.shown in
     let one =
-    subst (λ (over : Bool). HasTalked shows since d (moment s (line ∷ rest) [] true) t (if over then [] else rest) [] (true || over)) c.in-Ok-false.field-0-test
-    (talked-line shows g.C.Console.since g.met.C.Console.further c.args.console.now d s t line shown.0 [] rest true c.in-Ok-false.field-0
-    shown.1 shown.2 c.in-Ok-false.ensures.session c.in-Ok-false.ensures.over) in
+    talked-last shows g.C.Console.since g.met.C.Console.further c.args.console.now d s t line shown.0 [] rest true c.in-Ok-false.field-0 false
+    shown.1 shown.2 c.in-Ok-false.ensures.session c.in-Ok-false.ensures.over c.in-Ok-false.field-0-test in
     subst (λ (due : List (List ℕ)). HasBegun shows since e (moment s due [] true)) (sym (last-some s line c.if-is_empty.ensures))
     (begun-of shows g.C.Console.since g.met.C.Console.further c.args.console.now d e (moment s (line ∷ rest) [] true) t rest [] true one
     (c.answer_end-in-Ok-false.ensures.silent short))
