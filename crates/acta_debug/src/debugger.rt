@@ -23,8 +23,9 @@ use acta_table::{Answer, Event, Kept, MOST_EVENTS, Model};
 use std::alloc::AllocError;
 use std::mem::replace;
 
-// How many events before a place its checkpoint stands at most, where moves go back one by one.
-const NEAR: usize = 512;
+// How many events before a place a checkpoint stands at most, where moves go back one by one. (No history is so long that
+// `mark` leaves more between the last checkpoint and its end.)
+const NEAR: usize = MOST_EVENTS / 64;
 
 /// A history, a place in it, the machine as it was there, and breaks (ours). Contracts see the model, the history, how
 /// many of its events are behind the debugger, and the breaks: the machine is what these events leave.
@@ -361,8 +362,9 @@ impl<A: Handle> Debugger<A> {
         }
     }
 
-    // Sees to it that a checkpoint stands behind no more than n events, and not many fewer. So one move back after another
-    // takes few events. `Err`, where there is no memory, leaves the debugger as it was.
+    // Sees to it that a checkpoint stands behind no more than n events, and not many fewer: where none does, the last of
+    // them is brought there. So one move back after another takes few events. `Err`, where there is no memory, leaves
+    // all as it was.
     fn draw_near(&mut self, n: usize) -> Result<(), AllocError>
         requires { n ≤ length self.old.history }
         ensures { self.new ≡ self.old }
@@ -371,50 +373,13 @@ impl<A: Handle> Debugger<A> {
         if has_between(self.checkpoints.as_slice(), start, n) {
             return Ok(());
         }
-        if has_between(self.checkpoints.as_slice(), start.saturating_sub(NEAR), start) {
-            self.bring(start)
-        } else {
-            self.bring_copy(start)
-        }
-    }
-
-    // Brings the last of the checkpoints that stand behind no more than n events to behind the first n. `Err`, where there
-    // is no memory, may leave one that stands at the start in its place.
-    fn bring(&mut self, n: usize) -> Result<(), AllocError>
-        requires { n ≤ length self.old.history }
-        ensures { self.new ≡ self.old }
-    {
-        let Some(k) = nearest_of(self.checkpoints.as_slice(), n) else {
-            return Ok(());
-        };
-        let model = self.machine.model().copy()?;
-        let at_start = Machine::new(*self.history.allocator(), model)?;
-        let mut machine = replace(&mut self.checkpoints[k], at_start);
-        let taken = machine.history().len();
-        match take_events(&mut machine, &self.history.as_slice()[taken..n]) {
-            Ok(()) => {
-                drop(replace(&mut self.checkpoints[k], machine));
-                Ok(())
-            }
-            Err(error) => {
-                drop(machine);
-                Err(error)
-            }
-        }
-    }
-
-    // Puts a machine that stands behind the first n events in the place of the last of the checkpoints, if there is one.
-    // `Err`, where there is no memory, leaves them as they were.
-    fn bring_copy(&mut self, n: usize) -> Result<(), AllocError>
-        requires { n ≤ length self.old.history }
-        ensures { self.new ≡ self.old }
-    {
+        let machine = self.machine_behind(start)?;
         let count = self.checkpoints.len();
         if count == 0 {
-            return Ok(());
+            drop(machine);
+        } else {
+            drop(replace(&mut self.checkpoints[count - 1], machine));
         }
-        let machine = self.machine_behind(n)?;
-        drop(replace(&mut self.checkpoints[count - 1], machine));
         Ok(())
     }
 

@@ -17,6 +17,10 @@ pub enum Expected {
     Object,
     /// The number of a line of the programs in the input.
     Line,
+    /// The number of a line that has an operation among its alternatives.
+    Operation,
+    /// A transaction that an event of the programs starts.
+    Started,
     /// A value of this object: a number, or the elements of a set.
     Value(ObjId),
     /// A return.

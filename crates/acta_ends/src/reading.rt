@@ -13,8 +13,8 @@ use crate::fault::{ConditionError, ConditionFault, Expected};
 use crate::tokens::{Rest, Token, tokens_of};
 use crate::words::{AND, COMPLETE, NOT, OWING, STUCK};
 use acta_objects::Members;
-use acta_script::{return_said, status_word};
-use acta_table::{Kind, Model, ObjId, Status, TxnId};
+use acta_script::{ProgramLine, return_said, status_word};
+use acta_table::{Event, Kind, Model, ObjId, Status, TxnId};
 use acta_words::{read_i32, read_i64, read_u16, read_u32, words_of};
 use std::alloc::{AllocError, Allocator};
 
@@ -35,6 +35,39 @@ fn status_named(word: &[u8]) -> Option<Status> {
 fn line_named(numbers: &[usize], word: &[u8]) -> Option<usize> {
     let number = read_u32(word)? as usize;
     numbers.iter().position(|one| *one == number)
+}
+
+// Whether an alternative of the line at this position is an operation.
+fn has_operation<A: Allocator>(lines: &[ProgramLine<A>], line: usize) -> bool {
+    let Some(found) = lines.get(line) else {
+        return false;
+    };
+    for event in found.alternatives.as_slice() {
+        if matches!(event, Event::Operate(_, _, _)) {
+            return true;
+        }
+    }
+    false
+}
+
+// Whether an alternative of the line starts the transaction.
+fn starts<A: Allocator>(line: &ProgramLine<A>, txn: TxnId) -> bool {
+    for event in line.alternatives.as_slice() {
+        if event.started() == Some(txn) {
+            return true;
+        }
+    }
+    false
+}
+
+// Whether an event of the programs starts the transaction.
+fn is_started<A: Allocator>(lines: &[ProgramLine<A>], txn: TxnId) -> bool {
+    for line in lines {
+        if starts(line, txn) {
+            return true;
+        }
+    }
+    false
 }
 
 // The object of the model that has this name.
@@ -148,6 +181,7 @@ fn read_value<A: Allocator + Copy>(
 
 // LINE = RETURN, read from the return on
 fn read_returned<A: Allocator>(
+    lines: &[ProgramLine<A>],
     numbers: &[usize],
     number: Token<'_>,
     rest: Rest<'_, '_>,
@@ -155,6 +189,9 @@ fn read_returned<A: Allocator>(
     let Some(line) = line_named(numbers, number.text) else {
         return Err(number.fault(Expected::Line));
     };
+    if !has_operation(lines, line) {
+        return Err(number.fault(Expected::Operation));
+    }
     let Some((value, rest)) = rest.split() else {
         return Err(rest.fault(Expected::Return));
     };
@@ -165,7 +202,15 @@ fn read_returned<A: Allocator>(
 }
 
 // T STATUS, read from the status on
-fn read_status<A: Allocator>(txn: TxnId, rest: Rest<'_, '_>) -> Result<Test<A>, ConditionFault> {
+fn read_status<A: Allocator>(
+    lines: &[ProgramLine<A>],
+    first: Token<'_>,
+    txn: TxnId,
+    rest: Rest<'_, '_>,
+) -> Result<Test<A>, ConditionFault> {
+    if !is_started(lines, txn) {
+        return Err(first.fault(Expected::Started));
+    }
     let Some((word, rest)) = rest.split() else {
         return Err(rest.fault(Expected::Status));
     };
@@ -211,6 +256,7 @@ fn is_number(word: &[u8]) -> bool {
 fn read_test<A: Allocator + Copy>(
     alloc: A,
     model: &Model<A>,
+    lines: &[ProgramLine<A>],
     numbers: &[usize],
     rest: Rest<'_, '_>,
 ) -> Result<Test<A>, ConditionError> {
@@ -218,10 +264,12 @@ fn read_test<A: Allocator + Copy>(
         return Err(rest.fault(Expected::Test).into());
     };
     match others.after_sign() {
-        Some(value) if is_number(first.text) => Ok(read_returned(numbers, first, value)?),
+        Some(value) if is_number(first.text) => {
+            Ok(read_returned(lines, numbers, first, value)?)
+        }
         Some(value) => read_value(alloc, model, first, value),
         None => match read_u16(first.text) {
-            Some(txn) => Ok(read_status(TxnId(txn), others)?),
+            Some(txn) => Ok(read_status(lines, first, TxnId(txn), others)?),
             None => Ok(read_plain(first, others)?),
         },
     }
@@ -241,17 +289,18 @@ fn after_not<'t, 'a>(rest: Rest<'t, 'a>) -> Option<Rest<'t, 'a>> {
 fn read_term<A: Allocator + Copy>(
     alloc: A,
     model: &Model<A>,
+    lines: &[ProgramLine<A>],
     numbers: &[usize],
     rest: Rest<'_, '_>,
 ) -> Result<Term<A>, ConditionError> {
     match after_not(rest) {
         Some(others) => Ok(Term {
             is_negated: true,
-            test: read_test(alloc, model, numbers, others)?,
+            test: read_test(alloc, model, lines, numbers, others)?,
         }),
         None => Ok(Term {
             is_negated: false,
-            test: read_test(alloc, model, numbers, rest)?,
+            test: read_test(alloc, model, lines, numbers, rest)?,
         }),
     }
 }
@@ -271,6 +320,7 @@ fn is_joint(tokens: &[Token<'_>], place: usize, token: &Token<'_>) -> bool {
 fn read_terms<A: Allocator + Copy>(
     alloc: A,
     model: &Model<A>,
+    lines: &[ProgramLine<A>],
     numbers: &[usize],
     tokens: &[Token<'_>],
     end: usize,
@@ -285,7 +335,7 @@ fn read_terms<A: Allocator + Copy>(
                 tokens: &tokens[start..place],
                 end: token.word,
             };
-            terms.push(read_term(alloc, model, numbers, rest)?)?;
+            terms.push(read_term(alloc, model, lines, numbers, rest)?)?;
             start = place + 1;
         }
     }
@@ -293,16 +343,17 @@ fn read_terms<A: Allocator + Copy>(
         tokens: &tokens[start..],
         end,
     };
-    terms.push(read_term(alloc, model, numbers, rest)?)?;
+    terms.push(read_term(alloc, model, lines, numbers, rest)?)?;
     Ok(Condition { terms })
 }
 
-/// The condition that the text says. `numbers` has the number in the input of each line of the programs. The elements of
-/// a set are made ascending, each once. A condition that was read has a test. `Fault` has the first word at which
-/// something else is expected.
+/// The condition that the text says of these lines of programs. `numbers` has the number of each in the input. The elements
+/// of a set are made ascending, each once. A condition that was read has a test. `Fault` has the first word at which
+/// something else is expected; a transaction that no event starts and a line without an operation are none.
 pub fn read_condition<A: Allocator + Copy>(
     alloc: A,
     model: &Model<A>,
+    lines: &[ProgramLine<A>],
     numbers: &[usize],
     text: &[u8],
 ) -> Result<Condition<A>, ConditionError>
@@ -310,5 +361,5 @@ pub fn read_condition<A: Allocator + Copy>(
 {
     let words = words_of(alloc, text)?;
     let tokens = tokens_of(alloc, words.as_slice())?;
-    read_terms(alloc, model, numbers, tokens.as_slice(), words.len())
+    read_terms(alloc, model, lines, numbers, tokens.as_slice(), words.len())
 }

@@ -1,5 +1,5 @@
 -- The events that are tried of a transaction.
-use Rattle.std.specs.Prelude.{◌≡◌, ℕ, ◌+◌, ◌-◌, ◌<◌, ◌≤◌, ◌==◌, Bool, true, false, not, List, [], ◌∷◌, ◌++◌, codes, filter, length, map, nat_lt, take, if◌then◌else◌, Option, Some, None}
+use Rattle.std.specs.Prelude.{◌≡◌, ℕ, ◌+◌, ◌<◌, ◌≤◌, ◌==◌, Bool, true, false, not, List, [], ◌∷◌, ◌++◌, codes, length, nat_lt, pos, take, if◌then◌else◌, Option, Some, None}
 use Rattle.std.specs.Option.{option_map_or}
 use Rattle.acta_table.specs.declared.answer.Status.{Status}
 use Rattle.acta_table.specs.declared.answer.Status.TheVariants.{NotBegun, InProgress}
@@ -51,13 +51,26 @@ pub record IsFirstUnused {A : Type 0} (state : State A) (u : TxnId) : Type 0 whe
   pub used : (t : ℕ) → 1 ≤ t → t < u.0 → has_begun (status_in state t) ≡ true
   pub unused : u.0 < LAST_TXN → status_in state u.0 ≡ NotBegun
 
--- an event with each class
-abbrev pub with_each_from : {A : Type 0} → (ClassId → Event A) → ℕ → List (Class A) → List (Event A)
-with_each_from event n [] = []
-with_each_from event n (c ∷ cs) = event (record { 0 = n }) ∷ with_each_from event (n + 1) cs
+-- the numbers of the classes
+abbrev pub class_ids_from : {A : Type 0} → ℕ → List (Class A) → List ClassId
+class_ids_from n [] = []
+class_ids_from n (c ∷ cs) = record { 0 = n } ∷ class_ids_from (n + 1) cs
 
-abbrev pub with_each : {A : Type 0} → Parts A → (ClassId → Event A) → List (Event A)
-with_each m event = with_each_from event 0 m.classes
+abbrev pub class_ids : {A : Type 0} → Parts A → List ClassId
+class_ids m = class_ids_from 0 m.classes
+
+-- a begin, a spawn and a split with each of these classes; the split hands over no operation
+abbrev pub begins : {A : Type 0} → TxnId → List ClassId → List (Event A)
+begins t [] = []
+begins t (c ∷ cs) = event.Begin t c ∷ begins t cs
+
+abbrev pub spawns : {A : Type 0} → TxnId → TxnId → List ClassId → List (Event A)
+spawns t u [] = []
+spawns t u (c ∷ cs) = event.Spawn t u c ∷ spawns t u cs
+
+abbrev pub splits : {A : Type 0} → TxnId → TxnId → List ClassId → List (Event A)
+splits t u [] = []
+splits t u (c ∷ cs) = event.Split t u c [] ∷ splits t u cs
 
 -- an operation that reads an object of the kind, and one that changes it
 abbrev pub reading : Kind → Op
@@ -66,9 +79,9 @@ reading (kind.Counter n) = Get
 reading kind.Elements = Size
 
 abbrev pub changing : Kind → Op
-changing (kind.Register v) = Write 0
-changing (kind.Counter n) = Add 1
-changing kind.Elements = Insert 0
+changing (kind.Register v) = Write (pos 0)
+changing (kind.Counter n) = Add (pos 1)
+changing kind.Elements = Insert (pos 0)
 
 -- both operations on each object
 abbrev pub operations_from : {A : Type 0} → TxnId → ℕ → List (Object A) → List (Event A)
@@ -88,7 +101,8 @@ abbrev pub is_other : TxnId → TxnId → Bool
 is_other t u = not (u.0 == t.0)
 
 abbrev pub others : TxnId → List TxnId → List TxnId
-others t active = filter (is_other t) active
+others t [] = []
+others t (u ∷ us) = if is_other t u then u ∷ others t us else others t us
 
 -- a join of each
 abbrev pub joins : {A : Type 0} → TxnId → List TxnId → List (Event A)
@@ -96,10 +110,10 @@ joins t [] = []
 joins t (u ∷ us) = event.Join t u ∷ joins t us
 
 -- the events of a kind that are tried of t, where these are in progress, and u is the number for a new transaction
-abbrev pub events_of_kind : {A : Type 0} → Parts A → List TxnId → TxnId → TxnId → EventKind → List (Event A)
+unfoldable pub events_of_kind : {A : Type 0} → Parts A → List TxnId → TxnId → TxnId → EventKind → List (Event A)
 events_of_kind m active u t Begin = []
-events_of_kind m active u t Spawn = with_each m (λ class. event.Spawn t u class)
-events_of_kind m active u t Split = with_each m (λ class. event.Split t u class [])
+events_of_kind m active u t Spawn = spawns t u (class_ids m)
+events_of_kind m active u t Split = splits t u (class_ids m)
 events_of_kind m active u t Join = joins t (take MOST_TRIED (others t active))
 events_of_kind m active u t Delegate = []
 events_of_kind m active u t Form = []
@@ -113,7 +127,7 @@ abbrev pub if_more : Bool → List ℕ → List (List ℕ)
 if_more true words = words ∷ []
 if_more false words = []
 
-abbrev pub untried_of_kind : {A : Type 0} → Parts A → List TxnId → TxnId → EventKind → List (List ℕ)
+unfoldable pub untried_of_kind : {A : Type 0} → Parts A → List TxnId → TxnId → EventKind → List (List ℕ)
 untried_of_kind m active t Join = if_more (nat_lt MOST_TRIED (length (others t active))) (codes "join with others")
 untried_of_kind m active t Operate = if_more (nat_lt MOST_TRIED (length m.objects)) (codes "do on other objects")
 untried_of_kind m active t Delegate = event_word Delegate ∷ []
@@ -126,39 +140,29 @@ abbrev pub class_allows : {A : Type 0} → Parts A → EventKind → Option Clas
 class_allows m kind None = false
 class_allows m kind (Some class) = option_map_or (can_do kind) (class_at m class.0) false
 
-abbrev pub may : {A : Type 0} → State A → TxnId → EventKind → Bool
+unfoldable pub may : {A : Type 0} → State A → TxnId → EventKind → Bool
 may state t kind = class_allows state.model kind (class_in state t.0)
 
 -- the kinds of event of a transaction in progress, in the order in which they are listed
 abbrev pub kinds : List EventKind
 kinds = Commit ∷ Abort ∷ Operate ∷ Spawn ∷ Split ∷ Join ∷ Delegate ∷ Form ∷ Permit ∷ []
 
--- the events of these kinds that are tried
-abbrev pub tried_of : {A : Type 0} → State A → List TxnId → TxnId → TxnId → List EventKind → List (Event A)
-tried_of state active u t [] = []
-tried_of state active u t (k ∷ ks) =
-    (if may state t k then events_of_kind state.model active u t k else []) ++ tried_of state active u t ks
+-- these events, and those of these kinds that are tried
+abbrev pub tried_onto : {A : Type 0} → State A → List TxnId → TxnId → TxnId → List (Event A) → List EventKind → List (Event A)
+tried_onto state active u t events [] = events
+tried_onto state active u t events (k ∷ ks) =
+    tried_onto state active u t (if may state t k then events ++ events_of_kind state.model active u t k else events) ks
 
 -- the events that are tried of a transaction that has not ended
 abbrev pub tried_for : {A : Type 0} → Status → State A → List TxnId → TxnId → TxnId → List (Event A)
-tried_for NotBegun state active u t = with_each state.model (λ class. event.Begin t class)
-tried_for _ state active u t = tried_of state active u t kinds
+tried_for NotBegun state active u t = begins t (class_ids state.model)
+tried_for _ state active u t = tried_onto state active u t [] kinds
 
--- what is not tried of these kinds
-abbrev pub untried_of : {A : Type 0} → State A → List TxnId → TxnId → List EventKind → List (List ℕ)
-untried_of state active t [] = []
-untried_of state active t (k ∷ ks) =
-    (if may state t k then untried_of_kind state.model active t k else []) ++ untried_of state active t ks
 
 -- the words of the kinds that the class doesn't have
 abbrev pub lacking_of : {A : Type 0} → State A → TxnId → List EventKind → List (List ℕ)
 lacking_of state t [] = []
 lacking_of state t (k ∷ ks) = (if may state t k then [] else event_word k ∷ []) ++ lacking_of state t ks
-
--- both, of a transaction in progress
-abbrev pub untried_for : {A : Type 0} → Status → State A → List TxnId → TxnId → List (List ℕ)
-untried_for NotBegun state active t = []
-untried_for _ state active t = untried_of state active t kinds
 
 abbrev pub lacking_for : {A : Type 0} → Status → State A → TxnId → List (List ℕ)
 lacking_for NotBegun state t = []

@@ -7,6 +7,7 @@ use Rattle.acta_table.specs.declared.answer.Status.{Status}
 use Rattle.acta_table.specs.declared.answer.Status.TheVariants.{NotBegun, InProgress}
 use Rattle.acta_table.specs.declared.dep.Owed.{Owed}
 use Rattle.acta_table.specs.declared.event.Event.{Event}
+use Rattle.acta_table.specs.declared.event.EventKind.{EventKind}
 use Rattle.acta_table.specs.declared.event.Event.TheVariants.{Commit, Abort}
 use Rattle.acta_table.specs.declared.event.TxnId.{TxnId}
 use Rattle.acta_table.specs.Dependencies.{is_abort, is_commit}
@@ -14,7 +15,7 @@ use Rattle.acta_table.specs.Numbers.{rule_name, rule_number}
 use Rattle.acta_words.specs.Text.{text_of}
 use Rattle.acta_machine.specs.Table.{State, debts_in, refusal_in, status_in}
 use Rattle.acta_script.specs.Writing.{event_line, status_word}
-use Rattle.acta_next.specs.Candidates.{IsFirstUnused, in_progress, lacking_for, tried_for, untried_for}
+use Rattle.acta_next.specs.Candidates.{IsFirstUnused, in_progress, kinds, lacking_for, may, tried_for, untried_of_kind}
 
 -- a list with an item more, after a comma
 abbrev pub with_item : List ℕ → List ℕ → List ℕ
@@ -29,6 +30,18 @@ onto_list item list (x ∷ xs) = onto_list item (option_map_or (λ words. with_i
 -- the words with a comma between each two
 abbrev pub listed : List (List ℕ) → List ℕ
 listed words = onto_list (λ word. Some word) [] words
+
+-- a list with what is not tried of these kinds
+abbrev pub untried_onto : {A : Type 0} → State A → List TxnId → TxnId → List ℕ → List EventKind → List ℕ
+untried_onto state active t list [] = list
+untried_onto state active t list (k ∷ ks) =
+    untried_onto state active t
+    (if may state t k then onto_list (λ word. Some word) list (untried_of_kind state.model active t k) else list)
+    ks
+
+abbrev pub untried_for : {A : Type 0} → Status → State A → List TxnId → TxnId → List ℕ
+untried_for NotBegun state active t = []
+untried_for _ state active t = untried_onto state active t [] kinds
 
 -- whether the event pays this debt
 abbrev pub pays : {A : Type 0} → Event A → Owed → Bool
@@ -90,12 +103,15 @@ sorted state t tried =
 abbrev pub next_lines : {A : Type 0} → State A → List TxnId → TxnId → TxnId → List ℕ
 next_lines state active u t =
     sorted state t (tried_for (status_in state t.0) state active u t)
-    ++ (list_line (codes "  not tried: ") (listed (untried_for (status_in state t.0) state active t))
+    ++ (list_line (codes "  not tried: ") (untried_for (status_in state t.0) state active t)
     ++ list_line (codes "  its class has no: ") (listed (lacking_for (status_in state t.0) state t)))
 
 -- a transaction that has ended
-abbrev pub ended_line : TxnId → Status → List ℕ
-ended_line t status = decimal t.0 ++ (codes " may: nothing, it is " ++ text_of (status_word status ∷ []))
+unfoldable pub nothing_more : List ℕ
+nothing_more = codes " may: nothing, it is "
+
+abbrev pub ended_line : TxnId → List ℕ → List ℕ
+ended_line t word = decimal t.0 ++ (nothing_more ++ text_of (word ∷ []))
 
 abbrev pub has_ended : Status → Bool
 has_ended NotBegun = false
@@ -105,7 +121,7 @@ has_ended _ = true
 -- what a transaction can do next, where these are in progress, and u is the number for a new transaction
 abbrev pub next_of : {A : Type 0} → State A → List TxnId → TxnId → TxnId → List ℕ
 next_of state active u t =
-    if has_ended (status_in state t.0) then ended_line t (status_in state t.0) else next_lines state active u t
+    if has_ended (status_in state t.0) then ended_line t (status_word (status_in state t.0)) else next_lines state active u t
 
 abbrev pub next_of_each : {A : Type 0} → State A → List TxnId → TxnId → List TxnId → List ℕ
 next_of_each state active u [] = []

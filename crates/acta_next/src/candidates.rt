@@ -1,9 +1,8 @@
 //! The events that are tried of a transaction.
 
-ghost use Rattle.std.specs.Prelude.{◌≡◌, ◌++◌, [], IfOk, OnOk, length, nat_lt, take};
-ghost use Rattle.acta_table.specs.declared.event.Event.TheVariants as event;
+ghost use Rattle.std.specs.Prelude.{◌≡◌, ◌++◌, IfOk, OnOk, length, nat_lt, take};
 ghost use Rattle.acta_table.specs.Events.{started};
-ghost use Rattle.acta_next.specs.Candidates.{MOST_TRIED, changing, class_allows, events_of_kind, if_in_progress, in_progress, is_in_progress, joins, may, operations, others, reading, tried_for, tried_of, with_each};
+ghost use Rattle.acta_next.specs.Candidates.{MOST_TRIED, begins, changing, class_allows, class_ids, events_of_kind, if_in_progress, in_progress, is_in_progress, is_other, joins, may, operations, others, reading, spawns, splits, tried_for, tried_onto};
 
 use acta_machine::{Handle, Machine};
 use acta_table::{
@@ -65,58 +64,80 @@ pub(crate) fn in_progress<A: Handle>(
     Ok(active)
 }
 
-// Adds the begin of the transaction with each class.
+// The numbers of the classes.
+fn class_ids<A: Handle>(alloc: A, model: &Model<A>) -> Result<Vec<ClassId, A>, AllocError>
+    ensures { IfOk result (λ ids. ids.items ≡ class_ids model.now) }
+{
+    let mut ids = Vec::new(alloc);
+    for (number, _class) in model.classes().iter().enumerate() {
+        ids.push(ClassId(number as u8))?;
+    }
+    Ok(ids)
+}
+
+// Adds the begin of the transaction with each of these classes.
 fn push_begins<A: Handle>(
     events: &mut Vec<Event<A>, A>,
-    model: &Model<A>,
     t: TxnId,
+    classes: &[ClassId],
 ) -> Result<(), AllocError>
-    ensures { OnOk result (events.new.items ≡ events.old.items ++ with_each model.now (λ class. event.Begin t class)) }
+    ensures { OnOk result (events.new.items ≡ events.old.items ++ begins t classes.now) }
 {
-    for (number, _class) in model.classes().iter().enumerate() {
-        events.push(Event::Begin(t, ClassId(number as u8)))?;
+    for class in classes {
+        events.push(Event::Begin(t, *class))?;
     }
     Ok(())
 }
 
-// Adds a spawn of the transaction u with each class.
+// Adds a spawn of the transaction u with each of these classes.
 fn push_spawns<A: Handle>(
     events: &mut Vec<Event<A>, A>,
-    model: &Model<A>,
     t: TxnId,
     u: TxnId,
+    classes: &[ClassId],
 ) -> Result<(), AllocError>
-    ensures { OnOk result (events.new.items ≡ events.old.items ++ with_each model.now (λ class. event.Spawn t u class)) }
+    ensures { OnOk result (events.new.items ≡ events.old.items ++ spawns t u classes.now) }
 {
-    for (number, _class) in model.classes().iter().enumerate() {
-        events.push(Event::Spawn(t, u, ClassId(number as u8)))?;
+    for class in classes {
+        events.push(Event::Spawn(t, u, *class))?;
     }
     Ok(())
 }
 
-// Adds a split with each class, by which the transaction u gets no operation.
+// Adds a split with each of these classes, by which the transaction u gets no operation.
 fn push_splits<A: Handle>(
     alloc: A,
     events: &mut Vec<Event<A>, A>,
-    model: &Model<A>,
     t: TxnId,
     u: TxnId,
+    classes: &[ClassId],
 ) -> Result<(), AllocError>
-    ensures { OnOk result (events.new.items ≡ events.old.items ++ with_each model.now (λ class. event.Split t u class [])) }
+    ensures { OnOk result (events.new.items ≡ events.old.items ++ splits t u classes.now) }
 {
-    for (number, _class) in model.classes().iter().enumerate() {
+    for class in classes {
         let none = OpSet::of(alloc, &[])?;
-        events.push(Event::Split(t, u, ClassId(number as u8), none))?;
+        events.push(Event::Split(t, u, *class, none))?;
     }
     Ok(())
+}
+
+// Whether the second transaction is another.
+fn is_other(t: TxnId, u: TxnId) -> bool
+    ensures { result ≡ is_other t u }
+{
+    u.0 != t.0
 }
 
 /// The transactions but this one.
 pub(crate) fn others<A: Handle>(alloc: A, t: TxnId, active: &[TxnId]) -> Result<Vec<TxnId, A>, AllocError>
     ensures { IfOk result (λ list. list.items ≡ others t active.now) }
 {
-    let mut list = Vec::from_slice(alloc, active)?;
-    list.retain(|u| u.0 != t.0);
+    let mut list = Vec::new(alloc);
+    for u in active {
+        if is_other(t, *u) {
+            list.push(*u)?;
+        }
+    }
     Ok(list)
 }
 
@@ -191,6 +212,7 @@ fn push_operations<A: Handle>(
 }
 
 // Adds the events of a kind that are tried.
+#[tactic(auto, unfolding(crate::specs::Candidates::events_of_kind))]
 fn push_events_of_kind<A: Handle>(
     alloc: A,
     events: &mut Vec<Event<A>, A>,
@@ -203,8 +225,14 @@ fn push_events_of_kind<A: Handle>(
     ensures { OnOk result (events.new.items ≡ events.old.items ++ events_of_kind model.now active.now u t kind) }
 {
     match kind {
-        EventKind::Spawn => push_spawns(events, model, t, u),
-        EventKind::Split => push_splits(alloc, events, model, t, u),
+        EventKind::Spawn => {
+            let classes = class_ids(alloc, model)?;
+            push_spawns(events, t, u, classes.as_slice())
+        }
+        EventKind::Split => {
+            let classes = class_ids(alloc, model)?;
+            push_splits(alloc, events, t, u, classes.as_slice())
+        }
         EventKind::Join => {
             let list = others(alloc, t, active)?;
             push_joins(events, t, first_of(list.as_slice()))
@@ -230,6 +258,7 @@ fn class_allows<A: Handle>(model: &Model<A>, kind: EventKind, class: Option<Clas
 }
 
 /// Whether the class of a transaction has the word for events of the kind.
+#[tactic(auto, unfolding(crate::specs::Candidates::may))]
 pub(crate) fn may<A: Handle>(machine: &Machine<A>, t: TxnId, kind: EventKind) -> bool
     ensures { result ≡ may machine.now t kind }
 {
@@ -237,7 +266,7 @@ pub(crate) fn may<A: Handle>(machine: &Machine<A>, t: TxnId, kind: EventKind) ->
 }
 
 // Adds the events of these kinds that are tried of a transaction in progress.
-fn push_tried_of<A: Handle>(
+fn push_tried<A: Handle>(
     alloc: A,
     events: &mut Vec<Event<A>, A>,
     machine: &Machine<A>,
@@ -246,7 +275,7 @@ fn push_tried_of<A: Handle>(
     t: TxnId,
     kinds: &[EventKind],
 ) -> Result<(), AllocError>
-    ensures { OnOk result (events.new.items ≡ events.old.items ++ tried_of machine.now active.now u t kinds.now) }
+    ensures { OnOk result (events.new.items ≡ tried_onto machine.now active.now u t events.old.items kinds.now) }
 {
     for kind in kinds {
         if may(machine, t, *kind) {
@@ -269,8 +298,11 @@ pub(crate) fn tried_for<A: Handle>(
 {
     let mut events = Vec::new(alloc);
     match status {
-        Status::NotBegun => push_begins(&mut events, machine.model(), t)?,
-        _ => push_tried_of(alloc, &mut events, machine, active, u, t, &KINDS)?,
+        Status::NotBegun => {
+            let classes = class_ids(alloc, machine.model())?;
+            push_begins(&mut events, t, classes.as_slice())?;
+        }
+        _ => push_tried(alloc, &mut events, machine, active, u, t, &KINDS)?,
     }
     Ok(events)
 }

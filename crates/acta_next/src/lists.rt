@@ -1,8 +1,8 @@
 //! Lists of words with commas between them, and what of a transaction is not tried.
 
-ghost use Rattle.std.specs.Prelude.{◌≡◌, ◌++◌, ◌∷◌, ℕ, List, decimal, IfOk, OnOk, Some};
-ghost use Rattle.acta_next.specs.Candidates.{lacking_for, lacking_of, untried_for, untried_of, untried_of_kind};
-ghost use Rattle.acta_next.specs.Next.{listed, onto_list, with_item};
+ghost use Rattle.std.specs.Prelude.{◌≡◌, ◌++◌, ℕ, decimal, List, IfOk, OnOk, Some};
+ghost use Rattle.acta_next.specs.Candidates.{if_more, lacking_for, lacking_of, untried_of_kind};
+ghost use Rattle.acta_next.specs.Next.{listed, onto_list, untried_for, untried_onto, with_item};
 
 use crate::candidates::{KINDS, has_more, may, others};
 use acta_machine::{Handle, Machine};
@@ -40,7 +40,18 @@ pub(crate) fn push_item<A: Allocator>(list: &mut Vec<u8, A>, item: &[u8]) -> Res
     list.extend_from_slice(item)
 }
 
+// Adds an item to a list, if there is more.
+fn push_if<A: Allocator>(list: &mut Vec<u8, A>, is_more: bool, item: &[u8]) -> Result<(), AllocError>
+    ensures { OnOk result (list.new.items ≡ onto_list (λ word. Some word) list.old.items (if_more is_more item.now)) }
+{
+    if is_more {
+        push_item(list, item)?;
+    }
+    Ok(())
+}
+
 // Adds what is not tried of a kind.
+#[tactic(auto, unfolding(crate::specs::Candidates::untried_of_kind))]
 fn push_untried_of_kind<A: Handle>(
     alloc: A,
     list: &mut Vec<u8, A>,
@@ -54,17 +65,9 @@ fn push_untried_of_kind<A: Handle>(
     match kind {
         EventKind::Join => {
             let found = others(alloc, t, active)?;
-            if has_more(found.as_slice()) {
-                push_item(list, b"join with others")?;
-            }
-            Ok(())
+            push_if(list, has_more(found.as_slice()), b"join with others")
         }
-        EventKind::Operate => {
-            if has_more(model.objects()) {
-                push_item(list, b"do on other objects")?;
-            }
-            Ok(())
-        }
+        EventKind::Operate => push_if(list, has_more(model.objects()), b"do on other objects"),
         EventKind::Delegate | EventKind::Form | EventKind::Permit => {
             push_item(list, event_word(kind).as_bytes())
         }
@@ -73,7 +76,7 @@ fn push_untried_of_kind<A: Handle>(
 }
 
 // Adds what is not tried of these kinds.
-fn push_untried_of<A: Handle>(
+fn push_untried<A: Handle>(
     alloc: A,
     list: &mut Vec<u8, A>,
     machine: &Machine<A>,
@@ -81,7 +84,7 @@ fn push_untried_of<A: Handle>(
     t: TxnId,
     kinds: &[EventKind],
 ) -> Result<(), AllocError>
-    ensures { OnOk result (list.new.items ≡ onto_list (λ word. Some word) list.old.items (untried_of machine.now active.now t kinds.now)) }
+    ensures { OnOk result (list.new.items ≡ untried_onto machine.now active.now t list.old.items kinds.now) }
 {
     for kind in kinds {
         if may(machine, t, *kind) {
@@ -99,12 +102,12 @@ pub(crate) fn untried_for<A: Handle>(
     t: TxnId,
     status: Status,
 ) -> Result<Vec<u8, A>, AllocError>
-    ensures { IfOk result (λ list. list.items ≡ listed (untried_for status machine.now active.now t)) }
+    ensures { IfOk result (λ list. list.items ≡ untried_for status machine.now active.now t) }
 {
     let mut list = Vec::new(alloc);
     match status {
         Status::NotBegun => {}
-        _ => push_untried_of(alloc, &mut list, machine, active, t, &KINDS)?,
+        _ => push_untried(alloc, &mut list, machine, active, t, &KINDS)?,
     }
     Ok(list)
 }

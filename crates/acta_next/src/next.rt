@@ -1,9 +1,9 @@
 //! Which events can happen next, as lines.
 
-ghost use Rattle.std.specs.Prelude.{◌≡◌, ◌++◌, ◌∷◌, [], IfOk, OnOk, option_map, take};
+ghost use Rattle.std.specs.Prelude.{◌≡◌, ◌++◌, ◌∷◌, [], codes, decimal, IfOk, OnOk, option_map, take};
 ghost use Rattle.acta_machine.specs.Table.{debts_in, refusal_in, status_in};
 ghost use Rattle.acta_next.specs.Candidates.{in_progress};
-ghost use Rattle.acta_next.specs.Next.{IsNext, admitted_item, admitted_words, ended_line, has_ended, list_line, may_line, more_line, next_for, next_lines, next_of, next_of_all, next_of_each, onto_list, or_nothing, paid_item, paid_note, pays, refused_item, refused_words, sorted};
+ghost use Rattle.acta_next.specs.Next.{IsNext, admitted_item, admitted_words, ended_line, has_ended, list_line, may_line, more_line, next_for, next_lines, next_of, next_of_all, next_of_each, nothing_more, onto_list, or_nothing, paid_item, paid_note, pays, refused_item, refused_words, sorted, with_item};
 ghost use Rattle.acta_script.specs.Writing.{event_line};
 
 use crate::candidates::{in_progress, tried_for};
@@ -40,7 +40,9 @@ fn pays<A: Handle>(event: &Event<A>, owed: &Owed) -> bool
 }
 
 // Adds the edge of a debt to a list.
-fn push_edge<A: Handle>(alloc: A, list: &mut Vec<u8, A>, owed: &Owed) -> Result<(), AllocError> {
+fn push_edge<A: Handle>(alloc: A, list: &mut Vec<u8, A>, owed: &Owed) -> Result<(), AllocError>
+    ensures { OnOk result (list.new.items ≡ with_item list.old.items (codes "edge " ++ decimal owed.now.edge.0)) }
+{
     let mut item = Vec::from_slice(alloc, b"edge ")?;
     push_digits(&mut item, u64::from(owed.edge.0))?;
     push_item(list, item.as_slice())
@@ -126,7 +128,8 @@ impl<A: Handle> Sorted<A> {
         debts: &[Owed],
         event: &Event<A>,
     ) -> Result<(), AllocError>
-        ensures may { debts.now ≡ debts_in machine.now → OnOk result (self.new.may.items ≡ onto_list (admitted_item machine.now) self.old.may.items (event.now ∷ [])) }
+        requires { debts.now ≡ debts_in machine.now }
+        ensures may { OnOk result (self.new.may.items ≡ onto_list (admitted_item machine.now) self.old.may.items (event.now ∷ [])) }
         ensures not { OnOk result (self.new.not.items ≡ onto_list (refused_item machine.now) self.old.not.items (event.now ∷ [])) }
     {
         match refused_by(machine, event)? {
@@ -234,17 +237,25 @@ fn push_lines<A: Handle>(
     push_list(text, b"  its class has no: ", lacking.as_slice())
 }
 
+// What is said of a transaction that has ended, before how it has.
+#[tactic(auto, unfolding(crate::specs::Next::nothing_more))]
+fn nothing_more() -> &'static [u8]
+    ensures { result.now ≡ nothing_more }
+{
+    b" may: nothing, it is "
+}
+
 // Adds how a transaction has ended, which can do nothing more.
 fn push_ended<A: Allocator>(
     text: &mut Vec<u8, A>,
     t: TxnId,
-    status: Status,
+    word: &[u8],
 ) -> Result<(), AllocError>
-    ensures { OnOk result (text.new.items ≡ text.old.items ++ ended_line t status) }
+    ensures { OnOk result (text.new.items ≡ text.old.items ++ ended_line t word.now) }
 {
     push_digits(text, u64::from(t.0))?;
-    text.extend_from_slice(b" may: nothing, it is ")?;
-    push_line(text, status_word(status))
+    text.extend_from_slice(nothing_more())?;
+    push_line(text, word)
 }
 
 // Whether the status is that of a transaction that has ended.
@@ -267,7 +278,7 @@ fn push_next_of<A: Handle>(
 {
     let status = machine.status(t);
     if has_ended(status) {
-        return push_ended(text, t, status);
+        return push_ended(text, t, status_word(status));
     }
     push_lines(alloc, text, machine, active, u, t)
 }

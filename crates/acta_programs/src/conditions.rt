@@ -39,6 +39,8 @@ fn put_expected<A: Handle>(prose: Prose<A>, model: &Model<A>, expected: Expected
         Expected::Status => prose.put("a status: inprogress, committed, aborted or joined"),
         Expected::Object => put_objects(prose, model),
         Expected::Line => prose.put("the number of a line of the input that has a word"),
+        Expected::Operation => prose.put("the number of a line with an operation"),
+        Expected::Started => prose.put("a transaction that an event of the programs starts"),
         Expected::Value(object) => put_value_of(prose, model, object),
         Expected::Return => prose.put("a return: a number, done, yes or no"),
         Expected::And => prose.put("`and`, or the end"),

@@ -126,6 +126,7 @@ fn search<A: Handle, W: Watch>(
 fn condition_asked<A: Handle>(
     alloc: A,
     model: &Model<A>,
+    lines: &[ProgramLine<A>],
     numbers: &[usize],
     text: Option<&str>,
 ) -> Result<Condition<A>, ConditionError>
@@ -133,7 +134,7 @@ fn condition_asked<A: Handle>(
     ensures err { IfErr result (MayFail (is_some text.entry)) }
 {
     match text {
-        Some(text) => read_condition(alloc, model, numbers, text.as_bytes()),
+        Some(text) => read_condition(alloc, model, lines, numbers, text.as_bytes()),
         None => Ok(Condition {
             terms: Vec::new(alloc),
         }),
@@ -152,7 +153,7 @@ fn explore_lines<A: Handle, W: Watch>(
     ensures { IfOk result (λ report. IsOfPrograms asked.entry.form (is_some asked.entry.condition) asked.entry.most model.now lines.now (line_numbers input.now) (output_of report)) }
 {
     let numbers = numbers_of_lines(alloc, input)?;
-    let condition = match condition_asked(alloc, model, numbers.as_slice(), asked.condition) {
+    let condition = match condition_asked(alloc, model, lines, numbers.as_slice(), asked.condition) {
         Ok(condition) => condition,
         Err(ConditionError::Fault(fault)) => {
             return explain_condition(alloc, model, asked.condition.unwrap_or(""), fault);
