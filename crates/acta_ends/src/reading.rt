@@ -264,9 +264,7 @@ fn read_test<A: Allocator + Copy>(
         return Err(rest.fault(Expected::Test).into());
     };
     match others.after_sign() {
-        Some(value) if is_number(first.text) => {
-            Ok(read_returned(lines, numbers, first, value)?)
-        }
+        Some(value) if is_number(first.text) => { Ok(read_returned(lines, numbers, first, value)?) }
         Some(value) => read_value(alloc, model, first, value),
         None => match read_u16(first.text) {
             Some(txn) => Ok(read_status(lines, first, TxnId(txn), others)?),

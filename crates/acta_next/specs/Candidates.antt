@@ -158,7 +158,6 @@ abbrev pub tried_for : {A : Type 0} → Status → State A → List TxnId → Tx
 tried_for NotBegun state active u t = begins t (class_ids state.model)
 tried_for _ state active u t = tried_onto state active u t [] kinds
 
-
 -- the words of the kinds that the class doesn't have
 abbrev pub lacking_of : {A : Type 0} → State A → TxnId → List EventKind → List (List ℕ)
 lacking_of state t [] = []

@@ -5,9 +5,7 @@ ghost use Rattle.acta_table.specs.Events.{started};
 ghost use Rattle.acta_next.specs.Candidates.{MOST_TRIED, begins, changing, class_allows, class_ids, events_of_kind, if_in_progress, in_progress, is_in_progress, is_other, joins, may, operations, others, reading, spawns, splits, tried_for, tried_onto};
 
 use acta_machine::{Handle, Machine};
-use acta_table::{
-    ClassId, Event, EventKind, Kept, Kind, Model, ObjId, Op, OpSet, Status, TxnId,
-};
+use acta_table::{ClassId, Event, EventKind, Kept, Kind, Model, ObjId, Op, OpSet, Status, TxnId};
 use std::alloc::{AllocError, Allocator};
 
 /// The kinds of event of a transaction in progress, in the order in which they are listed.
@@ -129,7 +127,11 @@ fn is_other(t: TxnId, u: TxnId) -> bool
 }
 
 /// The transactions but this one.
-pub(crate) fn others<A: Handle>(alloc: A, t: TxnId, active: &[TxnId]) -> Result<Vec<TxnId, A>, AllocError>
+pub(crate) fn others<A: Handle>(
+    alloc: A,
+    t: TxnId,
+    active: &[TxnId],
+) -> Result<Vec<TxnId, A>, AllocError>
     ensures { IfOk result (λ list. list.items ≡ others t active.now) }
 {
     let mut list = Vec::new(alloc);

@@ -41,7 +41,11 @@ pub(crate) fn push_item<A: Allocator>(list: &mut Vec<u8, A>, item: &[u8]) -> Res
 }
 
 // Adds an item to a list, if there is more.
-fn push_if<A: Allocator>(list: &mut Vec<u8, A>, is_more: bool, item: &[u8]) -> Result<(), AllocError>
+fn push_if<A: Allocator>(
+    list: &mut Vec<u8, A>,
+    is_more: bool,
+    item: &[u8],
+) -> Result<(), AllocError>
     ensures { OnOk result (list.new.items ≡ onto_list (λ word. Some word) list.old.items (if_more is_more item.now)) }
 {
     if is_more {

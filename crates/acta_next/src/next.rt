@@ -246,11 +246,7 @@ fn nothing_more() -> &'static [u8]
 }
 
 // Adds how a transaction has ended, which can do nothing more.
-fn push_ended<A: Allocator>(
-    text: &mut Vec<u8, A>,
-    t: TxnId,
-    word: &[u8],
-) -> Result<(), AllocError>
+fn push_ended<A: Allocator>(text: &mut Vec<u8, A>, t: TxnId, word: &[u8]) -> Result<(), AllocError>
     ensures { OnOk result (text.new.items ≡ text.old.items ++ ended_line t word.now) }
 {
     push_digits(text, u64::from(t.0))?;

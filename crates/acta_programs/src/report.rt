@@ -153,7 +153,13 @@ fn explore_lines<A: Handle, W: Watch>(
     ensures { IfOk result (λ report. IsOfPrograms asked.entry.form (is_some asked.entry.condition) asked.entry.most model.now lines.now (line_numbers input.now) (output_of report)) }
 {
     let numbers = numbers_of_lines(alloc, input)?;
-    let condition = match condition_asked(alloc, model, lines, numbers.as_slice(), asked.condition) {
+    let condition = match condition_asked(
+        alloc,
+        model,
+        lines,
+        numbers.as_slice(),
+        asked.condition,
+    ) {
         Ok(condition) => condition,
         Err(ConditionError::Fault(fault)) => {
             return explain_condition(alloc, model, asked.condition.unwrap_or(""), fault);
