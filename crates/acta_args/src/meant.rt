@@ -7,7 +7,7 @@ use strsim::osa_distance;
 const LONGEST: usize = 33;
 
 /// The first of the known words that is one letter off: of which one letter is missing, too many, another, or changed
-/// for its neighbour, or of which only the case differs. None for a word that is known. `Err` where there is no memory.
+/// for its neighbour, or of which only the case differs. None for a word that is known.
 pub fn nearest<'a, A: Allocator + Copy>(
     alloc: A,
     word: &[u8],

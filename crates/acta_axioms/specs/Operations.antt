@@ -105,7 +105,7 @@ holder_at m h o n = option_map (λ s. s.holder) (standing_of m (take n h) o)
 abbrev pub fate_at : {A : Type 0} → Parts A → List (Kept A) → ℕ → ℕ → Option Fate
 fate_at m h o n = option_map (λ s. s.fate) (standing_of m (take n h) o)
 
--- whether an operation that stands so is in progress and held by t
+-- whether an operation with this holder and fate is in progress and held by t
 abbrev pub is_held_by : ℕ → Standing → Bool
 is_held_by t s = (s.holder == t) && is_open s.fate
 
@@ -119,7 +119,7 @@ abbrev pub is_spared : {A : Type 0} → Parts A → List (Kept A) → ℕ → �
 is_spared m h t object u =
     (has_class (λ k. spares k.scope) m h t && list_any (λ a. a.0 == u) (ancestors h t)) || is_permitted h u t object
 
--- whether an operation on the object that stands so is in progress and held by another than t, who does not spare t
+-- whether an operation on the object, with this holder and fate, is in progress, and its holder is another than t, and not exempt
 abbrev pub is_of_others : {A : Type 0} → Parts A → List (Kept A) → ℕ → ℕ → Standing → Bool
 is_of_others m h t object s = is_open s.fate && not (s.holder == t) && not (is_spared m h t object s.holder)
 
@@ -128,7 +128,7 @@ is_of_others m h t object s = is_open s.fate && not (s.holder == t) && not (is_s
 abbrev pub conflict_set : {A : Type 0} → Parts A → List (Kept A) → ℕ → List Operation
 conflict_set m h t = filter (λ o. is_of_others m h t o.object (standing m h o)) (operations h)
 
--- whether an operation that stands so is seen
+-- whether an operation with this fate is in the view
 abbrev pub is_in_view : Standing → Bool
 is_in_view s = not (is_aborted s.fate)
 

@@ -36,7 +36,7 @@ committed_by _ = None
 abbrev pub commit_order : {A : Type 0} → List (Kept A) → List ℕ
 commit_order h = filter_map (λ k. committed_by k.event) h
 
--- whether an operation that stands so is committed, and was held by t to the last
+-- whether an operation with this holder and fate is committed, and t held it last
 abbrev pub is_of_group : ℕ → Standing → Bool
 is_of_group t s = (s.holder == t) && is_committed s.fate
 

@@ -21,7 +21,7 @@ with_next w (k ∷ ks) = record { model = w.model; front = w.front ++ k ∷ []; 
 abbrev pub stepped : {A : Type 0} → Walked A → Walked A
 stepped w = with_next w w.ahead
 
--- an operation that stands so
+-- an operation with its holder and its fate
 abbrev pub held_op : Operation → Standing → HeldOp
 held_op o s = record {
   ob = record { 0 = o.object };

@@ -72,7 +72,7 @@ pub fn first_against<A: Handle>(
     }
 }
 
-/// Who holds those that do. `Err` where there is no memory.
+/// Who holds those that do.
 pub fn holders_against<A: Handle>(
     alloc: A,
     model: &Model<A>,
@@ -91,7 +91,7 @@ pub fn holders_against<A: Handle>(
     }
 }
 
-/// The set, with these transactions too. `Err` where there is no memory.
+/// The set, with these transactions too.
 pub fn with_txns<A: Allocator + Copy>(
     numbers: BTreeSet<u16, A>,
     txns: &[TxnId],
@@ -105,8 +105,8 @@ pub fn with_txns<A: Allocator + Copy>(
     Ok(all)
 }
 
-/// The edges that an event wants that is no operation, in order: those that the class named wants of a spawn or a split,
-/// and none where it is not among these; and the one that is formed. `Err` where there is no memory.
+/// The edges that an event wants that is no operation, in order: those that the class named wants of a spawn or a
+/// split, and none where it is not among these; and the one that is formed.
 pub fn edges_wanted<A: Allocator + Copy>(
     alloc: A,
     classes: &[Class<A>],

@@ -48,7 +48,7 @@ pub enum Axiom {
 }
 
 impl Axiom {
-    /// The number of the axiom: from 1 to 13, or from 21 to 33 where it is on dependencies and debts (ours).
+    /// The number of the axiom: from 1 to 13, or from 21 to 33 where it is on dependencies and debts.
     #[tactic(auto, unfolding(crate::specs::Axioms::axiom_number))]
     pub fn number(self) -> u8
         ensures { result ≡ axiom_number self }

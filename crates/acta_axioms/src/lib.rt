@@ -3,6 +3,8 @@
 //! what became of it, the values by replay, the edges and what is owed by them, and which axiom each place
 //! breaks. A `Walk` goes through a history from its front, one item at a time, and answers what stands
 //! before the place that it has reached; `Places` answers questions about a whole history.
+//!
+//! A call that allocates returns `Err` if memory runs out.
 #![tactic(auto)]
 
 mod against;

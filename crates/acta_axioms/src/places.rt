@@ -30,7 +30,7 @@ impl<'a, A: Handle> std::marker::Model for Places<'a, A> {
 }
 
 impl<'a, A: Handle> Places<'a, A> {
-    /// The places of a list of at most 65,536 items. `Err` where there is no memory for the walk.
+    /// The places of a list of at most 65,536 items. `Err` if memory runs out for the walk.
     pub fn of(
         alloc: A,
         model: &'a Model<A>,
@@ -62,37 +62,37 @@ impl<'a, A: Handle> Places<'a, A> {
         self.walk.course(t)
     }
 
-    /// The first place, from 1, at which the transaction begins (ACTA's initiation). `None` where
-    /// it never does, and for each number that the list doesn't name.
+    /// The first place, from 1, at which the transaction begins. `None` where it never does, and for each number that
+    /// the list doesn't name.
     pub fn start(&self, t: TxnId) -> Option<u32>
         ensures { result ≡ (course self.now.history t.0).start }
     {
         self.course(t).start
     }
 
-    /// The first place, from 1, at which the transaction commits (ACTA's termination), begun or not.
+    /// The first place, from 1, at which the transaction commits, begun or not.
     pub fn commit(&self, t: TxnId) -> Option<u32>
         ensures { result ≡ (course self.now.history t.0).commit }
     {
         self.course(t).commit
     }
 
-    /// The first place, from 1, at which the transaction aborts (ACTA's termination), begun or not.
+    /// The first place, from 1, at which the transaction aborts, begun or not.
     pub fn abort(&self, t: TxnId) -> Option<u32>
         ensures { result ≡ (course self.now.history t.0).abort }
     {
         self.course(t).abort
     }
 
-    /// The first place, from 1, at which the transaction joins another (ACTA's join), begun or not.
+    /// The first place, from 1, at which the transaction joins another, begun or not.
     pub fn join(&self, t: TxnId) -> Option<u32>
         ensures { result ≡ (course self.now.history t.0).join }
     {
         self.course(t).join
     }
 
-    /// Who holds the operation (ACTA's responsible transaction) after the first n places, or after all
-    /// where there are fewer. `None` where the operation is not among them.
+    /// Who holds the operation after the first n places, or after all where there are fewer. `None` where the operation
+    /// is not among them.
     pub fn holder(&self, op: OpNo, n: u32) -> Option<TxnId>
         ensures { option_map (λ t. t.0) result ≡ holder_at self.now.model self.now.history op.0 n }
     {
@@ -100,8 +100,8 @@ impl<'a, A: Handle> Places<'a, A> {
         Some(held.holder)
     }
 
-    /// What became of the operation (ACTA's commit and abort of operations) after the first n places,
-    /// or after all where there are fewer. `None` where the operation is not among them.
+    /// What became of the operation after the first n places, or after all where there are fewer. `None` where the
+    /// operation is not among them.
     pub fn fate(&self, op: OpNo, n: u32) -> Option<Fate>
         ensures { result ≡ fate_at self.now.model self.now.history op.0 n }
     {
@@ -109,8 +109,8 @@ impl<'a, A: Handle> Places<'a, A> {
         Some(held.fate)
     }
 
-    /// The edges that the events form, legal or not, in order of forming (ACTA's dependencies in
-    /// force). Each is in force once, however often it is formed, and the first has the number 1 (ours).
+    /// The edges that the events form, legal or not, in order of forming. Each is in force once, however often it is
+    /// formed, and the first has the number 1.
     pub fn edges(&self) -> &[Edge]
         ensures { result.now ≡ edges self.now.model self.now.history }
     {

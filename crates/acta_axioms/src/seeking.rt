@@ -34,7 +34,7 @@ impl<'a, A: Handle> Walk<'a, A> {
         *self.lines.allocator()
     }
 
-    // The ancestors of the transaction. `Err` where there is no memory.
+    // The ancestors of the transaction.
     fn ancestors(&self, t: TxnId) -> Result<BTreeSet<u16, A>, AllocError>
         ensures { IfOk result (λ numbers. numbers.keys ≡ ascending (map (λ u. u.0) (ancestors self.now.front t.0))) }
     {
@@ -60,8 +60,7 @@ impl<'a, A: Handle> Walk<'a, A> {
         }
     }
 
-    // The ancestors of the transaction that its class leaves out of its conflict set. `Err` where there is no
-    // memory.
+    // The ancestors of the transaction that its class leaves out of its conflict set.
     fn spared_numbers(&self, t: TxnId) -> Result<BTreeSet<u16, A>, AllocError>
         ensures { IfOk result (λ numbers. numbers.keys ≡ spared_numbers self.now.model self.now.front t.0) }
     {
@@ -93,7 +92,7 @@ impl<'a, A: Handle> Walk<'a, A> {
         self.permits.has(s, t, object)
     }
 
-    // Those who permit the transaction to work on the object. `Err` where there is no memory.
+    // Those who permit the transaction to work on the object.
     fn permitters(&self, t: TxnId, object: ObjId) -> Result<Vec<TxnId, A>, AllocError>
         ensures { IfOk result (λ found. (u : ℕ) → list_any (λ s. s.0 == u) found.items ≡ is_permitted self.now.front u t.0 object.0) }
     {
@@ -108,7 +107,7 @@ impl<'a, A: Handle> Walk<'a, A> {
     }
 
     /// Those whose operations on the object the transaction is spared: ancestors that its class leaves out of its
-    /// conflict set, and those who permit it to work there. `Err` where there is no memory.
+    /// conflict set, and those who permit it to work there.
     pub(crate) fn spared_on(&self, t: TxnId, object: ObjId) -> Result<BTreeSet<u16, A>, AllocError>
         ensures { IfOk result (λ numbers. AreSpared self.now.model self.now.front t.0 object.0 numbers.keys) }
     {
@@ -196,7 +195,7 @@ impl<'a, A: Handle> Walk<'a, A> {
         }
     }
 
-    /// The numbers of the operations that are looked for, ascending. `Err` where there is no memory.
+    /// The numbers of the operations that are looked for, ascending.
     pub(crate) fn seek(&self, t: TxnId, sought: &Sought) -> Result<Vec<OpNo, A>, AllocError>
         ensures { IfOk result (λ numbers. numbers.items ≡ numbers_of (is_sought self.now.model self.now.front t.0 sought.now) (held_ops self.now.model self.now.front)) }
     {
@@ -212,8 +211,7 @@ impl<'a, A: Handle> Walk<'a, A> {
         Ok(numbers)
     }
 
-    /// Who holds the operations of t's conflict set that an operation of t on the object conflicts with. `Err`
-    /// where there is no memory.
+    /// Who holds the operations of t's conflict set that an operation of t on the object conflicts with.
     pub(crate) fn holders_against(
         &self,
         t: TxnId,

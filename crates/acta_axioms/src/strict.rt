@@ -20,7 +20,7 @@ fn is_strict_class<A: Allocator>(class: &Class<A>) -> bool
         && !class.may.has(EventKind::Permit)
 }
 
-/// Whether the model is strict (ours): each class starts by begin at most, conflicts with all others, refuses where it
+/// Whether the model is strict: each class starts by begin at most, conflicts with all others, refuses where it
 /// conflicts, and may not spawn, split, join, delegate or permit.
 pub fn is_strict<A: Allocator>(model: &Model<A>) -> bool
     ensures { result ≡ is_strict model.now }

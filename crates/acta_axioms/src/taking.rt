@@ -11,7 +11,7 @@ use acta_values::Store;
 use std::alloc::AllocError;
 
 // Brings the operations one event further, and puts the one that the event is behind them, given the heir of the one
-// that commits by it. `Err` where there is no memory, and then they stay as they were.
+// that commits by it. On `Err` they stay as they were.
 fn follow<A: Handle>(
     heir: Option<TxnId>,
     event: &Event<A>,
@@ -51,7 +51,7 @@ fn drop_ended<A: Handle>(event: &Event<A>, permits: &mut Permits<A>)
     }
 }
 
-// Brings operations and permits one event further. `Err` where there is no memory, and then both stay as they were.
+// Brings operations and permits one event further. On `Err` both stay as they were.
 fn follow_all<A: Handle>(
     before: Before,
     event: &Event<A>,
@@ -84,8 +84,8 @@ pub struct Before {
     pub is_late: bool,
 }
 
-/// Brings operations and permits one event further, as `follow`, and puts the edges that are due behind the others, each
-/// once. `Err` where there is no memory, and then all stay as they were.
+/// Brings operations and permits one event further, as `follow`, and puts the edges that are due behind the others,
+/// each once. On `Err` all stay as they were.
 pub(crate) fn go_on<A: Handle>(
     before: Before,
     event: &Event<A>,

@@ -23,9 +23,9 @@ use acta_values::Store;
 use indexmap::IndexSet;
 use std::alloc::AllocError;
 
-/// A walk through a list of kept items, legal or not, from its front (ours): it answers what stands before the
-/// place that it has reached, as ACTA speaks of histories. Contracts see the model, the items in front of that
-/// place, and those from it on.
+/// A walk through a list of kept items, legal or not, from its front: it answers what stands before the place that it
+/// has reached, as ACTA speaks of histories. Contracts see the model, the items in front of that place, and those from
+/// it on.
 #[derive(Drop)]
 pub struct Walk<'a, A: Handle> {
     pub(crate) model: &'a Model<A>,
@@ -52,8 +52,7 @@ impl<'a, A: Handle> std::marker::Model for Walk<'a, A> {
 }
 
 impl<'a, A: Handle> Walk<'a, A> {
-    /// A walk that stands before the first place of a list of at most `MOST_EVENTS` items. `Err` where there is no
-    /// memory.
+    /// A walk that stands before the first place of a list of at most `MOST_EVENTS` items.
     pub fn of(alloc: A, model: &'a Model<A>, kept: &'a [Kept<A>]) -> Result<Walk<'a, A>, AllocError>
         requires { length kept.now ≤ MOST_EVENTS }
         ensures { IfOk result (λ walk. walk ≡ record { model = model.now; front = []; ahead = kept.now }) }
@@ -71,7 +70,7 @@ impl<'a, A: Handle> Walk<'a, A> {
         })
     }
 
-    /// Goes one item further, if one is ahead. `Err` where there is no memory, and then the walk stays where it was.
+    /// Goes one item further, if one is ahead. On `Err` the walk stays where it was.
     pub fn step(&mut self) -> Result<(), AllocError>
         ensures ok { OnOk result (self.new ≡ stepped self.old) }
         ensures err { OnErr result (self.new ≡ self.old) }
@@ -97,7 +96,7 @@ impl<'a, A: Handle> Walk<'a, A> {
         Ok(())
     }
 
-    /// A walk at the same place of the same list, in memory of its own. `Err` where there is no memory.
+    /// A walk at the same place of the same list, in memory of its own.
     pub fn copy(&self) -> Result<Walk<'a, A>, AllocError>
         ensures { IfOk result (λ walk. walk ≡ self.now) }
     {
@@ -112,8 +111,7 @@ impl<'a, A: Handle> Walk<'a, A> {
         })
     }
 
-    /// The operations that the transaction holds in progress (ACTA's access set), by number, ascending. `Err` where
-    /// there is no memory.
+    /// The operations that the transaction holds in progress, by number, ascending.
     pub fn access_set(&self, t: TxnId) -> Result<Vec<OpNo, A>, AllocError>
         ensures { IfOk result (λ ops. ops.items ≡ op_numbers (access_set self.now.model self.now.front t.0)) }
     {
@@ -121,16 +119,15 @@ impl<'a, A: Handle> Walk<'a, A> {
     }
 
     /// The operations in progress that others hold, but for ancestors that the transaction's class leaves out, and for
-    /// what is on an object on which their holder permits the transaction to work (ACTA's conflict set), by number,
-    /// ascending. `Err` where there is no memory.
+    /// what is on an object on which their holder permits the transaction to work, by number, ascending.
     pub fn conflict_set(&self, t: TxnId) -> Result<Vec<OpNo, A>, AllocError>
         ensures { IfOk result (λ ops. ops.items ≡ op_numbers (conflict_set self.now.model self.now.front t.0)) }
     {
         self.seek(t, &Sought::Others)
     }
 
-    /// The operations of the transaction's conflict set with which this operation on this object conflicts (ACTA's
-    /// conflict), by number, ascending. `Err` where there is no memory.
+    /// The operations of the transaction's conflict set with which this operation on this object conflicts, by number,
+    /// ascending.
     pub fn conflicting(&self, t: TxnId, object: ObjId, op: &Op) -> Result<Vec<OpNo, A>, AllocError>
         ensures { IfOk result (λ ops. ops.items ≡ op_numbers (conflicting self.now.model self.now.front t.0 object.0 op.now)) }
     {
@@ -145,8 +142,8 @@ impl<'a, A: Handle> Walk<'a, A> {
         }
     }
 
-    /// The value of the object: its first value, with the operations on it that are not aborted, in order. `None`
-    /// where it is not in the model. `Err` where there is no memory.
+    /// The value of the object: its first value, with the operations on it that are not aborted, in order. `None` where
+    /// it is not in the model.
     pub fn value(&self, object: ObjId) -> Result<Option<ObjectState<A>>, AllocError>
         ensures { IfOk result (λ state. state ≡ option_map (value self.now.model self.now.front object.0) (kind_at self.now.model object.0)) }
     {
@@ -154,7 +151,7 @@ impl<'a, A: Handle> Walk<'a, A> {
     }
 
     /// What the operation on the object has to return: what it returns on the object's value. `None` where the object
-    /// is not in the model. `Err` where there is no memory.
+    /// is not in the model.
     pub fn return_due(&self, object: ObjId, op: &Op) -> Result<Option<Ret>, AllocError>
         ensures { IfOk result (λ due. due ≡ return_due self.now.model self.now.front object.0 op.now) }
     {
@@ -229,8 +226,7 @@ impl<'a, A: Handle> Walk<'a, A> {
         self.line(t).parent
     }
 
-    /// The operations, in order: each with its holder (ACTA's responsible transaction) and its fate. The first has
-    /// the number 1.
+    /// The operations, in order: each with its holder and its fate. The first has the number 1.
     pub fn operations(&self) -> &[HeldOp]
         ensures operations { result.now ≡ held_ops self.now.model self.now.front }
         ensures few { length result.now ≤ MOST_EVENTS }
@@ -248,7 +244,7 @@ impl<'a, A: Handle> Walk<'a, A> {
         self.operations().get(op.0 as usize - 1).copied()
     }
 
-    /// Whether the transaction holds the operation in progress: whether it is in the transaction's access set (ACTA's).
+    /// Whether the transaction holds the operation in progress: whether it is in the transaction's access set.
     pub fn holds(&self, t: TxnId, op: OpNo) -> bool
         ensures { result ≡ has_number (map (λ o. o.number) (access_set self.now.model self.now.front t.0)) op.0 }
     {
@@ -258,8 +254,8 @@ impl<'a, A: Handle> Walk<'a, A> {
         }
     }
 
-    /// The edges that the items form, legal or not, in order of forming (ACTA's dependencies in force). Each is in
-    /// force once, however often it is formed, and the first has the number 1 (ours).
+    /// The edges that the items form, legal or not, in order of forming. Each is in force once, however often it is
+    /// formed, and the first has the number 1.
     pub fn edges(&self) -> &[Edge]
         ensures { result.now ≡ edges self.now.model self.now.front }
     {

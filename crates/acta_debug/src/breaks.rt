@@ -9,8 +9,8 @@ use acta_machine::{Handle, Machine};
 use acta_table::{Event, EventKind, ObjId, TxnId};
 use std::alloc::{AllocError, Allocator};
 
-/// Where a run is to stop (ours): at a place, the next one at which this holds of the event that stands there, or of
-/// the machine behind it.
+/// Where a run is to stop: at a place, the next one at which this holds of the event that stands there, or of the
+/// machine behind it.
 #[derive(Clone, Copy, PartialEq, Eq, Debug)]
 pub enum Break {
     /// The event is of this kind.
@@ -25,7 +25,7 @@ pub enum Break {
     Ended(TxnId),
 }
 
-/// Where a run has stopped (ours).
+/// Where a run has stopped.
 #[derive(Clone, Copy, PartialEq, Eq, Debug)]
 pub enum Stop {
     /// At a place, from 1, at which the break of this number holds, from 1, and none with a lower number.
@@ -78,7 +78,7 @@ fn is_end_of<A: Allocator>(event: &Event<A>, t: TxnId) -> bool
 }
 
 impl Break {
-    // Whether it holds of an event and of the machine behind it. `Err` where there is no memory.
+    // Whether it holds of an event and of the machine behind it.
     fn holds<A: Handle>(self, event: &Event<A>, machine: &Machine<A>) -> Result<bool, AllocError>
         ensures { IfOk result (λ holds. holds ≡ holds_of machine.now event.now self) }
     {
@@ -92,7 +92,7 @@ impl Break {
     }
 }
 
-/// The lowest number of a break that holds of an event and of the machine behind it. `Err` where there is no memory.
+/// The lowest number of a break that holds of an event and of the machine behind it.
 pub fn lowest_that_holds<A: Handle>(
     breaks: &[Break],
     event: &Event<A>,

@@ -27,8 +27,8 @@ use std::mem::replace;
 // `mark` leaves more between the last checkpoint and its end.)
 const NEAR: usize = MOST_EVENTS / 64;
 
-/// A history, a place in it, the machine as it was there, and breaks (ours). Contracts see the model, the history, how
-/// many of its events are behind the debugger, and the breaks: the machine is what these events leave.
+/// A history, a place in it, the machine as it was there, and breaks. Contracts see the model, the history, how many of
+/// its events are behind the debugger, and the breaks: the machine is what these events leave.
 #[derive(Drop)]
 pub struct Debugger<A: Handle> {
     machine: Machine<A>,
@@ -115,10 +115,10 @@ fn keep_within<A: Handle>(machines: &mut Vec<Machine<A>, A>, events: usize)
 }
 
 impl<A: Handle> Debugger<A> {
-    /// A debugger on a history, at its start, with no break (ours). It accepts exactly the lists that a machine on the
-    /// model keeps as its history when it takes their events. Of any other list `NotAHistory` tells the first place,
-    /// from 1, at which the machine doesn't admit the event with the return that the list has there; so a list of more
-    /// than 65,536 events is no history. `Memory` where there is no memory. An error drops the model and the list.
+    /// A debugger on a history, at its start, with no break. It accepts exactly the lists that a machine on the model
+    /// keeps as its history when it takes their events. Of any other list `NotAHistory` tells the first place, from 1,
+    /// at which the machine doesn't admit the event with the return that the list has there; so a list of more than
+    /// 65,536 events is no history. `Memory` if memory runs out. An error drops the model and the list.
     pub fn new(alloc: A, model: Model<A>, history: Vec<Kept<A>, A>) -> Result<Debugger<A>, NewError>
         ensures ok { IfOk result (λ debugger. debugger ≡ opened model history.items) }
         ensures only { OnOk result (IsHistory model history.items) }
@@ -135,8 +135,8 @@ impl<A: Handle> Debugger<A> {
         }
     }
 
-    /// A debugger on what a machine on the model keeps of the events, at its start, with no break (ours): the events are
-    /// run once. `Err`, where there is no memory, drops the model.
+    /// A debugger on what a machine on the model keeps of the events, at its start, with no break: the events are run
+    /// once. `Err` drops the model.
     pub fn of_events(
         alloc: A,
         model: Model<A>,
@@ -179,8 +179,8 @@ impl<A: Handle> Debugger<A> {
         }
     }
 
-    /// Moves one event further (ours). `AtEnd` comes exactly where it stands behind the last event, and `Memory` where
-    /// there is no memory. An error leaves it where it stood.
+    /// Moves one event further. `AtEnd` comes exactly where it stands behind the last event, and `Memory` if memory
+    /// runs out. An error leaves it where it stood.
     pub fn step(&mut self) -> Result<(), MoveError>
         ensures ok { OnOk result (stepped self.old ≡ Ok self.new) }
         ensures err { OnErr result (self.new ≡ self.old) }
@@ -197,8 +197,8 @@ impl<A: Handle> Debugger<A> {
         Ok(())
     }
 
-    /// Moves one event back (ours). `AtStart` comes exactly where it stands before the first event, and `Memory` where
-    /// there is no memory. An error leaves it where it stood.
+    /// Moves one event back. `AtStart` comes exactly where it stands before the first event, and `Memory` if memory
+    /// runs out. An error leaves it where it stood.
     pub fn back(&mut self) -> Result<(), MoveError>
         ensures ok { OnOk result (stepped_back self.old ≡ Ok self.new) }
         ensures err { OnErr result (self.new ≡ self.old) }
@@ -214,8 +214,8 @@ impl<A: Handle> Debugger<A> {
         Ok(())
     }
 
-    /// Moves to behind the first n events, of which 0 is the start (ours). `OutOfRange` comes exactly where the history
-    /// has fewer events, and `Memory` where there is no memory. An error leaves it where it stood.
+    /// Moves to behind the first n events, of which 0 is the start. `OutOfRange` comes exactly where the history has
+    /// fewer events, and `Memory` if memory runs out. An error leaves it where it stood.
     pub fn goto(&mut self, n: u32) -> Result<(), MoveError>
         ensures ok { OnOk result (gone_to self.old n ≡ Ok self.new) }
         ensures err { OnErr result (self.new ≡ self.old) }
@@ -278,8 +278,8 @@ impl<A: Handle> Debugger<A> {
         self.leave(step < LEAST_DISTANCE.max(kept / 16))
     }
 
-    // Leaves a copy of the machine as a checkpoint, in the place of the last one if it replaces that. `Err`, where there
-    // is no memory, leaves none.
+    // Leaves a copy of the machine as a checkpoint, in the place of the last one if it replaces that. `Err` leaves
+    // none.
     fn leave(&mut self, replaces: bool) -> Result<(), AllocError>
         ensures { self.new ≡ self.old }
     {
@@ -333,8 +333,7 @@ impl<A: Handle> Debugger<A> {
         }
     }
 
-    // A machine that stands behind no more than n events: a copy of its own where no checkpoint is nearer. `Err` where
-    // there is no memory.
+    // A machine that stands behind no more than n events: a copy of its own where no checkpoint is nearer.
     fn machine_before(&self, n: usize) -> Result<Machine<A>, AllocError>
         ensures front { IfOk result (IsFront self.now.model self.now.history) }
         ensures before { IfOk result (λ machine. length machine.kept ≤ n) }
@@ -345,7 +344,7 @@ impl<A: Handle> Debugger<A> {
         Ok(self.machine.copy()?)
     }
 
-    // The machine behind the first n events. `Err` where there is no memory.
+    // The machine behind the first n events.
     fn machine_behind(&self, n: usize) -> Result<Machine<A>, AllocError>
         requires { n ≤ length self.now.history }
         ensures kept { IfOk result (λ machine. machine ≡ record { model = self.now.model; kept = take n self.now.history }) }
@@ -362,9 +361,8 @@ impl<A: Handle> Debugger<A> {
         }
     }
 
-    // Sees to it that a checkpoint stands behind no more than n events, and not many fewer: where none does, the last of
-    // them is brought there. So one move back after another takes few events. `Err`, where there is no memory, leaves
-    // all as it was.
+    // Sees to it that a checkpoint stands behind no more than n events, and not many fewer: where none does, the last
+    // of them is brought there. So one move back after another takes few events. `Err` leaves all as it was.
     fn draw_near(&mut self, n: usize) -> Result<(), AllocError>
         requires { n ≤ length self.old.history }
         ensures { self.new ≡ self.old }
@@ -383,7 +381,7 @@ impl<A: Handle> Debugger<A> {
         Ok(())
     }
 
-    // Moves to behind the first n events. `Err`, where there is no memory, leaves it where it stood.
+    // Moves to behind the first n events. `Err` leaves it where it stood.
     fn stand_behind(&mut self, n: usize) -> Result<(), AllocError>
         requires { n ≤ length self.old.history }
         ensures ok { OnOk result (self.new ≡ moved_to self.old n) }
@@ -395,9 +393,9 @@ impl<A: Handle> Debugger<A> {
         Ok(())
     }
 
-    /// Runs on (ours): it steps until a break holds of the place just reached, and answers the place and the lowest
-    /// number of a break that holds there; or to the end, where none does. Where it stands at first, none is looked at.
-    /// `Err`, where there is no memory, leaves it where it stood.
+    /// Runs on: it steps until a break holds of the place just reached, and answers the place and the lowest number of
+    /// a break that holds there; or to the end, where none does. Where it stands at first, none is looked at. `Err`
+    /// leaves it where it stood.
     pub fn run(&mut self) -> Result<Stop, AllocError>
         ensures stop { IfOk result (λ stop. stop ≡ stop_of self.old) }
         ensures first { IfOk result (IsStop self.old) }
@@ -421,7 +419,7 @@ impl<A: Handle> Debugger<A> {
 }
 
 impl<A: Handle> Debugger<A> {
-    /// How many events are behind it: 0 at the start (ours).
+    /// How many events are behind it: 0 at the start.
     pub fn at(&self) -> u32
         ensures at { result ≡ self.now.at }
         ensures within { self.now.at ≤ length self.now.history }
@@ -429,7 +427,7 @@ impl<A: Handle> Debugger<A> {
         self.at as u32
     }
 
-    /// How many events the history has, at most 65,536 (ours): the place of the last one.
+    /// How many events the history has, at most 65,536: the place of the last one.
     pub fn last(&self) -> u32
         ensures last { result ≡ length self.now.history }
         ensures few { length self.now.history ≤ MOST_EVENTS }
@@ -438,7 +436,7 @@ impl<A: Handle> Debugger<A> {
         self.history.len() as u32
     }
 
-    /// The machine behind the first `at()` events (ours).
+    /// The machine behind the first `at()` events.
     pub fn machine(&self) -> &Machine<A>
         ensures machine { result.now ≡ state_at self.now.model self.now.history self.now.at }
         ensures kept { result.now ≡ record { model = self.now.model; kept = take self.now.at self.now.history } }
@@ -447,8 +445,7 @@ impl<A: Handle> Debugger<A> {
         &self.machine
     }
 
-    /// Adds a break, and answers its number (ours): the first has the number 1. `Err`, where there is no memory, leaves
-    /// the breaks as they were.
+    /// Adds a break, and answers its number: the first has the number 1. `Err` leaves the breaks as they were.
     pub fn add_break(&mut self, one: Break) -> Result<u64, AllocError>
         ensures number { IfOk result (λ number. number ≡ length self.new.breaks) }
         ensures ok { OnOk result (self.new ≡ with_break self.old one) }
@@ -458,7 +455,7 @@ impl<A: Handle> Debugger<A> {
         Ok(self.breaks.len() as u64)
     }
 
-    /// Takes away all breaks: the next one has the number 1 (ours).
+    /// Takes away all breaks: the next one has the number 1.
     pub fn clear_breaks(&mut self)
         ensures { self.new ≡ without_breaks self.old }
     {

@@ -6,7 +6,7 @@ ghost use Rattle.acta_debug.specs.declared.errors.MoveError.TheVariants as movin
 
 use std::alloc::{AllocError, AllocFailed};
 
-/// Why there is no debugger (ours).
+/// Why there is no debugger.
 #[derive(Clone, Copy, PartialEq, Eq, Debug)]
 pub enum NewError {
     /// The list is no history: this is the first place, from 1, at which the machine doesn't admit the event with the
@@ -16,7 +16,7 @@ pub enum NewError {
     Memory,
 }
 
-/// Why a debugger did not move (ours).
+/// Why a debugger did not move.
 #[derive(Clone, Copy, PartialEq, Eq, Debug)]
 pub enum MoveError {
     /// It stands behind the last event.

@@ -3,6 +3,8 @@
 //!
 //! A function that lets go of a machine, a model or a history gives it to `drop`: who lets it go by itself lets go of
 //! each of its parts, at each early way out, and each is proved there.
+//!
+//! A call that allocates returns `Err` if memory runs out.
 #![tactic(auto)]
 
 mod breaks;

@@ -41,7 +41,7 @@ impl<A: Handle> std::marker::Model for Recording<A> {
 }
 
 impl<A: Handle> Recording<A> {
-    /// A recording that has taken nothing, for so many events at most. `Err` where there is no memory.
+    /// A recording that has taken nothing, for so many events at most.
     pub fn new(alloc: A, model: Model<A>, events: usize) -> Result<Recording<A>, AllocError>
         ensures { IfOk result (λ recording. recording ≡ fresh model) }
     {
@@ -62,7 +62,7 @@ impl<A: Handle> Recording<A> {
         &self.machine
     }
 
-    // Leaves a checkpoint where one is due. `Err` where there is no memory, and then none is left.
+    // Leaves a checkpoint where one is due. On `Err` none is left.
     fn mark(&mut self) -> Result<(), AllocError>
         ensures { self.new ≡ self.old }
     {
@@ -75,7 +75,7 @@ impl<A: Handle> Recording<A> {
         Ok(())
     }
 
-    /// Takes one event. `Err` where there is no memory, and then it is not taken.
+    /// Takes one event. On `Err` it is not taken.
     pub fn take(&mut self, event: &Event<A>) -> Result<Answer, AllocError>
         ensures answer { IfOk result (λ answer. answer ≡ answer_to self.old event.now) }
         ensures ok { OnOk result (self.new ≡ after self.old event.now) }
@@ -86,7 +86,7 @@ impl<A: Handle> Recording<A> {
         Ok(answer)
     }
 
-    /// Takes the events, in order. `Err` where there is no memory, and then it may have taken some.
+    /// Takes the events, in order. On `Err` it may have taken some.
     pub fn take_all(&mut self, events: &[Event<A>]) -> Result<(), AllocError>
         ensures { OnOk result (self.new ≡ after_all self.old events.now) }
     {
@@ -96,7 +96,7 @@ impl<A: Handle> Recording<A> {
         Ok(())
     }
 
-    /// The checkpoints, of which the machine itself is the last. `Err` where there is no memory.
+    /// The checkpoints, of which the machine itself is the last.
     pub fn checkpoints(self) -> Result<Vec<Machine<A>, A>, AllocError>
         ensures { IfOk result (λ checkpoints. AreFronts self.model self.kept checkpoints.items) }
     {

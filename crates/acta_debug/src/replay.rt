@@ -15,8 +15,7 @@ use acta_machine::{Handle, Machine};
 use acta_table::{Answer, Kept, Model, Ret};
 use std::alloc::AllocError;
 
-/// Has the machine take the events of the items, in order. `Err` where there is no memory, and then it may have taken
-/// some.
+/// Has the machine take the events of the items, in order. On `Err` it may have taken some.
 pub fn take_events<A: Handle>(machine: &mut Machine<A>, items: &[Kept<A>]) -> Result<(), AllocError>
     requires { FollowsPlaces machine.old }
     ensures machine { OnOk result (machine.new ≡ after_all machine.old (events_in items.now)) }
@@ -35,9 +34,9 @@ fn is_admitted(answer: Answer, place: u32, ret: Option<Ret>) -> bool
     answer == (Answer::Admitted { place, ret })
 }
 
-// Has the recording, which has kept nothing, take the events of the items, in order, up to the first that it doesn't admit
-// with the return that the item has, and answers the place of that one, from 1. Where there is none it answers nothing,
-// and has kept the items. `Err` where there is no memory, and then it may have taken some.
+// Has the recording, which has kept nothing, take the events of the items, in order, up to the first that it doesn't
+// admit with the return that the item has, and answers the place of that one, from 1. Where there is none it answers
+// nothing, and has kept the items. On `Err` it may have taken some.
 fn first_other_on<A: Handle>(
     recording: &mut Recording<A>,
     items: &[Kept<A>],
@@ -60,8 +59,8 @@ fn first_other_on<A: Handle>(
     Ok(None)
 }
 
-/// The checkpoints along the items, where they are a history. Of any other list `NotAHistory` tells the first place, from
-/// 1, at which it is none. `Memory` where there is no memory.
+/// The checkpoints along the items, where they are a history. Of any other list `NotAHistory` tells the first place,
+/// from 1, at which it is none. `Memory` if memory runs out.
 pub fn accepted<A: Handle>(
     alloc: A,
     model: &Model<A>,

@@ -61,11 +61,11 @@ cannot_pay_abort Wd j = has_joined j
 cannot_pay_abort Cmd j = has_aborted j || has_joined j
 cannot_pay_abort _ j = false
 
--- whether t is the j of the edge, and i stands so
+-- whether t is the j of the edge, and the test holds of the status of i
 abbrev pub depends : (Dep → Status → Bool) → (ℕ → Status) → ℕ → Edge → Bool
 depends by status t e = (e.j.0 == t) && by e.kind (status e.i.0)
 
--- whether t is the i of the edge, and j stands so
+-- whether t is the i of the edge, and the test holds of the status of j
 abbrev pub is_awaited : (Dep → Status → Bool) → (ℕ → Status) → ℕ → Edge → Bool
 is_awaited by status t e = (e.i.0 == t) && by e.kind (status e.j.0)
 

@@ -59,7 +59,7 @@ impl<A: Allocator> Deps<A> {
 }
 
 impl<A: Allocator + Copy> Deps<A> {
-    /// All debts, by edge number (ours). `Err` where there is no memory.
+    /// All debts, by edge number.
     pub fn owed(&self) -> Result<Vec<Owed, A>, AllocError>
         ensures { IfOk result (λ owed. owed.items ≡ owed_in (status_of self.now) self.now.edges) }
     {

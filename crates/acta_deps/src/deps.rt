@@ -16,8 +16,8 @@ use crate::refused::{Refused, keep_refused, refusal_among};
 use acta_table::{Edge, LAST_TXN, MOST_EDGES, Refusal, Status, TABLE_SIZE, TxnId, lengthen};
 use std::alloc::{AllocError, Allocator};
 
-/// How the transactions stand, and the edges in force among them (ACTA's dependencies, kept as a
-/// list). Contracts see the list of statuses by number, and that of edges in order of forming.
+/// How the transactions stand, and the edges in force among them. Contracts see the list of statuses by number, and
+/// that of edges in order of forming.
 #[derive(Drop)]
 pub struct Deps<A: Allocator> {
     // By the number of the transaction. One past the end has not begun.
@@ -48,8 +48,7 @@ impl<A: Allocator> std::marker::Model for Deps<A> {
 }
 
 impl<A: Allocator> Deps<A> {
-    /// How a transaction stands (ACTA's significant events, read as a state). A number that no
-    /// transaction can have has not begun.
+    /// How a transaction stands. A number that no transaction can have has not begun.
     pub fn status(&self, t: TxnId) -> Status
         ensures status { result ≡ status_of self.now t.0 }
         ensures nobody { is_bad_number t.0 ≡ true → result ≡ Status.NotBegun }
@@ -85,7 +84,7 @@ impl<A: Allocator> Deps<A> {
         self.statuses.len()
     }
 
-    /// Makes room for the status of `t`, a number up to 16,383. `Err` where there is no memory. Nobody's status changes.
+    /// Makes room for the status of `t`, a number up to 16,383. Nobody's status changes.
     pub fn make_room(&mut self, t: TxnId) -> Result<(), AllocError>
         requires { t.0 ≤ LAST_TXN }
         ensures room { OnOk result (t.0 < length self.new.statuses) }
@@ -95,7 +94,7 @@ impl<A: Allocator> Deps<A> {
         lengthen(&mut self.statuses, t.0 as usize + 1, Status::NotBegun)
     }
 
-    // From now on `t` stands so, and then nobody owes both a commit and an abort.
+    // Sets the status of `t`, after which nobody owes both a commit and an abort.
     fn set(&mut self, t: TxnId, status: Status)
         requires low { 0 < t.0 }
         requires room { t.0 < length self.old.statuses }
@@ -146,8 +145,8 @@ impl<A: Allocator> Deps<A> {
         self.set(t, Status::Aborted);
     }
 
-    /// `t`, a number from 1 to 16,383 that is in progress, joins another, and so neither commits nor
-    /// aborts (ACTA's join of split transactions). Ask `may_join` first.
+    /// `t`, a number from 1 to 16,383 that is in progress, joins another, and so neither commits nor aborts. Ask
+    /// `may_join` first.
     #[tactic(auto, using(crate::proofs::Clear::join_clear))]
     pub fn joined(&mut self, t: TxnId)
         requires low { 0 < t.0 }
@@ -202,7 +201,7 @@ impl<A: Allocator> Deps<A> {
         self.edges.by_i()
     }
 
-    /// The last `n` edges are in force no longer, of at least as many (ours).
+    /// The last `n` edges are in force no longer, of at least as many.
     pub fn take_back(&mut self, n: usize)
         requires { n ≤ length self.old.edges }
         ensures statuses { self.new.statuses ≡ self.old.statuses }
@@ -246,10 +245,9 @@ impl<A: Allocator + Copy> Deps<A> {
         self.edges.allocator()
     }
 
-    /// Forms those of these edges, by which nothing is owed yet, that are not in force, in order, each once, and answers
-    /// how many they are. Those in force before keep their numbers. At most 16,384 are in force
-    /// afterwards. `Err` where there is no memory, and then none is formed (that an edge is in
-    /// force once is ours).
+    /// Forms those of these edges, by which nothing is owed yet, that are not in force, in order, each once, and
+    /// answers how many they are. Those in force before keep their numbers. At most 16,384 are in force afterwards. On
+    /// `Err` none is formed.
     #[tactic(auto, using(crate::proofs::FormedEdges::take_formed, crate::proofs::FormedEdges::le_formed))]
     pub fn form(&mut self, more: &[Edge]) -> Result<usize, AllocError>
         requires fits { length (formed self.old.edges more.now) ≤ MOST_EDGES }
@@ -270,7 +268,7 @@ impl<A: Allocator + Copy> Deps<A> {
         Ok(count)
     }
 
-    /// The same statuses and edges, in memory of their own. `Err` where there is no memory.
+    /// The same statuses and edges, in memory of their own.
     pub fn copy(&self) -> Result<Deps<A>, AllocError>
         ensures { IfOk result (λ deps. deps ≡ self.now) }
     {

@@ -35,7 +35,7 @@ impl<A: Allocator> std::marker::Model for EdgeList<A> {
     } };
 }
 
-// Puts the edge behind the others, unless it is among them. `Err` where there is no memory, and then it is not.
+// Puts the edge behind the others, unless it is among them. On `Err` it is not.
 fn insert<A: Allocator>(edges: &mut Formed<A>, edge: &Edge) -> Result<(), AllocError>
     ensures formed { OnOk result (edges.new.keys ≡ with_edge edges.old.keys edge.now) }
     ensures err { OnErr result (edges.new.keys ≡ edges.old.keys) }
@@ -46,7 +46,7 @@ fn insert<A: Allocator>(edges: &mut Formed<A>, edge: &Edge) -> Result<(), AllocE
     }
 }
 
-// Puts the two of the edge behind the others. `Err` where there is no memory, and then neither is.
+// Puts the two of the edge behind the others. On `Err` neither is.
 fn note<A: Allocator>(
     by_j: &mut Places<A>,
     by_i: &mut Places<A>,
@@ -99,7 +99,7 @@ impl<A: Allocator> EdgeList<A> {
         self.edges.contains(edge)
     }
 
-    // Puts the edge behind the others, unless it is among them. `Err` where there is no memory, and then it is not.
+    // Puts the edge behind the others, unless it is among them. On `Err` it is not.
     fn form(&mut self, edge: &Edge) -> Result<(), AllocError>
         requires j { edge.now.j.0 ≤ LAST_TXN }
         requires i { edge.now.i.0 ≤ LAST_TXN }
@@ -128,7 +128,7 @@ impl<A: Allocator> EdgeList<A> {
         self.by_i.truncate(count);
     }
 
-    // Puts the edges behind the others, each once. `Err` where there is no memory, with some of them put.
+    // Puts the edges behind the others, each once. `Err` if memory runs out, with some of them put.
     fn form_each(&mut self, more: &[Edge]) -> Result<(), AllocError>
         requires known { All (λ e. (e.j.0 ≤ LAST_TXN) × (e.i.0 ≤ LAST_TXN)) more.now }
         requires fits { length (formed self.old more.now) ≤ MOST_EDGES }
@@ -141,7 +141,7 @@ impl<A: Allocator> EdgeList<A> {
         Ok(())
     }
 
-    /// Puts the edges behind the others, each once. `Err` where there is no memory, and then none is put.
+    /// Puts the edges behind the others, each once. On `Err` none is put.
     pub(crate) fn form_all(&mut self, more: &[Edge]) -> Result<(), AllocError>
         requires known { All (λ e. (e.j.0 ≤ LAST_TXN) × (e.i.0 ≤ LAST_TXN)) more.now }
         requires fits { length (formed self.old more.now) ≤ MOST_EDGES }
@@ -159,7 +159,7 @@ impl<A: Allocator> EdgeList<A> {
     }
 }
 
-// The same edges, in memory of their own. `Err` where there is no memory.
+// The same edges, in memory of their own.
 fn copy_of<A: Allocator + Copy>(edges: &Formed<A>) -> Result<Formed<A>, AllocError>
     ensures { IfOk result (λ copy. copy.keys ≡ edges.now.keys) }
 {
@@ -184,7 +184,7 @@ impl<A: Allocator + Copy> EdgeList<A> {
         *self.edges.allocator()
     }
 
-    /// The same edges, in memory of their own. `Err` where there is no memory.
+    /// The same edges, in memory of their own.
     pub(crate) fn copy(&self) -> Result<EdgeList<A>, AllocError>
         ensures { IfOk result (λ edges. edges ≡ self.now) }
     {

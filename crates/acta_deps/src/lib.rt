@@ -4,6 +4,8 @@
 //! committed or aborted. An edge speaks of one kind and two statuses, so each rule but the last is
 //! a test of single edges, and the first edge that breaks it is named. The last rule is that no
 //! transaction may come to owe both a commit and an abort.
+//!
+//! A call that allocates returns `Err` if memory runs out.
 #![tactic(auto)]
 
 mod bar;

@@ -41,7 +41,7 @@ pub struct Clash {
     pub abort: NumberedEdge,
 }
 
-/// What stands in the way of an event by the edges in force (ours).
+/// What stands in the way of an event by the edges in force.
 #[derive(Clone, Copy, PartialEq, Eq, Debug)]
 pub enum Obstacle {
     /// An edge bars it: the first by which it breaks the rule.

@@ -66,7 +66,7 @@ impl<A: Allocator> Places<A> {
         self.before[place as usize - 1]
     }
 
-    /// Puts the transaction behind the others. `Err` where there is no memory, and then it is not.
+    /// Puts the transaction behind the others. On `Err` it is not.
     pub(crate) fn push(&mut self, t: TxnId) -> Result<(), AllocError>
         requires known { t.0 ≤ LAST_TXN }
         requires few { length self.old < MOST_EDGES }
@@ -116,7 +116,7 @@ impl<A: Allocator + Copy> Places<A> {
         }
     }
 
-    /// The same list, in memory of its own. `Err` where there is no memory.
+    /// The same list, in memory of its own.
     pub(crate) fn copy(&self) -> Result<Places<A>, AllocError>
         ensures { IfOk result (λ places. places ≡ self.now) }
     {

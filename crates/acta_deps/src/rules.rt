@@ -203,8 +203,7 @@ impl<A: Allocator> Deps<A> {
     }
 
     /// The lowest rule that the start of `t` would break, with the smallest number of an edge that breaks it, and for
-    /// `Clash` the smallest transaction. `None` where it breaks none (ACTA's begin, serial, begin-on-commit and
-    /// begin-on-abort dependencies; the clash is ours).
+    /// `Clash` the smallest transaction. `None` where it breaks none.
     pub fn may_start(&mut self, t: TxnId) -> Option<Refusal>
         ensures refusal { result ≡ start_refusal (status_of self.old) self.old.edges t.0 }
         ensures same { self.new ≡ self.old }
@@ -213,8 +212,7 @@ impl<A: Allocator> Deps<A> {
     }
 
     /// The lowest rule that the commit of `t` would break, with the smallest number of an edge that breaks it, and for
-    /// `Clash` the smallest transaction. `None` where it breaks none (ACTA's dependencies; that what is owed can be
-    /// paid, and the clash, are ours).
+    /// `Clash` the smallest transaction. `None` where it breaks none.
     pub fn may_commit(&mut self, t: TxnId) -> Option<Refusal>
         ensures refusal { result ≡ commit_refusal (status_of self.old) self.old.edges t.0 }
         ensures same { self.new ≡ self.old }
@@ -223,8 +221,7 @@ impl<A: Allocator> Deps<A> {
     }
 
     /// The lowest rule that the abort of `t` would break, with the smallest number of an edge that breaks it, and for
-    /// `Clash` the smallest transaction. `None` where it breaks none (ACTA's dependencies; that what is owed can be
-    /// paid, and the clash, are ours).
+    /// `Clash` the smallest transaction. `None` where it breaks none.
     pub fn may_abort(&mut self, t: TxnId) -> Option<Refusal>
         ensures refusal { result ≡ abort_refusal (status_of self.old) self.old.edges t.0 }
         ensures same { self.new ≡ self.old }
@@ -233,8 +230,7 @@ impl<A: Allocator> Deps<A> {
     }
 
     /// The lowest rule that `t` would break by joining another, with the smallest number of an edge that breaks it.
-    /// `None` where it breaks none (ACTA's dependencies; that one that joins another neither commits nor aborts, and so
-    /// breaks no other rule on dependencies, is ours).
+    /// `None` where it breaks none.
     pub fn may_join(&mut self, t: TxnId) -> Option<Refusal>
         ensures refusal { result ≡ join_refusal (status_of self.old) self.old.edges t.0 }
         ensures same { self.new ≡ self.old }

@@ -93,9 +93,9 @@ impl<A: Allocator + Copy> Deps<A> {
         Ok(Vec::new(alloc))
     }
 
-    /// A chain of transactions from `t` on, each of which waits for the next to end, where it comes back to one of them:
-    /// then none of these can commit or abort unless another event changes how one stands. `None` where no such chain
-    /// was found. `Err` where there is no memory (ours).
+    /// A chain of transactions from `t` on, each of which waits for the next to end, where it comes back to one of
+    /// them: then none of these can commit or abort unless another event changes how one stands. `None` where no such
+    /// chain was found.
     pub fn closed_wait(&self, t: TxnId) -> Result<Option<Items<TxnId, A>>, AllocError>
         ensures chain { IfOk result (λ found. IfSome found (IsChain (status_of self.now) self.now.edges)) }
         ensures closed { IfOk result (λ found. IfSome found IsClosed) }

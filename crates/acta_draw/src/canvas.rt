@@ -47,7 +47,7 @@ pub struct Canvas<A: Allocator> {
 }
 
 impl<A: Allocator> Canvas<A> {
-    /// A blank line of so many characters. `Err` where there is no memory.
+    /// A blank line of so many characters.
     pub fn new(alloc: A, width: usize) -> Result<Canvas<A>, AllocError> {
         let blank = BLANK;
         Ok(Canvas {

@@ -13,7 +13,7 @@ use acta_table::{Kept, MOST_EVENTS, Model};
 use std::alloc::AllocError;
 use std::thread::Threads;
 
-/// What a verdict on kept lines suggests (ours).
+/// What a verdict on kept lines suggests.
 #[derive(Clone, Copy, PartialEq, Eq, Debug)]
 pub enum Advice {
     /// There are faults, each is a wrong return or a conflict, and some line has a return: there may be a serial order all the

@@ -88,7 +88,7 @@ abbrev pub is_wd : Dep → Bool
 is_wd Wd = true
 is_wd _ = false
 
--- whether a commit of the one that would owe both would help, where the one on which the edge of the abort is stands so
+-- whether a commit of the transaction that would owe both would help, where the other one of the abort's edge has this status
 abbrev pub is_helped : Clash → Status → Bool
 is_helped c i = is_wd c.abort.edge.kind && not (has_ended i)
 

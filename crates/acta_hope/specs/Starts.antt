@@ -10,8 +10,8 @@ use Rattle.acta_table.specs.Numbered.{item_at}
 use Rattle.acta_deps.specs.Statuses.{is_new}
 use Rattle.acta_machine.specs.Table.{State, after_all, status_in}
 
--- whether by an edge of this kind no transaction ever starts, where the one on which it depends stands so: that has ended
--- otherwise than it has to before
+-- whether an edge of this kind keeps its transaction from ever starting, if the other one has this status: it has ended
+-- in another way than the edge demands
 abbrev pub bars_start : Dep → Status → Bool
 bars_start Bad Committed = true
 bars_start Bcd Aborted = true

@@ -10,7 +10,7 @@ use acta_machine::{Handle, Machine};
 use acta_table::{Event, Items, TxnId};
 use std::alloc::{AllocError, Allocator};
 
-/// A transaction of which an event is refused until another does something (ours).
+/// A transaction of which an event is refused until another does something.
 #[derive(Clone, Copy, PartialEq, Eq, Debug)]
 pub struct Wait {
     /// The one that waits.

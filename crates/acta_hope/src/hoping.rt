@@ -13,7 +13,7 @@ use acta_machine::{Barring, Clash, Handle, Machine, NumberedOp, Reason};
 use acta_table::{Dep, Event, EventKind, Fate, MOST_EVENTS, OpNo, Rule, Scope, Status, TxnId};
 use std::alloc::AllocError;
 
-/// What hope there is for an event that is refused (ours).
+/// What hope there is for an event that is refused.
 #[derive(Clone, Copy, PartialEq, Eq, Debug)]
 pub enum Hope {
     /// No later events let the machine admit it.
@@ -39,7 +39,7 @@ pub enum Hope {
     Unknown,
 }
 
-// Where one has to be in progress that stands so.
+// The hope where a transaction with this status has to be in progress.
 fn once_begun(txn: TxnId, status: Status) -> Hope
     ensures { IsOfBegun txn status result }
 {

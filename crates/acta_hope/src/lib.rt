@@ -3,6 +3,8 @@
 //!
 //! Later events take nothing back (`laws`). So most reasons for a refusal last until a certain transaction has begun, holds an
 //! operation or has ended, or for ever. A `Hope` says which, and holds for each list of later events.
+//!
+//! A call that allocates returns `Err` if memory runs out.
 #![tactic(auto)]
 
 mod deadlock;

@@ -12,7 +12,7 @@ use acta_machine::{Handle, Machine};
 use acta_sets::HeldOp;
 use acta_table::{AtCommit, Class, Event, EventKind, OpNo, Scope, TxnId};
 
-/// A way in which the holder of an operation can let it go (ours).
+/// A way in which the holder of an operation can let it go.
 #[derive(Clone, Copy, PartialEq, Eq, Debug)]
 pub enum Release {
     /// It commits.
@@ -45,8 +45,8 @@ pub(crate) fn may_do<A: Handle>(machine: &Machine<A>, t: TxnId, kind: EventKind)
     }
 }
 
-/// To whom what the transaction holds goes when it commits: its parent, where its class says so. `None` where it is
-/// committed.
+/// Who inherits the transaction's operations when it commits: its parent, if its class commits to parents. Otherwise the
+/// operations are committed.
 pub fn heir<A: Handle>(machine: &Machine<A>, t: TxnId) -> Option<TxnId>
     ensures { result ≡ heir_of machine.now.model (summary_of machine.now.model machine.now.kept) t.0 }
 {

@@ -9,7 +9,7 @@ use acta_machine::{Handle, Machine};
 use acta_table::{Dep, Edge, Status, TABLE_SIZE};
 use std::alloc::AllocError;
 
-// Whether by an edge of this kind no transaction ever starts, where the one on which it depends stands so.
+// Whether an edge of this kind keeps its transaction from ever starting, if the other one has this status.
 fn bars_start(kind: Dep, status: Status) -> bool
     ensures { result ≡ bars_start kind status }
 {
@@ -44,8 +44,8 @@ fn note<A: Handle>(machine: &Machine<A>, number: u32, edge: &Edge, lost: &mut [u
 }
 
 /// For each transaction, by its number, the last edge by which it never begins, as the number of the edge, or 0. By a
-/// dependency in force it begins only after another has committed, has aborted, or either; and that one has ended otherwise.
-/// Returns `Err` if memory runs out (ours).
+/// dependency in force it begins only after another has committed, has aborted, or either; and that one has ended
+/// otherwise. Returns `Err` if memory runs out.
 pub fn never_begin<A: Handle>(alloc: A, machine: &Machine<A>) -> Result<Vec<u32, A>, AllocError>
     ensures lost { IfOk result (λ lost. AreLost machine.now lost.items) }
     ensures long { IfOk result (λ lost. length lost.items ≡ TABLE_SIZE) }

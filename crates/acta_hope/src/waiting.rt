@@ -9,9 +9,10 @@ use acta_machine::{Handle, Machine};
 use acta_table::{Items, TxnId};
 use std::alloc::AllocError;
 
-/// A chain of transactions from `t` on, each of which waits for the next to commit or abort, by a termination dependency in
-/// force between the two; it ends with one that it met before. Whatever events come, none of them ever commits or aborts
-/// (they may still join others). `None` where no such chain was found. Returns `Err` if memory runs out (ours).
+/// A chain of transactions from `t` on, each of which waits for the next to commit or abort, by a termination
+/// dependency in force between the two; it ends with one that it met before. Whatever events come, none of them ever
+/// commits or aborts (they may still join others). `None` where no such chain was found. Returns `Err` if memory runs
+/// out.
 pub fn endless_wait<A: Handle>(
     machine: &Machine<A>,
     t: TxnId,

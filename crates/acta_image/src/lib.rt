@@ -2,6 +2,8 @@
 //! version that is written; `load` reads one of any version back field by field, or answers the first fault, with the
 //! offset of the field where it is; `diagnose` answers that fault with the field that has it; `upgrade` makes of one of
 //! any version the one that is written.
+//!
+//! A call that allocates returns `Err` if memory runs out.
 #![tactic(auto)]
 
 mod codes;

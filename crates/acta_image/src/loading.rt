@@ -240,7 +240,7 @@ pub fn load<A: Allocator + Copy>(alloc: A, bytes: &[u8]) -> Result<Model<A>, Loa
 }
 
 /// Where the bytes are wrong: the fault that `load` answers, the field that has it, and the offset at which that field
-/// begins; `None` where the bytes are the image of a model, which `load` gives. `Err` where there is no memory, which is
+/// begins; `None` where the bytes are the image of a model, which `load` gives. `Err` if memory runs out, which is
 /// found out only behind the magic, the version and the counts.
 #[tactic(auto, unfolding(crate::specs::Reading::loaded))]
 pub fn diagnose<A: Allocator + Copy>(

@@ -9,7 +9,7 @@ const ALL_KINDS: u16 = 511;
 // The same without a permit, which has the highest bit.
 const ALL_BUT_PERMIT: u16 = 255;
 
-/// A version of the format (ours). They differ in what a class may do, and in nothing else.
+/// A version of the format. They differ in what a class may do, and in nothing else.
 #[derive(Clone, Copy, PartialEq, Eq, Debug)]
 pub enum ImageVersion {
     /// The first: no class of its models may permit.

@@ -147,7 +147,7 @@ fn known<A: Allocator>(model: &Model<A>)
 }
 
 /// The image of the model in version 2 (the format is ours): the one list of bytes of that version which `load` reads
-/// as this model. `Err` where there is no memory.
+/// as this model.
 pub fn write_image<A: Allocator + Copy>(
     alloc: A,
     model: &Model<A>,

@@ -157,7 +157,7 @@ fn said_by<X, L: LineReader<X>>(reader: &L, line: &[u8]) -> Result<Option<X>, Li
 }
 
 /// What the lines that are left say, of which so many were taken before, up to the first that is faulty; lines without
-/// a word are counted and passed over. `Err` where there is no memory.
+/// a word are counted and passed over.
 pub fn read_left<X: Drop, A: Allocator, L: LineReader<X>>(
     alloc: A,
     reader: &L,
@@ -189,7 +189,6 @@ pub fn read_left<X: Drop, A: Allocator, L: LineReader<X>>(
 }
 
 /// What the lines of the input say, up to the first that is faulty; lines without a word are counted and passed over.
-/// `Err` where there is no memory.
 #[tactic(auto, unfolding(crate::specs::Input::said_in))]
 pub fn read_lines<X: Drop, A: Allocator, L: LineReader<X>>(
     alloc: A,
@@ -203,7 +202,7 @@ pub fn read_lines<X: Drop, A: Allocator, L: LineReader<X>>(
     read_left(alloc, reader, lines, 0)
 }
 
-/// The numbers of the lines that have a word, from 1. `Err` where there is no memory.
+/// The numbers of the lines that have a word, from 1.
 #[tactic(auto, unfolding(crate::specs::Input::line_numbers))]
 pub fn numbers_of_lines<A: Allocator>(alloc: A, input: &[u8]) -> Result<Vec<usize, A>, AllocError>
     ensures { IfOk result (λ numbers. numbers.items ≡ line_numbers input.now) }

@@ -103,9 +103,9 @@ fn script_behind<A: Allocator + Copy>(
     }
 }
 
-/// What a debug script says. Events stand before the first line that has the word `--` and no other, and commands behind
-/// it; where there is no such line, there are no commands. A line `--` says no event: so the events stop there, and where
-/// the line that stops them is this one, it is no fault. `Err` where there is no memory.
+/// What a debug script says. Events stand before the first line that has the word `--` and no other, and commands
+/// behind it; where there is no such line, there are no commands. A line `--` says no event: so the events stop there,
+/// and where the line that stops them is this one, it is no fault.
 pub fn read_script<A: Allocator + Copy>(
     alloc: A,
     model: &Model<A>,

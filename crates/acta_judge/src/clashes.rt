@@ -14,7 +14,7 @@ use acta_table::{Missing, Owed};
 use std::alloc::AllocError;
 use std::collections::BTreeSet;
 
-// Puts the one who owes among the others, where an abort is owed. `Err` where there is no memory.
+// Puts the one who owes among the others, where an abort is owed.
 fn put_aborting<A: Handle>(debt: &Owed, txns: &mut BTreeSet<u16, A>) -> Result<(), AllocError>
     ensures { IfOk result (λ _. txns.new.keys ≡ (if is_abort (Some debt.now.missing) then insert_key nat_cmp txns.old.keys debt.now.txn.0 else txns.old.keys)) }
 {
@@ -24,7 +24,7 @@ fn put_aborting<A: Handle>(debt: &Owed, txns: &mut BTreeSet<u16, A>) -> Result<(
     Ok(())
 }
 
-// Who owes an abort. `Err` where there is no memory.
+// Who owes an abort.
 fn aborting<A: Handle>(alloc: A, debts: &[Owed]) -> Result<BTreeSet<u16, A>, AllocError>
     ensures { IfOk result (λ txns. txns.keys ≡ aborting debts.now) }
 {
@@ -44,7 +44,7 @@ fn clashes_among<A: Handle>(owing: &BTreeSet<u16, A>, debts: &[Owed], debt: &Owe
     matches!(debt.missing, Missing::Commit) && owing.contains(&debt.txn.0)
 }
 
-/// The faults by who owes both a commit and an abort by these debts, at this place. `Err` where there is no memory.
+/// The faults by who owes both a commit and an abort by these debts, at this place.
 pub(crate) fn tell_clashes<A: Handle>(
     alloc: A,
     place: u32,

@@ -13,8 +13,8 @@ const LEAST_PLACES: usize = 1024;
 /// How many edges a part has at least, where nothing else is asked: fewer are not worth a thread.
 const LEAST_EDGES: usize = 16_384;
 
-/// How lists are cut (ours): into at most so many parts, each of at least so many places or edges but the last. A list
-/// that makes one part is judged by no other thread.
+/// How lists are cut: into at most so many parts, each of at least so many places or edges but the last. A list that
+/// makes one part is judged by no other thread.
 #[derive(Clone, Copy)]
 pub struct Cut {
     pub parts: usize,

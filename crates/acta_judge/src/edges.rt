@@ -54,7 +54,7 @@ fn debt_in<'a, A: Handle>(walk: &Walk<'a, A>, e: &Edge) -> Option<Missing>
     debt(e.kind, walk.course(e.j), walk.course(e.i))
 }
 
-// Tells the fault by the edge of this number, if there is one. `Err` where there is no memory.
+// Tells the fault by the edge of this number, if there is one.
 fn tell_edge<'a, A: Handle>(
     walk: &Walk<'a, A>,
     number: u64,
@@ -74,7 +74,7 @@ fn tell_edge<'a, A: Handle>(
 }
 
 impl<'a> Stretch<'a> {
-    // What these edges give by the courses of the items in front. `Err` where there is no memory.
+    // What these edges give by the courses of the items in front.
     fn tell<'w, A: Handle>(&self, alloc: A, walk: &Walk<'w, A>) -> Result<ByEdges<A>, AllocError>
         ensures { IfOk result (λ told. told ≡ by_edges walk.now.front self.now) }
     {
@@ -100,7 +100,7 @@ impl<'a> Stretch<'a> {
     }
 }
 
-// The edges in stretches of this length, but for the last. `Err` where there is no memory.
+// The edges in stretches of this length, but for the last.
 fn stretches<'a, A: Handle>(
     alloc: A,
     edges: &'a [Edge],
@@ -122,7 +122,7 @@ fn stretches<'a, A: Handle>(
     Ok(all)
 }
 
-// What each stretch gives, found in threads. `Err` where there is no memory.
+// What each stretch gives, found in threads.
 fn tell_stretches<'a, 's, A: Handle + Send + Sync, R: Threads + Sync>(
     rt: &R,
     alloc: A,
@@ -146,7 +146,7 @@ fn tell_stretches<'a, 's, A: Handle + Send + Sync, R: Threads + Sync>(
     }
 }
 
-/// What the edges that the items in front form give, in parts of this size. `Err` where there is no memory.
+/// What the edges that the items in front form give, in parts of this size.
 #[tactic(auto, unfolding(acta_axioms::specs::Legal::owed))]
 pub(crate) fn tell_edges<'a, A: Handle + Send + Sync, R: Threads + Sync>(
     rt: &R,
@@ -162,7 +162,7 @@ pub(crate) fn tell_edges<'a, A: Handle + Send + Sync, R: Threads + Sync>(
     tell_stretches(rt, alloc, walk, stretches.as_slice())
 }
 
-/// What is owed by all edges, in order. `Err` where there is no memory.
+/// What is owed by all edges, in order.
 pub(crate) fn owed_by<A: Handle>(alloc: A, parts: &[ByEdges<A>]) -> Result<Vec<Owed, A>, AllocError>
     ensures { IfOk result (λ debts. debts.items ≡ flat_map (λ part. part.owed) parts.now) }
 {

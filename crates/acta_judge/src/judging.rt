@@ -48,8 +48,8 @@ fn told<'a, A: Handle + Send + Sync, R: Threads + Sync>(
 }
 
 /// What is wrong with a list of kept items, legal or not, and what is owed at its end (ours, by ACTA's axioms and those
-/// of the model). Where threads pay, a long list is judged in parts (`Cut::usual`). `Err` where the list has more than `MOST_EVENTS` items, and
-/// where there is no memory.
+/// of the model). Where threads pay, a long list is judged in parts (`Cut::usual`). `Err` where the list has more than
+/// `MOST_EVENTS` items, and if memory runs out.
 pub fn judge<A: Handle + Send + Sync, R: Threads + Sync>(
     rt: &R,
     alloc: A,

@@ -2,6 +2,8 @@
 //! axiom at each place of a walk through the history, and the formula of each edge once, both in threads where the history
 //! is long; it rests on the meaning of histories by their places, and never on a machine, so that the two can be checked
 //! against each other.
+//!
+//! A call that allocates returns `Err` if memory runs out.
 #![tactic(auto)]
 
 mod clashes;

@@ -11,7 +11,7 @@ use acta_table::Items;
 use std::alloc::AllocError;
 use std::collections::BTreeSet;
 
-// Puts the fault at its place among those in order, unless it is there. `Err` where there is no memory.
+// Puts the fault at its place among those in order, unless it is there.
 fn put<A: Handle>(fault: Fault, ordered: &mut BTreeSet<Fault, A>) -> Result<(), AllocError>
     ensures { OnOk result (ordered.new.keys ≡ with_fault ordered.old.keys fault) }
 {
@@ -19,7 +19,7 @@ fn put<A: Handle>(fault: Fault, ordered: &mut BTreeSet<Fault, A>) -> Result<(), 
     Ok(())
 }
 
-// Puts the faults at their places among those in order. `Err` where there is no memory.
+// Puts the faults at their places among those in order.
 fn put_all<A: Handle>(faults: &[Fault], ordered: &mut BTreeSet<Fault, A>) -> Result<(), AllocError>
     ensures { OnOk result (ordered.new.keys ≡ merged ordered.old.keys faults.now) }
 {
@@ -67,8 +67,7 @@ fn listed<A: Handle>(alloc: A, faults: &BTreeSet<Fault, A>) -> Result<Vec<Fault,
     Ok(listed)
 }
 
-/// The faults at places, by edges and by who owes both a commit and an abort, in order and each once. `Err` where there
-/// is no memory.
+/// The faults at places, by edges and by who owes both a commit and an abort, in order and each once.
 pub(crate) fn in_order<A: Handle>(
     alloc: A,
     places: &[Items<Fault, A>],

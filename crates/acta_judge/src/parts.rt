@@ -10,7 +10,7 @@ use rayon::prelude::*;
 use std::alloc::AllocError;
 use std::thread::Threads;
 
-// Goes so many items further, or to the end. `Err` where there is no memory.
+// Goes so many items further, or to the end.
 fn skip<'a, A: Handle>(walk: &mut Walk<'a, A>, size: usize) -> Result<(), AllocError>
     ensures { OnOk result (walk.new ≡ advanced size walk.old) }
 {
@@ -20,8 +20,7 @@ fn skip<'a, A: Handle>(walk: &mut Walk<'a, A>, size: usize) -> Result<(), AllocE
     Ok(())
 }
 
-// Tells the faults at the place that is reached, if there is one, and goes one item further. `Err` where there is no
-// memory.
+// Tells the faults at the place that is reached, if there is one, and goes one item further.
 fn tell_next<'a, A: Handle>(
     walk: &mut Walk<'a, A>,
     faults: &mut Vec<Fault, A>,
@@ -36,7 +35,7 @@ fn tell_next<'a, A: Handle>(
     walk.step()
 }
 
-// The faults at the next places, so many or to the end, and the walk behind them. `Err` where there is no memory.
+// The faults at the next places, so many or to the end, and the walk behind them.
 fn tell_part<'a, A: Handle>(
     alloc: A,
     walk: &mut Walk<'a, A>,
@@ -52,7 +51,7 @@ fn tell_part<'a, A: Handle>(
     Ok(Items::of(faults))
 }
 
-// The faults at all places that are left, and the walk at its end. `Err` where there is no memory.
+// The faults at all places that are left, and the walk at its end.
 fn tell_rest<'a, A: Handle>(alloc: A, walk: &mut Walk<'a, A>) -> Result<Items<Fault, A>, AllocError>
     ensures told { IfOk result (λ told. told ≡ faults_left walk.old) }
     ensures walked { OnOk result (walk.new ≡ at_end walk.old) }
@@ -61,8 +60,7 @@ fn tell_rest<'a, A: Handle>(alloc: A, walk: &mut Walk<'a, A>) -> Result<Items<Fa
     tell_part(alloc, walk, left)
 }
 
-// A walk before each of the next parts of this size, so many, and the walk itself behind them. `Err` where there is no
-// memory.
+// A walk before each of the next parts of this size, so many, and the walk itself behind them.
 fn cut<'a, A: Handle>(
     alloc: A,
     walk: &mut Walk<'a, A>,
@@ -80,8 +78,7 @@ fn cut<'a, A: Handle>(
     Ok(parts)
 }
 
-// The faults at the places of the part that this walk stands before, found on a copy of it. `Err` where there is no
-// memory.
+// The faults at the places of the part that this walk stands before, found on a copy of it.
 fn tell_copy<'a, A: Handle>(
     alloc: A,
     walk: &Walk<'a, A>,
@@ -93,8 +90,8 @@ fn tell_copy<'a, A: Handle>(
     tell_part(alloc, &mut walk, size)
 }
 
-// The faults of each part, found in threads. `Err` where there is no memory.
-// The walks are lent: to share out a vector of them would take memory, and its want would not be told.
+// The faults of each part, found in threads. The walks are lent: to share out a vector of them would take memory, and
+// its want would not be told.
 fn tell_parts<'a, A: Handle + Send + Sync, R: Threads + Sync>(
     rt: &R,
     alloc: A,
@@ -119,7 +116,7 @@ fn tell_parts<'a, A: Handle + Send + Sync, R: Threads + Sync>(
 }
 
 /// The faults at all places ahead, and the walk at its end: in threads, in parts of this size, where there is more than
-/// one, and else on the walk itself. `Err` where there is no memory.
+/// one, and else on the walk itself.
 pub(crate) fn tell_places<'a, A: Handle + Send + Sync, R: Threads + Sync>(
     rt: &R,
     alloc: A,

@@ -234,8 +234,7 @@ fn number_here<'a, A: Handle>(walk: &Walk<'a, A>) -> u32
     walk.operations().len() as u32 + 1
 }
 
-/// The number of the operation whose return is not the one due, or 0 where what is no operation has a return. `Err`
-/// where there is no memory.
+/// The number of the operation whose return is not the one due, or 0 where what is no operation has a return.
 pub(crate) fn wrong_return<'a, A: Handle>(
     walk: &Walk<'a, A>,
     item: &Kept<A>,
@@ -283,7 +282,7 @@ pub(crate) fn without_heir<'a, A: Handle>(walk: &Walk<'a, A>, event: &Event<A>) 
     }
 }
 
-/// The one that is too far on for the edge that is formed, the smaller of the two where both are.
+/// The transaction that has begun or ended too early for the edge to be formed; the smaller number if both have.
 pub(crate) fn not_in_time<'a, A: Handle>(walk: &Walk<'a, A>, event: &Event<A>) -> Option<u32>
     ensures { option_to_list result ≡ not_in_time walk.now.front event.now }
 {

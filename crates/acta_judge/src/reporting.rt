@@ -15,7 +15,7 @@ pub(crate) struct Breach {
 }
 
 impl Breach {
-    /// The axiom is broken by this number. `Err` where there is no memory.
+    /// The axiom is broken by this number.
     pub(crate) fn tell<A: Handle>(
         self,
         by: u64,
@@ -31,7 +31,7 @@ impl Breach {
         Ok(())
     }
 
-    /// The axiom is broken by this number, if there is one. `Err` where there is no memory.
+    /// The axiom is broken by this number, if there is one.
     pub(crate) fn tell_any<A: Handle>(
         self,
         by: Option<u32>,
@@ -45,7 +45,7 @@ impl Breach {
         }
     }
 
-    /// The axiom is broken by each of these operations. `Err` where there is no memory.
+    /// The axiom is broken by each of these operations.
     pub(crate) fn tell_each<A: Handle>(
         self,
         ops: &[OpNo],

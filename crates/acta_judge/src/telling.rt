@@ -214,7 +214,7 @@ fn tell_lateness<'a, A: Handle>(
     breach(Axiom::FormedInTime, place).tell_any(not_in_time(walk, event), faults)
 }
 
-/// Tells the faults of this item at the place that the walk has reached. `Err` where there is no memory.
+/// Tells the faults of this item at the place that the walk has reached.
 pub(crate) fn tell_item<'a, A: Handle>(
     walk: &Walk<'a, A>,
     item: &Kept<A>,

@@ -7,15 +7,15 @@ use acta_axioms::Fault;
 use acta_table::{Items, Owed};
 use std::alloc::{AllocError, Allocator};
 
-/// What is said of a history (ours): its faults, in order of axiom, place and number, each once, and what is owed at
-/// its end, by edge number.
+/// What is said of a history: its faults, in order of axiom, place and number, each once, and what is owed at its end,
+/// by edge number.
 #[derive(Drop)]
 pub struct Verdict<A: Allocator> {
     pub faults: Items<Fault, A>,
     pub owed: Items<Owed, A>,
 }
 
-/// Why there is no verdict (ours).
+/// Why there is no verdict.
 #[derive(Clone, Copy, PartialEq, Eq, Debug)]
 pub enum JudgeError {
     /// The list has more than `MOST_EVENTS` items.

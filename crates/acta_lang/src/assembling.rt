@@ -27,7 +27,8 @@ pub fn assemble<A: Allocator + Copy>(alloc: A, text: &[u8]) -> Result<Model<A>, 
 }
 
 /// What is wrong with the text: the line and the code that `assemble` answers, with the word at fault, what is expected
-/// in its place, and the earlier lines that the fault has to do with; `None` where the text means a model, which `assemble` gives. `Err` where there is no memory.
+/// in its place, and the earlier lines that the fault has to do with; `None` where the text means a model, which
+/// `assemble` gives.
 pub fn diagnose<A: Allocator + Copy>(
     alloc: A,
     text: &[u8],

@@ -176,7 +176,7 @@ fn push_rest<A: Allocator>(text: &mut Vec<u8, A>, class: &Class<A>) -> Result<()
     Ok(())
 }
 
-/// Writes the lines of the class behind the text. `Err` where there is no memory.
+/// Writes the lines of the class behind the text.
 pub(crate) fn push_class<A: Allocator>(
     text: &mut Vec<u8, A>,
     class: &Class<A>,

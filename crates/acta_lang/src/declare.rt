@@ -19,8 +19,7 @@ use crate::places::place_of;
 use acta_words::{Lines, words_of};
 use std::alloc::{AllocError, Allocator};
 
-// Adds what the next line declares, which has this number, or answers what is wrong with it. `Err` where there is no
-// memory.
+// Adds what the next line declares, which has this number, or answers what is wrong with it.
 fn read_line<'a, A: Allocator + Copy>(
     draft: &mut Draft<'a, A>,
     alloc: A,

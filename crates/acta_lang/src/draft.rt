@@ -378,7 +378,7 @@ impl<'a, A: Allocator + Copy> Draft<'a, A> {
         }
     }
 
-    /// Adds what the line of this number declares. `Err` where there is no memory.
+    /// Adds what the line of this number declares.
     #[tactic(auto, unfolding(crate::specs::Drafts::extended, crate::specs::Faults::duplicate_name))]
     pub(crate) fn extend(
         &mut self,
@@ -439,7 +439,7 @@ impl<'a, A: Allocator + Copy> Draft<'a, A> {
         Ok(Items::of(classes))
     }
 
-    /// The parts of the model that the lines declare. `Err` where there is no memory.
+    /// The parts of the model that the lines declare.
     pub(crate) fn parts(&self, alloc: A) -> Result<Parts<A>, AllocError>
         ensures { IfOk result (λ parts. parts ≡ parts_of (shown self.now)) }
     {

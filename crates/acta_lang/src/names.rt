@@ -34,7 +34,7 @@ pub(crate) fn found<'b, 'a, V, A: Allocator + Copy>(
     named.get(&name)
 }
 
-/// Declares it behind all others. `Err` where there is no memory.
+/// Declares it behind all others.
 pub(crate) fn add_name<'a, V: Drop, A: Allocator + Copy>(
     named: &mut Named<'a, V, A>,
     name: &'a [u8],

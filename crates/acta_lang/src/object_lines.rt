@@ -27,7 +27,7 @@ fn push_kind<A: Allocator>(text: &mut Vec<u8, A>, kind: Kind) -> Result<(), Allo
     Ok(())
 }
 
-/// Writes the line of the object behind the text. `Err` where there is no memory.
+/// Writes the line of the object behind the text.
 pub(crate) fn push_object<A: Allocator>(
     text: &mut Vec<u8, A>,
     object: &Object<A>,

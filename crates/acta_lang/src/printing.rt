@@ -39,8 +39,8 @@ fn means_again<A: Allocator>(model: &Model<A>)
     model.known();
 }
 
-/// The canonical text of the model (ours): its objects, then its classes, in order, with one space between words and a
-/// line feed behind each line. It means the model again. `Err` where there is no memory.
+/// The canonical text of the model: its objects, then its classes, in order, with one space between words and a line
+/// feed behind each line. It means the model again.
 pub fn print_model<A: Allocator + Copy>(
     alloc: A,
     model: &Model<A>,

@@ -48,7 +48,7 @@ impl<A: Allocator + Copy> Said<A> {
         }
     }
 
-    /// Adds what a line of this form says. `Err` where there is no memory.
+    /// Adds what a line of this form says.
     pub(crate) fn add(&mut self, said: &Form) -> Result<(), AllocError>
         ensures { OnOk result ((name : List ℕ) → class_shown name self.new ≡ with_said said.now (class_shown name self.old)) }
     {
@@ -102,7 +102,7 @@ impl<A: Allocator + Copy> Said<A> {
     }
 
     /// The class of this name that has said this. What stands in for something that it hasn't said never counts: a
-    /// class that is closed has said all. `Err` where there is no memory.
+    /// class that is closed has said all.
     pub(crate) fn class(&self, alloc: A, name: &[u8]) -> Result<Class<A>, AllocError>
         ensures { IfOk result (λ class. class ≡ closed (class_shown name.now self.now)) }
     {

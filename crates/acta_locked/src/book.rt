@@ -17,7 +17,7 @@ use acta_table::{Answer, Event, Kept, MOST_EVENTS, Model};
 use std::alloc::{AllocError, AllocFailed, Allocator};
 use std::thread::Threads;
 
-/// What a call at a desk came to (ours): its number in the book, from 1, the seat that made it, the event and the answer.
+/// What a call at a desk came to: its number in the book, from 1, the seat that made it, the event and the answer.
 #[derive(Drop)]
 pub struct Entry<A: Allocator> {
     pub number: u32,
@@ -27,7 +27,7 @@ pub struct Entry<A: Allocator> {
 }
 
 impl<A: Allocator> Entry<A> {
-    /// Whether the two are the same entry (ours).
+    /// Whether the two are the same entry.
     pub fn is_same(&self, other: &Entry<A>) -> bool
         ensures { Decides result (self.now ≡ other.now) }
     {
@@ -39,7 +39,7 @@ impl<A: Allocator> Entry<A> {
 }
 
 impl<A: Allocator + Copy> Entry<A> {
-    /// The same entry, in memory of its own (ours). `Err` where there is no memory.
+    /// The same entry, in memory of its own.
     pub fn copy(&self) -> Result<Entry<A>, AllocError>
         ensures { IfOk result (λ entry. entry ≡ self.now) }
     {
@@ -52,7 +52,7 @@ impl<A: Allocator + Copy> Entry<A> {
     }
 }
 
-/// Why a call made no entry (ours).
+/// Why a call made no entry.
 #[derive(Clone, Copy, PartialEq, Eq, Debug)]
 pub enum TakeError {
     /// The book has 65,536 entries.
@@ -77,8 +77,8 @@ impl<T: Drop> From<AllocFailed<T>> for TakeError {
     }
 }
 
-/// A machine, and every call that was made of it, in order, with its answer (ours). Contracts see the model and
-/// the entries: the machine is what they leave.
+/// A machine, and every call that was made of it, in order, with its answer. Contracts see the model and the entries:
+/// the machine is what they leave.
 #[derive(Drop)]
 pub struct Book<A: Handle> {
     machine: Machine<A>,
@@ -97,7 +97,7 @@ impl<A: Handle> std::marker::Model for Book<A> {
 }
 
 impl<A: Handle> Book<A> {
-    /// A book on the model, with no entry (ours). `Err` where there is no memory.
+    /// A book on the model, with no entry.
     pub fn new(alloc: A, model: Model<A>) -> Result<Book<A>, AllocError>
         ensures { IfOk result (λ book. book ≡ no_entries model) }
     {
@@ -107,8 +107,8 @@ impl<A: Handle> Book<A> {
         })
     }
 
-    /// Takes one event: the machine answers it, and the book has one more entry, which is answered (ours).
-    /// `BookFull` comes at 65,536 entries and only there. An error leaves the book as it was.
+    /// Takes one event: the machine answers it, and the book has one more entry, which is answered. `BookFull` comes at
+    /// 65,536 entries and only there. An error leaves the book as it was.
     pub fn take(&mut self, seat: u8, event: Event<A>) -> Result<Entry<A>, TakeError>
         ensures entry { IfOk result (λ entry. entry ≡ entry_of self.old seat event) }
         ensures ok { IfOk result (λ entry. self.new ≡ entered self.old entry) }
@@ -164,7 +164,7 @@ impl<A: Handle> Book<A> {
         Ok((number, answer))
     }
 
-    /// A copy of the history that the machine keeps, on which a verdict has no fault (ours). `Err` where there is no memory.
+    /// A copy of the history that the machine keeps, on which a verdict has no fault.
     pub fn history(&self, alloc: A) -> Result<Vec<Kept<A>, A>, AllocError>
         ensures all { IfOk result (λ copy. copy.items ≡ (state_of self.now).kept) }
         ensures few { IfOk result (λ copy. length copy.items ≤ MOST_EVENTS) }
@@ -178,7 +178,7 @@ impl<A: Handle> Book<A> {
         Ok(copy)
     }
 
-    /// The entries, in order; at most 65,536 (ours).
+    /// The entries, in order; at most 65,536.
     pub fn entries(&self) -> &[Entry<A>]
         ensures entries { result.now ≡ self.now.entries }
         ensures run { IsRun self.now }
@@ -186,7 +186,7 @@ impl<A: Handle> Book<A> {
         self.entries.as_slice()
     }
 
-    /// The machine as the entries leave it (ours).
+    /// The machine as the entries leave it.
     pub fn machine(&self) -> &Machine<A>
         ensures machine { result.now ≡ state_of self.now }
         ensures model { result.now.model ≡ self.now.model }
@@ -197,8 +197,7 @@ impl<A: Handle> Book<A> {
 }
 
 impl<A: Handle + Send + Sync> Book<A> {
-    /// The verdict on the history that the machine keeps (ours): it has no fault, and what is owed is what the machine
-    /// owes. `Err` where there is no memory.
+    /// The verdict on the history that the machine keeps: it has no fault, and what is owed is what the machine owes.
     pub fn verdict<R: Threads + Sync>(&self, rt: &R) -> Result<Verdict<A>, AllocError>
         ensures { IfOk result (λ verdict. verdict ≡ record { faults = []; owed = debts_in (state_of self.now) }) }
     {
@@ -212,7 +211,7 @@ impl<A: Handle + Send + Sync> Book<A> {
     }
 }
 
-/// A desk with a book of its own (ours).
+/// A desk with a book of its own.
 #[derive(Drop)]
 pub struct PlainDesk<A: Handle> {
     pub seat: u8,
@@ -220,7 +219,7 @@ pub struct PlainDesk<A: Handle> {
 }
 
 impl<A: Handle> PlainDesk<A> {
-    /// A desk at this seat, with a book on the model that has no entry. `Err` where there is no memory.
+    /// A desk at this seat, with a book on the model that has no entry.
     pub fn new(alloc: A, seat: u8, model: Model<A>) -> Result<PlainDesk<A>, AllocError>
         ensures { IfOk result (λ desk. desk ≡ record { seat = seat; book = no_entries model }) }
     {
@@ -273,7 +272,7 @@ impl<A: Handle> Desk<Event<A>, Entry<A>> for PlainDesk<A> {
 }
 
 /// The verdict on what a machine keeps of any events has no fault, and what is owed by it is what the machine owes, so
-/// that neither the written table nor the axioms by places say more than the other (ours).
+/// that neither the written table nor the axioms by places say more than the other.
 pub fn runs_are_faultless<A: Allocator>()
     ensures { (m : Parts A) → lowest_fault m ≡ None → (es : List (Event A)) → verdict m (run_state m es).kept ≡ record { faults = []; owed = debts_in (run_state m es) } }
 {}

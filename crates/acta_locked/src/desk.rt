@@ -13,7 +13,7 @@ use std::marker::Brand;
 use std::sync::ledger::{self, Ledger, Share};
 use std::sync::{Mutex, Wait};
 
-/// Where a worker hands in its events, of the type E, and gets entries of the type X (ours).
+/// Where a worker hands in its events, of the type E, and gets entries of the type X.
 pub trait Desk<E, X> {
     ghost seat_of: { Self → ℕ };
 
@@ -54,7 +54,7 @@ pub trait Desk<E, X> {
 }
 
 /// Which ledger counts the entries of a run, of which model the run is, which scripts its workers hand in, and at which
-/// gate; A is the model's allocator (ours).
+/// gate; A is the model's allocator.
 pub trait Job<A>: Ledger {
     ghost use Rattle.std.specs.Prelude.{ℕ, List};
     ghost use Rattle.acta_table.specs.declared.event.Event.{Event};
@@ -87,7 +87,7 @@ impl<A> Job<A> for Brand {
     ghost may_go_on = { λ _ _ _. Unit {0} };
 }
 
-/// What lies under the lock (ours): a book of the run's model, and a ledger, whose total is the number of its entries.
+/// What lies under the lock: a book of the run's model, and a ledger, whose total is the number of its entries.
 #[derive(Drop)]
 pub struct Vault<A: Handle, J: Job<A>> {
     book: Book<A>,
@@ -97,7 +97,7 @@ pub struct Vault<A: Handle, J: Job<A>> {
 }
 
 impl<A: Handle, J: Job<A>> Vault<A, J> {
-    /// A book with no entry, and a ledger that has counted none (ours).
+    /// A book with no entry, and a ledger that has counted none.
     pub fn new(book: Book<A>, calls: ledger::Book<J>) -> Vault<A, J>
         requires empty { book.entries ≡ [] }
         requires none { calls.total ≡ 0 }
@@ -108,7 +108,7 @@ impl<A: Handle, J: Job<A>> Vault<A, J> {
         Vault { book, calls }
     }
 
-    /// Takes one event as `Book::take` does (ours); where it makes an entry, the share counts one more, and else it stays.
+    /// Takes one event as `Book::take` does; where it makes an entry, the share counts one more, and else it stays.
     pub fn take(
         &mut self,
         seat: u8,
@@ -132,7 +132,7 @@ impl<A: Handle, J: Job<A>> Vault<A, J> {
         Ok(entry)
     }
 
-    /// A copy of the history that the machine keeps, on which a verdict has no fault (ours). `Err` where there is no memory.
+    /// A copy of the history that the machine keeps, on which a verdict has no fault.
     pub fn history(&self, alloc: A) -> Result<Vec<Kept<A>, A>, AllocError>
         ensures all { IfOk result (λ copy. copy.items ≡ (state_of self.now.book).kept) }
         ensures few { IfOk result (λ copy. length copy.items ≤ MOST_EVENTS) }
@@ -141,7 +141,7 @@ impl<A: Handle, J: Job<A>> Vault<A, J> {
         self.book.history(alloc)
     }
 
-    /// The book, once all shares are back (ours): it has as many entries as they counted.
+    /// The book, once all shares are back: it has as many entries as they counted.
     pub fn close(self, all: &mut Share<J>) -> Book<A>
         requires { all.old.parts ≡ J.parts }
         ensures book { result ≡ self.book }
@@ -156,7 +156,7 @@ impl<A: Handle, J: Job<A>> Vault<A, J> {
     }
 }
 
-/// A worker's desk at the shared book (ours): its seat, its share of the ledger, and the lock.
+/// A worker's desk at the shared book: its seat, its share of the ledger, and the lock.
 #[derive(Drop)]
 pub struct LockedDesk<'a, A: Handle, J: Job<A>, R: Wait> {
     pub seat: u8,

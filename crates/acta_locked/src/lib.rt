@@ -1,5 +1,7 @@
 //! The book of many workers: each event is taken under one lock, and the book is a run of its entries' events.
 //! The workers hand their scripts in at desks, and a driven run gives each its part of the book.
+//!
+//! A call that allocates returns `Err` if memory runs out.
 #![tactic(auto)]
 
 mod book;

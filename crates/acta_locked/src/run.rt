@@ -22,15 +22,15 @@ use std::sync::ledger::Share;
 use std::sync::{Mutex, Wait};
 use std::thread::{self, Promise, PromisedHandle, Scope, Threads};
 
-/// What a driven run leaves: the book, and the reports in order of seats (ours).
+/// What a driven run leaves: the book, and the reports in order of seats.
 #[derive(Drop)]
 pub struct Driven<A: Handle> {
     pub book: Book<A>,
     pub reports: Items<Report<A>, A>,
 }
 
-/// Why a driven run has no result (ours). The first three come before any thread starts, the lowest first. Of the
-/// others `Memory` may stand in place of any.
+/// Why a driven run has no result. The first three come before any thread starts, the lowest first. Of the others
+/// `Memory` may stand in place of any.
 #[derive(Clone, Copy, PartialEq, Eq, Debug)]
 pub enum DriveError {
     /// There is no script.

@@ -22,14 +22,14 @@ use std::sync::ledger::Blank;
 use std::sync::{Mutex, Wait};
 use std::thread::Threads;
 
-/// The verdict on the first items of a history, and how many these are (ours).
+/// The verdict on the first items of a history, and how many these are.
 #[derive(Drop)]
 pub struct Front<A: Allocator> {
     pub length: usize,
     pub verdict: Verdict<A>,
 }
 
-/// What a judging thread keeps (ours): the last copy of the history, and a front for each copy.
+/// What a judging thread keeps: the last copy of the history, and a front for each copy.
 #[derive(Drop)]
 pub struct Watch<A: Allocator, J: Job<A>> {
     pub history: Vec<Kept<A>, A>,
@@ -52,7 +52,7 @@ pub fn begins<A: Allocator>(first: &[Kept<A>], second: &[Kept<A>]) -> bool
     true
 }
 
-/// What a watched run leaves: what it leaves as a driven run, and a front for each turn of the judging thread (ours).
+/// What a watched run leaves: what it leaves as a driven run, and a front for each turn of the judging thread.
 #[derive(Drop)]
 pub struct Watched<A: Handle> {
     pub driven: Driven<A>,
@@ -106,10 +106,10 @@ fn watch_run<
 }
 
 /// As `drive`, and beside the workers a thread copies the kept history so many times, under the lock, judges each copy
-/// outside it, and shows each front to the gate (ours). Without a turn there is no such thread. Where it answers `Ok`, each front is of the first items of the
-/// book's history, and their lengths never fall. A judging thread that could not be started is `NoThread`; where it
-/// finds no memory, the answer is `Memory`, behind the faults of the seats; and `Unsettled` where a copy is not how the
-/// history of the book begins. Not promised: when a copy is made.
+/// outside it, and shows each front to the gate. Without a turn there is no such thread. Where it answers `Ok`, each
+/// front is of the first items of the book's history, and their lengths never fall. A judging thread that could not be
+/// started is `NoThread`; where it finds no memory, the answer is `Memory`, behind the faults of the seats; and
+/// `Unsettled` where a copy is not how the history of the book begins. Not promised: when a copy is made.
 pub fn drive_watched<A: Handle + Send + Sync, R: Threads + Wait + Sync, G: Gate<Entry<A>> + Sync>(
     rt: &R,
     alloc: A,
@@ -133,12 +133,12 @@ pub fn drive_watched<A: Handle + Send + Sync, R: Threads + Wait + Sync, G: Gate<
     watch_run::<A, Brand, R, G>(rt, alloc, blank, model, scripts, gate, turns)
 }
 
-/// Runs each script in a thread of its own, over one book of the model, with the gate round each call (ours). Where it
-/// answers `Ok`, the book has as many entries as the workers made calls, and each seat's report is its part of the
-/// book, whose events are its script, in order. It answers `NoWorker`, `TooManyWorkers` and `TooManyEvents`, the lowest
-/// first, exactly where they hold, before any thread starts. Later all threads that were started have ended, and the
-/// answer is `NoThread` where one could not be started, else the fault of the lowest seat that failed (`GaveUp` or
-/// `Memory`), else `Unsettled`. Not promised: which order of the threads the book gets, fairness, and that it returns.
+/// Runs each script in a thread of its own, over one book of the model, with the gate round each call. Where it answers
+/// `Ok`, the book has as many entries as the workers made calls, and each seat's report is its part of the book, whose
+/// events are its script, in order. It answers `NoWorker`, `TooManyWorkers` and `TooManyEvents`, the lowest first,
+/// exactly where they hold, before any thread starts. Later all threads that were started have ended, and the answer is
+/// `NoThread` where one could not be started, else the fault of the lowest seat that failed (`GaveUp` or `Memory`),
+/// else `Unsettled`. Not promised: which order of the threads the book gets, fairness, and that it returns.
 pub fn drive<A: Handle + Send + Sync, R: Threads + Wait + Sync, G: Gate<Entry<A>> + Sync>(
     rt: &R,
     alloc: A,

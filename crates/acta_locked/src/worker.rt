@@ -12,7 +12,7 @@ use acta_table::{Event, Items};
 use std::alloc::Allocator;
 
 /// What is called round each call of a worker, outside the lock, with the seat and which of the worker's calls it is,
-/// from 1; X is what the call is answered (ours). It may wait; false gives up.
+/// from 1; X is what the call is answered. It may wait; false gives up.
 pub trait Gate<X> {
     // At which calls of which seats the gate may give up; at any, where it doesn't say.
     ghost may_stop: { Self → ℕ → ℕ → Type 0 } = { λ _ _ _. Unit {0} };
@@ -37,7 +37,7 @@ pub trait Gate<X> {
     fn judged<A: Allocator>(&self, turn: u8, front: &Front<A>);
 }
 
-/// A gate that is always true, and never waits (ours).
+/// A gate that is always true, and never waits.
 #[derive(Clone, Copy)]
 pub struct OpenGate;
 
@@ -55,7 +55,7 @@ impl<X> Gate<X> for OpenGate {
     fn judged<A: Allocator>(&self, _turn: u8, _front: &Front<A>) {}
 }
 
-/// The events that one worker hands in, in order (ours).
+/// The events that one worker hands in, in order.
 #[derive(Drop)]
 pub struct Script<A: Allocator> {
     events: Vec<Event<A>, A>,
@@ -86,14 +86,14 @@ impl<A: Allocator> Script<A> {
     }
 }
 
-/// What a worker has at the end: its seat, and the entries that its calls made, in order (ours).
+/// What a worker has at the end: its seat, and the entries that its calls made, in order.
 #[derive(Drop)]
 pub struct Report<A: Allocator> {
     pub seat: u8,
     pub entries: Items<Entry<A>, A>,
 }
 
-/// Why a worker has no report (ours).
+/// Why a worker has no report.
 #[derive(Clone, Copy, PartialEq, Eq, Debug)]
 pub enum WorkError {
     /// The gate said to give up at this seat.
@@ -104,8 +104,8 @@ pub enum WorkError {
     Memory,
 }
 
-/// One worker: hands the script's events to the desk, in order, and reports the entries that it was answered (ours).
-/// After an error the desk keeps the entries that it answered before, of the first events of the script.
+/// One worker: hands the script's events to the desk, in order, and reports the entries that it was answered. After an
+/// error the desk keeps the entries that it answered before, of the first events of the script.
 pub fn work<A: Allocator + Copy, D: Desk<Event<A>, Entry<A>>, G: Gate<Entry<A>>>(
     alloc: A,
     desk: &mut D,

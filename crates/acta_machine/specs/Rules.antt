@@ -135,7 +135,7 @@ first_against m s _ = None
 unfoldable pub conflict : {A : Type 0} → Parts A → Summary → Event A → Option Refusal
 conflict m s e = broken_by Conflict (first_against m s e)
 
--- the smaller of j and i that is too far on for an edge of this kind
+-- the smaller of j and i that has begun or ended too early for an edge of this kind to be formed
 abbrev pub too_late : Summary → Dep → ℕ → ℕ → Option ℕ
 too_late s kind j i =
     if is_begin_kind kind then fails s is_new j

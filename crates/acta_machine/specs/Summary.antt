@@ -46,7 +46,7 @@ with_entry f t x u = if u == t then x else f u
 unfoldable pub stood : Summary → TxnId → Status → Summary
 stood s t status = record s { status = with_status s.status t.0 status }
 
--- t has ended, and stands so: no permit that names it is left
+-- t has ended with this status: no permit that names it is left
 unfoldable pub terminated : Summary → TxnId → Status → Summary
 terminated s t status =
     record s { status = with_status s.status t.0 status; permits = without_permits s.permits t.0 }

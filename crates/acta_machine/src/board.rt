@@ -67,7 +67,7 @@ fn copy_all<A: Allocator + Copy>(alloc: A, items: &[Kept<A>]) -> Result<Vec<Kept
     Ok(copied)
 }
 
-// The numbers of the transactions, as a set. `Err` where there is no memory.
+// The numbers of the transactions, as a set.
 fn txn_numbers<A: Allocator + Copy>(
     alloc: A,
     txns: &[TxnId],
@@ -94,7 +94,7 @@ impl<A: Handle> Board<A> {
         self.store.operations()
     }
 
-    /// The value of an object; nothing for one that is not in the model. `Err` where there is no memory.
+    /// The value of an object; nothing for one that is not in the model.
     pub(crate) fn value(&self, ob: ObjId) -> Result<Option<ObjectState<A>>, AllocError>
         requires { self.now.store.kinds ≡ kinds_of self.now.model.objects }
         ensures { IfOk result (λ value. value ≡ value_of self.now.model (shown self.now) ob.0) }
@@ -131,7 +131,7 @@ impl<A: Handle> Board<A> {
         self.kept.len() as u32 + 1
     }
 
-    /// The same lists, in memory of their own. `Err` where there is no memory.
+    /// The same lists, in memory of their own.
     pub(crate) fn copy(&self) -> Result<Board<A>, AllocError>
         ensures model { IfOk result (λ board. board.model ≡ self.now.model) }
         ensures kept { IfOk result (λ board. board.kept.items ≡ self.now.kept.items) }
@@ -165,8 +165,7 @@ impl<A: Handle> Board<A> {
         self.deps.owed()
     }
 
-    /// The operations in progress that the transaction holds: none where it isn't in progress itself. `Err` where there
-    /// is no memory.
+    /// The operations in progress that the transaction holds: none where it isn't in progress itself.
     pub(crate) fn access_set(&self, t: TxnId) -> Result<Vec<OpNo, A>, AllocError>
         requires { AreHeldWell (shown self.now) }
         ensures set { IfOk result (λ ops. ops.items ≡ access_set t.0 self.now.store.items) }
@@ -179,8 +178,7 @@ impl<A: Handle> Board<A> {
         Ok(ops)
     }
 
-    /// The operations in progress that others hold, but for those whom the transaction is spared. `Err` where there is
-    /// no memory.
+    /// The operations in progress that others hold, but for those whom the transaction is spared.
     pub(crate) fn conflict_set(&self, t: TxnId) -> Result<Vec<OpNo, A>, AllocError>
         ensures { IfOk result (λ ops. ops.items ≡ conflict_set_of self.now.model (shown self.now) t.0) }
     {
@@ -188,8 +186,7 @@ impl<A: Handle> Board<A> {
         self.operations().conflict_set(t, &spared, &self.permits)
     }
 
-    // The ancestors of the transaction, where its class leaves them out of its conflict set. `Err` where
-    // there is no memory.
+    // The ancestors of the transaction, where its class leaves them out of its conflict set.
     fn spared(&self, t: TxnId) -> Result<Vec<TxnId, A>, AllocError>
         ensures { IfOk result (λ txns. txns.items ≡ spared self.now.model (shown self.now) t.0) }
     {
@@ -208,7 +205,7 @@ impl<A: Handle> Board<A> {
         Ok(spared)
     }
 
-    // The same by number, as a set. `Err` where there is no memory.
+    // The same by number, as a set.
     fn spared_numbers(&self, t: TxnId) -> Result<BTreeSet<u16, A>, AllocError>
         ensures { IfOk result (λ numbers. numbers.keys ≡ spared_numbers self.now.model (shown self.now) t.0) }
     {
@@ -217,7 +214,7 @@ impl<A: Handle> Board<A> {
     }
 
     /// Those whose operations on the object the transaction is spared: ancestors that its class leaves out of its
-    /// conflict set, and those who permit it to work there. `Err` where there is no memory.
+    /// conflict set, and those who permit it to work there.
     pub(crate) fn spared_on(&self, t: TxnId, ob: ObjId) -> Result<BTreeSet<u16, A>, AllocError>
         ensures { IfOk result (λ numbers. AreSpared self.now.model (shown self.now) t.0 ob.0 numbers.keys) }
     {
@@ -295,7 +292,7 @@ impl<A: Handle> Board<A> {
         }
     }
 
-    /// To whom what the transaction holds goes when it commits: its parent, where its class says so.
+    /// Who inherits the transaction's operations when it commits: its parent, if its class commits to parents.
     pub(crate) fn heir(&self, t: TxnId) -> Option<TxnId>
         ensures { result ≡ heir_of self.now.model (shown self.now) t.0 }
     {

@@ -85,7 +85,7 @@ impl<A: Handle> Board<A> {
         let _ = self.kept.push(kept);
     }
 
-    // Makes room for the transaction in the tables by number. `Err` where there is no memory. Nothing is changed.
+    // Makes room for the transaction in the tables by number. Nothing is changed.
     fn make_entry(&mut self, t: TxnId) -> Result<(), AllocError>
         requires high { t.0 ≤ LAST_TXN }
         requires origins { length self.old.origins.items ≤ TABLE_SIZE }
@@ -123,7 +123,7 @@ impl<A: Handle> Board<A> {
         self.permits.ended(t);
     }
 
-    // `t` permits `u` to work on the object. `Err` where there is no memory, and then nothing is changed.
+    // `t` permits `u` to work on the object. On `Err` nothing has changed.
     #[tactic(auto, unfolding(crate::specs::Summary::permit_given))]
     fn permit(&mut self, t: TxnId, u: TxnId, ob: ObjId) -> Result<(), AllocError>
         ensures shows { OnOk result (shown self.new ≡ permit_given (shown self.old) t u ob) }
@@ -149,8 +149,8 @@ impl<A: Handle> Board<A> {
         Ok(())
     }
 
-    // What the transaction holds in progress goes to its heir, or is committed where it has none. `Err` where there is
-    // no memory, and then nothing is changed.
+    // What the transaction holds in progress goes to its heir, or is committed where it has none. On `Err` nothing has
+    // changed.
     fn settle(&mut self, t: TxnId) -> Result<(), AllocError>
         ensures shows { OnOk result (shown self.new ≡ settled (shown self.old) t (heir_of self.old.model (shown self.old) t.0)) }
         ensures err { OnErr result (shown self.new ≡ shown self.old) }
@@ -201,7 +201,7 @@ impl<A: Handle> Board<A> {
         self.store.add(t, ob, op)
     }
 
-    // Changes how transactions, permits and operations stand. `Err` where there is no memory, and then nothing is changed.
+    // Changes how transactions, permits and operations stand. On `Err` nothing has changed.
     #[tactic(auto, unfolding(acta_table::specs::WellFormed::bad_number))]
     fn change(&mut self, event: &Event<A>) -> Result<(), AllocError>
         requires origins { length self.old.origins.items ≤ TABLE_SIZE }
@@ -253,7 +253,7 @@ impl<A: Handle> Board<A> {
         self.kept.reserve(1)
     }
 
-    // Forms these edges, and answers how many are new. `Err` where there is no memory, and then none is formed.
+    // Forms these edges, and answers how many are new. On `Err` none is formed.
     #[tactic(auto, unfolding(crate::specs::Summary::linked))]
     fn link(&mut self, due: &[Edge]) -> Result<usize, AllocError>
         requires fits { length (formed self.old.deps.edges due.now) ≤ MOST_EDGES }
@@ -268,8 +268,8 @@ impl<A: Handle> Board<A> {
         Ok(count)
     }
 
-    /// Does what an admitted event does: forms these edges, changes how transactions and operations stand, and
-    /// keeps the event. `Err` where there is no memory, and then nothing is done: edges that are new are taken back.
+    /// Does what an admitted event does: forms these edges, changes how transactions and operations stand, and keeps
+    /// the event. On `Err` nothing is done: edges that are new are taken back.
     pub(crate) fn admit(
         &mut self,
         event: &Event<A>,

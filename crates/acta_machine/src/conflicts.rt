@@ -15,7 +15,7 @@ use std::alloc::AllocError;
 use std::collections::BTreeSet;
 
 impl<A: Handle> Board<A> {
-    /// The number of the first operation that stands against this one. `Err` where there is no memory.
+    /// The number of the first operation that stands against this one.
     pub(crate) fn first_against(
         &self,
         t: TxnId,
@@ -33,7 +33,7 @@ impl<A: Handle> Board<A> {
         Ok(number)
     }
 
-    // Who holds those of the operations that stand against this one. `Err` where there is no memory.
+    // Who holds those of the operations that stand against this one.
     fn opponents(&self, t: TxnId, ob: ObjId, op: &Op) -> Result<BTreeSet<u16, A>, AllocError>
         ensures { IfOk result (λ holders. holders.keys ≡ opponents self.now.model (shown self.now) t.0 ob op.now) }
     {
@@ -45,8 +45,7 @@ impl<A: Handle> Board<A> {
         holders_against(alloc, &self.model, self.operations(), t, &spares, ob, op)
     }
 
-    /// The edges that the operation forms, by the policy of the transaction's class. `Err` where there is no
-    /// memory.
+    /// The edges that the operation forms, by the policy of the transaction's class.
     pub(crate) fn conflict_edges(
         &self,
         t: TxnId,
@@ -66,7 +65,7 @@ impl<A: Handle> Board<A> {
         class.policy.edges_upon(alloc, t, &holders)
     }
 
-    /// The edges that the event forms, in order. `Err` where there is no memory.
+    /// The edges that the event forms, in order.
     pub(crate) fn edges_due(&self, event: &Event<A>) -> Result<Vec<Edge, A>, AllocError>
         ensures due { IfOk result (λ edges. edges.items ≡ edges_due self.now.model (shown self.now) event.now) }
         ensures faultless { lowest_fault self.now.model ≡ None }

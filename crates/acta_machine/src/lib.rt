@@ -1,6 +1,8 @@
 //! The machine: one event after another is admitted, or refused with the lowest rule that it breaks.
 //! Contracts see a machine as its model and the history that it kept; how things stand is a function of
 //! that history, and the lists that the machine keeps inside show it.
+//!
+//! A call that allocates returns `Err` if memory runs out.
 #![tactic(auto)]
 
 mod board;

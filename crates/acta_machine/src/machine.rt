@@ -68,7 +68,7 @@ impl<A: Handle> std::marker::Model for Machine<A> {
 }
 
 impl<A: Handle> Machine<A> {
-    /// A machine on the model, which has kept nothing. `Err` where there is no memory.
+    /// A machine on the model, which has kept nothing.
     pub fn new(alloc: A, model: Model<A>) -> Result<Machine<A>, AllocError>
         ensures fresh { IfOk result (λ machine. machine ≡ fresh model) }
         ensures follows { IfOk result FollowsPlaces }
@@ -88,8 +88,8 @@ impl<A: Handle> Machine<A> {
         })
     }
 
-    /// Takes one event: it is admitted and kept, or refused with the lowest rule that it breaks. A refusal
-    /// leaves the machine as it was, and so does `Err`, which comes where there is no memory.
+    /// Takes one event: it is admitted and kept, or refused with the lowest rule that it breaks. A refusal leaves the
+    /// machine as it was, and so does `Err`, which comes if memory runs out.
     #[tactic(auto, unfolding(crate::specs::Table::answer_to, crate::specs::Table::after))]
     pub fn take(&mut self, event: &Event<A>) -> Result<Answer, AllocError>
         ensures answer { IfOk result (λ answer. answer ≡ answer_to self.old event.now) }
@@ -135,7 +135,7 @@ impl<A: Handle> Machine<A> {
     }
 
     /// Why the event would be refused, if it came next: the rule with its number as `take` would answer it, and what of
-    /// the machine breaks it. `None` where it would be admitted. `Err` where there is no memory (ours).
+    /// the machine breaks it. `None` where it would be admitted.
     pub fn why(&self, event: &Event<A>) -> Result<Option<Reason>, AllocError>
         ensures refusal { IfOk result (λ reason. option_map refusal_of reason ≡ refusal_in self.now event.now) }
         ensures so { IfOk result (λ reason. IfSome reason (IsSo self.now.model (summary_of self.now.model self.now.kept) event.now)) }
@@ -145,8 +145,7 @@ impl<A: Handle> Machine<A> {
 
     /// A chain of transactions from `t` on, each of which waits for the next to commit or abort, by a termination
     /// dependency in force between the two, both in progress; it ends with one that it met before. None of those from
-    /// there on can commit or abort, unless another event ends one of them. `None` where no such chain was found. `Err`
-    /// where there is no memory (ours).
+    /// there on can commit or abort, unless another event ends one of them. `None` where no such chain was found.
     pub fn closed_wait(&self, t: TxnId) -> Result<Option<Items<TxnId, A>>, AllocError>
         ensures chain { IfOk result (λ found. IfSome found (IsChain (status_in self.now) (edges_in self.now))) }
         ensures closed { IfOk result (λ found. IfSome found IsClosed) }
@@ -174,7 +173,7 @@ impl<A: Handle> Machine<A> {
         Answer::Refused { rule, by }
     }
 
-    // Keeps an event that breaks no rule, and forms these edges. `Err` where there is no memory: then nothing is kept.
+    // Keeps an event that breaks no rule, and forms these edges. On `Err` nothing is kept.
     #[tactic(auto, unfolding(crate::specs::Table::answer_to, crate::specs::Table::after))]
     fn keep(&mut self, event: &Event<A>, due: &[Edge]) -> Result<Answer, AllocError>
         requires none { lowest_broken self.old.model (summary_of self.old.model self.old.kept) event.now ≡ None }
@@ -198,7 +197,7 @@ impl<A: Handle> Machine<A> {
         Ok(Answer::Admitted { place, ret })
     }
 
-    /// A run: takes the events, in order, on a new machine on the model. `Err` where there is no memory.
+    /// A run: takes the events, in order, on a new machine on the model.
     pub fn run(alloc: A, model: Model<A>, events: &[Event<A>]) -> Result<Run<A>, AllocError>
         ensures answers { IfOk result (λ run. run.answers ≡ run_answers model events.now) }
         ensures machine { IfOk result (λ run. run.machine ≡ run_state model events.now) }
@@ -223,8 +222,8 @@ impl<A: Handle> Machine<A> {
         Ok(Items::of(answers))
     }
 
-    /// The value of an object: what its operations that are not aborted leave, replayed in order from the
-    /// first value. Nothing for an object that is not in the model. `Err` where there is no memory.
+    /// The value of an object: what its operations that are not aborted leave, replayed in order from the first value.
+    /// Nothing for an object that is not in the model.
     pub fn value(&self, ob: ObjId) -> Result<Option<ObjectState<A>>, AllocError>
         ensures value { IfOk result (λ value. value ≡ value_in self.now ob.0) }
         ensures places { IfOk result (λ value. value ≡ value_at self.now ob.0) }
@@ -232,9 +231,8 @@ impl<A: Handle> Machine<A> {
         self.board.value(ob)
     }
 
-    /// The operations in progress that the transaction holds, ascending (ACTA's access set; that it has
-    /// only operations in progress is ours); none for a number that no transaction can have. `Err` where there is
-    /// no memory.
+    /// The operations in progress that the transaction holds, ascending; none for a number that no transaction can
+    /// have.
     pub fn access_set(&self, t: TxnId) -> Result<Vec<OpNo, A>, AllocError>
         ensures set { IfOk result (λ numbers. numbers.items ≡ access_set_in self.now t.0) }
         ensures places { IfOk result (λ numbers. numbers.items ≡ op_numbers (by_places.access_set self.now.model self.now.kept t.0)) }
@@ -243,8 +241,8 @@ impl<A: Handle> Machine<A> {
         self.board.access_set(t)
     }
 
-    /// The operations in progress that others hold, ascending (ACTA's conflict set); a class can leave out what
-    /// its ancestors hold, also once the transaction has ended. `Err` where there is no memory.
+    /// The operations in progress that others hold, ascending; a class can leave out what its ancestors hold, also once
+    /// the transaction has ended.
     pub fn conflict_set(&self, t: TxnId) -> Result<Vec<OpNo, A>, AllocError>
         ensures set { IfOk result (λ numbers. numbers.items ≡ conflict_set_in self.now t.0) }
         ensures places { IfOk result (λ numbers. numbers.items ≡ op_numbers (by_places.conflict_set self.now.model self.now.kept t.0)) }
@@ -252,7 +250,7 @@ impl<A: Handle> Machine<A> {
         self.board.conflict_set(t)
     }
 
-    /// The operations that are not aborted, ascending (ACTA's view). `Err` where there is no memory.
+    /// The operations that are not aborted, ascending.
     pub fn view_set(&self) -> Result<Vec<OpNo, A>, AllocError>
         ensures set { IfOk result (λ numbers. numbers.items ≡ view_set_in self.now) }
         ensures places { IfOk result (λ numbers. numbers.items ≡ op_numbers (by_places.view_set self.now.model self.now.kept)) }
@@ -260,8 +258,8 @@ impl<A: Handle> Machine<A> {
         self.board.operations().view_set()
     }
 
-    /// What transactions owe, by edge number: an event that one of them has yet to do, since another has
-    /// committed or aborted (ours). `Err` where there is no memory.
+    /// What transactions owe, by edge number: an event that one of them has yet to do, since another has committed or
+    /// aborted.
     pub fn owed(&self) -> Result<Vec<Owed, A>, AllocError>
         ensures debts { IfOk result (λ owed. owed.items ≡ debts_in self.now) }
         ensures places { IfOk result (λ owed. owed.items ≡ debts_by_places.owed self.now.model self.now.kept) }
@@ -269,10 +267,10 @@ impl<A: Handle> Machine<A> {
         self.board.owed()
     }
 
-    /// The serial order of the history (ours): its committed operations, in groups by who held them, the groups in the
-    /// order of the commits, each in the order of the history. Done in this order from the objects' first values, with
+    /// The serial order of the history: its committed operations, in groups by who held them, the groups in the order
+    /// of the commits, each in the order of the history. Done in this order from the objects' first values, with
     /// nothing of what has aborted or is in progress, each returns what it returned in the history. `NotStrict` where
-    /// the model isn't strict, and `Memory` where there is no memory.
+    /// the model isn't strict, and `Memory` if memory runs out.
     pub fn serial(&self) -> Result<Items<SerialItem, A>, SerialError>
         ensures items { IfOk result (λ items. items ≡ serial_items self.now.model self.now.kept) }
         ensures in_model { IfOk result (λ items. All (λ item. item.ob.0 < length self.now.model.objects) items) }
@@ -287,7 +285,7 @@ impl<A: Handle> Machine<A> {
         Ok(serial_items(self.board.allocator(), &self.board.model, kept)?)
     }
 
-    /// The same machine, in memory of its own. `Err` where there is no memory.
+    /// The same machine, in memory of its own.
     pub fn copy(&self) -> Result<Machine<A>, AllocError>
         ensures { IfOk result (λ machine. machine ≡ self.now) }
     {
@@ -332,7 +330,6 @@ impl<A: Handle> Machine<A> {
     }
 
     /// The permits in force, each once: ascending by who was permitted, then by object, then by who has permitted it.
-    /// `Err` where there is no memory.
     pub fn permits(&self) -> Result<Vec<Permit, A>, AllocError>
         ensures permits { IfOk result (λ list. (h t object : ℕ) → is_listed list.items h t object ≡ permitted_in self.now h t object) }
         ensures places { IfOk result (λ list. (h t object : ℕ) → is_listed list.items h t object ≡ is_permitted self.now.kept h t object) }
@@ -351,8 +348,7 @@ impl<A: Handle> Machine<A> {
         self.board.known_txns()
     }
 
-    /// The edges in force, in order of forming, each once (ACTA's dependencies): at most 16,384. The first has
-    /// the number 1.
+    /// The edges in force, in order of forming, each once: at most 16,384. The first has the number 1.
     pub fn edges(&self) -> &[Edge]
         ensures edges { result.now ≡ edges_in self.now }
         ensures places { result.now ≡ edges_by_places.edges self.now.model self.now.kept }
@@ -382,7 +378,7 @@ impl<A: Handle> Machine<A> {
     }
 }
 
-/// What became of an event (ours).
+/// What became of an event.
 #[derive(Clone, Copy, PartialEq, Eq, Debug)]
 pub struct Formed {
     /// The answer to it.

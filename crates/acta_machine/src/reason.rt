@@ -33,38 +33,38 @@ pub struct NumberedOp {
     pub held: HeldOp,
 }
 
-/// Why an event is refused: the lowest rule that it breaks, with what of the machine breaks it (ours).
+/// Why an event is refused: the lowest rule that it breaks, with what of the machine breaks it.
 #[derive(Clone, Copy, PartialEq, Eq, Debug)]
 pub enum Reason {
     /// As many events are kept as there may be.
     Full,
-    /// Its form is wrong: one of the rules from `BadNumber` to `SameTransaction`.
+    /// The form of the event is wrong: one of the rules from `BadNumber` to `SameTransaction`.
     Form(FormFault),
-    /// The one that does it isn't in progress, but stands so.
+    /// The transaction that does the event is not in progress; its status.
     NotInProgress { txn: TxnId, status: Status },
-    /// The one that it starts has begun before, and stands so.
+    /// The transaction that the event starts has begun before; its status.
     AlreadyBegun { txn: TxnId, status: Status },
-    /// The classes don't allow it.
+    /// The classes do not allow the event.
     NotInModel(Lack),
-    /// The one that is joined, delegated to or permitted isn't in progress, but stands so.
+    /// The transaction that is joined, delegated to or permitted is not in progress; its status.
     PartnerNotInProgress { txn: TxnId, status: Status },
-    /// The operation, the smallest such that it names, isn't held in progress by the one that hands over.
+    /// An operation that the event names is not held in progress by the transaction that hands it over: the lowest.
     NotResponsible(NumberedOp),
-    /// The operation, the smallest such, isn't handed over, though it has to be.
+    /// An operation that has to be handed over is not named: the lowest.
     PartialDelegation(NumberedOp),
-    /// There is no operation of this number, the smallest such that it names; there are so many.
+    /// The event names an operation that does not exist: the lowest number, and how many operations there are.
     BadSet { number: OpNo, operations: usize },
-    /// The operation, the smallest such, stands against it.
+    /// The lowest operation that conflicts with the event, and whose holder is not exempt.
     Conflict(NumberedOp),
-    /// The one that the edge is to be formed of, or on, is too far on, and stands so.
+    /// One of the edge's transactions has already begun or ended; its status.
     FormTooLate { txn: TxnId, status: Status },
     /// More edges would be in force than there may be.
     EdgesFull,
-    /// An edge in force bars it: one of the rules from `BeginDep` to `Unpayable`.
+    /// An edge in force blocks the event: one of the rules from `BeginDep` to `Unpayable`.
     Barred(Barring),
     /// A transaction would owe both a commit and an abort, by these edges.
     Clash(Clash),
-    /// The parent, to whom what it holds would go, isn't in progress, but stands so.
+    /// The parent, which would inherit the operations, is not in progress; its status.
     NoHeir { parent: TxnId, status: Status },
 }
 

@@ -378,7 +378,7 @@ impl<A: Handle> Board<A> {
         }
     }
 
-    // The smaller of j and i that is too far on for an edge of this kind.
+    // The smaller of j and i that has begun or ended too early for an edge of this kind to be formed.
     fn too_late(&self, kind: Dep, j: TxnId, i: TxnId) -> Option<TxnId>
         ensures { option_map (λ t. t.0) result ≡ too_late (shown self.now) kind j.0 i.0 }
     {
@@ -430,7 +430,7 @@ impl<A: Handle> Board<A> {
         Some(Reason::Form(fault))
     }
 
-    // Why it is refused by the lowest of the rules on room, on form and on how those stand who do or start it.
+    // The reason for the lowest broken rule among Full, the form rules, NotInProgress and AlreadyBegun.
     fn ill_timed(&self, event: &Event<A>) -> Option<Reason>
         ensures refusal { option_map refusal_of result ≡ first_of (full (shown self.now) ∷ form_refusal self.now.model event.now ∷ not_in_progress (shown self.now) event.now ∷ already_begun (shown self.now) event.now ∷ []) }
         ensures so { IfSome result (IsSo self.now.model (shown self.now) event.now) }
@@ -462,7 +462,7 @@ impl<A: Handle> Board<A> {
             .or_else(|| self.ill_handed(event))
     }
 
-    /// Why it is refused by the lowest of the rules before that on too many edges. `Err` where there is no memory.
+    /// Why it is refused by the lowest of the rules before that on too many edges.
     pub(crate) fn broken_before_edges(&self, event: &Event<A>) -> Result<Option<Reason>, AllocError>
         ensures refusal { IfOk result (λ reason. option_map refusal_of reason ≡ broken_before_edges self.now.model (shown self.now) event.now) }
         ensures so { IfOk result (λ reason. IfSome reason (IsSo self.now.model (shown self.now) event.now)) }
@@ -530,8 +530,7 @@ impl<A: Handle> Board<A> {
         }
     }
 
-    /// The edges that the event forms, where it breaks no rule, or else the lowest that it breaks. `Err` where there is
-    /// no memory.
+    /// The edges that the event forms, where it breaks no rule, or else the lowest that it breaks.
     pub(crate) fn judged(
         &mut self,
         event: &Event<A>,
@@ -582,7 +581,7 @@ impl<A: Handle> Board<A> {
         }
     }
 
-    /// Why the event is refused; `None` where it breaks no rule. `Err` where there is no memory.
+    /// Why the event is refused; `None` where it breaks no rule.
     pub(crate) fn why(&self, event: &Event<A>) -> Result<Option<Reason>, AllocError>
         ensures refusal { IfOk result (λ reason. option_map refusal_of reason ≡ lowest_broken self.now.model (shown self.now) event.now) }
         ensures so { IfOk result (λ reason. IfSome reason (IsSo self.now.model (shown self.now) event.now)) }

@@ -3,7 +3,7 @@ ghost use Rattle.acta_machine.specs.declared.serial.SerialError.TheVariants.{Mem
 
 use std::alloc::AllocError;
 
-/// Why there is no serial order (ours).
+/// Why there is no serial order.
 #[derive(Clone, Copy, PartialEq, Eq, Debug)]
 pub enum SerialError {
     /// The model isn't strict.

@@ -103,21 +103,21 @@ delegation whole
 end
 ";
 
-/// The canonical text of flat transactions (ACTA's atomic transactions).
+/// The canonical text of flat transactions.
 pub fn atomic() -> &'static str
     ensures { result.now ≡ ATOMIC.now }
 {
     ATOMIC
 }
 
-/// The canonical text of nested transactions (ACTA's nested transactions).
+/// The canonical text of nested transactions.
 pub fn nested() -> &'static str
     ensures { result.now ≡ NESTED.now }
 {
     NESTED
 }
 
-/// The canonical text of transactions that split and join (ACTA's split transactions, with delegation).
+/// The canonical text of transactions that split and join.
 pub fn split_join() -> &'static str
     ensures { result.now ≡ SPLIT_JOIN.now }
 {

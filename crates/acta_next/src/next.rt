@@ -351,8 +351,8 @@ fn push_next_for<A: Handle>(
     }
 }
 
-/// What can happen next, as lines (ours): of one transaction; or of the first 20 in progress, in the order in which they
-/// began, and of a new one. `Err` where there is no memory.
+/// What can happen next, as lines: of one transaction; or of the first 20 in progress, in the order in which they
+/// began, and of a new one.
 pub fn next_text<A: Handle>(
     alloc: A,
     machine: &Machine<A>,

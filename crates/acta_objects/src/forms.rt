@@ -12,7 +12,7 @@ use crate::state::is_of_kind;
 use acta_table::{ClassId, Event, LAST_TXN, Model, ObjId, Op, Refusal, Rule, TxnId, smallest_of};
 use std::alloc::Allocator;
 
-/// What is wrong with the form of an event (ours).
+/// What is wrong with the form of an event.
 #[derive(Clone, Copy, PartialEq, Eq, Debug)]
 pub enum FormFault {
     /// No transaction has this number, the smallest such that the event names.
@@ -143,8 +143,8 @@ fn same_transaction<A: Allocator>(event: &Event<A>) -> Option<FormFault>
     }
 }
 
-/// What is wrong with the form of an event, by the lowest of the rules on it (ours): those on the numbers of
-/// transactions, on the class, the object and the operation named, and that an event names no transaction twice.
+/// What is wrong with the form of an event, by the lowest of the rules on it: those on the numbers of transactions, on
+/// the class, the object and the operation named, and that an event names no transaction twice.
 pub fn form_fault<A: Allocator>(model: &Model<A>, event: &Event<A>) -> Option<FormFault>
     ensures refusal { option_map refusal_of result ≡ form_refusal model.now event.now }
     ensures named { IfSome result (IsNamed event.now) }
@@ -156,7 +156,7 @@ pub fn form_fault<A: Allocator>(model: &Model<A>, event: &Event<A>) -> Option<Fo
         .or_else(|| same_transaction(event))
 }
 
-/// The lowest of the rules on the form of an event that it breaks (ours).
+/// The lowest of the rules on the form of an event that it breaks.
 pub fn form_refusal<A: Allocator>(model: &Model<A>, event: &Event<A>) -> Option<Refusal>
     ensures { result ≡ form_refusal model.now event.now }
 {

@@ -36,7 +36,7 @@ pub trait ObjectKind {
     // Whether an operation takes memory, and so may fail.
     ghost takes_memory: { Self.Value → Self.Op → Bool };
 
-    /// Does the operation. `Err` where there is no memory: the value is then as it was.
+    /// Does the operation. On `Err`: the value is then as it was.
     fn apply(value: &mut Self::Value, op: &Self::Op) -> Result<Self::Ret, AllocError>
         requires { can_apply value.old op.now }
         ensures answer { IfOk result (λ ret. ret ≡ returned value.old op.now) }

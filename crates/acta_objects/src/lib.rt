@@ -2,6 +2,8 @@
 //! operations conflict; and whether an event has the form that a model asks for. A conflict is
 //! defined by states and orders, after ACTA; the three kinds of object (register, counter, set) are
 //! ours, and for each the table of conflicting pairs is proved to be that definition.
+//!
+//! A call that allocates returns `Err` if memory runs out.
 #![tactic(auto)]
 
 mod forms;

@@ -68,7 +68,7 @@ impl<A: Allocator> Members<A> {
 }
 
 impl<A: Allocator + Copy> Members<A> {
-    /// The elements, ascending, as a list. `Err` where there is no memory.
+    /// The elements, ascending, as a list.
     pub fn listed(&self, alloc: A) -> Result<Vec<i32, A>, AllocError>
         ensures { IfOk result (λ list. list.items ≡ self.now) }
     {
@@ -86,7 +86,7 @@ impl<A: Allocator + Copy> Members<A> {
         Ok(self.elements.insert(x)?)
     }
 
-    /// The same set, in memory of its own. `Err` where there is no memory.
+    /// The same set, in memory of its own.
     pub fn copy(&self) -> Result<Members<A>, AllocError>
         ensures { IfOk result (λ members. members ≡ self.now) }
     {

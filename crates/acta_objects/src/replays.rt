@@ -12,8 +12,8 @@ pub struct Replayed<A: Allocator> {
     pub rets: Items<Ret, A>,
 }
 
-/// Does the operations in order, from the first value of the kind. `Err` where there is no memory.
-/// Fewer than 2^31 operations never bring a counter out of 64 bits, and no caller owes more.
+/// Does the operations in order, from the first value of the kind. Fewer than 2^31 operations never bring a counter out
+/// of 64 bits, and no caller owes more.
 pub fn replay<A: Allocator + Copy>(
     alloc: A,
     kind: &Kind,

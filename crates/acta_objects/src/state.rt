@@ -35,9 +35,9 @@ impl<A: Allocator> ObjectState<A> {
 }
 
 impl<A: Allocator + Copy> ObjectState<A> {
-    /// Does the operation, which changes nothing and returns `Done` where it is of another kind. `Err`
-    /// where there is no memory, which only the insertion of an absent element takes: the value is then
-    /// as it was. A counter has to stay within 64 bits; that an amount fits 32 bits, its type says.
+    /// Does the operation, which changes nothing and returns `Done` where it is of another kind. `Err` if memory runs
+    /// out, which only the insertion of an absent element takes: the value is then as it was. A counter has to stay
+    /// within 64 bits; that an amount fits 32 bits, its type says.
     pub fn apply(&mut self, op: &Op) -> Result<Ret, AllocError>
         requires { AmountFits op.now → StaysWithin self.old op.now }
         ensures answer { IfOk result (λ ret. ret ≡ returned self.old op.now) }
@@ -67,7 +67,7 @@ impl<A: Allocator + Copy> ObjectState<A> {
         }
     }
 
-    /// The same value, in memory of its own. `Err` where there is no memory, which only a set takes.
+    /// The same value, in memory of its own. `Err` if memory runs out, which only a set takes.
     pub fn copy(&self) -> Result<ObjectState<A>, AllocError>
         ensures same { IfOk result (λ state. state ≡ self.now) }
         ensures sure { is_set self.now ≡ false → IsOk result }

@@ -46,8 +46,8 @@ fn refused_line<A: Allocator + Copy>(
     Ok(line)
 }
 
-/// The line of an answer (ours): `ok` and the place, with the return of an operation, or `no` and the number of the
-/// rule, with `by` and the number that breaks it where there is one. `Err` where there is no memory.
+/// The line of an answer: `ok` and the place, with the return of an operation, or `no` and the number of the rule, with
+/// `by` and the number that breaks it where there is one.
 pub fn answer_line<A: Allocator + Copy>(alloc: A, answer: &Answer) -> Result<Vec<u8, A>, AllocError>
     ensures { IfOk result (λ line. line.items ≡ answer_line answer.now) }
 {
@@ -67,8 +67,7 @@ pub fn missing_word(missing: Missing) -> &'static [u8]
     }
 }
 
-/// The line of a debt (ours): `owed`, the number of the edge, the transaction, and the event that it owes. `Err` where
-/// there is no memory.
+/// The line of a debt: `owed`, the number of the edge, the transaction, and the event that it owes.
 #[tactic(auto, unfolding(crate::specs::Answers::owed_line))]
 pub fn owed_line<A: Allocator + Copy>(alloc: A, owed: &Owed) -> Result<Vec<u8, A>, AllocError>
     ensures { IfOk result (λ line. line.items ≡ owed_line owed.now) }
@@ -81,8 +80,8 @@ pub fn owed_line<A: Allocator + Copy>(alloc: A, owed: &Owed) -> Result<Vec<u8, A
     Ok(line)
 }
 
-/// The line of a fault that is found in a history (ours): `fault`, the number of the axiom, the place of the event,
-/// from 1, and the number that breaks the axiom there. `Err` where there is no memory.
+/// The line of a fault that is found in a history: `fault`, the number of the axiom, the place of the event, from 1,
+/// and the number that breaks the axiom there.
 #[tactic(auto, unfolding(crate::specs::Answers::fault_line))]
 pub fn fault_line<A: Allocator + Copy>(
     alloc: A,

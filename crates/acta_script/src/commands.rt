@@ -15,7 +15,7 @@ use acta_table::{EventKind, Model, ObjId, TxnId};
 use acta_words::words_of;
 use std::alloc::Allocator;
 
-/// Where a run of a debugger is to stop, as a command says it (ours).
+/// Where a run of a debugger is to stop, as a command says it.
 #[derive(Clone, Copy, PartialEq, Eq, Debug)]
 pub enum BreakOn {
     /// At an event of this kind.
@@ -30,7 +30,7 @@ pub enum BreakOn {
     Ended(TxnId),
 }
 
-/// A command to a debugger (ours).
+/// A command to a debugger.
 #[derive(Clone, Copy, PartialEq, Eq, Debug)]
 pub enum DebugCommand {
     /// One event further.
@@ -211,9 +211,9 @@ fn command_said<A: Allocator>(model: &Model<A>, words: &[&[u8]]) -> Result<Debug
     command_of_kind(model, kind, words)
 }
 
-/// The command that the line says (ours): `step`, `back`, `goto N`, `run`, `clear`, `value OBJECT`, `status T`, `owed`,
-/// or `break` with `kind EVENT`, `txn T`, `object OBJECT`, `owed N` or `ended T` behind it. `Fault` has the lowest
-/// fault of the line, and `Memory` comes where there is none. Transactions have 16 bits, and an N has 32.
+/// The command that the line says: `step`, `back`, `goto N`, `run`, `clear`, `value OBJECT`, `status T`, `owed`, or
+/// `break` with `kind EVENT`, `txn T`, `object OBJECT`, `owed N` or `ended T` behind it. `Fault` has the lowest fault
+/// of the line, and `Memory` comes if memory runs out. Transactions have 16 bits, and an N has 32.
 pub fn read_command<A: Allocator + Copy>(
     alloc: A,
     model: &Model<A>,

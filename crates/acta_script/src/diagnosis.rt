@@ -523,7 +523,7 @@ fn wrong_command<A: Allocator + Copy>(
 /// What is wrong with a line of an event. `None` where `read_event` can read the line. The fault is the one that
 /// `read_event` answers, the lowest of the line. The place is the first word that has this fault: for `Word`, `Number`
 /// and `Name` a word that cannot be read as what is expected there, for `Arity` the first word too many, or the place
-/// after the last word where there are too few. `Err` where there is no memory.
+/// after the last word where there are too few.
 pub fn diagnose_event<A: Allocator + Copy>(
     alloc: A,
     model: &Model<A>,
@@ -538,8 +538,7 @@ pub fn diagnose_event<A: Allocator + Copy>(
 }
 
 /// What is wrong with a kept line. `None` where `read_kept` can read the line. The fault is the one that `read_kept`
-/// answers, the lower of the event's and the return's. Where both have the same, the place is in the event. `Err` where
-/// there is no memory.
+/// answers, the lower of the event's and the return's. Where both have the same, the place is in the event.
 pub fn diagnose_kept<A: Allocator + Copy>(
     alloc: A,
     model: &Model<A>,
@@ -553,9 +552,9 @@ pub fn diagnose_kept<A: Allocator + Copy>(
     wrong_kept(alloc, model, &words)
 }
 
-/// What is wrong with a seated line, where the seats are so many. `None` where `read_seated` can read the line. The fault
-/// is the one that `read_seated` answers, the lower of the seat's and the event's. Where both have the same, the place is
-/// the seat. A line with a seat alone lacks a word. `Err` where there is no memory.
+/// What is wrong with a seated line, where the seats are so many. `None` where `read_seated` can read the line. The
+/// fault is the one that `read_seated` answers, the lower of the seat's and the event's. Where both have the same, the
+/// place is the seat. A line with a seat alone lacks a word.
 pub fn diagnose_seated<A: Allocator + Copy>(
     alloc: A,
     model: &Model<A>,
@@ -570,9 +569,9 @@ pub fn diagnose_seated<A: Allocator + Copy>(
     wrong_seated(alloc, model, seats, &words)
 }
 
-/// What is wrong with the line of a command to a debugger. `None` where `read_command` can read the line. The fault is the
-/// one that `read_command` answers, the lowest of the line, and the place is the first word that has it, as in the lines
-/// of events. `Err` where there is no memory.
+/// What is wrong with the line of a command to a debugger. `None` where `read_command` can read the line. The fault is
+/// the one that `read_command` answers, the lowest of the line, and the place is the first word that has it, as in the
+/// lines of events.
 pub fn diagnose_command<A: Allocator + Copy>(
     alloc: A,
     model: &Model<A>,

@@ -48,7 +48,7 @@ fn kept_said<A: Allocator + Copy>(
 }
 
 /// The kept item that the line says: an event, and behind the first `=`, if one stands there, its return, of which a
-/// number has 64 bits (ours). `Fault` has the lowest fault of both parts, and `Memory` comes where there is none.
+/// number has 64 bits. `Fault` has the lowest fault of both parts, and `Memory` comes if memory runs out.
 pub fn read_kept<A: Allocator + Copy>(
     alloc: A,
     model: &Model<A>,
@@ -62,8 +62,8 @@ pub fn read_kept<A: Allocator + Copy>(
     kept_said(alloc, model, &words)
 }
 
-/// The line of the kept item: that of its event, and for a return ` = ` and its word (ours). Read again it gives the
-/// item, if the class and the object of the event are in the model. `Err` where there is no memory.
+/// The line of the kept item: that of its event, and for a return ` = ` and its word. Read again it gives the item, if
+/// the class and the object of the event are in the model.
 #[tactic(auto, using(crate::proofs::Lines::kept_line_plain, crate::proofs::Lines::kept_line_with))]
 pub fn write_kept<A: Allocator + Copy>(
     alloc: A,

@@ -18,6 +18,8 @@
 //! of `write_event` and `write_kept`. Where a line of an event, a kept item, a seated event or a command cannot be read,
 //! `diagnose_event`, `diagnose_kept`, `diagnose_seated` and `diagnose_command` say which word is wrong, and what is expected
 //! in its place. Other crates write lines of their own with the words of statuses, sets, returns and events that are owed.
+//!
+//! A call that allocates returns `Err` if memory runs out.
 #![tactic(auto)]
 
 mod answers;

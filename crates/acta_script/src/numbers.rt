@@ -32,7 +32,7 @@ pub(crate) fn integer_said(word: &[u8]) -> Result<i32, LineFault>
     read_i32(word).ok_or(LineFault::Number)
 }
 
-/// Writes a space and the number of the transaction. `Err` where there is no memory.
+/// Writes a space and the number of the transaction.
 pub(crate) fn push_txn<A: Allocator>(line: &mut Vec<u8, A>, txn: TxnId) -> Result<(), AllocError>
     ensures { OnOk result (line.new.items ≡ line.old.items ++ 32 ∷ txn_word txn) }
 {

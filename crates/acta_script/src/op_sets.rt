@@ -59,7 +59,7 @@ fn push_joined<A: Allocator>(line: &mut Vec<u8, A>, op: OpNo) -> Result<(), Allo
     Ok(())
 }
 
-/// Writes a space and the word of the set, its numbers ascending. `Err` where there is no memory.
+/// Writes a space and the word of the set, its numbers ascending.
 pub(crate) fn push_operations<A: Allocator>(
     line: &mut Vec<u8, A>,
     ops: &OpSet<A>,

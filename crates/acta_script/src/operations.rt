@@ -70,7 +70,7 @@ fn push_with<A: Allocator>(
     push_integer(line, i64::from(number))
 }
 
-/// Writes the words of the operation, a space before each. `Err` where there is no memory.
+/// Writes the words of the operation, a space before each.
 pub(crate) fn push_operation<A: Allocator>(line: &mut Vec<u8, A>, op: Op) -> Result<(), AllocError>
     ensures { OnOk result (line.new.items ≡ line.old.items ++ 32 ∷ line_of (operation_words op)) }
 {

@@ -97,7 +97,7 @@ fn program_line_said<A: Allocator + Copy>(
 
 /// Reads a line of a program: a seat from 1 to the number of seats, and then events, as `read_event` reads them, with
 /// the word `|` between two of them. `Fault` has the lowest fault of the seat and of all events, where a missing event
-/// is the fault `Arity`. `Memory` comes where there is no memory.
+/// is the fault `Arity`. `Memory` comes if memory runs out.
 pub fn read_program_line<A: Allocator + Copy>(
     alloc: A,
     model: &Model<A>,

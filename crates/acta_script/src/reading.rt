@@ -248,7 +248,7 @@ pub(crate) fn event_said<A: Allocator + Copy>(
 }
 
 /// The event that the line says (the line is our form for ACTA's events). `Fault` has the lowest fault of the line, and
-/// `Memory` comes where there is none. Transactions have 16 bits, numbers of operations 32, and an INT is a signed
+/// `Memory` comes if memory runs out. Transactions have 16 bits, numbers of operations 32, and an INT is a signed
 /// number of 32 bits; whether the model takes the event is no matter of lines.
 pub fn read_event<A: Allocator + Copy>(
     alloc: A,

@@ -52,7 +52,7 @@ pub fn return_said(words: &[&[u8]]) -> Result<Ret, LineFault>
     }
 }
 
-/// Writes a space and the word of the return. `Err` where there is no memory.
+/// Writes a space and the word of the return.
 pub fn push_return<A: Allocator>(line: &mut Vec<u8, A>, ret: Ret) -> Result<(), AllocError>
     ensures { OnOk result (line.new.items ≡ line.old.items ++ 32 ∷ return_word ret) }
 {

@@ -12,7 +12,7 @@ use std::alloc::Allocator;
 
 const FIRST_SEAT: u16 = 1;
 
-/// A seat, and the event that is handed in there (ours).
+/// A seat, and the event that is handed in there.
 #[derive(Drop)]
 pub struct Seated<A: Allocator> {
     pub seat: u8,
@@ -71,7 +71,7 @@ fn seated_said<A: Allocator + Copy>(
 }
 
 /// The seated event that the line says: a seat from 1 to the number of seats, and behind it an event, as `read_event`
-/// reads it (ours). `Fault` has the lowest fault of both parts, and `Memory` comes where there is none.
+/// reads it. `Fault` has the lowest fault of both parts, and `Memory` comes if memory runs out.
 pub fn read_seated<A: Allocator + Copy>(
     alloc: A,
     model: &Model<A>,

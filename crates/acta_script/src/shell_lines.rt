@@ -362,9 +362,10 @@ fn shell_line_said<A: Allocator + Copy>(
     }
 }
 
-/// Reads a line of a session: an event; `can` and an event, which asks whether the event would be admitted; or a command,
-/// whose form `ShellKind::form` has. `Wrong` says where another line is wrong, and what is expected there: in an event the
-/// first word that has the line's lowest fault, as `diagnose_event` does. `Memory` comes where there is none.
+/// Reads a line of a session: an event; `can` and an event, which asks whether the event would be admitted; or a
+/// command, whose form `ShellKind::form` has. `Wrong` says where another line is wrong, and what is expected there: in
+/// an event the first word that has the line's lowest fault, as `diagnose_event` does. `Memory` comes if memory runs
+/// out.
 pub fn read_shell_line<A: Allocator + Copy>(
     alloc: A,
     model: &Model<A>,

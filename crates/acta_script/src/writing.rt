@@ -121,8 +121,8 @@ fn push_permit<A: Allocator>(
     push_word(line, object_name(model, object))
 }
 
-/// Adds the line of the event, with single spaces and its operations ascending, each once (ours). A class or an object that
-/// is not in the model has an empty name. `Err` where there is no memory.
+/// Adds the line of the event, with single spaces and its operations ascending, each once. A class or an object that is
+/// not in the model has an empty name.
 #[tactic(auto, unfolding(crate::specs::Writing::event_line))]
 pub fn push_event<A: Allocator>(
     line: &mut Vec<u8, A>,
@@ -151,8 +151,8 @@ pub fn push_event<A: Allocator>(
     }
 }
 
-/// The line of the event, as `push_event` adds it. Read again it gives the event, if its class and its object are in the
-/// model. `Err` where there is no memory.
+/// The line of the event, as `push_event` adds it. Read again it gives the event, if its class and its object are in
+/// the model.
 pub fn write_event<A: Allocator + Copy>(
     alloc: A,
     model: &Model<A>,

@@ -19,14 +19,14 @@ pub(crate) type Grants<A> = BTreeSet<Grant, A>;
 /// The grants of each transaction, by its number.
 pub(crate) type Granted<A> = Vec<BTreeSet<Grant, A>, A>;
 
-/// The same grants, in memory of their own. `Err` where there is no memory.
+/// The same grants, in memory of their own.
 pub(crate) fn copied<A: Allocator + Copy>(table: &Granted<A>) -> Result<Granted<A>, AllocError>
     ensures { IfOk result (λ copied. grant_lists copied.items ≡ grant_lists table.now.items) }
 {
     table.clone()
 }
 
-// Makes the set at this place, if there is none, with no other change. `Err` where there is no memory.
+// Makes the set at this place, if there is none, with no other change.
 fn grow_to<A: Allocator + Copy>(table: &mut Granted<A>, at: u16) -> Result<(), AllocError>
     ensures same { (v object partner : ℕ) → is_granted table.new.items v object partner ≡ is_granted table.old.items v object partner }
     ensures room { OnOk result (at < length table.new.items) }
@@ -39,7 +39,7 @@ fn grow_to<A: Allocator + Copy>(table: &mut Granted<A>, at: u16) -> Result<(), A
     Ok(())
 }
 
-// Puts the grant among these. `Err` where there is no memory, and then they stay as they were.
+// Puts the grant among these. On `Err` they stay as they were.
 fn note<A: Allocator + Copy>(grants: &mut Grants<A>, grant: Grant) -> Result<(), AllocError>
     ensures ok { OnOk result ((object partner : ℕ) → has_grant grants.new.keys object partner ≡ (has_grant grants.old.keys object partner || is_grant object partner grant)) }
     ensures err { OnErr result (grants.new.keys ≡ grants.old.keys) }
@@ -50,7 +50,7 @@ fn note<A: Allocator + Copy>(grants: &mut Grants<A>, grant: Grant) -> Result<(),
     }
 }
 
-// Puts the grant among those at a place. `Err` where there is no memory, and then nothing has changed.
+// Puts the grant among those at a place. On `Err` nothing has changed.
 fn note_at<A: Allocator + Copy>(
     table: &mut Granted<A>,
     at: u16,
@@ -67,7 +67,7 @@ fn note_at<A: Allocator + Copy>(
     }
 }
 
-/// Puts the grant among those of a transaction. `Err` where there is no memory, and then nothing has changed.
+/// Puts the grant among those of a transaction. On `Err` nothing has changed.
 pub(crate) fn add<A: Allocator + Copy>(
     table: &mut Granted<A>,
     at: u16,
@@ -141,7 +141,7 @@ pub(crate) fn leave_out_each<A: Allocator + Copy>(
     }
 }
 
-// The partners of those of the grants that are on the object, ascending. `Err` where there is no memory.
+// The partners of those of the grants that are on the object, ascending.
 fn partners_among<A: Allocator + Copy>(
     alloc: A,
     grants: &Grants<A>,
@@ -165,7 +165,7 @@ fn partners_among<A: Allocator + Copy>(
     Ok(partners)
 }
 
-/// The partners of those of a transaction's grants that are on the object, ascending. `Err` where there is no memory.
+/// The partners of those of a transaction's grants that are on the object, ascending.
 pub(crate) fn partners<A: Allocator + Copy>(
     table: &Granted<A>,
     at: u16,
@@ -181,7 +181,7 @@ pub(crate) fn partners<A: Allocator + Copy>(
     }
 }
 
-// The grants as a list, in order. `Err` where there is no memory.
+// The grants as a list, in order.
 fn listed<A: Allocator + Copy>(alloc: A, grants: &Grants<A>) -> Result<Vec<Grant, A>, AllocError>
     ensures listed { IfOk result (λ list. list.items ≡ grants.now.keys) }
     ensures ascending { IfOk result (λ list. IsStrictlySortedBy grant_cmp list.items) }
@@ -193,7 +193,7 @@ fn listed<A: Allocator + Copy>(alloc: A, grants: &Grants<A>) -> Result<Vec<Grant
     Ok(list)
 }
 
-/// The grants of a transaction as a list, in order. `Err` where there is no memory.
+/// The grants of a transaction as a list, in order.
 pub(crate) fn list_of<A: Allocator + Copy>(
     table: &Granted<A>,
     at: u16,
@@ -208,7 +208,7 @@ pub(crate) fn list_of<A: Allocator + Copy>(
     }
 }
 
-// Puts the permits that these grants of a transaction are behind others. `Err` where there is no memory.
+// Puts the permits that these grants of a transaction are behind others.
 fn put_permits<A: Allocator + Copy>(
     permits: &mut Vec<Permit, A>,
     to: TxnId,
@@ -227,7 +227,7 @@ fn put_permits<A: Allocator + Copy>(
     Ok(())
 }
 
-/// The grants of all transactions as one list of permits, in order. `Err` where there is no memory.
+/// The grants of all transactions as one list of permits, in order.
 pub(crate) fn permits<A: Allocator + Copy>(table: &Granted<A>) -> Result<Vec<Permit, A>, AllocError>
     requires { length table.now.items ≤ 65536 }
     ensures listed { IfOk result (λ list. (h t object : ℕ) → is_listed list.items h t object ≡ is_granted table.now.items t object h) }

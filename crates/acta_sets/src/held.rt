@@ -17,7 +17,7 @@ pub(crate) type OpList<A> = SmallVec<u32, 8, A>;
 /// The operations that each transaction holds in progress, by its number.
 pub(crate) type Held<A> = Vec<SmallVec<u32, 8, A>, A>;
 
-// The same list, in memory of its own. `Err` where there is no memory.
+// The same list, in memory of its own.
 fn copied_list<A: Handle>(alloc: A, list: &[u32]) -> Result<OpList<A>, AllocError>
     ensures { IfOk result (λ (copied : short_list _). copied.items ≡ list.now) }
 {
@@ -26,7 +26,7 @@ fn copied_list<A: Handle>(alloc: A, list: &[u32]) -> Result<OpList<A>, AllocErro
     Ok(copied)
 }
 
-/// The same lists, in memory of their own. `Err` where there is no memory.
+/// The same lists, in memory of their own.
 pub(crate) fn copied<A: Handle>(held: &Held<A>) -> Result<Held<A>, AllocError>
     ensures { IfOk result (λ copied. lists copied.items ≡ lists held.now.items) }
 {
@@ -38,8 +38,7 @@ pub(crate) fn copied<A: Handle>(held: &Held<A>) -> Result<Held<A>, AllocError>
     Ok(copied)
 }
 
-/// Makes the list at this place, if there is none, with no other change. `Err` where there is no
-/// memory.
+/// Makes the list at this place, if there is none, with no other change.
 fn grow_to<A: Handle>(held: &mut Held<A>, at: u16) -> Result<(), AllocError>
     ensures same { (t : ℕ) → list_at held.new.items t ≡ list_at held.old.items t }
     ensures room { OnOk result (at < length held.new.items) }
@@ -51,8 +50,7 @@ fn grow_to<A: Handle>(held: &mut Held<A>, at: u16) -> Result<(), AllocError>
     Ok(())
 }
 
-/// Puts an operation behind those at a place. `Err` where there is no memory, and then it is not
-/// there.
+/// Puts an operation behind those at a place. On `Err` it is not there.
 fn push_at<A: Handle>(held: &mut Held<A>, at: u16, op: u32) -> Result<(), AllocError>
     requires { at < length held.old.items }
     ensures ok { OnOk result (lists held.new.items ≡ set (lists held.old.items) at (list_at held.old.items at ++ op ∷ [])) }
@@ -64,8 +62,7 @@ fn push_at<A: Handle>(held: &mut Held<A>, at: u16, op: u32) -> Result<(), AllocE
     Ok(())
 }
 
-/// Puts an operation behind those of a transaction. `Err` where there is no memory, and then it is
-/// not there.
+/// Puts an operation behind those of a transaction. On `Err` it is not there.
 fn add_at<A: Handle>(held: &mut Held<A>, at: u16, op: u32) -> Result<(), AllocError>
     ensures ok { OnOk result ((v : ℕ) → list_at held.new.items v ≡ (if v == at then list_at held.old.items at ++ op ∷ [] else list_at held.old.items v)) }
     ensures err { OnErr result ((v : ℕ) → list_at held.new.items v ≡ list_at held.old.items v) }
@@ -115,7 +112,7 @@ pub(crate) fn leave_out_at<A: Handle>(held: &mut Held<A>, at: u16, ops: &OpSet<A
     }
 }
 
-// Those of the list that are named. `Err` where there is no memory.
+// Those of the list that are named.
 fn picked<A: Handle>(alloc: A, list: &[u32], ops: &OpSet<A>) -> Result<Vec<u32, A>, AllocError>
     ensures { IfOk result (λ named. named.items ≡ named_of ops.now list.now) }
 {
@@ -128,7 +125,7 @@ fn picked<A: Handle>(alloc: A, list: &[u32], ops: &OpSet<A>) -> Result<Vec<u32, 
     Ok(named)
 }
 
-/// Those of the list that are named. `Err` where there is no memory.
+/// Those of the list that are named.
 pub(crate) fn named_in<A: Handle>(
     alloc: A,
     list: &[u32],
@@ -154,7 +151,7 @@ pub(crate) fn first_unnamed<A: Handle>(list: &[u32], ops: &OpSet<A>) -> Option<u
     None
 }
 
-/// The operations of these numbers. `Err` where there is no memory.
+/// The operations of these numbers.
 pub(crate) fn numbered<A: Handle>(alloc: A, list: &[u32]) -> Result<Vec<OpNo, A>, AllocError>
     ensures { IfOk result (λ ops. ops.items ≡ numbered list.now) }
 {
@@ -175,7 +172,7 @@ fn is_before(ops: &[u32], more: &[u32]) -> bool
     }
 }
 
-// The two ascending lists as one. `Err` where there is no memory.
+// The two ascending lists as one.
 fn merged<A: Handle>(alloc: A, ops: &[u32], more: &[u32]) -> Result<OpList<A>, AllocError>
     ensures { IfOk result (λ (list : short_list _). list.items ≡ merge ops.now more.now) }
 {
@@ -196,7 +193,7 @@ fn merged<A: Handle>(alloc: A, ops: &[u32], more: &[u32]) -> Result<OpList<A>, A
     Ok(all)
 }
 
-// Puts an ascending list into another. `Err` where there is no memory, and then it is as it was.
+// Puts an ascending list into another. On `Err` it is as it was.
 fn join<A: Handle>(list: &mut OpList<A>, more: &[u32]) -> Result<(), AllocError>
     ensures ok { OnOk result (list.new.items ≡ joined list.old.items more.now) }
     ensures err { OnErr result (list.new.items ≡ list.old.items) }
@@ -209,8 +206,7 @@ fn join<A: Handle>(list: &mut OpList<A>, more: &[u32]) -> Result<(), AllocError>
     Ok(())
 }
 
-/// Puts an ascending list into that at a place. `Err` where there is no memory, and then it is as
-/// it was.
+/// Puts an ascending list into that at a place. On `Err` it is as it was.
 fn join_at<A: Handle>(held: &mut Held<A>, at: u16, more: &[u32]) -> Result<(), AllocError>
     requires { at < length held.old.items }
     ensures ok { OnOk result (lists held.new.items ≡ set (lists held.old.items) at (joined (list_at held.old.items at) more.now)) }
@@ -222,8 +218,7 @@ fn join_at<A: Handle>(held: &mut Held<A>, at: u16, more: &[u32]) -> Result<(), A
     }
 }
 
-/// Puts an ascending list into that of a transaction. `Err` where there is no memory, and then it is
-/// as it was.
+/// Puts an ascending list into that of a transaction. On `Err` it is as it was.
 fn share_at<A: Handle>(held: &mut Held<A>, at: u16, more: &[u32]) -> Result<(), AllocError>
     ensures ok { OnOk result ((v : ℕ) → list_at held.new.items v ≡ (if v == at then joined (list_at held.old.items at) more.now else list_at held.old.items v)) }
     ensures err { OnErr result ((v : ℕ) → list_at held.new.items v ≡ list_at held.old.items v) }
@@ -237,14 +232,14 @@ fn share_at<A: Handle>(held: &mut Held<A>, at: u16, more: &[u32]) -> Result<(), 
 /// Those who hold something, by number. One who holds nothing any more may be among them still: the lists say who does.
 pub(crate) type Holders<A> = BTreeSet<u16, A>;
 
-/// The same holders, in memory of their own. `Err` where there is no memory.
+/// The same holders, in memory of their own.
 pub(crate) fn copied_holders<A: Handle>(holders: &Holders<A>) -> Result<Holders<A>, AllocError>
     ensures { IfOk result (λ copied. copied.keys ≡ holders.now.keys) }
 {
     holders.clone()
 }
 
-// The transaction is among the holders. `Err` where there is no memory, and then they stay as they were.
+// The transaction is among the holders. On `Err` they stay as they were.
 fn note<A: Handle>(holders: &mut Holders<A>, at: u16) -> Result<(), AllocError>
     ensures ok { OnOk result (holders.new.keys ≡ insert_key nat_cmp holders.old.keys at) }
     ensures err { OnErr result (holders.new.keys ≡ holders.old.keys) }
@@ -255,8 +250,7 @@ fn note<A: Handle>(holders: &mut Holders<A>, at: u16) -> Result<(), AllocError>
     }
 }
 
-/// Puts an operation behind those of a transaction, which is among the holders then. `Err` where there is no memory,
-/// and then it is not there.
+/// Puts an operation behind those of a transaction, which is among the holders then. On `Err` it is not there.
 pub(crate) fn add_held<A: Handle>(
     held: &mut Held<A>,
     holders: &mut Holders<A>,
@@ -274,8 +268,7 @@ pub(crate) fn add_held<A: Handle>(
     }
 }
 
-/// Puts an ascending list into that of a transaction, which is among the holders then. `Err` where there is no memory,
-/// and then it is as it was.
+/// Puts an ascending list into that of a transaction, which is among the holders then. On `Err` it is as it was.
 pub(crate) fn share_held<A: Handle>(
     held: &mut Held<A>,
     holders: &mut Holders<A>,

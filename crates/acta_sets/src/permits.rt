@@ -46,8 +46,7 @@ impl<A: Allocator + Copy> Permits<A> {
         }
     }
 
-    /// `h` has permitted `t` to work on the object from now on. `Err` where there is no memory, and then nothing has
-    /// changed.
+    /// `h` has permitted `t` to work on the object from now on. On `Err` nothing has changed.
     pub fn give(&mut self, h: TxnId, t: TxnId, ob: ObjId) -> Result<(), AllocError>
         ensures ok { OnOk result (permitted self.new ≡ with_permit (permitted self.old) h.0 t.0 ob.0) }
         ensures err { OnErr result (permitted self.new ≡ permitted self.old) }
@@ -87,7 +86,7 @@ impl<A: Allocator + Copy> Permits<A> {
         granted::has(&self.taken, t.0, &taken)
     }
 
-    /// Who has permitted `t` to work on the object, ascending. `Err` where there is no memory.
+    /// Who has permitted `t` to work on the object, ascending.
     pub fn permitters(&self, t: TxnId, ob: ObjId) -> Result<Vec<TxnId, A>, AllocError>
         ensures ascending { IfOk result (λ hs. IsStrictlySortedBy txn_cmp hs.items) }
         ensures named { IfOk result (λ hs. (h : TxnId) → is_among hs.items h ≡ permitted self.now h.0 t.0 ob.0) }
@@ -95,7 +94,7 @@ impl<A: Allocator + Copy> Permits<A> {
         granted::partners(&self.taken, t.0, ob)
     }
 
-    /// What `t` was permitted: the objects, each with who has permitted it, ascending. `Err` where there is no memory.
+    /// What `t` was permitted: the objects, each with who has permitted it, ascending.
     pub fn given_to(&self, t: TxnId) -> Result<Vec<Grant, A>, AllocError>
         ensures ascending { IfOk result (λ grants. IsStrictlySortedBy grant_cmp grants.items) }
         ensures given { IfOk result (λ grants. (h object : ℕ) → has_grant grants.items object h ≡ permitted self.now h t.0 object) }
@@ -104,7 +103,6 @@ impl<A: Allocator + Copy> Permits<A> {
     }
 
     /// All permits in force, each once: ascending by who was permitted, then by object, then by who has permitted it.
-    /// `Err` where there is no memory.
     pub fn listed(&self) -> Result<Vec<Permit, A>, AllocError>
         ensures ascending { IfOk result (λ list. IsStrictlySortedBy permit_cmp list.items) }
         ensures listed { IfOk result (λ list. (h t object : ℕ) → is_listed list.items h t object ≡ permitted self.now h t object) }
@@ -112,7 +110,7 @@ impl<A: Allocator + Copy> Permits<A> {
         granted::permits(&self.taken)
     }
 
-    /// The same permits, in memory of their own. `Err` where there is no memory.
+    /// The same permits, in memory of their own.
     pub fn copy(&self) -> Result<Permits<A>, AllocError>
         ensures { IfOk result (λ p. p ≡ self.now) }
     {

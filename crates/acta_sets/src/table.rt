@@ -84,9 +84,8 @@ impl<A: Handle> OpTable<A> {
         self.items.get(op.0 as usize - 1).copied()
     }
 
-    /// Adds an operation in progress, which `t` holds: whoever invokes an operation is responsible for
-    /// it at first (ACTA's). Answers its number, one more than there were operations, fewer than
-    /// `MOST_EVENTS`. `Err` where there is no memory, and then none is added.
+    /// Adds an operation in progress, which `t` holds: whoever invokes an operation is responsible for it at first.
+    /// Answers its number, one more than there were operations, fewer than `MOST_EVENTS`. On `Err` none is added.
     pub fn add(&mut self, t: TxnId, ob: ObjId, op: Op) -> Result<OpNo, AllocError>
         requires { length self.old < MOST_EVENTS }
         ensures number { IfOk result (λ number. number.0 ≡ length self.old + 1) }
@@ -115,15 +114,14 @@ impl<A: Handle> OpTable<A> {
         Ok(OpNo(number))
     }
 
-    /// The numbers of the operations that the transaction holds in progress, ascending (ACTA's access set).
+    /// The numbers of the operations that the transaction holds in progress, ascending.
     pub fn held(&self, t: TxnId) -> &[u32]
         ensures { result.now ≡ numbers_where (is_held t.0) self.now }
     {
         list_of(&self.held, t.0)
     }
 
-    /// From now on `u` holds those of the named operations that `from` holds in progress (ACTA's delegation of
-    /// operations). `Err` where there is no memory, and then none is handed on.
+    /// From now on `u` holds those of the named operations that `from` holds in progress. On `Err` none is handed on.
     pub fn hand(&mut self, from: TxnId, ops: &OpSet<A>, u: TxnId) -> Result<(), AllocError>
         ensures handed { OnOk result (self.new ≡ handed_of from.0 ops.now u self.old) }
         ensures err { OnErr result (self.new ≡ self.old) }
@@ -139,8 +137,7 @@ impl<A: Handle> OpTable<A> {
         Ok(())
     }
 
-    /// From now on `u` holds the named operations (ACTA's delegation), which `from` holds in progress. `Err` where
-    /// there is no memory, and then none is moved.
+    /// From now on `u` holds the named operations, which `from` holds in progress. On `Err` none is moved.
     pub fn move_to(&mut self, from: TxnId, ops: &OpSet<A>, u: TxnId) -> Result<(), AllocError>
         requires { are_held from.0 ops.now self.old ≡ true }
         ensures moved { OnOk result (self.new ≡ moved ops.now u self.old) }
@@ -149,8 +146,7 @@ impl<A: Handle> OpTable<A> {
         self.hand(from, ops, u)
     }
 
-    /// From now on `u` holds all that `t` holds in progress (ACTA's join of split transactions, and a
-    /// subtransaction's commit to its parent). `Err` where there is no memory, and then nothing is handed on.
+    /// From now on `u` holds all that `t` holds in progress. On `Err` nothing is handed on.
     pub fn hand_all(&mut self, t: TxnId, u: TxnId) -> Result<(), AllocError>
         ensures handed { OnOk result (self.new ≡ handed t.0 u self.old) }
         ensures err { OnErr result (self.new ≡ self.old) }
@@ -166,8 +162,7 @@ impl<A: Handle> OpTable<A> {
         Ok(())
     }
 
-    /// All that `t` holds in progress gets this fate, which is committed or aborted (ACTA's commit
-    /// and abort of the operations for which a transaction is responsible). Takes no memory.
+    /// All that `t` holds in progress gets this fate, which is committed or aborted. Takes no memory.
     pub fn end_all(&mut self, t: TxnId, fate: Fate)
         requires { is_open fate ≡ false }
         ensures { self.new ≡ ended t.0 fate self.old }
@@ -273,7 +268,6 @@ impl<A: Handle> OpTable<A> {
 
     /// Who holds the operations in progress, on the object, that conflict with the operation, but for the transaction
     /// and those that it spares on that object: its ancestors, and those who have permitted it to work on the object.
-    /// `Err` where there is no memory.
     pub fn holders_against(
         &self,
         t: TxnId,
@@ -297,8 +291,7 @@ impl<A: Handle> OpTable<A> {
         *self.items.allocator()
     }
 
-    /// The operations that `t` holds in progress, by number, ascending (ACTA's access set; that it
-    /// has only operations in progress is ours). `Err` where there is no memory.
+    /// The operations that `t` holds in progress, by number, ascending.
     pub fn access_set(&self, t: TxnId) -> Result<Vec<OpNo, A>, AllocError>
         ensures { IfOk result (λ ops. ops.items ≡ access_set t.0 self.now) }
     {
@@ -313,9 +306,8 @@ impl<A: Handle> OpTable<A> {
     }
 
     /// The operations in progress that are held neither by `t` nor by one of these ancestors of it, nor by one who has
-    /// permitted `t` to work on the operation's object, by number, ascending (ACTA's conflict set; that it has only
-    /// operations in progress, and the permits, are ours). With no ancestor and no permit all others count. `Err` where
-    /// there is no memory.
+    /// permitted `t` to work on the operation's object, by number, ascending. With no ancestor and no permit all others
+    /// count.
     pub fn conflict_set(
         &self,
         t: TxnId,
@@ -331,15 +323,14 @@ impl<A: Handle> OpTable<A> {
         )
     }
 
-    /// The operations that are not aborted, by number, ascending (ACTA's view). `Err` where there
-    /// is no memory.
+    /// The operations that are not aborted, by number, ascending.
     pub fn view_set(&self) -> Result<Vec<OpNo, A>, AllocError>
         ensures { IfOk result (λ ops. ops.items ≡ view_set self.now) }
     {
         selected(self.allocator(), Selection::View, self.operations())
     }
 
-    /// The same operations, in memory of their own. `Err` where there is no memory.
+    /// The same operations, in memory of their own.
     pub fn copy(&self) -> Result<OpTable<A>, AllocError>
         ensures { IfOk result (λ table. table ≡ self.now) }
     {

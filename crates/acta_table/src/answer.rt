@@ -5,7 +5,7 @@ ghost use Rattle.acta_table.specs.Numbers.{rule_number};
 
 use crate::event::{Ret, TxnId};
 
-/// How a transaction stands (ACTA's significant events, read as a state).
+/// How a transaction stands.
 #[derive(Clone, Copy, PartialEq, Eq, Hash, Debug)]
 pub enum Status {
     NotBegun,
@@ -16,7 +16,7 @@ pub enum Status {
     Joined,
 }
 
-/// What became of an operation (ACTA's commit and abort of operations).
+/// What became of an operation.
 #[derive(Clone, Copy, PartialEq, Eq, Hash, Debug)]
 pub enum Fate {
     InProgress,
@@ -102,7 +102,7 @@ pub fn lesser(least: Option<u32>, number: u32) -> Option<u32>
     }
 }
 
-/// The smaller of those of two transactions of which something holds, as a rule that looks at both names it (ours).
+/// The smaller of those of two transactions of which something holds, as a rule that looks at both names it.
 pub fn smallest_of(j: TxnId, is_j: bool, i: TxnId, is_i: bool) -> Option<u32>
     ensures { result ≡ smallest ((if is_j then j.0 ∷ [] else []) ++ (if is_i then i.0 ∷ [] else [])) }
 {

@@ -6,7 +6,7 @@ ghost use Rattle.acta_table.specs.Edges.{same_edge, is_among};
 use crate::event::TxnId;
 use bitflags::{Flag, Flags};
 
-/// The kinds of dependency, by code from 0 on (ACTA's). A transaction t_j depends on a t_i.
+/// The kinds of dependency, by code from 0 on. A transaction t_j depends on a t_i.
 #[derive(Clone, Copy, PartialEq, Eq, PartialOrd, Ord, Hash, Debug)]
 pub enum Dep {
     /// Commit: if both commit, t_i commits first.
@@ -72,7 +72,7 @@ impl Dep {
         }
     }
 
-    /// The short name of the kind, two or three capital letters (ACTA's).
+    /// The short name of the kind, two or three capital letters.
     pub fn word(self) -> &'static str
         ensures { result.now ≡ word_of self }
     {
@@ -272,7 +272,7 @@ impl DepKinds {
     }
 }
 
-/// An edge: the transaction `j` depends on the transaction `i` (ACTA's dependency in force).
+/// An edge: the transaction `j` depends on the transaction `i`.
 #[derive(Clone, Copy, PartialEq, Eq, Hash, Debug)]
 pub struct Edge {
     pub kind: Dep,
@@ -300,14 +300,14 @@ impl Edge {
 #[derive(Clone, Copy, PartialEq, Eq, Hash, Debug)]
 pub struct EdgeNo(pub u64);
 
-/// The one event that would pay a debt (ours).
+/// The one event that would pay a debt.
 #[derive(Clone, Copy, PartialEq, Eq, Hash, Debug)]
 pub enum Missing {
     Commit,
     Abort,
 }
 
-/// A debt: by the edge of this number the transaction owes an event (ours).
+/// A debt: by the edge of this number the transaction owes an event.
 #[derive(Clone, Copy, PartialEq, Eq, Hash, Debug)]
 pub struct Owed {
     pub edge: EdgeNo,

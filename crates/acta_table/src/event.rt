@@ -21,7 +21,7 @@ pub struct ObjId(pub u16);
 #[derive(Clone, Copy, PartialEq, Eq, Hash, Debug)]
 pub struct OpNo(pub u32);
 
-/// An operation on an object (ACTA's object event; the kinds of object are ours).
+/// An operation on an object.
 #[derive(Clone, Copy, PartialEq, Eq, Hash, Debug)]
 pub enum Op {
     /// Returns the value of a register.
@@ -68,24 +68,22 @@ pub enum EventKind {
     Permit,
 }
 
-/// What happens in a history (ACTA's event).
+/// What happens in a history.
 #[derive(Drop)]
 pub enum Event<A: Allocator> {
     /// The transaction begins, with the class.
     Begin(TxnId, ClassId),
-    /// The first transaction spawns the second, with the class, and is its parent from then on (ACTA's
-    /// spawn).
+    /// The first transaction spawns the second, with the class, and is its parent from then on.
     Spawn(TxnId, TxnId, ClassId),
-    /// The first transaction splits off the second, with the class, and hands it the operations, which
-    /// the second holds from then on (ACTA's split).
+    /// The first transaction splits off the second, with the class, and hands it the operations, which the second holds
+    /// from then on.
     Split(TxnId, TxnId, ClassId, OpSet<A>),
-    /// The first transaction joins the second, which holds all that the first held in progress; the first
-    /// has ended by it (ACTA's join).
+    /// The first transaction joins the second, which holds all that the first held in progress; the first has ended by
+    /// it.
     Join(TxnId, TxnId),
-    /// The first transaction hands the operations to the second, which holds them from then on (ACTA's
-    /// delegation).
+    /// The first transaction hands the operations to the second, which holds them from then on.
     Delegate(TxnId, TxnId, OpSet<A>),
-    /// A dependency is formed: of this kind, of the first transaction on the second (ACTA's t_j and t_i).
+    /// A dependency is formed: of this kind, of the first transaction on the second.
     Form(Dep, TxnId, TxnId),
     /// The transaction does an operation on the object.
     Operate(TxnId, ObjId, Op),
@@ -252,7 +250,7 @@ impl<A: Allocator> Event<A> {
         }
     }
 
-    /// Whether the two are the same event (ours).
+    /// Whether the two are the same event.
     pub fn is_same(&self, other: &Event<A>) -> bool
         ensures { Decides result (self.now ≡ other.now) }
     {
@@ -272,7 +270,7 @@ impl<A: Allocator> Event<A> {
 }
 
 impl<A: Allocator + Copy> Event<A> {
-    /// The same event, in memory of its own. `Err` where there is no memory.
+    /// The same event, in memory of its own.
     pub fn copy(&self) -> Result<Event<A>, AllocError>
         ensures { IfOk result (λ event. event ≡ self.now) }
     {
@@ -299,7 +297,7 @@ pub struct Kept<A: Allocator> {
 }
 
 impl<A: Allocator + Copy> Kept<A> {
-    /// The same item, in memory of its own. `Err` where there is no memory.
+    /// The same item, in memory of its own.
     pub fn copy(&self) -> Result<Kept<A>, AllocError>
         ensures { IfOk result (λ kept. kept ≡ self.now) }
     {

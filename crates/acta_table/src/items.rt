@@ -49,7 +49,7 @@ impl<T, A: Allocator + Copy> Items<T, A> {
 }
 
 impl<T: Copy, A: Allocator + Copy> Items<T, A> {
-    /// The same list, in memory of its own. `Err` where there is no memory.
+    /// The same list, in memory of its own.
     pub fn copy(&self) -> Result<Items<T, A>, AllocError>
         ensures { IfOk result (λ items. items ≡ self.now) }
     {
@@ -59,8 +59,8 @@ impl<T: Copy, A: Allocator + Copy> Items<T, A> {
     }
 }
 
-/// Makes the list so long, where it is shorter, by this item put behind the others as often as that takes. `Err` where
-/// there is no memory, and then the list stays as it was.
+/// Makes the list so long, where it is shorter, by this item put behind the others as often as that takes. On `Err` the
+/// list stays as it was.
 pub fn lengthen<T: Copy, A: Allocator>(
     items: &mut Vec<T, A>,
     count: usize,

@@ -1,5 +1,7 @@
 //! The words of the framework: transactions, operations, events, classes, checked models, rules and
 //! answers. Types and their well-formedness, and nothing that happens to them.
+//!
+//! A call that allocates returns `Err` if memory runs out.
 #![tactic(auto)]
 
 mod answer;

@@ -26,8 +26,7 @@ pub struct Starts {
     pub split: bool,
 }
 
-/// Whose operations a transaction can be in conflict with (ACTA's conflict set; that a class chooses is
-/// ours).
+/// Whose operations a transaction can be in conflict with.
 #[derive(Clone, Copy, PartialEq, Eq, Debug)]
 pub enum Scope {
     /// Those of all others.
@@ -36,8 +35,7 @@ pub enum Scope {
     NonAncestors,
 }
 
-/// What becomes of the operations that a transaction holds in progress when it commits (ACTA's commit of a
-/// subtransaction; that a class chooses is ours).
+/// What becomes of the operations that a transaction holds in progress when it commits.
 #[derive(Clone, Copy, PartialEq, Eq, Debug)]
 pub enum AtCommit {
     /// They are committed.
@@ -46,7 +44,7 @@ pub enum AtCommit {
     ToParent,
 }
 
-/// How much a transaction has to hand over where it delegates (ACTA's delegation; the choice is ours).
+/// How much a transaction has to hand over where it delegates.
 #[derive(Clone, Copy, PartialEq, Eq, Debug)]
 pub enum Extent {
     /// All that it holds in progress.
@@ -407,7 +405,7 @@ impl<A: Allocator> Model<A> {
 }
 
 impl<A: Allocator + Copy> Object<A> {
-    /// The same object, in memory of its own. `Err` where there is no memory.
+    /// The same object, in memory of its own.
     pub fn copy(&self) -> Result<Object<A>, AllocError>
         ensures { IfOk result (λ object. object ≡ self.now) }
     {
@@ -419,7 +417,7 @@ impl<A: Allocator + Copy> Object<A> {
 }
 
 impl<A: Allocator + Copy> Class<A> {
-    /// The same class, in memory of its own. `Err` where there is no memory.
+    /// The same class, in memory of its own.
     pub fn copy(&self) -> Result<Class<A>, AllocError>
         ensures { IfOk result (λ class. class ≡ self.now) }
     {
@@ -464,7 +462,7 @@ fn copy_classes<A: Allocator + Copy>(
 }
 
 impl<A: Allocator + Copy> Model<A> {
-    /// The same model, in memory of its own. `Err` where there is no memory.
+    /// The same model, in memory of its own.
     pub fn copy(&self) -> Result<Model<A>, AllocError>
         ensures { IfOk result (λ model. model ≡ self.now) }
     {

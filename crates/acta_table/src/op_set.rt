@@ -86,8 +86,7 @@ impl<A: Allocator> OpSet<A> {
 }
 
 impl<A: Allocator + Copy> OpSet<A> {
-    /// The set of these numbers (ours). Any number may stand in it, also one that no operation has.
-    /// `Err` where there is no memory.
+    /// The set of these numbers. Any number may stand in it, also one that no operation has.
     pub fn of(alloc: A, ops: &[OpNo]) -> Result<OpSet<A>, AllocError>
         ensures { IfOk result (λ set. set ≡ each_once ops.now) }
     {
@@ -103,7 +102,7 @@ impl<A: Allocator + Copy> OpSet<A> {
         })
     }
 
-    /// The same set, in memory of its own. `Err` where there is no memory.
+    /// The same set, in memory of its own.
     pub fn copy(&self) -> Result<OpSet<A>, AllocError>
         ensures { IfOk result (λ set. set ≡ self.now) }
     {

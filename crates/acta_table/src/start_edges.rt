@@ -28,8 +28,7 @@ impl Dependent {
     }
 }
 
-/// A dependency that is formed where one transaction starts another (ACTA's models form them at a spawn
-/// or split; that a class lists them is ours).
+/// A dependency that is formed where one transaction starts another.
 #[derive(Clone, Copy, PartialEq, Eq, Debug)]
 pub struct StartEdge {
     pub kind: Dep,
@@ -147,7 +146,7 @@ impl<A: Allocator> StartEdges<A> {
         }
     }
 
-    /// The set of these start edges (ours). `Err` where there is no memory.
+    /// The set of these start edges.
     pub fn of(alloc: A, edges: &[StartEdge]) -> Result<StartEdges<A>, AllocError>
         ensures { IfOk result (λ set. set ≡ each_start_edge_once edges.now) }
     {
@@ -156,8 +155,8 @@ impl<A: Allocator> StartEdges<A> {
         })
     }
 
-    /// The set of start edges that stand in its order already, each once; `None` where they do not (ours).
-    /// Takes no memory and sorts nothing.
+    /// The set of start edges that stand in its order already, each once; `None` where they do not. Takes no memory and
+    /// sorts nothing.
     pub fn ascending(edges: Vec<StartEdge, A>) -> Option<StartEdges<A>>
         ensures same { IfSome result (λ set. set ≡ edges.items) }
         ensures known { IsSome result ↔ IsStrictlySortedBy start_edge_cmp edges.items }
@@ -181,8 +180,7 @@ impl<A: Allocator> StartEdges<A> {
 }
 
 impl<A: Allocator + Copy> StartEdges<A> {
-    /// The edges that they mean between the one that starts and the one that is started, in order. `Err` where there
-    /// is no memory.
+    /// The edges that they mean between the one that starts and the one that is started, in order.
     pub fn between(
         &self,
         alloc: A,
@@ -198,7 +196,7 @@ impl<A: Allocator + Copy> StartEdges<A> {
         Ok(between)
     }
 
-    /// The same set, in memory of its own. `Err` where there is no memory.
+    /// The same set, in memory of its own.
     pub fn copy(&self) -> Result<StartEdges<A>, AllocError>
         ensures { IfOk result (λ set. set ≡ self.now) }
     {

@@ -4,6 +4,8 @@
 //!
 //! A function that lets go of a run, a debugger or a surface of `clap` gives it to `drop` before its other ways out: who
 //! lets it go by itself lets go of each of its parts, at each way out, and each is proved there.
+//!
+//! A call that allocates returns `Err` if memory runs out.
 #![tactic(auto)]
 
 mod args;

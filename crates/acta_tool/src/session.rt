@@ -179,8 +179,7 @@ fn tell_command<A: Handle>(
     }
 }
 
-/// Does the commands, one after another, and tells their texts. `Err` where there is no memory, and then some may have
-/// been done.
+/// Does the commands, one after another, and tells their texts. On `Err` some may have been done.
 pub fn tell_commands<A: Handle>(
     alloc: A,
     debugger: &mut Debugger<A>,

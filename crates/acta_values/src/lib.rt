@@ -1,6 +1,8 @@
 //! The objects of a model with the operations on them: who holds each, what became of it, and the value that each
 //! object has. A value is kept from operation to operation, changed by each, and changed back by an abort, with no
 //! replay and no copy.
+//!
+//! A call that allocates returns `Err` if memory runs out.
 #![tactic(auto)]
 
 mod live_set;

@@ -136,8 +136,8 @@ impl<A: Allocator + Copy> LiveSet<A> {
         }
     }
 
-    /// The operation of this number, higher than those before it, puts the element in or takes it out.
-    /// `Err` where there is no memory: it is then as it was.
+    /// The operation of this number, higher than those before it, puts the element in or takes it out. On `Err`: it is
+    /// then as it was.
     pub fn mark(&mut self, number: u32, x: i32, on: bool) -> Result<(), AllocError>
         requires { AreBelow number (trail_at self.old x) }
         ensures marked { OnOk result (IsMarked number x on self.old self.new) }
@@ -159,7 +159,7 @@ impl<A: Allocator + Copy> LiveSet<A> {
         self.present = self.present + is as usize - was as usize;
     }
 
-    /// The elements that are present. `Err` where there is no memory.
+    /// The elements that are present.
     pub fn members(&self) -> Result<Members<A>, AllocError>
         ensures members { IfOk result (λ members. members ≡ elements_of self.now) }
         ensures ordered { IsOrdered self.now }
@@ -174,7 +174,7 @@ impl<A: Allocator + Copy> LiveSet<A> {
         Ok(members)
     }
 
-    /// The same set, in memory of its own. `Err` where there is no memory.
+    /// The same set, in memory of its own.
     pub fn copy(&self) -> Result<LiveSet<A>, AllocError>
         ensures { IfOk result (λ set. set ≡ self.now) }
     {

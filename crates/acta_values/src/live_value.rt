@@ -163,7 +163,7 @@ impl<A: Allocator + Copy> LiveValue<A> {
         self.returned(op)
     }
 
-    /// The value after the operations. `Err` where there is no memory, which only a set takes.
+    /// The value after the operations. `Err` if memory runs out, which only a set takes.
     pub fn value(&self) -> Result<ObjectState<A>, AllocError>
         ensures { IfOk result (λ value. (kind : Kind) (ops : List (Numbered Op)) → IsAfter kind ops self.now
             → value ≡ state_after (first_state kind) (ops_of ops)) }
@@ -171,7 +171,7 @@ impl<A: Allocator + Copy> LiveValue<A> {
         self.state()
     }
 
-    /// The operation comes behind the others. `Err` where there is no memory: the value is then as it was.
+    /// The operation comes behind the others. On `Err`: the value is then as it was.
     pub fn add(&mut self, number: u32, op: &Op) -> Result<(), AllocError>
         requires { HasRoom number self.old }
         ensures ok { OnOk result ((kind : Kind) (ops : List (Numbered Op)) → IsAfter kind ops self.old
@@ -202,7 +202,7 @@ impl<A: Allocator + Copy> LiveValue<A> {
         }
     }
 
-    /// The same value, in memory of its own. `Err` where there is no memory.
+    /// The same value, in memory of its own.
     pub fn copy(&self) -> Result<LiveValue<A>, AllocError>
         ensures { IfOk result (λ value. value ≡ self.now) }
     {

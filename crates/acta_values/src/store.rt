@@ -13,8 +13,8 @@ use acta_table::{Fate, Kind, MOST_EVENTS, ObjId, Object, Op, OpNo, OpSet, Ret, T
 use std::alloc::{AllocError, Allocator};
 
 /// The objects of a model and the operations on them, legal or not: who holds each, what became of it, and the value
-/// that each object has by those that aren't aborted (ours). Contracts see the kinds of the objects, and the operations
-/// with holders and fates. An operation on no object, or not of its object's kind, counts for no value.
+/// that each object has by those that aren't aborted. Contracts see the kinds of the objects, and the operations with
+/// holders and fates. An operation on no object, or not of its object's kind, counts for no value.
 #[derive(Drop)]
 pub struct Store<A: Handle> {
     kinds: Vec<Kind, A>,
@@ -33,7 +33,7 @@ impl<A: Handle> std::marker::Model for Store<A> {
     ghost invariant = { λ s. AreAfter s.kinds.items s.operations s.values };
 }
 
-// The kinds of the objects. `Err` where there is no memory.
+// The kinds of the objects.
 fn kinds_of<A: Allocator + Copy>(
     alloc: A,
     objects: &[Object<A>],
@@ -48,7 +48,7 @@ fn kinds_of<A: Allocator + Copy>(
 }
 
 impl<A: Handle> Store<A> {
-    /// The objects with their first values, and no operation. `Err` where there is no memory.
+    /// The objects with their first values, and no operation.
     pub fn new(alloc: A, objects: &[Object<A>]) -> Result<Store<A>, AllocError>
         ensures { IfOk result (λ store. store ≡ record { kinds = kinds_of objects.now; items = [] }) }
     {
@@ -78,15 +78,15 @@ impl<A: Handle> Store<A> {
     }
 
     /// The value of the object: its first value, with the operations on it that aren't aborted, in order. Nothing where
-    /// there is no such object. `Err` where there is no memory, which only a set takes.
+    /// there is no such object. `Err` if memory runs out, which only a set takes.
     pub fn value(&self, ob: ObjId) -> Result<Option<ObjectState<A>>, AllocError>
         ensures { IfOk result (λ value. value ≡ option_map (λ kind. state_after (first_state {A = A} kind) (live_ops kind self.now.items ob.0)) (slice_get self.now.kinds ob.0)) }
     {
         self.values.value(ob.0 as usize)
     }
 
-    /// Adds an operation in progress, which `t` holds: whoever invokes an operation is responsible for it at first
-    /// (ACTA's). There are fewer than `MOST_EVENTS`. `Err` where there is no memory, and then none is added.
+    /// Adds an operation in progress, which `t` holds: whoever invokes an operation is responsible for it at first.
+    /// There are fewer than `MOST_EVENTS`. On `Err` none is added.
     pub fn add(&mut self, t: TxnId, ob: ObjId, op: Op) -> Result<(), AllocError>
         requires { length self.old.items < MOST_EVENTS }
         ensures ok { OnOk result (self.new ≡ record self.old { items = added self.old.items t ob op }) }
@@ -103,8 +103,7 @@ impl<A: Handle> Store<A> {
         }
     }
 
-    /// From now on `u` holds those of the named operations that `from` holds in progress (ACTA's delegation). `Err`
-    /// where there is no memory, and then none is handed on.
+    /// From now on `u` holds those of the named operations that `from` holds in progress. On `Err` none is handed on.
     pub fn hand(&mut self, from: TxnId, ops: &OpSet<A>, u: TxnId) -> Result<(), AllocError>
         ensures ok { OnOk result (self.new ≡ record self.old { items = handed_of from.0 ops.now u self.old.items }) }
         ensures err { OnErr result (self.new ≡ self.old) }
@@ -112,8 +111,7 @@ impl<A: Handle> Store<A> {
         self.operations.hand(from, ops, u)
     }
 
-    /// From now on `u` holds the named operations (ACTA's delegation), which `from` holds in progress. `Err` where there
-    /// is no memory, and then none is moved.
+    /// From now on `u` holds the named operations, which `from` holds in progress. On `Err` none is moved.
     pub fn move_to(&mut self, from: TxnId, ops: &OpSet<A>, u: TxnId) -> Result<(), AllocError>
         requires { are_held from.0 ops.now self.old.items ≡ true }
         ensures ok { OnOk result (self.new ≡ record self.old { items = moved ops.now u self.old.items }) }
@@ -122,8 +120,7 @@ impl<A: Handle> Store<A> {
         self.operations.move_to(from, ops, u)
     }
 
-    /// From now on `u` holds all that `t` holds in progress (ACTA's join of split transactions, and a subtransaction's
-    /// commit to its parent). `Err` where there is no memory, and then nothing is handed on.
+    /// From now on `u` holds all that `t` holds in progress. On `Err` nothing is handed on.
     pub fn hand_all(&mut self, t: TxnId, u: TxnId) -> Result<(), AllocError>
         ensures ok { OnOk result (self.new ≡ record self.old { items = handed t.0 u self.old.items }) }
         ensures err { OnErr result (self.new ≡ self.old) }
@@ -131,9 +128,8 @@ impl<A: Handle> Store<A> {
         self.operations.hand_all(t, u)
     }
 
-    /// All that `t` holds in progress gets this fate, which is committed or aborted (ACTA's commit and abort of the
-    /// operations for which a transaction is responsible). What is aborted is taken back from the values. Takes no
-    /// memory.
+    /// All that `t` holds in progress gets this fate, which is committed or aborted. What is aborted is taken back from
+    /// the values. Takes no memory.
     pub fn end_all(&mut self, t: TxnId, fate: Fate)
         requires { is_open fate ≡ false }
         ensures { self.new ≡ record self.old { items = ended t.0 fate self.old.items } }
@@ -145,7 +141,7 @@ impl<A: Handle> Store<A> {
         self.operations.end_all(t, fate);
     }
 
-    /// The same, in memory of its own. `Err` where there is no memory.
+    /// The same, in memory of its own.
     pub fn copy(&self) -> Result<Store<A>, AllocError>
         ensures { IfOk result (λ store. store ≡ self.now) }
     {

@@ -49,8 +49,7 @@ impl<T: Copy, A: Allocator> Trail<T, A> {
         }
     }
 
-    /// Puts an item behind the others, whose numbers are lower. `Err` where there is no memory: it is
-    /// then as it was.
+    /// Puts an item behind the others, whose numbers are lower. On `Err`: it is then as it was.
     pub fn push(&mut self, number: u32, item: T) -> Result<(), AllocError>
         requires { AreBelow number self.old }
         ensures ok { OnOk result (self.new ≡ self.old ++ (record { number = number; item = item }) ∷ []) }
@@ -73,7 +72,7 @@ impl<T: Copy, A: Allocator> Trail<T, A> {
 impl<T: Copy, A: Allocator + Copy> Clone for Trail<T, A> {
     ghost is_clone = { λ trail clone. clone ≡ trail };
 
-    /// The same, in memory of its own. `Err` where there is no memory.
+    /// The same, in memory of its own.
     fn clone(&self) -> Result<Trail<T, A>, AllocError> {
         Ok(Trail {
             items: Vec::from_slice(*self.items.allocator(), self.items.as_slice())?,

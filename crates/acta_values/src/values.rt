@@ -92,7 +92,7 @@ fn take_back<A: Allocator + Copy>(
 }
 
 impl<A: Allocator + Copy> Values<A> {
-    /// The first values of objects of these kinds. `Err` where there is no memory.
+    /// The first values of objects of these kinds.
     pub fn new(alloc: A, kinds: &[Kind]) -> Result<Values<A>, AllocError>
         ensures { IfOk result (λ values. AreAfter kinds.now [] values) }
     {
@@ -125,8 +125,7 @@ impl<A: Allocator + Copy> Values<A> {
         }
     }
 
-    /// One more operation, of the next number, is in progress. `Err` where there is no memory: the values are then as
-    /// they were.
+    /// One more operation, of the next number, is in progress. On `Err`: the values are then as they were.
     pub fn add(&mut self, number: u32, ob: ObjId, op: &Op) -> Result<(), AllocError>
         requires { Takes number self.old }
         ensures ok { OnOk result ((kinds : List Kind) (items : List HeldOp) → AreAfter kinds items self.old
@@ -159,7 +158,7 @@ impl<A: Allocator + Copy> Values<A> {
         undo(&mut self.values, number, ob, op);
     }
 
-    /// The same values, in memory of their own. `Err` where there is no memory.
+    /// The same values, in memory of their own.
     pub fn copy(&self) -> Result<Values<A>, AllocError>
         ensures { IfOk result (λ values. values ≡ self.now) }
     {

@@ -1,5 +1,7 @@
 //! A text as lines, a line as words, and words as decimal numbers: read, and written. All of it is bytes. What the
 //! lines say is for others: this crate knows no model.
+//!
+//! A call that allocates returns `Err` if memory runs out.
 #![tactic(auto)]
 
 mod lines;

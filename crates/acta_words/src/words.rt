@@ -27,7 +27,7 @@ pub(crate) fn without_comment(line: &[u8]) -> &[u8]
     if at < line.len() { &line[..at] } else { line }
 }
 
-/// The words of a line. `Err` where there is no memory.
+/// The words of a line.
 pub fn words_of<'a, A: Allocator + Copy>(
     alloc: A,
     line: &'a [u8],

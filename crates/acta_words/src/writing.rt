@@ -8,8 +8,8 @@ ghost use Rattle.acta_words.specs.Text.{text_of};
 use itoa::Buffer;
 use std::alloc::{AllocError, Allocator};
 
-/// Writes a space and the word behind what the line has. `Err` where there is no memory, and then what the line had
-/// is still there, and part of this may have been written behind it.
+/// Writes a space and the word behind what the line has. On `Err` what the line had is still there, and part of this
+/// may have been written behind it.
 pub fn push_word<A: Allocator>(line: &mut Vec<u8, A>, word: &[u8]) -> Result<(), AllocError>
     ensures { MatchResult result (λ _. line.new.items ≡ line.old.items ++ 32 ∷ word.now) (λ _. StartsWith line.new.items line.old.items) }
 {
@@ -17,8 +17,8 @@ pub fn push_word<A: Allocator>(line: &mut Vec<u8, A>, word: &[u8]) -> Result<(),
     line.extend_from_slice(word)
 }
 
-/// Writes a space and the digits of the number behind what the line has. `Err` where there is no memory, and then
-/// what the line had is still there, and part of this may have been written behind it.
+/// Writes a space and the digits of the number behind what the line has. On `Err` what the line had is still there, and
+/// part of this may have been written behind it.
 pub fn push_natural<A: Allocator>(line: &mut Vec<u8, A>, number: u64) -> Result<(), AllocError>
     ensures { MatchResult result (λ _. line.new.items ≡ line.old.items ++ 32 ∷ decimal number) (λ _. StartsWith line.new.items line.old.items) }
 {
@@ -26,8 +26,8 @@ pub fn push_natural<A: Allocator>(line: &mut Vec<u8, A>, number: u64) -> Result<
     push_word(line, digits.format(number).as_bytes())
 }
 
-/// Writes a space, a minus where the number is below 0, and its digits behind what the line has. `Err` where there
-/// is no memory, and then what the line had is still there, and part of this may have been written behind it.
+/// Writes a space, a minus where the number is below 0, and its digits behind what the line has. On `Err` what the line
+/// had is still there, and part of this may have been written behind it.
 pub fn push_integer<A: Allocator>(line: &mut Vec<u8, A>, value: i64) -> Result<(), AllocError>
     ensures { MatchResult result (λ _. line.new.items ≡ line.old.items ++ 32 ∷ signed_decimal value) (λ _. StartsWith line.new.items line.old.items) }
 {
@@ -35,8 +35,8 @@ pub fn push_integer<A: Allocator>(line: &mut Vec<u8, A>, value: i64) -> Result<(
     push_word(line, digits.format(value).as_bytes())
 }
 
-/// Writes the line and a line feed behind what the text has. `Err` where there is no memory, and then what the text
-/// had is still there, and part of this may have been written behind it.
+/// Writes the line and a line feed behind what the text has. On `Err` what the text had is still there, and part of
+/// this may have been written behind it.
 pub fn push_line<A: Allocator>(text: &mut Vec<u8, A>, line: &[u8]) -> Result<(), AllocError>
     ensures { MatchResult result (λ _. text.new.items ≡ text.old.items ++ text_of (line.now ∷ [])) (λ _. StartsWith text.new.items text.old.items) }
 {

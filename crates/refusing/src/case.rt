@@ -133,7 +133,7 @@ pub fn refuse_each<B: Allocator, C: Case>(
     Err(Wrong::Endless)
 }
 
-/// Refuses each allocation of the call in turn on one state, which is dear to make, until the call answers `due`. Until
+/// Refuses each allocation of the call in turn on one state, which is costly to make, until the call answers `due`. Until
 /// then the readers answer as before the first call.
 pub fn refuse_in_place<B: Allocator, C: Case>(
     heap: &Refusing<B>,
