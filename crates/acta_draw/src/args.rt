@@ -229,7 +229,7 @@ fn with_rows<'a>(
     );
     let help = "Draws only up to this place";
     let command = with_arg(command, number(alloc, "to", "PLACE", 1, MOST_EVENTS, help));
-    let help = "Draws only the 8 places before and after this one; with --waits, the graphs at this place";
+    let help = "Draws only this place and the 8 before and after it; with --waits, the graphs right after this place";
     let command = with_arg(command, number(alloc, "around", "PLACE", 1, MOST_EVENTS, help));
     let help = "Draws only the Nth page, of 200 rows";
     with_arg(command, number(alloc, "page", "N", 1, MOST_EVENTS, help))

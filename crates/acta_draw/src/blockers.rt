@@ -1,7 +1,7 @@
 //! The parts of a picture that a refused event points to: the operation, the edges or the transaction that its reason names.
 
 use acta_machine::{Handle, Machine, Reason};
-use acta_table::{Event, OpNo, TxnId};
+use acta_table::{Answer, Event, OpNo, Rule, TxnId};
 use acta_trace::{Step, Steps};
 use std::alloc::{AllocError, Allocator};
 
@@ -45,14 +45,6 @@ impl Blockers {
     };
 }
 
-// One blocker.
-fn alone(blocker: Blocker) -> Blockers {
-    Blockers {
-        first: Some(blocker),
-        second: None,
-    }
-}
-
 // Whether the event forms an edge of a kind that limits when a transaction begins.
 fn forms_begin_kind<A: Allocator>(event: &Event<A>) -> bool {
     match event {
@@ -61,24 +53,49 @@ fn forms_begin_kind<A: Allocator>(event: &Event<A>) -> bool {
     }
 }
 
-// The blockers that the reason names.
-fn named_by<A: Allocator>(reason: &Reason, event: &Event<A>) -> Blockers {
-    match *reason {
-        Reason::NotResponsible(op) | Reason::PartialDelegation(op) | Reason::Conflict(op) => {
-            alone(Blocker::Operation(op.number))
+// The transaction of this number.
+fn txn_of(number: u32) -> Option<TxnId> {
+    match u16::try_from(number) {
+        Ok(number) => Some(TxnId(number)),
+        Err(_) => None,
+    }
+}
+
+// The blocker of this number, where the rule names an operation, an edge or a transaction. A begin kind is that of an edge that
+// is to be formed.
+fn named_by(rule: Rule, number: u32, is_begin_kind: bool) -> Option<Blocker> {
+    match rule {
+        Rule::NotResponsible | Rule::PartialDelegation | Rule::Conflict => {
+            Some(Blocker::Operation(OpNo(number)))
         }
-        Reason::Barred(barring) => alone(Blocker::Edge(barring.by.number)),
-        Reason::Clash(clash) => Blockers {
+        Rule::BeginDep
+        | Rule::SerialDep
+        | Rule::BeginOnCommit
+        | Rule::BeginOnAbort
+        | Rule::TerminationDep
+        | Rule::OwesAbort
+        | Rule::OwesCommit
+        | Rule::CommitOrder
+        | Rule::WeakBegin
+        | Rule::Unpayable => Some(Blocker::Edge(number)),
+        Rule::AlreadyBegun => Some(Blocker::Start(txn_of(number)?)),
+        Rule::FormTooLate if is_begin_kind => Some(Blocker::Start(txn_of(number)?)),
+        Rule::FormTooLate
+        | Rule::NotInProgress
+        | Rule::PartnerNotInProgress
+        | Rule::NoHeir => Some(Blocker::End(txn_of(number)?)),
+        _ => None,
+    }
+}
+
+// The two edges of a clash, where the machine refuses the event by one.
+fn clash_of<A: Handle>(machine: &Machine<A>, event: &Event<A>) -> Result<Blockers, AllocError> {
+    match machine.why(event)? {
+        Some(Reason::Clash(clash)) => Ok(Blockers {
             first: Some(Blocker::Edge(clash.commit.number)),
             second: Some(Blocker::Edge(clash.abort.number)),
-        },
-        Reason::AlreadyBegun { txn, .. } => alone(Blocker::Start(txn)),
-        Reason::FormTooLate { txn, .. } if forms_begin_kind(event) => alone(Blocker::Start(txn)),
-        Reason::FormTooLate { txn, .. }
-        | Reason::NotInProgress { txn, .. }
-        | Reason::PartnerNotInProgress { txn, .. } => alone(Blocker::End(txn)),
-        Reason::NoHeir { parent, .. } => alone(Blocker::End(parent)),
-        _ => Blockers::NONE,
+        }),
+        _ => Ok(Blockers::NONE),
     }
 }
 
@@ -87,11 +104,20 @@ pub fn blockers_of<A: Handle>(
     machine: &Machine<A>,
     step: &Step<A>,
 ) -> Result<Blockers, AllocError> {
-    if step.is_admitted() {
-        return Ok(Blockers::NONE);
-    }
-    match machine.why(&step.event)? {
-        Some(reason) => Ok(named_by(&reason, &step.event)),
-        None => Ok(Blockers::NONE),
+    match step.answer {
+        Answer::Admitted { .. } => Ok(Blockers::NONE),
+        Answer::Refused { rule, by } => {
+            if rule == Rule::Clash {
+                return clash_of(machine, &step.event);
+            }
+            let first = match by {
+                Some(number) => named_by(rule, number, forms_begin_kind(&step.event)),
+                None => None,
+            };
+            Ok(Blockers {
+                first,
+                second: None,
+            })
+        }
     }
 }

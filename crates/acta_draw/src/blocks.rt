@@ -14,7 +14,7 @@ use std::alloc::{AllocError, Allocator};
 const FOOT: usize = 9;
 
 // The most height of a line. For a blocker farther up there is only the lower end of a line.
-const MOST_HEIGHT: usize = 1_500;
+const MOST_HEIGHT: usize = 1_200;
 
 /// A line from a refused event to a blocker of it.
 #[derive(Clone, Copy)]

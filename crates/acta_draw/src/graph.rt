@@ -38,7 +38,10 @@ impl<A: Handle> Graph<A> {
         graph.circles = deadlocks(alloc, graph.waits.as_slice())?;
         let named = graph.named(alloc)?;
         for (number, is_named) in named.iter().enumerate() {
-            if let (true, Ok(number)) = (*is_named, u16::try_from(number)) {
+            if !*is_named {
+                continue;
+            }
+            if let Ok(number) = u16::try_from(number) {
                 graph.txns.push(TxnId(number))?;
             }
         }

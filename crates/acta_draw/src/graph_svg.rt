@@ -22,9 +22,9 @@ const MOST_OF_LABEL: usize = 28;
 // The height of the lowest arc, and how much higher each next one is. An arc to the left is higher than one to the right.
 const LOWEST: usize = 32;
 
-const NEXT: usize = 40;
+const NEXT: usize = 48;
 
-const LEFT: usize = 20;
+const LEFT: usize = 24;
 
 // The height of a transaction, and of a line of words.
 const NODE: usize = 24;

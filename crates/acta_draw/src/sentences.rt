@@ -45,7 +45,9 @@ fn put_names<A: Allocator>(mut prose: Prose<A>, names: &[String]) -> Prose<A> {
 }
 
 // Adds the numbers of the transactions.
-fn put_txns<A: Allocator>(mut prose: Prose<A>, txns: &[TxnId]) -> Prose<A> {
+fn put_txns<A: Allocator>(prose: Prose<A>, txns: &[TxnId]) -> Prose<A> {
+    let noun = if txns.len() == 1 { " of transaction " } else { " of transactions " };
+    let mut prose = prose.put(noun);
     let mut gap = "";
     for t in first_listed(txns) {
         prose = put!(prose; gap, t.0);
@@ -54,31 +56,30 @@ fn put_txns<A: Allocator>(mut prose: Prose<A>, txns: &[TxnId]) -> Prose<A> {
     put_more(prose, " and ", txns.len())
 }
 
-// Adds the places from which and to which rows are chosen, where not all are.
+// Adds the places from which and to which events are chosen, where not all are.
 fn put_places<A: Allocator>(prose: Prose<A>, choice: &Choice) -> Prose<A> {
     let from = choice.from;
     match choice.to {
-        Some(to) => put!(put_gap(prose, "; "); "places ", from, " to ", to),
+        Some(to) => put!(prose; " at places ", from, " to ", to),
         None if from <= 1 => prose,
-        None => put!(put_gap(prose, "; "); "places from ", from, " on"),
+        None => put!(prose; " from place ", from, " on"),
     }
 }
 
-// Adds the rows that are chosen, in words.
+// Adds the events that are chosen, in words.
 fn put_chosen<A: Allocator>(prose: Prose<A>, choice: &Choice) -> Prose<A> {
-    let mut prose = put_places(prose, choice);
-    if choice.is_refused {
-        prose = put_gap(prose, "; ").put("refused events and the events that block them");
-    }
-    if let Some(names) = &choice.objects {
-        let front = put_gap(prose, "; ").put("operations on ");
-        prose = put_names(front, names.as_slice());
-    }
-    if let Some(txns) = &choice.txns {
-        let front = put_gap(prose, "; ").put("events of ");
-        prose = put_txns(front, txns.as_slice());
-    }
-    prose
+    let prose = prose.put(if choice.is_refused { "refused " } else { "" });
+    let prose = match &choice.objects {
+        Some(names) => put_names(prose.put("operations on "), names.as_slice()),
+        None => prose.put("events"),
+    };
+    let prose = match &choice.txns {
+        Some(txns) => put_txns(prose, txns.as_slice()),
+        None => prose,
+    };
+    let prose = put_places(prose, choice);
+    let also = if choice.is_refused { ", and the events that block them" } else { "" };
+    prose.put(also)
 }
 
 // Adds the objects of the choice that the model lacks.
@@ -122,7 +123,7 @@ pub fn put_left_out<A: Handle>(
         let left = all.saturating_sub(chosen);
         let are = if left == 1 { "is" } else { "are" };
         let front = put!(put_gap(prose, " "); left, " of ", all, " events ", are, " left out. Drawn: ");
-        put!(front.add(put_chosen(Prose::new(lanes.run.allocator()), choice)); ".")
+        put_chosen(front, choice).put(".")
     } else {
         prose
     };
@@ -150,13 +151,23 @@ fn put_unfit<A: Handle>(prose: Prose<A>, selection: &Selection<A>) -> Prose<A> {
 /// Adds what follows the event of a row: the edges that it formed, or why it was refused.
 pub fn put_note<A: Handle>(prose: Prose<A>, row: &Row<'_, A>) -> Prose<A> {
     if !row.step.is_admitted() {
-        let reason = row.text.reason.lines().next().unwrap_or("");
-        put!(prose; "refused: ", reason)
+        put_reason(prose.put("refused:"), row.text.reason.as_str())
     } else if row.formed.is_empty() && row.is_form() {
         prose.put("in force already")
     } else {
         put_edges(prose, row.step.edges_before, row.formed, MOST_NAMED)
     }
+}
+
+// Adds the first line of a reason, and those after it where it ends in a colon.
+fn put_reason<A: Allocator>(mut prose: Prose<A>, reason: &str) -> Prose<A> {
+    for line in reason.lines() {
+        prose = put!(prose; " ", line);
+        if !line.ends_with(':') && !line.starts_with("a commit by ") {
+            return prose;
+        }
+    }
+    prose
 }
 
 /// Adds by which edge something is owed.

@@ -292,12 +292,17 @@ impl<'a, A: Handle> Drawn<'a, A> {
     // Adds the lanes, the rows, and the lines to blockers. The lanes end here where they haven't ended.
     fn put_rows(&self, out: Prose<A>, bottom: usize) -> Prose<A> {
         let out = self.put_lanes(self.put_rules(out), bottom);
-        let mut out = self.put_all_heads(out);
-        for block in self.blocks.iter() {
-            out = put_block(out, self.lanes, block, self.layout.gap);
-        }
+        let mut out = self.put_all_heads(self.put_blocks(out));
         for row_box in self.layout.boxes.iter() {
             out = self.put_row(out, row_box);
+        }
+        out
+    }
+
+    // Adds the lines to blockers.
+    fn put_blocks(&self, mut out: Prose<A>) -> Prose<A> {
+        for block in self.blocks.iter() {
+            out = put_block(out, self.lanes, block, self.layout.gap);
         }
         out
     }

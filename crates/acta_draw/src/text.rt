@@ -8,7 +8,7 @@ use crate::marks::{Mark, Marked, Tie, has_lane};
 use crate::screen::Screen;
 use crate::selection::{HEADER_ROWS, Selection};
 use crate::sentences::{event_text, put_debt_note, put_left_out, put_note};
-use crate::wrapping::{put_cut, wrapped};
+use crate::wrapping::wrapped;
 use acta_explain::{Prose, digits, name_text, put};
 use acta_machine::Handle;
 use acta_script::owed_line;
@@ -150,11 +150,14 @@ impl<'a, A: Handle> Page<'a, A> {
     // row.
     fn put_words(&mut self, text: Prose<A>, words: Words<'_>) -> Prose<A> {
         let layout = self.layout;
-        let text = put_cut(text, words.event, layout.words);
+        let wide = words.event.width();
+        if layout.words < wide {
+            return self.put_long(text, words);
+        }
+        let text = text.put(words.event);
         if words.note.is_empty() {
             return text.put("\n");
         }
-        let wide = words.event.width().min(layout.words);
         if layout.note > 0 && wide <= layout.event {
             let indent = layout.event.saturating_add(2);
             let text = text.pad(indent.saturating_sub(wide));
@@ -163,6 +166,22 @@ impl<'a, A: Handle> Page<'a, A> {
             let width = layout.words.saturating_sub(2);
             self.put_note(text.put("\n"), words, width, 2, false)
         }
+    }
+
+    // Adds the words of a line whose event doesn't fit beside the lanes: the event in lines, and the note below it.
+    fn put_long(&mut self, text: Prose<A>, words: Words<'_>) -> Prose<A> {
+        let width = self.layout.words.saturating_sub(2);
+        let event = Words {
+            note: words.event,
+            is_list: false,
+            ink: Ink::Plain,
+            ..words
+        };
+        let text = self.put_note(text, event, width, 2, true);
+        if words.note.is_empty() {
+            return text;
+        }
+        self.put_note(text, words, width, 2, false)
     }
 
     // Adds the note in lines, at most so wide and so far from the lanes. The first may be beside the event.
