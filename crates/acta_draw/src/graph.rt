@@ -2,7 +2,7 @@
 
 use crate::arrows::{Arrow, add_edge};
 use crate::lanes::Lanes;
-use acta_explain::{Prose, put, put_line_text, put_operation, put_standing};
+use acta_explain::{MOST_RENDERED, Prose, put, put_line_text, put_operation, put_standing};
 use acta_hope::{Hope, Wait, deadlocks, wait_of};
 use acta_machine::{Handle, NumberedEdge};
 use acta_table::{Edge, Items, TABLE_SIZE, TxnId};
@@ -93,7 +93,12 @@ impl<A: Handle> Graph<A> {
         let prose = put!(prose; "After place ", machine.history().len(), ": ");
         let prose = put_count(prose, self.waits.len(), "transaction waits", "transactions wait");
         let edges = machine.edges().len();
-        put_count(prose.put(", "), edges, "edge is in force", "edges are in force").put(".")
+        let prose = put_count(prose.put(", "), edges, "edge is in force", "edges are in force");
+        match lanes.run.skipped() {
+            0 => prose.put("."),
+            skipped => put!(prose; ". ", skipped, " refused events are left out: the first ", MOST_RENDERED,
+                " are looked at."),
+        }
     }
 
     /// Adds a deadlock: its transactions, in order.

@@ -159,11 +159,14 @@ pub fn put_note<A: Handle>(prose: Prose<A>, row: &Row<'_, A>) -> Prose<A> {
     }
 }
 
-// Adds the first line of a reason, and those after it where it ends in a colon.
+// Adds the first line of a reason. That of a clash is followed by its two edges.
 fn put_reason<A: Allocator>(mut prose: Prose<A>, reason: &str) -> Prose<A> {
+    let mut gap = " ";
     for line in reason.lines() {
-        prose = put!(prose; " ", line);
-        if !line.ends_with(':') && !line.starts_with("a commit by ") {
+        prose = put!(prose; gap, line);
+        if line.starts_with("a commit by ") {
+            gap = "; ";
+        } else if !line.ends_with(':') {
             return prose;
         }
     }
