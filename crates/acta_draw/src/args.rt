@@ -144,7 +144,9 @@ fn places_asked(
 
 // Whether an option is used that chooses rows or lanes.
 fn chooses_rows(matches: &ArgMatches<'_>) -> bool {
-    ["txns", "objects", "from", "to", "page"].iter().any(|id| matches.get_str(id).is_some())
+    ["txns", "objects", "from", "to", "page"]
+        .iter()
+        .any(|id| matches.get_str(id).is_some())
         || matches.get_flag("refused")
         || matches.get_flag("reuse")
 }
@@ -229,8 +231,12 @@ fn with_rows<'a>(
     );
     let help = "Draws only up to this place";
     let command = with_arg(command, number(alloc, "to", "PLACE", 1, MOST_EVENTS, help));
-    let help = "Draws only this place and the 8 before and after it; with --waits, the graphs right after this place";
-    let command = with_arg(command, number(alloc, "around", "PLACE", 1, MOST_EVENTS, help));
+    let help =
+        "Draws only this place and the 8 before and after it; with --waits, the graphs right after this place";
+    let command = with_arg(
+        command,
+        number(alloc, "around", "PLACE", 1, MOST_EVENTS, help),
+    );
     let help = "Draws only the Nth page, of 200 rows";
     with_arg(command, number(alloc, "page", "N", 1, MOST_EVENTS, help))
 }
@@ -253,7 +259,8 @@ impl<'a> CommandLine<'a> for DrawLine {
         let help = "Draws the waits-for graph and the dependency graph in place of the lanes";
         let command = with_arg(command, flag(alloc, "waits", help));
         let command = with_rows(alloc, command);
-        let help = "Uses the lane of an ended transaction again; always with more than 20 transactions, unless --txns names them";
+        let help =
+            "Uses the lane of an ended transaction again; always with more than 20 transactions, unless --txns names them";
         let command = with_arg(command, flag(alloc, "reuse", help));
         let help = "How wide a text may be: else COLUMNS of the environment tells, or it is 100";
         let width = number(alloc, "width", "COLUMNS", LEAST_WIDTH, MOST_WIDTH, help);

@@ -80,10 +80,9 @@ fn named_by(rule: Rule, number: u32, is_begin_kind: bool) -> Option<Blocker> {
         | Rule::Unpayable => Some(Blocker::Edge(number)),
         Rule::AlreadyBegun => Some(Blocker::Start(txn_of(number)?)),
         Rule::FormTooLate if is_begin_kind => Some(Blocker::Start(txn_of(number)?)),
-        Rule::FormTooLate
-        | Rule::NotInProgress
-        | Rule::PartnerNotInProgress
-        | Rule::NoHeir => Some(Blocker::End(txn_of(number)?)),
+        Rule::FormTooLate | Rule::NotInProgress | Rule::PartnerNotInProgress | Rule::NoHeir => Some(
+            Blocker::End(txn_of(number)?),
+        ),
         _ => None,
     }
 }

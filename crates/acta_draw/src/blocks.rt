@@ -132,10 +132,18 @@ fn put_name<A: Allocator>(prose: Prose<A>, blocker: Blocker) -> Prose<A> {
 }
 
 /// Adds a line. On one lane it goes round the marks between its ends.
-pub fn put_block<A: Handle>(out: Prose<A>, lanes: &Lanes<A>, block: &Block, gap: usize) -> Prose<A> {
+pub fn put_block<A: Handle>(
+    out: Prose<A>,
+    lanes: &Lanes<A>,
+    block: &Block,
+    gap: usize,
+) -> Prose<A> {
     let alloc = lanes.run.allocator();
-    let event = lanes.row(block.row).map_or("", |row| row.text.event.as_str());
-    let Ok(title) = put!(put_name(Prose::new(alloc), block.blocker); " blocks ", event).done() else {
+    let event = lanes
+        .row(block.row)
+        .map_or("", |row| row.text.event.as_str());
+    let Ok(title) = put!(put_name(Prose::new(alloc), block.blocker); " blocks ", event).done()
+    else {
         return out.fail();
     };
     let ((x, y), (to_x, to_y)) = (block.from, block.to);

@@ -72,7 +72,11 @@ impl Choice {
     }
 
     // For each object whether operations on it are wanted.
-    fn wanted_objects<A: Handle>(&self, alloc: A, model: &Model<A>) -> Result<Vec<bool, A>, AllocError> {
+    fn wanted_objects<A: Handle>(
+        &self,
+        alloc: A,
+        model: &Model<A>,
+    ) -> Result<Vec<bool, A>, AllocError> {
         let mut wanted = Vec::new(alloc);
         for object in model.objects() {
             let name = name_text(object.name.as_slice());

@@ -91,25 +91,36 @@ impl<A: Handle> Graph<A> {
     pub fn put_counts(&self, prose: Prose<A>, lanes: &Lanes<A>) -> Prose<A> {
         let machine = lanes.run.machine();
         let prose = put!(prose; "After place ", machine.history().len(), ": ");
-        let prose = put_count(prose, self.waits.len(), "transaction waits", "transactions wait");
+        let prose = put_count(
+            prose,
+            self.waits.len(),
+            "transaction waits",
+            "transactions wait",
+        );
         let edges = machine.edges().len();
-        let prose = put_count(prose.put(", "), edges, "edge is in force", "edges are in force");
+        let prose = put_count(
+            prose.put(", "),
+            edges,
+            "edge is in force",
+            "edges are in force",
+        );
         match lanes.run.skipped() {
             0 => prose.put("."),
-            skipped => put!(prose; ". ", skipped, " refused events are left out: the first ", MOST_RENDERED,
+            skipped =>
+                put!(prose; ". ", skipped, " refused events are left out: the first ", MOST_RENDERED,
                 " are looked at."),
         }
     }
 
     /// Adds a deadlock: its transactions, in order.
-    pub fn put_circle(&self, mut prose: Prose<A>, circle: &[usize]) -> Prose<A> {
-        prose = prose.put("deadlock: ");
+    pub fn put_circle(&self, prose: Prose<A>, circle: &[usize]) -> Prose<A> {
+        let mut prose = prose.put("deadlock: ");
         let mut gap = "";
         for place in circle {
             if let Some(wait) = self.waits.get(*place) {
                 prose = put!(prose; gap, wait.txn.0);
-                gap = " -> ";
             }
+            gap = " -> ";
         }
         prose
     }
@@ -175,12 +186,7 @@ fn put_until<A: Handle>(prose: Prose<A>, lanes: &Lanes<A>, wait: &Wait) -> Prose
 }
 
 /// Adds a wait in words: the refused event of this row, and until when it is refused.
-pub fn put_wait<A: Handle>(
-    prose: Prose<A>,
-    lanes: &Lanes<A>,
-    wait: &Wait,
-    row: usize,
-) -> Prose<A> {
+pub fn put_wait<A: Handle>(prose: Prose<A>, lanes: &Lanes<A>, wait: &Wait, row: usize) -> Prose<A> {
     let prose = match lanes.run.lines().at(row) {
         Some(line) => put_line_text(prose, line),
         None => prose,

@@ -88,7 +88,11 @@ impl<A: Handle> Arcs<A> {
         let span = arc.span();
         let level = self.spans.as_slice().partition_point(|one| *one < span);
         let height = LOWEST.saturating_add(level.saturating_mul(NEXT));
-        if arc.to < arc.from { height.saturating_add(LEFT) } else { height }
+        if arc.to < arc.from {
+            height.saturating_add(LEFT)
+        } else {
+            height
+        }
     }
 
     // How far all arcs go, and their labels.
@@ -217,7 +221,11 @@ impl<'a, A: Handle> Sheet<'a, A> {
         let control = arcs.height(arc).saturating_mul(4) / 3;
         let (left, right) = self.ends(arc);
         let across = right.saturating_sub(left);
-        let (start, minus) = if arc.from < arc.to { (left, "") } else { (right, "-") };
+        let (start, minus) = if arc.from < arc.to {
+            (left, "")
+        } else {
+            (right, "-")
+        };
         let (y, sign) = if arcs.is_above {
             (self.base.saturating_sub(NODE / 2), "-")
         } else {
@@ -225,7 +233,8 @@ impl<'a, A: Handle> Sheet<'a, A> {
         };
         let out = put_titled(out, arc.title.as_str());
         let out = put!(out; "<path class=\"", arc.class, "\" d=\"M", start, " ", y);
-        let out = put!(out; "c0 ", sign, control, " ", minus, across, " ", sign, control, " ", minus, across, " 0");
+        let out =
+            put!(out; "c0 ", sign, control, " ", minus, across, " ", sign, control, " ", minus, across, " 0");
         put!(out; "\" marker-end=\"url(#acta-draw-", arcs.head(), ")\"/>", END_OF_GROUP)
     }
 
@@ -265,7 +274,9 @@ impl<'a, A: Handle> Sheet<'a, A> {
     fn put_node(&self, out: Prose<A>, place: usize, t: TxnId) -> Prose<A> {
         let (class, label) = look_of(self.lanes.run.machine().status(t));
         let x = self.x(place);
-        let width = digits(usize::from(t.0)).saturating_mul(7).saturating_add(19);
+        let width = digits(usize::from(t.0))
+            .saturating_mul(7)
+            .saturating_add(19);
         let out = put_status(out.put("<g><title>"), self.lanes, t).put("</title>");
         let out = put_box(out, class, (x, self.base), (width, NODE), NODE / 2);
         let out = put_text_at(out, label, x, self.base.saturating_add(4));
@@ -293,7 +304,13 @@ impl<'a, A: Handle> Sheet<'a, A> {
             if self.has_status(status) {
                 let (class, _) = look_of(status);
                 out = put_box(out, class, (x.saturating_add(14), y), (22, 16), 8);
-                out = put_text(out, "note", x.saturating_add(36), y.saturating_add(4), meaning);
+                out = put_text(
+                    out,
+                    "note",
+                    x.saturating_add(36),
+                    y.saturating_add(4),
+                    meaning,
+                );
                 x = x.saturating_add(ENTRY);
             }
         }
@@ -310,7 +327,13 @@ impl<'a, A: Handle> Sheet<'a, A> {
                 let (from, to) = (x.saturating_add(2), x.saturating_add(28));
                 out = put!(out; "<path class=\"", class, "\" d=\"M", from, " ", y, "H", to,
                     "\" marker-end=\"url(#acta-draw-", head, ")\"/>\n");
-                out = put_text(out, "note", x.saturating_add(36), y.saturating_add(4), meaning);
+                out = put_text(
+                    out,
+                    "note",
+                    x.saturating_add(36),
+                    y.saturating_add(4),
+                    meaning,
+                );
                 x = x.saturating_add(ENTRY);
             }
         }
@@ -326,7 +349,10 @@ impl<'a, A: Handle> Sheet<'a, A> {
 
     // Adds the whole picture, below these lines and above the line that stopped the run.
     fn put_all(&self, out: Prose<A>, head: &[String<A>], stop: &str) -> Prose<A> {
-        let below = self.base.saturating_add(NODE).saturating_add(self.edges.extent());
+        let below = self
+            .base
+            .saturating_add(NODE)
+            .saturating_add(self.edges.extent());
         let lines_y = below.saturating_add(LINE);
         let statuses_y = lines_y.saturating_add(LINE + 6);
         let stop_y = statuses_y.saturating_add(LINE + 10);
@@ -335,7 +361,11 @@ impl<'a, A: Handle> Sheet<'a, A> {
         let mut out = out;
         let mut y = LINE;
         for line in head {
-            let class = if line.as_str().starts_with("deadlock") { "code no" } else { "code" };
+            let class = if line.as_str().starts_with("deadlock") {
+                "code no"
+            } else {
+                "code"
+            };
             out = put_text(out, class, MARGIN, y, line.as_str());
             y = y.saturating_add(LINE);
         }
@@ -352,7 +382,11 @@ fn head_of<A: Handle>(lanes: &Lanes<A>, graph: &Graph<A>) -> Result<Vec<String<A
     let mut head = Vec::new(alloc);
     head.push(graph.put_counts(Prose::new(alloc), lanes).done()?)?;
     for circle in graph.circles.iter() {
-        head.push(graph.put_circle(Prose::new(alloc), circle.as_slice()).done()?)?;
+        head.push(
+            graph
+                .put_circle(Prose::new(alloc), circle.as_slice())
+                .done()?,
+        )?;
     }
     Ok(head)
 }
@@ -364,7 +398,10 @@ pub fn draw_graph_svg<A: Handle>(lanes: &Lanes<A>, stop: &str) -> Result<String<
     let waits = wait_arcs(lanes, &graph)?;
     let edges = edge_arcs(lanes, &graph)?;
     let gap = waits.least_gap().max(edges.least_gap());
-    let above = head.len().saturating_mul(LINE).saturating_add(waits.extent());
+    let above = head
+        .len()
+        .saturating_mul(LINE)
+        .saturating_add(waits.extent());
     let sheet = Sheet {
         lanes,
         graph: &graph,
@@ -374,6 +411,10 @@ pub fn draw_graph_svg<A: Handle>(lanes: &Lanes<A>, stop: &str) -> Result<String<
         base: above.saturating_add(NODE * 2),
     };
     sheet
-        .put_all(Prose::new(lanes.run.allocator()), head.as_slice(), stop.trim_end())
+        .put_all(
+            Prose::new(lanes.run.allocator()),
+            head.as_slice(),
+            stop.trim_end(),
+        )
         .done()
 }

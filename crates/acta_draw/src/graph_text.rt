@@ -25,7 +25,12 @@ fn put_item<A: Handle>(
     let Ok(item) = item.done() else {
         return text.fail();
     };
-    let Ok(lines) = wrapped(alloc, item.as_str(), screen.width.saturating_sub(FURTHER), false) else {
+    let Ok(lines) = wrapped(
+        alloc,
+        item.as_str(),
+        screen.width.saturating_sub(FURTHER),
+        false,
+    ) else {
         return text.fail();
     };
     let (front, back) = if screen.is_colored && ink != Ink::Plain {
@@ -55,7 +60,13 @@ fn put_waits<A: Handle>(
     let mut text = text.put("\nWaits-for graph:\n");
     for (wait, row) in graph.waits.iter().zip(graph.rows.iter()) {
         let item = put!(Prose::new(alloc); wait.txn.0, " -> ", wait.next.0, "  ");
-        text = put_item(text, alloc, put_wait(item, lanes, wait, *row), screen, Ink::Plain);
+        text = put_item(
+            text,
+            alloc,
+            put_wait(item, lanes, wait, *row),
+            screen,
+            Ink::Plain,
+        );
     }
     put_circles(text, lanes, graph, screen)
 }
@@ -121,7 +132,9 @@ pub fn draw_graph_text<A: Handle>(
     stop: &str,
 ) -> Result<String<A>, AllocError> {
     let graph = Graph::of(lanes)?;
-    let text = graph.put_counts(Prose::new(lanes.run.allocator()), lanes).put("\n");
+    let text = graph
+        .put_counts(Prose::new(lanes.run.allocator()), lanes)
+        .put("\n");
     let text = put_waits(text, lanes, &graph, screen);
     let text = put_edges(text, lanes, &graph, screen);
     put_statuses(text, lanes, &graph, screen).put(stop).done()

@@ -200,7 +200,9 @@ pub fn put_legend<A: Handle>(
     let beside = beside(entries, width);
     let entry_width = entry_width(entries);
     for (place, entry) in entries.iter().enumerate() {
-        let x = (place % beside).saturating_mul(entry_width).saturating_add(MARGIN);
+        let x = (place % beside)
+            .saturating_mul(entry_width)
+            .saturating_add(MARGIN);
         let y = (place / beside).saturating_mul(LINE).saturating_add(top);
         out = put_sign(out, entry.sign, x, y);
         let words_x = x.saturating_add(sign_width(entry.sign)).saturating_add(8);

@@ -87,7 +87,12 @@ pub fn operation_label<A: Handle>(
 }
 
 /// Adds an event, at most so wide. The name of the object of an operation is cut before its argument and its return are.
-pub fn put_event<A: Allocator>(prose: Prose<A>, event: &str, answer: &str, width: usize) -> Prose<A> {
+pub fn put_event<A: Allocator>(
+    prose: Prose<A>,
+    event: &str,
+    answer: &str,
+    width: usize,
+) -> Prose<A> {
     let room = width.saturating_sub(answer.width());
     let excess = event.width().saturating_sub(room);
     match words_of(event) {
@@ -105,5 +110,9 @@ fn words_of(event: &str) -> Option<(&str, &str, &str)> {
     let front = event.get(..object_at)?;
     let rest = event.get(object_at..)?.trim_start();
     let (object, op) = rest.split_once(' ')?;
-    if front.starts_with("do ") { Some((front, object, op)) } else { None }
+    if front.starts_with("do ") {
+        Some((front, object, op))
+    } else {
+        None
+    }
 }

@@ -200,7 +200,9 @@ impl<A: Handle> Selection<A> {
                 return true;
             }
         }
-        row.formed.iter().any(|edge| self.is_named(edge.i) || self.is_named(edge.j))
+        row.formed
+            .iter()
+            .any(|edge| self.is_named(edge.i) || self.is_named(edge.j))
     }
 
     /// The column of the transaction, from the left and from 0, where something of it is drawn.

@@ -26,12 +26,22 @@ pub fn event_text<A: Handle>(
         Some(ret) => put_return(answer.put(" = "), ret).done()?,
         None => String::new(alloc),
     };
-    put_event(Prose::new(alloc), row.text.event.as_str(), answer.as_str(), width).done()
+    put_event(
+        Prose::new(alloc),
+        row.text.event.as_str(),
+        answer.as_str(),
+        width,
+    )
+    .done()
 }
 
 // Adds the gap before a further part of a text, unless there is no part yet.
 fn put_gap<A: Allocator>(prose: Prose<A>, gap: &str) -> Prose<A> {
-    if prose.is_empty() { prose } else { prose.put(gap) }
+    if prose.is_empty() {
+        prose
+    } else {
+        prose.put(gap)
+    }
 }
 
 // Adds words with commas between them, each in quotes of a kind.
@@ -46,7 +56,11 @@ fn put_names<A: Allocator>(mut prose: Prose<A>, names: &[String]) -> Prose<A> {
 
 // Adds the numbers of the transactions.
 fn put_txns<A: Allocator>(prose: Prose<A>, txns: &[TxnId]) -> Prose<A> {
-    let noun = if txns.len() == 1 { " of transaction " } else { " of transactions " };
+    let noun = if txns.len() == 1 {
+        " of transaction "
+    } else {
+        " of transactions "
+    };
     let mut prose = prose.put(noun);
     let mut gap = "";
     for t in first_listed(txns) {
@@ -78,7 +92,11 @@ fn put_chosen<A: Allocator>(prose: Prose<A>, choice: &Choice) -> Prose<A> {
         None => prose,
     };
     let prose = put_places(prose, choice);
-    let also = if choice.is_refused { ", and the events that block them" } else { "" };
+    let also = if choice.is_refused {
+        ", and the events that block them"
+    } else {
+        ""
+    };
     prose.put(also)
 }
 
@@ -122,7 +140,8 @@ pub fn put_left_out<A: Handle>(
     let prose = if chosen < all {
         let left = all.saturating_sub(chosen);
         let are = if left == 1 { "is" } else { "are" };
-        let front = put!(put_gap(prose, " "); left, " of ", all, " events ", are, " left out. Drawn: ");
+        let front =
+            put!(put_gap(prose, " "); left, " of ", all, " events ", are, " left out. Drawn: ");
         put_chosen(front, choice).put(".")
     } else {
         prose
@@ -161,12 +180,10 @@ pub fn put_note<A: Handle>(prose: Prose<A>, row: &Row<'_, A>) -> Prose<A> {
 
 // Adds the first line of a reason. That of a clash is followed by its two edges.
 fn put_reason<A: Allocator>(mut prose: Prose<A>, reason: &str) -> Prose<A> {
-    let mut gap = " ";
-    for line in reason.lines() {
+    for (number, line) in reason.lines().enumerate() {
+        let gap = if number == 2 { "; " } else { " " };
         prose = put!(prose; gap, line);
-        if line.starts_with("a commit by ") {
-            gap = "; ";
-        } else if !line.ends_with(':') {
+        if !line.ends_with(':') && !line.starts_with("a commit by ") {
             return prose;
         }
     }

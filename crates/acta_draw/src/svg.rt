@@ -47,7 +47,9 @@ struct Drawn<'a, A: Handle> {
 
 // The width of the mark of a transaction that starts.
 fn start_width(t: TxnId) -> usize {
-    digits(usize::from(t.0)).saturating_mul(7).saturating_add(11)
+    digits(usize::from(t.0))
+        .saturating_mul(7)
+        .saturating_add(11)
 }
 
 /// Adds a mark at a point. A start shows the number of the transaction, and an operation this label.
@@ -62,7 +64,13 @@ pub fn put_mark<A: Handle>(
     let base = y.saturating_add(4);
     match marked.mark {
         Mark::Start => {
-            let out = put_box(out, class, (x, y), (start_width(marked.txn), MARK), MARK / 2);
+            let out = put_box(
+                out,
+                class,
+                (x, y),
+                (start_width(marked.txn), MARK),
+                MARK / 2,
+            );
             put!(put_text_at(out, "in", x, base); marked.txn.0, END_OF_TEXT)
         }
         Mark::Operation(_) => {
@@ -129,7 +137,12 @@ impl<'a, A: Handle> Drawn<'a, A> {
             None => out.put(", which has not begun"),
         };
         let out = put_text_at(out.put("</title>"), "head", x, y);
-        let out = put_text_at(put!(out; t.0, END_OF_TEXT), "class", x, y.saturating_add(16));
+        let out = put_text_at(
+            put!(out; t.0, END_OF_TEXT),
+            "class",
+            x,
+            y.saturating_add(16),
+        );
         let out = put_cut(out, class.unwrap_or(""), most);
         put!(out; END_OF_TEXT, END_OF_GROUP)
     }
@@ -193,7 +206,12 @@ impl<'a, A: Handle> Drawn<'a, A> {
             "\" marker-end=\"url(#acta-draw-edge)\"/>\n");
         let above = y.saturating_sub(4);
         let most = self.layout.gap.saturating_sub(14) / 7;
-        let Ok(words) = put_cut(Prose::new(self.lanes.run.allocator()), arrow.label.as_str(), most).done() else {
+        let Ok(words) = put_cut(
+            Prose::new(self.lanes.run.allocator()),
+            arrow.label.as_str(),
+            most,
+        )
+        .done() else {
             return out.fail();
         };
         put_text(out, "label", label, above, words.as_str()).put(END_OF_GROUP)
@@ -386,7 +404,12 @@ fn notice<A: Handle>(
     if words.is_empty() {
         return Ok(Vec::new(alloc));
     }
-    wrapped(alloc, words.as_str(), width.saturating_sub(2 * MARGIN) / 7, false)
+    wrapped(
+        alloc,
+        words.as_str(),
+        width.saturating_sub(2 * MARGIN) / 7,
+        false,
+    )
 }
 
 /// The picture of the lanes that are chosen, as an SVG. The line that stopped the run, if one did, is below.

@@ -1,5 +1,7 @@
 //! Where the parts of an SVG are: the lanes, the rows, and the words beside them.
 
+ghost use Rattle.std.specs.Prelude.{◌<◌};
+
 use crate::arrows::{Arrow, arrows_of};
 use crate::lanes::{Lanes, Row};
 use crate::notation::operation_label;
@@ -186,6 +188,14 @@ impl<A: Handle> RowBox<A> {
     }
 }
 
+// How many rows are below the heads of so many columns. With many columns they are more, so that all heads together are not many
+// times as many as the rows.
+fn rows_between(columns: usize) -> usize
+    ensures { 0 < result }
+{
+    HEADER_ROWS.max(columns / 8)
+}
+
 // The boxes of all rows. Heads are above each so many of them.
 fn boxes_of<A: Handle>(
     lanes: &Lanes<A>,
@@ -194,6 +204,7 @@ fn boxes_of<A: Handle>(
     let alloc = lanes.run.allocator();
     let mut boxes: Vec<RowBox<A>, A> = Vec::new(alloc);
     let mut current = Vec::from_slice(alloc, selection.columns.heads.as_slice())?;
+    let every = rows_between(current.len());
     let mut end = 0usize;
     for (count, number) in selection.rows.iter().enumerate() {
         let Some(row) = lanes.row(*number) else {
@@ -201,7 +212,7 @@ fn boxes_of<A: Handle>(
         };
         selection.pass(&mut current, *number);
         let mut heads = Vec::new(alloc);
-        if count % HEADER_ROWS == 0 {
+        if count % every == 0 {
             heads.extend_from_slice(current.as_slice())?;
             end = end.saturating_add(HEADS);
         }

@@ -73,7 +73,8 @@ impl<'a, A: Handle> Page<'a, A> {
             Mark::Start if self.selection.is_reused => {
                 // (the lane may have been that of another)
                 let number = u32::from(marked.txn.0);
-                self.canvas.put_number(column.saturating_add(1), number, ink);
+                self.canvas
+                    .put_number(column.saturating_add(1), number, ink);
             }
             _ => {}
         }

@@ -321,7 +321,12 @@ fn faults(rt: HostRuntime) {
         (Ask::Explain(LineKind::Events), FAULTY),
         ("1", 20),
     );
-    refuse_run(&rt, (&heap, rt.alloc()), (Ask::Draw(View::Lanes), FAULTY), ("1", 20));
+    refuse_run(
+        &rt,
+        (&heap, rt.alloc()),
+        (Ask::Draw(View::Lanes), FAULTY),
+        ("1", 20),
+    );
 }
 
 #[test]
@@ -342,8 +347,18 @@ fn drawn_as_svg(rt: HostRuntime) {
 fn drawn_waits(rt: HostRuntime) {
     let heap = Refusing::new(rt.alloc());
     let view = View::Waits { at: Some(4) };
-    refuse_run(&rt, (&heap, rt.alloc()), (Ask::Draw(view), EVENTS), ("0", 50));
-    refuse_run(&rt, (&heap, rt.alloc()), (Ask::DrawSvg(view), EVENTS), ("0", 50));
+    refuse_run(
+        &rt,
+        (&heap, rt.alloc()),
+        (Ask::Draw(view), EVENTS),
+        ("0", 50),
+    );
+    refuse_run(
+        &rt,
+        (&heap, rt.alloc()),
+        (Ask::DrawSvg(view), EVENTS),
+        ("0", 50),
+    );
 }
 
 // Explains an event of a class or an object that the model lacks, which no line can have.
