@@ -23,7 +23,7 @@ _acta() {
     case ${COMP_WORDS[1]} in
         run) options='--kept --help' models=1 ;;
         explain) options='--judge --drive --debug --rule --axiom --code --help' values='--rule --axiom --code' models=1 ;;
-        draw) options='--svg --txns --from --to --width --help' values='--txns --from --to --width' models=1 ;;
+        draw) options='--svg --waits --txns --objects --refused --from --to --around --page --reuse --width --help' values='--txns --objects --from --to --around --page --width' models=1 ;;
         trace) options='--help' models=1 ;;
         shell) options='--help' models=1 ;;
         explore) options='--lines --end --where --most --help' values='--end --where --most' models=1 ;;

@@ -1,6 +1,6 @@
 //! What the words of a command line of `draw` ask for.
 
-use crate::choice::Choice;
+use crate::choice::{Choice, View};
 use crate::layout::{LEAST_WIDTH, MOST_WIDTH};
 use crate::marks::has_lane;
 use acta_args::{
@@ -43,10 +43,14 @@ const LEGEND: &str = "The marks of a text, on the lane of a transaction:
   J   it joins another        x   an event of it is refused (`-` for its place)
   !   it owes an event in the end
 Between two lanes:
-  *---o   it spawns the other, or splits it off
+  *-->o   it spawns the other, or splits it off
   *-->|   it hands operations to the other: delegates, joins, or commits to it as its parent
   *..>|   it permits the other to work on an object beside it
-  |<~~*   it comes to depend on the other; the edges stand behind the event";
+  |<~~*   it comes to depend on the other; the edges stand behind the event
+Where lanes are used again, the number of a transaction follows the mark of its start, as in o21.";
+
+// The rows around a place: so many places before it and after it.
+const AROUND: u32 = 8;
 
 // An option that takes a number.
 fn number<'a>(
@@ -61,7 +65,7 @@ fn number<'a>(
     option(alloc, id, value, help).value_parser(numbers)
 }
 
-// The transactions that are listed so, with commas between them, each once; nothing where it is no such list.
+// The transactions of a list with commas between them, each once; `None` where it is no such list.
 fn txns_listed(alloc: Global, list: &str) -> Result<Option<Vec<TxnId>>, AllocError> {
     let mut txns: Vec<TxnId> = Vec::new(alloc);
     for word in list.split(',') {
@@ -95,33 +99,146 @@ fn txns_asked(
     Ok(txns)
 }
 
+// The names of objects that are asked for.
+fn objects_asked(
+    alloc: Global,
+    surface: &mut Command<'_>,
+    list: Option<&str>,
+) -> Result<Option<Vec<String>>, UsageFault> {
+    let Some(list) = list else {
+        return Ok(None);
+    };
+    let mut names = Vec::new(alloc);
+    for name in list.split(',') {
+        if name.is_empty() {
+            let fault = "--objects takes names of objects, with commas between them";
+            return Err(usage(surface, ErrorKind::InvalidValue, fault));
+        }
+        names.push(name.to_string(alloc)?)?;
+    }
+    Ok(Some(names))
+}
+
+// The first and the last place that are asked for.
+fn places_asked(
+    surface: &mut Command<'_>,
+    matches: &ArgMatches<'_>,
+) -> Result<(u32, Option<u32>), UsageFault> {
+    let from = matches.get_one::<u32>("from");
+    let to = matches.get_one::<u32>("to");
+    let Some(around) = matches.get_one::<u32>("around") else {
+        let from = from.unwrap_or(1);
+        if to.is_some_and(|to| to < from) {
+            let fault = "--to is a place before --from";
+            return Err(usage(surface, ErrorKind::InvalidValue, fault));
+        }
+        return Ok((from, to));
+    };
+    if from.is_some() || to.is_some() {
+        let fault = "--around can't be used with --from or --to";
+        return Err(usage(surface, ErrorKind::ArgumentConflict, fault));
+    }
+    let first = around.saturating_sub(AROUND).max(1);
+    Ok((first, Some(around.saturating_add(AROUND))))
+}
+
+// Whether an option is used that chooses rows or lanes.
+fn chooses_rows(matches: &ArgMatches<'_>) -> bool {
+    ["txns", "objects", "from", "to", "page"]
+        .iter()
+        .any(|id| matches.get_str(id).is_some())
+        || matches.get_flag("refused")
+        || matches.get_flag("reuse")
+}
+
+// The view that is asked for.
+fn view_asked(surface: &mut Command<'_>, matches: &ArgMatches<'_>) -> Result<View, UsageFault> {
+    if !matches.get_flag("waits") {
+        return Ok(View::Lanes);
+    }
+    if chooses_rows(matches) {
+        let fault = "--waits can be used only with --around, --svg and --width";
+        return Err(usage(surface, ErrorKind::ArgumentConflict, fault));
+    }
+    Ok(View::Waits {
+        at: matches.get_one::<u32>("around"),
+    })
+}
+
+// The choice that is asked for.
+fn choice_asked(
+    alloc: Global,
+    surface: &mut Command<'_>,
+    matches: &ArgMatches<'_>,
+) -> Result<Choice, UsageFault> {
+    let view = view_asked(surface, matches)?;
+    let (from, to) = places_asked(surface, matches)?;
+    let txns = txns_asked(alloc, surface, matches.get_str("txns"))?;
+    let objects = objects_asked(alloc, surface, matches.get_str("objects"))?;
+    Ok(Choice {
+        view,
+        txns,
+        objects,
+        is_refused: matches.get_flag("refused"),
+        from,
+        to,
+        page: matches.get_one::<u32>("page"),
+        is_reusing: matches.get_flag("reuse"),
+    })
+}
+
+// The form that is asked for.
+fn form_asked(matches: &ArgMatches<'_>) -> Form {
+    if matches.get_flag("svg") {
+        return Form::Svg;
+    }
+    let width = matches.get_one::<u32>("width");
+    Form::Text {
+        width: width.map(|width| width as usize),
+    }
+}
+
 // What the matches ask for.
 fn asked_by<'a>(
     alloc: Global,
     surface: &mut Command<'a>,
     matches: &ArgMatches<'a>,
 ) -> Result<Asked<'a>, UsageFault> {
-    let txns = txns_asked(alloc, surface, matches.get_str("txns"))?;
-    let from = matches.get_one::<u32>("from").unwrap_or(1);
-    let to = matches.get_one::<u32>("to");
-    if to.is_some_and(|to| to < from) {
-        let fault = "--to is a place before --from";
-        return Err(usage(surface, ErrorKind::InvalidValue, fault));
-    }
-    let form = if matches.get_flag("svg") {
-        Form::Svg
-    } else {
-        let width = matches.get_one::<u32>("width");
-        Form::Text {
-            width: width.map(|width| width as usize),
-        }
-    };
+    let choice = choice_asked(alloc, surface, matches)?;
     let Some(model) = model_named(matches.get_str("MODEL").unwrap_or("@")) else {
         return Err(UsageFault::UnknownModel);
     };
-    let choice = Choice { txns, from, to };
+    let form = form_asked(matches);
     let drawing = Drawing { form, choice };
     Ok(Asked { drawing, model })
+}
+
+// Adds the options that choose rows.
+fn with_rows<'a>(
+    alloc: Global,
+    command: Result<Command<'a>, AllocError>,
+) -> Result<Command<'a>, AllocError> {
+    let help = "Draws only these transactions, in this order";
+    let command = with_arg(command, option(alloc, "txns", "T,T..", help));
+    let help = "Draws only operations on these objects";
+    let command = with_arg(command, option(alloc, "objects", "NAME,NAME..", help));
+    let help = "Draws only refused events, and the events that block them";
+    let command = with_arg(command, flag(alloc, "refused", help));
+    let help = "Draws only from this place on";
+    let command = with_arg(
+        command,
+        number(alloc, "from", "PLACE", 1, MOST_EVENTS, help),
+    );
+    let help = "Draws only up to this place";
+    let command = with_arg(command, number(alloc, "to", "PLACE", 1, MOST_EVENTS, help));
+    let help =
+        "Draws only this place and the 8 before and after it; with --waits, the graphs right after this place";
+    let command = with_arg(
+        command,
+        number(alloc, "around", "PLACE", 1, MOST_EVENTS, help),
+    );
+    let help = "Draws only the Nth page, of 200 rows";
+    with_arg(command, number(alloc, "page", "N", 1, MOST_EVENTS, help))
 }
 
 /// The command line of `draw`.
@@ -139,15 +256,12 @@ impl<'a> CommandLine<'a> for DrawLine {
         let command = command.arg(model_arg(alloc).required(true));
         let help = "Draws an SVG, which a browser shows";
         let command = with_arg(command, flag(alloc, "svg", help));
-        let help = "Draws only these transactions, in this order";
-        let command = with_arg(command, option(alloc, "txns", "T,T..", help));
-        let help = "Draws only from this place on";
-        let command = with_arg(
-            command,
-            number(alloc, "from", "PLACE", 1, MOST_EVENTS, help),
-        );
-        let help = "Draws only up to this place";
-        let command = with_arg(command, number(alloc, "to", "PLACE", 1, MOST_EVENTS, help));
+        let help = "Draws the waits-for graph and the dependency graph in place of the lanes";
+        let command = with_arg(command, flag(alloc, "waits", help));
+        let command = with_rows(alloc, command);
+        let help =
+            "Uses the lane of an ended transaction again; always with more than 20 transactions, unless --txns names them";
+        let command = with_arg(command, flag(alloc, "reuse", help));
         let help = "How wide a text may be: else COLUMNS of the environment tells, or it is 100";
         let width = number(alloc, "width", "COLUMNS", LEAST_WIDTH, MOST_WIDTH, help);
         with_arg(command, width)

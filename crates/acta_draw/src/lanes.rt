@@ -4,8 +4,9 @@
 ghost use Rattle.std.specs.Prelude.{◌≡◌};
 ghost use Rattle.acta_draw.specs.Rows.{place_after, returned};
 
+use crate::blockers::{Blocker, Blockers, blockers_of};
 use crate::marks::{Figure, figure_of};
-use acta_explain::{RunTrace, StepText};
+use acta_explain::{NonBlankLine, RunTrace, StepText, non_blank_lines};
 use acta_hope::heir;
 use acta_io::{BadLine, Input};
 use acta_machine::Handle;
@@ -90,15 +91,19 @@ pub struct Lanes<A: Handle> {
     pub owed: Vec<Owed, A>,
     /// The faulty line that stopped the run.
     pub stop: Option<BadLine>,
+    // For each row the blockers of its event.
+    blockers: Vec<Blockers, A>,
 }
 
 impl<A: Handle> Lanes<A> {
-    /// The lanes of a run of the events that the lines of an input say.
+    /// The lanes of a run of the events that the lines of an input say. With a last place, only of the events up to that
+    /// place, and of the refused ones right after it.
     pub fn of(
         alloc: A,
         model: Model<A>,
         read: Input<Event<A>, A>,
         input: &[u8],
+        last: Option<u32>,
     ) -> Result<Lanes<A>, AllocError> {
         let Input { said, stop } = read;
         let mut lanes = Lanes {
@@ -106,14 +111,59 @@ impl<A: Handle> Lanes<A> {
             places: Vec::new(alloc),
             owed: Vec::new(alloc),
             stop,
+            blockers: Vec::new(alloc),
         };
-        lanes.take_all(said, input)?;
+        lanes.take_all(said, input, last)?;
+        lanes.note_places()?;
+        if lanes.stop.is_none() {
+            lanes.owed = lanes.run.machine().owed()?;
+        }
         Ok(lanes)
     }
 
-    // Takes all events, each of which a line of the input says.
-    fn take_all(&mut self, events: Vec<Event<A>, A>, input: &[u8]) -> Result<(), AllocError> {
-        self.run.take_all(events, input)?;
+    // Takes the events, each of which a line of the input says, up to the last place.
+    fn take_all(
+        &mut self,
+        events: Vec<Event<A>, A>,
+        input: &[u8],
+        last: Option<u32>,
+    ) -> Result<(), AllocError> {
+        let lines = non_blank_lines(self.run.allocator(), input)?;
+        for (event, line) in events.into_iter().zip(lines) {
+            if self.is_after(last, &event)? {
+                return Ok(());
+            }
+            self.take(line, event)?;
+        }
+        Ok(())
+    }
+
+    // Whether the event would have a place after the last one.
+    fn is_after(&self, last: Option<u32>, event: &Event<A>) -> Result<bool, AllocError> {
+        let machine = self.run.machine();
+        match last {
+            Some(last) if machine.history().len() >= last as usize => {
+                Ok(machine.why(event)?.is_none())
+            }
+            _ => Ok(false),
+        }
+    }
+
+    // Takes the event that the line says.
+    fn take(&mut self, line: NonBlankLine<'_>, event: Event<A>) -> Result<(), AllocError> {
+        self.run.take(line, event)?;
+        let machine = self.run.machine();
+        let blockers = match self.run.steps().get(self.blockers.len()) {
+            Some(step) => blockers_of(machine, step)?,
+            // (a refused event that isn't kept has no step)
+            None => return Ok(()),
+        };
+        self.blockers.push(blockers)?;
+        Ok(())
+    }
+
+    // Notes the place of each row.
+    fn note_places(&mut self) -> Result<(), AllocError> {
         let mut last = 0u32;
         for step in self.run.steps() {
             let place = place_after(last, &step.answer);
@@ -122,10 +172,21 @@ impl<A: Handle> Lanes<A> {
             }
             self.places.push(place)?;
         }
-        if self.stop.is_none() {
-            self.owed = self.run.machine().owed()?;
-        }
         Ok(())
+    }
+
+    /// The blockers of the event of a row.
+    pub fn blockers(&self, number: usize) -> Blockers {
+        match self.blockers.get(number) {
+            Some(blockers) => *blockers,
+            None => Blockers::NONE,
+        }
+    }
+
+    /// The row of a blocker, where it is before the row whose event it blocks.
+    pub fn row_of(&self, blocker: Option<Blocker>, blocked: usize) -> Option<usize> {
+        let row = blocker?.step(self.steps())?;
+        if row < blocked { Some(row) } else { None }
     }
 
     /// The row of this number.

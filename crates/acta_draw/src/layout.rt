@@ -1,7 +1,7 @@
 //! How wide the columns of a text are: the place, the lanes, and the words of a row.
 
-use crate::choice::Selection;
 use crate::lanes::Lanes;
+use crate::selection::Selection;
 use acta_explain::digits;
 use acta_machine::Handle;
 use acta_table::LAST_TXN;
@@ -46,10 +46,12 @@ pub struct Layout {
     pub note: usize,
 }
 
-// The least width of a lane: a mark with its number, and two characters more for a tie.
+// The least width of a lane: a mark with the number of an operation or of a transaction, and two characters more for a tie.
 fn least_lane<A: Handle>(lanes: &Lanes<A>) -> usize {
-    let operation = digits(lanes.run.machine().operations().len()).saturating_add(1);
-    operation.min(6).saturating_add(2)
+    let machine = lanes.run.machine();
+    let operation = digits(machine.operations().len());
+    let number = operation.max(digits(machine.known_txns().saturating_sub(1)));
+    number.saturating_add(1).min(6).saturating_add(2)
 }
 
 /// How many lanes fit a text of the width: one at least.
@@ -67,7 +69,7 @@ impl Layout {
         width: usize,
         longest: usize,
     ) -> Layout {
-        let count = selection.lanes.len();
+        let count = selection.columns.heads.len();
         let room = width.saturating_sub(PLACE + USUAL_WORDS);
         let least = least_lane(lanes).max(6);
         let lane = room

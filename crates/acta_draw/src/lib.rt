@@ -8,22 +8,31 @@
 
 mod args;
 mod arrows;
+mod blockers;
+mod blocks;
 mod canvas;
 mod choice;
+mod columns;
+mod graph;
+mod graph_svg;
+mod graph_text;
 mod lanes;
 mod layout;
 mod legend;
 mod marks;
 mod markup;
+mod notation;
 mod picture;
 mod screen;
+mod selection;
 mod sentences;
+mod spans;
 mod svg;
 mod svg_layout;
 mod text;
 mod wrapping;
 
 pub use args::{Asked, DrawLine, Drawing, Form};
-pub use choice::Choice;
+pub use choice::{Choice, View};
 pub use picture::{draw, draw_run, draw_tool};
 pub use screen::Screen;

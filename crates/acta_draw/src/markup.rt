@@ -15,7 +15,8 @@ pub const STYLE: &str = "\
 .acta-draw .class{font-size:11px;fill:#59636e;text-anchor:middle}
 .acta-draw .in{font-weight:700;font-size:11px;text-anchor:middle}
 .acta-draw .on{fill:#fff}
-.acta-draw .label{font-size:11px;fill:#6639ba;text-anchor:middle}
+.acta-draw .label{font-size:11px;fill:#6639ba;text-anchor:middle;paint-order:stroke;stroke:#fff;stroke-width:3px}
+.acta-draw .why{fill:#b31d28}
 .acta-draw line,.acta-draw path{fill:none}
 .acta-draw .rule{stroke:#eef1f4}
 .acta-draw .guide{stroke:#e6eaef;stroke-dasharray:2 4}
@@ -23,6 +24,11 @@ pub const STYLE: &str = "\
 .acta-draw .tie{stroke:#424a53;stroke-width:1.3}
 .acta-draw .permit{stroke:#424a53;stroke-width:1.3;stroke-dasharray:3 3}
 .acta-draw .edge{stroke:#8250df;stroke-width:1.3}
+.acta-draw .block{stroke:#cf222e;stroke-width:1.2;stroke-dasharray:5 4;opacity:.6}
+.acta-draw .wait{stroke:#cf222e;stroke-width:1.4}
+.acta-draw .closed{stroke-width:2.6}
+.acta-draw .absent{fill:#fff;stroke:#8c959f;stroke-dasharray:3 3}
+.acta-draw .band{fill:#f6f8fa}
 .acta-draw .cross{stroke:#cf222e;stroke-width:3;stroke-linecap:round}
 .acta-draw .start{fill:#fff;stroke:#424a53;stroke-width:1.6}
 .acta-draw .operation{fill:#0969da}
@@ -70,6 +76,7 @@ pub fn put_open<A: Allocator>(out: Prose<A>, width: usize, height: usize) -> Pro
         "</style>\n<defs>\n");
     let out = put_head(out, "acta-draw-tie", "#424a53");
     let out = put_head(out, "acta-draw-edge", "#8250df");
+    let out = put_head(out, "acta-draw-block", "#cf222e");
     put!(out; "</defs>\n<rect width=\"", width, "\" height=\"", height, "\" fill=\"#fff\"/>\n")
 }
 

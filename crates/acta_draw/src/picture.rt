@@ -8,6 +8,9 @@ ghost use Rattle.acta_io.specs.Refusals.{EndsAs, refuses_events};
 ghost use Rattle.acta_io.specs.Input.{said_in};
 
 use crate::args::{Drawing, Form};
+use crate::choice::View;
+use crate::graph_svg::draw_graph_svg;
+use crate::graph_text::draw_graph_text;
 use crate::lanes::Lanes;
 use crate::screen::Screen;
 use crate::svg::{draw_svg, draw_words};
@@ -33,14 +36,20 @@ fn picture<A: Handle>(
         None => Vec::new(alloc),
     };
     let stop = name_text(stop.as_slice());
+    let is_graph = matches!(drawing.choice.view, View::Waits { .. });
     match drawing.form {
+        Form::Svg if is_graph => draw_graph_svg(lanes, stop),
         Form::Svg => draw_svg(lanes, &drawing.choice, stop),
         Form::Text { width } => {
             let screen = Screen {
                 width: width.unwrap_or(screen.width),
                 ..screen
             };
-            draw_text(lanes, &drawing.choice, screen, stop)
+            if is_graph {
+                draw_graph_text(lanes, screen, stop)
+            } else {
+                draw_text(lanes, &drawing.choice, screen, stop)
+            }
         }
     }
 }
@@ -78,7 +87,7 @@ pub fn draw_run<A: Handle>(
     };
     let read = read_lines(alloc, &reader, input)?;
     let is_refused = read.stop.is_some();
-    let lanes = Lanes::of(alloc, model, read, input)?;
+    let lanes = Lanes::of(alloc, model, read, input, drawing.choice.last_place())?;
     let text = picture(alloc, &lanes, drawing, screen);
     drop(lanes);
     Ok(Report {

@@ -1,60 +1,193 @@
 //! What is written of a row beside its marks: what it formed, why it was refused, and what its event does in words.
 
-use crate::choice::Selection;
+use crate::choice::{Choice, has_object};
 use crate::lanes::{Lanes, Row, returned};
-use acta_explain::{MOST_RENDERED, Prose, put, put_edges, put_numbered_edge, put_return};
+use crate::notation::put_event;
+use crate::selection::{PageNumber, Selection};
+use acta_explain::{
+    MOST_RENDERED, Prose, first_listed, put, put_edges, put_more, put_numbered_edge, put_return,
+};
 use acta_machine::Handle;
-use acta_table::{Event, Missing, Owed, TxnId};
+use acta_table::{Event, Missing, Model, Owed, TxnId};
 use std::alloc::{AllocError, Allocator};
 
 // The most edges that a note names.
 const MOST_NAMED: usize = 8;
 
-/// The event of a row. After an operation follow a `=` and what it returned.
-pub fn event_text<A: Handle>(lanes: &Lanes<A>, row: &Row<'_, A>) -> Result<String<A>, AllocError> {
-    let prose = Prose::new(lanes.run.allocator()).put(row.text.event.as_str());
-    match returned(&row.step.answer) {
-        Some(ret) => put_return(prose.put(" = "), ret).done(),
-        None => prose.done(),
+/// The event of a row, at most so wide. After an operation follow a `=` and its return.
+pub fn event_text<A: Handle>(
+    lanes: &Lanes<A>,
+    row: &Row<'_, A>,
+    width: usize,
+) -> Result<String<A>, AllocError> {
+    let alloc = lanes.run.allocator();
+    let answer = Prose::new(alloc);
+    let answer = match returned(&row.step.answer) {
+        Some(ret) => put_return(answer.put(" = "), ret).done()?,
+        None => String::new(alloc),
+    };
+    put_event(
+        Prose::new(alloc),
+        row.text.event.as_str(),
+        answer.as_str(),
+        width,
+    )
+    .done()
+}
+
+// Adds the gap before a further part of a text, unless there is no part yet.
+fn put_gap<A: Allocator>(prose: Prose<A>, gap: &str) -> Prose<A> {
+    if prose.is_empty() {
+        prose
+    } else {
+        prose.put(gap)
     }
 }
 
-/// Adds how much is drawn where not all is, and how more is chosen.
+// Adds words with commas between them, each in quotes of a kind.
+fn put_names<A: Allocator>(mut prose: Prose<A>, names: &[String]) -> Prose<A> {
+    let mut gap = "";
+    for one in names {
+        prose = put!(prose; gap, "`", one.as_str(), "`");
+        gap = ", ";
+    }
+    prose
+}
+
+// Adds the numbers of the transactions.
+fn put_txns<A: Allocator>(prose: Prose<A>, txns: &[TxnId]) -> Prose<A> {
+    let noun = if txns.len() == 1 {
+        " of transaction "
+    } else {
+        " of transactions "
+    };
+    let mut prose = prose.put(noun);
+    let mut gap = "";
+    for t in first_listed(txns) {
+        prose = put!(prose; gap, t.0);
+        gap = ", ";
+    }
+    put_more(prose, " and ", txns.len())
+}
+
+// Adds the places from which and to which events are chosen, where not all are.
+fn put_places<A: Allocator>(prose: Prose<A>, choice: &Choice) -> Prose<A> {
+    let from = choice.from;
+    match choice.to {
+        Some(to) => put!(prose; " at places ", from, " to ", to),
+        None if from <= 1 => prose,
+        None => put!(prose; " from place ", from, " on"),
+    }
+}
+
+// Adds the events that are chosen, in words.
+fn put_chosen<A: Allocator>(prose: Prose<A>, choice: &Choice) -> Prose<A> {
+    let prose = prose.put(if choice.is_refused { "refused " } else { "" });
+    let prose = match &choice.objects {
+        Some(names) => put_names(prose.put("operations on "), names.as_slice()),
+        None => prose.put("events"),
+    };
+    let prose = match &choice.txns {
+        Some(txns) => put_txns(prose, txns.as_slice()),
+        None => prose,
+    };
+    let prose = put_places(prose, choice);
+    let also = if choice.is_refused {
+        ", and the events that block them"
+    } else {
+        ""
+    };
+    prose.put(also)
+}
+
+// Adds the objects of the choice that the model lacks.
+fn put_unknown<A: Handle>(prose: Prose<A>, model: &Model<A>, choice: &Choice) -> Prose<A> {
+    let Some(names) = &choice.objects else {
+        return prose;
+    };
+    let mut prose = prose;
+    for one in names.iter() {
+        if !has_object(model, one.as_str()) {
+            prose = put!(put_gap(prose, " "); "The model has no object `", one.as_str(), "`.");
+        }
+    }
+    prose
+}
+
+// Adds the page.
+fn put_page<A: Handle>(prose: Prose<A>, selection: &Selection<A>) -> Prose<A> {
+    match selection.page {
+        Some(PageNumber { page, pages }) if pages < page => {
+            put!(prose; "There is no page ", page, ": the last is ", pages, ".")
+        }
+        Some(PageNumber { page, pages }) if 1 < pages => {
+            put!(prose; "Page ", page, " of ", pages, ".")
+        }
+        _ => prose,
+    }
+}
+
+/// Adds how much is left out, and how more is chosen.
 pub fn put_left_out<A: Handle>(
     prose: Prose<A>,
     lanes: &Lanes<A>,
     selection: &Selection<A>,
+    choice: &Choice,
 ) -> Prose<A> {
-    let rows = selection.rows.len();
     let all = lanes.places.len();
-    let fit = selection.lanes.len();
-    let wanted = selection.wanted;
-    let prose = if fit < wanted {
-        put!(prose; fit, " of ", wanted, " transactions fit, and ", rows, " of ", all,
-            " events are of them; --txns 1,2,7 or --from N --to M (places) choose others.")
-    } else if rows < all {
-        put!(prose; rows, " of ", all, " events are drawn.")
+    let chosen = selection.chosen;
+    let prose = put_page(prose, selection);
+    let prose = if chosen < all {
+        let left = all.saturating_sub(chosen);
+        let are = if left == 1 { "is" } else { "are" };
+        let front =
+            put!(put_gap(prose, " "); left, " of ", all, " events ", are, " left out. Drawn: ");
+        put_chosen(front, choice).put(".")
     } else {
         prose
     };
+    let prose = put_unknown(prose, lanes.run.machine().model(), choice);
+    let prose = put_unfit(prose, selection);
     let skipped = lanes.run.skipped();
     if skipped == 0 {
         return prose;
     }
-    let gap = if prose.is_empty() { "" } else { " " };
-    put!(prose; gap, skipped, " refused events more are not drawn: the first ", MOST_RENDERED, " are.")
+    put!(put_gap(prose, " "); skipped, " refused events more are not drawn: the first ", MOST_RENDERED,
+        " are.")
+}
+
+// Adds how many transactions don't fit.
+fn put_unfit<A: Handle>(prose: Prose<A>, selection: &Selection<A>) -> Prose<A> {
+    let (fit, wanted) = (selection.lanes.len(), selection.wanted);
+    if wanted <= fit {
+        return prose;
+    }
+    let other = if selection.is_reused { "" } else { "--reuse, " };
+    put!(put_gap(prose, " "); fit, " of ", wanted, " transactions fit, and ", selection.rows.len(),
+        " events are of them; ", other, "--txns 1,2,7 or --from N --to M (places) choose others.")
 }
 
 /// Adds what follows the event of a row: the edges that it formed, or why it was refused.
 pub fn put_note<A: Handle>(prose: Prose<A>, row: &Row<'_, A>) -> Prose<A> {
     if !row.step.is_admitted() {
-        let reason = row.text.reason.lines().next().unwrap_or("");
-        put!(prose; "refused: ", reason)
+        put_reason(prose.put("refused:"), row.text.reason.as_str())
     } else if row.formed.is_empty() && row.is_form() {
         prose.put("in force already")
     } else {
         put_edges(prose, row.step.edges_before, row.formed, MOST_NAMED)
     }
+}
+
+// Adds the first line of a reason. That of a clash is followed by its two edges.
+fn put_reason<A: Allocator>(mut prose: Prose<A>, reason: &str) -> Prose<A> {
+    for (number, line) in reason.lines().enumerate() {
+        let gap = if number == 2 { "; " } else { " " };
+        prose = put!(prose; gap, line);
+        if !line.ends_with(':') && !line.starts_with("a commit by ") {
+            return prose;
+        }
+    }
+    prose
 }
 
 /// Adds by which edge something is owed.

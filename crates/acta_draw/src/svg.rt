@@ -1,17 +1,21 @@
 //! A picture as an SVG, which a browser shows.
 
 use crate::arrows::Arrow;
-use crate::choice::{Choice, Selection};
+use crate::blocks::{Block, blocks_of, put_block};
+use crate::choice::Choice;
 use crate::lanes::{Lanes, Row};
-use crate::legend::{height, put_legend};
+use crate::legend::{Entry, entries_of, height, put_legend};
 use crate::marks::{Mark, Marked, Tie, has_lane};
 use crate::markup::{
     END, END_OF_GROUP, END_OF_TEXT, put_box, put_circle, put_line, put_open, put_text, put_text_at,
     put_titled,
 };
+use crate::selection::Selection;
 use crate::sentences::{put_debt, put_debt_note, put_left_out, title_of};
-use crate::svg_layout::{MARGIN, MIDDLE, NEXT_WORDS, PLACE_X, ROW, RowBox, SvgLayout, TOP};
-use crate::wrapping::put_cut;
+use crate::svg_layout::{
+    HEADS, MARGIN, MIDDLE, NEXT_WORDS, PLACE_X, ROW, RowBox, SvgLayout, box_width,
+};
+use crate::wrapping::{put_cut, wrapped};
 use acta_explain::{Prose, digits, name_text, put};
 use acta_machine::Handle;
 use acta_script::owed_line;
@@ -36,25 +40,50 @@ struct Drawn<'a, A: Handle> {
     lanes: &'a Lanes<A>,
     selection: &'a Selection<A>,
     layout: &'a SvgLayout<A>,
+    blocks: Vec<Block, A>,
+    debts: Vec<Owed, A>,
+    legend: Vec<Entry, A>,
 }
 
-/// Adds a mark at a point. A start shows the number of the transaction, and an operation its own.
-pub fn put_mark<A: Handle>(out: Prose<A>, marked: Marked, x: usize, y: usize) -> Prose<A> {
+// The width of the mark of a transaction that starts.
+fn start_width(t: TxnId) -> usize {
+    digits(usize::from(t.0))
+        .saturating_mul(7)
+        .saturating_add(11)
+}
+
+/// Adds a mark at a point. A start shows the number of the transaction, and an operation this label.
+pub fn put_mark<A: Handle>(
+    out: Prose<A>,
+    marked: Marked,
+    label: &str,
+    x: usize,
+    y: usize,
+) -> Prose<A> {
     let (glyph, _, class) = marked.mark.look();
     let base = y.saturating_add(4);
-    let (number, label, radius) = match marked.mark {
-        Mark::Start => (usize::from(marked.txn.0), "in", MARK / 2),
-        Mark::Operation(op) => (op.0 as usize, "in on", 3),
-        Mark::Point | Mark::Met => return put_circle(out, class, x, y, 4),
-        Mark::Refused => return put_cross(out, class, x, y),
+    match marked.mark {
+        Mark::Start => {
+            let out = put_box(
+                out,
+                class,
+                (x, y),
+                (start_width(marked.txn), MARK),
+                MARK / 2,
+            );
+            put!(put_text_at(out, "in", x, base); marked.txn.0, END_OF_TEXT)
+        }
+        Mark::Operation(_) => {
+            let out = put_box(out, class, (x, y), (box_width(label), MARK), 3);
+            put_text(out, "in on", x, base, label)
+        }
+        Mark::Point | Mark::Met => put_circle(out, class, x, y, 4),
+        Mark::Refused => put_cross(out, class, x, y),
         Mark::Committed | Mark::Aborted | Mark::Joined | Mark::Owes => {
             let out = put_circle(out, class, x, y, MARK / 2);
-            return put!(put_text_at(out, "in on", x, base); glyph, END_OF_TEXT);
+            put!(put_text_at(out, "in on", x, base); glyph, END_OF_TEXT)
         }
-    };
-    let width = digits(number).saturating_mul(7).saturating_add(11);
-    let out = put_box(out, class, (x, y), (width, MARK), radius);
-    put!(put_text_at(out, label, x, base); number, END_OF_TEXT)
+    }
 }
 
 // Adds a cross.
@@ -70,7 +99,7 @@ impl<'a, A: Handle> Drawn<'a, A> {
     // From where to where the lane goes in the picture, where some of it is in it.
     fn extent(&self, t: TxnId, bottom: usize) -> Option<(usize, usize)> {
         let steps = self.lanes.steps();
-        let top = TOP.saturating_sub(4);
+        let top = HEADS.saturating_sub(4);
         let from = self.layout.row_y(steps.begin_of(t)?, top, bottom);
         let to = match steps.end_of(t) {
             Some(ended) => self.layout.row_y(ended, top, bottom),
@@ -86,33 +115,62 @@ impl<'a, A: Handle> Drawn<'a, A> {
 
     // Adds the lanes, which end at the bottom where they haven't ended.
     fn put_lanes(&self, mut out: Prose<A>, bottom: usize) -> Prose<A> {
-        for (lane, t) in self.selection.lanes.iter().enumerate() {
-            let x = self.layout.lane_x(lane);
-            out = put_line(out, "guide", (x, TOP), (x, bottom));
-            if let Some((from, to)) = self.extent(*t, bottom) {
+        for column in 0..self.selection.columns.heads.len() {
+            let x = self.layout.lane_x(column);
+            out = put_line(out, "guide", (x, HEADS), (x, bottom));
+        }
+        for t in self.selection.lanes.iter() {
+            if let (Some(x), Some((from, to))) = (self.x(*t), self.extent(*t, bottom)) {
                 out = put_line(out, "lane", (x, from), (x, to));
             }
         }
         out
     }
 
-    // Adds the heads of the lanes: the number of each transaction, and its class.
-    fn put_heads(&self, out: Prose<A>) -> Prose<A> {
-        let out = put_text(out, "place", PLACE_X, 28, "place");
-        let mut out = put_text(out, "note", self.layout.words_x, 28, "event");
+    // Adds the head of a lane: the number of the transaction, and its class.
+    fn put_head(&self, out: Prose<A>, t: TxnId, x: usize, y: usize) -> Prose<A> {
         let most = self.layout.gap.saturating_sub(8) / 7;
-        for (lane, t) in self.selection.lanes.iter().enumerate() {
-            let x = self.layout.lane_x(lane);
-            let class = self.lanes.class_name(*t);
-            out = put!(out; "<g><title>transaction ", t.0);
-            out = match class {
-                Some(class) => put!(out; ", of the class ", class),
-                None => out.put(", which has not begun"),
-            };
-            out = put_text_at(out.put("</title>"), "head", x, 28);
-            out = put_text_at(put!(out; t.0, END_OF_TEXT), "class", x, 44);
-            out = put_cut(out, class.unwrap_or(""), most);
-            out = put!(out; END_OF_TEXT, END_OF_GROUP);
+        let class = self.lanes.class_name(t);
+        let out = put!(out; "<g><title>transaction ", t.0);
+        let out = match class {
+            Some(class) => put!(out; ", of the class ", class),
+            None => out.put(", which has not begun"),
+        };
+        let out = put_text_at(out.put("</title>"), "head", x, y);
+        let out = put_text_at(
+            put!(out; t.0, END_OF_TEXT),
+            "class",
+            x,
+            y.saturating_add(16),
+        );
+        let out = put_cut(out, class.unwrap_or(""), most);
+        put!(out; END_OF_TEXT, END_OF_GROUP)
+    }
+
+    // Adds the heads of the columns on a band with this lower end, which covers the lanes.
+    fn put_heads(&self, out: Prose<A>, heads: &[TxnId], end: usize) -> Prose<A> {
+        let top = end.saturating_sub(HEADS);
+        let y = top.saturating_add(28);
+        let width = self.layout.width.saturating_sub(2 * MARGIN);
+        let out = put!(out; "<rect class=\"band\" x=\"", MARGIN, "\" y=\"", top.saturating_add(8),
+            "\" width=\"", width, "\" height=\"", HEADS - 8, "\"/>\n");
+        let out = put_text(out, "place", PLACE_X, y, "place");
+        let mut out = put_text(out, "note", self.layout.words_x, y, "event");
+        for (column, t) in heads.iter().enumerate() {
+            out = self.put_head(out, *t, self.layout.lane_x(column), y);
+        }
+        out
+    }
+
+    // Adds the heads above the rows that have some.
+    fn put_all_heads(&self, mut out: Prose<A>) -> Prose<A> {
+        if self.layout.boxes.is_empty() {
+            return self.put_heads(out, self.selection.columns.heads.as_slice(), HEADS);
+        }
+        for row_box in self.layout.boxes.iter() {
+            if !row_box.heads.is_empty() {
+                out = self.put_heads(out, row_box.heads.as_slice(), row_box.top);
+            }
         }
         out
     }
@@ -126,7 +184,7 @@ impl<'a, A: Handle> Drawn<'a, A> {
             return out;
         };
         match (self.x(row.figure.actor.txn), self.x(partner.txn)) {
-            (Some(from), Some(to)) => put_curve(out, tie, from, to, y),
+            (Some(from), Some(to)) => put_curve(out, tie, from, to, y, partner.txn),
             _ => out,
         }
     }
@@ -147,11 +205,20 @@ impl<'a, A: Handle> Drawn<'a, A> {
         let out = put!(out; "<path class=\"edge\" d=\"M", from, " ", y, "H", end,
             "\" marker-end=\"url(#acta-draw-edge)\"/>\n");
         let above = y.saturating_sub(4);
-        put_text(out, "label", label, above, arrow.label.as_str()).put(END_OF_GROUP)
+        let most = self.layout.gap.saturating_sub(14) / 7;
+        let Ok(words) = put_cut(
+            Prose::new(self.lanes.run.allocator()),
+            arrow.label.as_str(),
+            most,
+        )
+        .done() else {
+            return out.fail();
+        };
+        put_text(out, "label", label, above, words.as_str()).put(END_OF_GROUP)
     }
 
-    // Adds a mark, where its lane is drawn.
-    fn put_marked(&self, out: Prose<A>, marked: Marked, y: usize) -> Prose<A> {
+    // Adds a mark, where its lane is drawn. An operation has this label.
+    fn put_marked(&self, out: Prose<A>, marked: Marked, label: &str, y: usize) -> Prose<A> {
         let x = if has_lane(marked.txn) {
             self.x(marked.txn)
         } else {
@@ -159,7 +226,7 @@ impl<'a, A: Handle> Drawn<'a, A> {
             Some(NOWHERE_X)
         };
         match x {
-            Some(x) => put_mark(out, marked, x, y),
+            Some(x) => put_mark(out, marked, label, x, y),
             None => out,
         }
     }
@@ -206,18 +273,18 @@ impl<'a, A: Handle> Drawn<'a, A> {
         for (number, arrow) in row_box.arrows.iter().enumerate() {
             out = self.put_arrow(out, arrow, row_box.y_of(number), beside);
         }
-        let out = self.put_marked(put_titled(out, title.as_str()), row.figure.actor, y);
+        let label = row_box.label.as_str();
+        let out = self.put_marked(put_titled(out, title.as_str()), row.figure.actor, label, y);
         let out = match row.figure.partner {
-            Some((partner, _)) => self.put_marked(out, partner, y),
+            Some((partner, _)) => self.put_marked(out, partner, "", y),
             None => out,
         };
         self.put_words(out.put(END_OF_GROUP), row_box, &row, title.as_str())
     }
 
     // Adds the rules between the rows.
-    fn put_rules(&self, out: Prose<A>) -> Prose<A> {
+    fn put_rules(&self, mut out: Prose<A>) -> Prose<A> {
         let right = self.layout.width.saturating_sub(MARGIN);
-        let mut out = put_line(out, "rule", (MARGIN, TOP), (right, TOP));
         for row_box in self.layout.boxes.iter() {
             out = put_line(out, "rule", (MARGIN, row_box.end), (right, row_box.end));
         }
@@ -234,60 +301,115 @@ impl<'a, A: Handle> Drawn<'a, A> {
             mark: Mark::Owes,
         };
         let out = put_debt(out.put("<g><title>"), self.lanes, owed).put("</title>");
-        let out = self.put_marked(out, marked, y);
+        let out = self.put_marked(out, marked, "", y);
         let out = put_text_at(out, "code", self.layout.words_x, y.saturating_add(4));
         let out = put!(out; name_text(line.as_slice()), "  ");
         put!(put_debt_note(out, self.lanes, owed); END_OF_TEXT, END_OF_GROUP)
     }
 
-    // Adds the whole picture, with these debts, how much was left out, and the line that stopped the run.
-    fn put_all(&self, out: Prose<A>, debts: &[Owed], left_out: &str, stop: &str) -> Prose<A> {
-        let width = self.layout.width;
-        let rows_end = self.layout.rows_end;
-        let lanes_end = rows_end.saturating_add(debts.len().saturating_mul(ROW));
-        let feet = usize::from(!left_out.is_empty()).saturating_add(usize::from(!stop.is_empty()));
-        let foot_end = lanes_end.saturating_add(feet.saturating_mul(FOOT));
-        let legend = foot_end.saturating_add(MARGIN + 8);
-        let out = put_open(out, width, legend.saturating_add(height(width)));
-        let out = self.put_lanes(self.put_rules(out), lanes_end);
-        let mut out = self.put_heads(out);
+    // Adds the lanes, the rows, and the lines to blockers. The lanes end here where they haven't ended.
+    fn put_rows(&self, out: Prose<A>, bottom: usize) -> Prose<A> {
+        let out = self.put_lanes(self.put_rules(out), bottom);
+        let mut out = self.put_all_heads(self.put_blocks(out));
         for row_box in self.layout.boxes.iter() {
             out = self.put_row(out, row_box);
         }
-        let mut y = rows_end.saturating_add(MIDDLE);
-        for owed in debts {
+        out
+    }
+
+    // Adds the lines to blockers.
+    fn put_blocks(&self, mut out: Prose<A>) -> Prose<A> {
+        for block in self.blocks.iter() {
+            out = put_block(out, self.lanes, block, self.layout.gap);
+        }
+        out
+    }
+
+    // Adds the debts, from this height on.
+    fn put_debts(&self, mut out: Prose<A>, top: usize) -> Prose<A> {
+        let mut y = top.saturating_add(MIDDLE);
+        for owed in self.debts.iter() {
             out = self.put_owed(out, owed, y);
             y = y.saturating_add(ROW);
         }
-        let mut y = lanes_end;
-        for (class, line) in [("note", left_out), ("code no", stop)] {
-            if !line.is_empty() {
-                y = y.saturating_add(FOOT);
-                out = put_text(out, class, MARGIN, y, line);
-            }
-        }
-        put_legend(out, width, legend).put(END)
+        out
+    }
+
+    // Adds the whole picture, with a notice above it, and below it the line that stopped the run.
+    fn put_all(&self, out: Prose<A>, notice: &[String<A>], stop: &str) -> Prose<A> {
+        let width = self.layout.width;
+        let debts = self.debts.len().saturating_mul(ROW);
+        let rows_end = self.layout.rows_end;
+        let lanes_end = rows_end.saturating_add(debts);
+        let foot = if stop.is_empty() { 0 } else { FOOT };
+        let legend = lanes_end.saturating_add(foot).saturating_add(MARGIN + 8);
+        let above = notice.len().saturating_mul(FOOT);
+        let below = legend.saturating_add(height(self.legend.as_slice(), width));
+        let out = put_open(out, width, above.saturating_add(below));
+        let out = put_lines(out, notice);
+        let out = put!(out; "<g transform=\"translate(0,", above, ")\">\n");
+        let out = self.put_debts(self.put_rows(out, lanes_end), rows_end);
+        let out = put_text(out, "code no", MARGIN, lanes_end.saturating_add(foot), stop);
+        let out = put_legend(out, self.legend.as_slice(), width, legend);
+        put!(out; END_OF_GROUP, END)
     }
 }
 
-// Adds a tie between two lanes.
-fn put_curve<A: Handle>(out: Prose<A>, tie: Tie, from: usize, to: usize, y: usize) -> Prose<A> {
-    let (class, head) = match tie {
-        Tie::Starts => ("tie", ""),
-        Tie::Hands => ("tie", " marker-end=\"url(#acta-draw-tie)\""),
-        Tie::Permits => ("permit", " marker-end=\"url(#acta-draw-tie)\""),
+// Adds lines of words from the top on.
+fn put_lines<A: Handle>(mut out: Prose<A>, lines: &[String<A>]) -> Prose<A> {
+    let mut y = FOOT;
+    for line in lines {
+        out = put_text(out, "note", MARGIN, y, line.as_str());
+        y = y.saturating_add(FOOT);
+    }
+    out
+}
+
+// Adds a tie between two lanes, to that of this transaction.
+fn put_curve<A: Handle>(
+    out: Prose<A>,
+    tie: Tie,
+    from: usize,
+    to: usize,
+    y: usize,
+    partner: TxnId,
+) -> Prose<A> {
+    // (an arrow ends beside the lane, or beside the mark of a start)
+    let (class, beside) = match tie {
+        Tie::Starts => ("tie", (start_width(partner) / 2).saturating_add(1)),
+        Tie::Hands => ("tie", 5),
+        Tie::Permits => ("permit", 5),
         Tie::Depends => return out,
     };
-    // (an arrow ends beside the lane, and a start is covered by its box)
-    let end = match tie {
-        Tie::Starts => to,
-        _ if from < to => to.saturating_sub(5),
-        _ => to.saturating_add(5),
+    let end = if from < to {
+        to.saturating_sub(beside)
+    } else {
+        to.saturating_add(beside)
     };
     let middle = from.saturating_add(end) / 2;
     let high = y.saturating_sub(16);
-    put!(out; "<path class=\"", class, "\" d=\"M", from, " ", y, "Q", middle, " ", high, " ", end, " ", y, "\"",
-        head, "/>\n")
+    put!(out; "<path class=\"", class, "\" d=\"M", from, " ", y, "Q", middle, " ", high, " ", end, " ", y,
+        "\" marker-end=\"url(#acta-draw-tie)\"/>\n")
+}
+
+// The notice above a picture of this width, in lines.
+fn notice<A: Handle>(
+    lanes: &Lanes<A>,
+    selection: &Selection<A>,
+    choice: &Choice,
+    width: usize,
+) -> Result<Vec<String<A>, A>, AllocError> {
+    let alloc = lanes.run.allocator();
+    let words = put_left_out(Prose::new(alloc), lanes, selection, choice).done()?;
+    if words.is_empty() {
+        return Ok(Vec::new(alloc));
+    }
+    wrapped(
+        alloc,
+        words.as_str(),
+        width.saturating_sub(2 * MARGIN) / 7,
+        false,
+    )
 }
 
 /// The picture of the lanes that are chosen, as an SVG. The line that stopped the run, if one did, is below.
@@ -300,19 +422,20 @@ pub fn draw_svg<A: Handle>(
     let selection = Selection::of(lanes, choice, ALL_LANES)?;
     let layout = SvgLayout::of(lanes, &selection)?;
     let debts = selection.debts(lanes)?;
-    let left_out = put_left_out(Prose::new(alloc), lanes, &selection).done()?;
+    let blocks = blocks_of(lanes, &selection, &layout)?;
+    let (has_blocks, has_debts) = (!blocks.is_empty(), !debts.is_empty());
+    let legend = entries_of(lanes, layout.boxes.as_slice(), has_blocks, has_debts)?;
+    let notice = notice(lanes, &selection, choice, layout.width)?;
     let drawn = Drawn {
         lanes,
         selection: &selection,
         layout: &layout,
+        blocks,
+        debts,
+        legend,
     };
     drawn
-        .put_all(
-            Prose::new(alloc),
-            debts.as_slice(),
-            left_out.as_str(),
-            stop.trim_end(),
-        )
+        .put_all(Prose::new(alloc), notice.as_slice(), stop.trim_end())
         .done()
 }
 

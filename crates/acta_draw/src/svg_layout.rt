@@ -1,8 +1,11 @@
 //! Where the parts of an SVG are: the lanes, the rows, and the words beside them.
 
+ghost use Rattle.std.specs.Prelude.{◌<◌};
+
 use crate::arrows::{Arrow, arrows_of};
-use crate::choice::Selection;
 use crate::lanes::{Lanes, Row};
+use crate::notation::operation_label;
+use crate::selection::{HEADER_ROWS, Selection};
 use crate::sentences::{event_text, put_note};
 use crate::wrapping::put_cut;
 use acta_explain::Prose;
@@ -14,8 +17,8 @@ use unicode_width::UnicodeWidthStr;
 /// The right end of the places.
 pub const PLACE_X: usize = 50;
 
-/// Where the rows begin, below the heads of the lanes.
-pub const TOP: usize = 60;
+/// The height of the heads of the lanes, which are above the first row and above further ones.
+pub const HEADS: usize = 60;
 
 /// The margin round the whole.
 pub const MARGIN: usize = 16;
@@ -39,7 +42,7 @@ const MOST_WORDS: usize = 110;
 // The least and the largest distance of two lanes.
 const LEAST_GAP: usize = 84;
 
-const MOST_GAP: usize = 190;
+const MOST_GAP: usize = 240;
 
 // The least width of the whole, and of its words.
 const LEAST_WIDTH: usize = 480;
@@ -51,12 +54,18 @@ const LEAST_WORDS: usize = 240;
 pub struct RowBox<A: Handle> {
     /// The number of the row.
     pub number: usize,
+    /// The transactions of the columns, where their heads are above the row.
+    pub heads: Vec<TxnId, A>,
+    /// The operation of the row in short notation.
+    pub label: String<A>,
     /// The event, and what it returned.
     pub event: String<A>,
     /// The note below the event.
     pub note: String<A>,
     /// The edges that it formed.
     pub arrows: Vec<Arrow<A>, A>,
+    /// Where its upper end is.
+    pub top: usize,
     /// Where its line is.
     pub y: usize,
     /// Where the first arrow is. The arrow of an event that forms an edge is at the line of the row.
@@ -94,6 +103,21 @@ const CODE: usize = 61;
 
 const LABEL: usize = 64;
 
+/// The width of a label beside an arrow or a lane.
+pub fn label_width(label: &str) -> usize {
+    text_width(label, 11, LABEL)
+}
+
+/// The width of a note.
+pub fn note_width(note: &str) -> usize {
+    text_width(note, 11, CODE)
+}
+
+/// The width of the box of an operation with this label.
+pub fn box_width(label: &str) -> usize {
+    text_width(label, 11, 67).saturating_add(11)
+}
+
 // The note below the event of a row: why it was refused, or the edges where an arrow lacks since a lane of it isn't drawn.
 fn note_of<A: Handle>(
     alloc: A,
@@ -114,11 +138,12 @@ impl<A: Handle> RowBox<A> {
         lanes: &Lanes<A>,
         selection: &Selection<A>,
         row: &Row<'_, A>,
+        heads: Vec<TxnId, A>,
         top: usize,
     ) -> Result<RowBox<A>, AllocError> {
         let alloc = lanes.run.allocator();
-        let event = event_text(lanes, row)?;
-        let event = put_cut(Prose::new(alloc), event.as_str(), MOST_WORDS).done()?;
+        let label = operation_label(alloc, lanes.run.machine().model(), row)?;
+        let event = event_text(lanes, row, MOST_WORDS)?;
         let note = note_of(alloc, selection, row)?;
         let arrows = arrows_of(alloc, selection, row)?;
         let words = if note.is_empty() { 0 } else { NEXT_WORDS };
@@ -131,9 +156,12 @@ impl<A: Handle> RowBox<A> {
         };
         Ok(RowBox {
             number: row.number,
+            heads,
+            label,
             event,
             note,
             arrows,
+            top,
             y,
             arrow_y,
             end: top.saturating_add(ROW).saturating_add(words.max(below)),
@@ -149,35 +177,77 @@ impl<A: Handle> RowBox<A> {
                 .saturating_add(arrow.saturating_mul(NEXT_ARROW))
         }
     }
+
+    // The least distance of two lanes with room for the labels of the row.
+    fn least_gap(&self) -> usize {
+        let mut gap = box_width(self.label.as_str()).saturating_add(14);
+        for arrow in self.arrows.iter() {
+            gap = gap.max(label_width(arrow.label.as_str()).saturating_add(28));
+        }
+        gap
+    }
+}
+
+// How many rows are below the heads of so many columns. With many columns they are more, so that all heads together are not many
+// times as many as the rows.
+fn rows_between(columns: usize) -> usize
+    ensures { 0 < result }
+{
+    HEADER_ROWS.max(columns / 8)
+}
+
+// The boxes of all rows. Heads are above each so many of them.
+fn boxes_of<A: Handle>(
+    lanes: &Lanes<A>,
+    selection: &Selection<A>,
+) -> Result<Vec<RowBox<A>, A>, AllocError> {
+    let alloc = lanes.run.allocator();
+    let mut boxes: Vec<RowBox<A>, A> = Vec::new(alloc);
+    let mut current = Vec::from_slice(alloc, selection.columns.heads.as_slice())?;
+    let every = rows_between(current.len());
+    let mut end = 0usize;
+    for (count, number) in selection.rows.iter().enumerate() {
+        let Some(row) = lanes.row(*number) else {
+            continue;
+        };
+        selection.pass(&mut current, *number);
+        let mut heads = Vec::new(alloc);
+        if count % every == 0 {
+            heads.extend_from_slice(current.as_slice())?;
+            end = end.saturating_add(HEADS);
+        }
+        let row_box = RowBox::of(lanes, selection, &row, heads, end)?;
+        end = row_box.end;
+        boxes.push(row_box)?;
+    }
+    Ok(boxes)
+}
+
+// The distance of two lanes.
+fn gap_of<A: Handle>(lanes: &Lanes<A>, selection: &Selection<A>, boxes: &[RowBox<A>]) -> usize {
+    let mut gap = LEAST_GAP;
+    for t in selection.lanes.iter() {
+        let class = lanes.class_name(*t).unwrap_or("");
+        gap = gap.max(label_width(class).saturating_add(12));
+    }
+    for row_box in boxes {
+        gap = gap.max(row_box.least_gap());
+    }
+    gap.min(MOST_GAP)
 }
 
 impl<A: Handle> SvgLayout<A> {
     /// Where all is of what is drawn.
     pub fn of(lanes: &Lanes<A>, selection: &Selection<A>) -> Result<SvgLayout<A>, AllocError> {
-        let mut boxes: Vec<RowBox<A>, A> = Vec::new(lanes.run.allocator());
-        let mut rows_end = TOP;
-        for number in selection.rows.iter() {
-            if let Some(row) = lanes.row(*number) {
-                let row_box = RowBox::of(lanes, selection, &row, rows_end)?;
-                rows_end = row_box.end;
-                boxes.push(row_box)?;
-            }
-        }
-        let mut gap = LEAST_GAP;
-        for t in selection.lanes.iter() {
-            let class = lanes.class_name(*t).unwrap_or("");
-            gap = gap.max(text_width(class, 11, LABEL).saturating_add(12));
-        }
+        let boxes = boxes_of(lanes, selection)?;
+        let rows_end = boxes.last().map_or(HEADS, |row_box| row_box.end);
+        let gap = gap_of(lanes, selection, boxes.as_slice());
         let mut words = LEAST_WORDS;
         for row_box in boxes.iter() {
-            for arrow in row_box.arrows.iter() {
-                gap = gap.max(text_width(arrow.label.as_str(), 11, LABEL).saturating_add(28));
-            }
             words = words.max(text_width(row_box.event.as_str(), 12, CODE));
-            words = words.max(text_width(row_box.note.as_str(), 11, CODE));
+            words = words.max(note_width(row_box.note.as_str()));
         }
-        let gap = gap.min(MOST_GAP);
-        let words_x = lane_x(gap, selection.lanes.len()).saturating_sub(gap / 4);
+        let words_x = lane_x(gap, selection.columns.heads.len()).saturating_sub(gap / 4);
         let width = words_x.saturating_add(words).saturating_add(MARGIN);
         Ok(SvgLayout {
             gap,
@@ -191,6 +261,16 @@ impl<A: Handle> SvgLayout<A> {
     /// Where the lane of this number is, from the left and from 0.
     pub fn lane_x(&self, lane: usize) -> usize {
         lane_x(self.gap, lane)
+    }
+
+    /// The box of the row of this number, if it is drawn.
+    pub fn box_of(&self, number: usize) -> Option<&RowBox<A>> {
+        let boxes = self.boxes.as_slice();
+        let first = boxes.partition_point(|row_box| row_box.number < number);
+        match boxes.get(first) {
+            Some(row_box) if row_box.number == number => Some(row_box),
+            _ => None,
+        }
     }
 
     /// Where the row of this number is: at the top where it is before those that are drawn, and at the bottom where it is
@@ -208,6 +288,6 @@ impl<A: Handle> SvgLayout<A> {
 
 // Where the lane of this number is, where two lanes have this distance.
 fn lane_x(gap: usize, lane: usize) -> usize {
-    let left = gap.saturating_mul(lane).saturating_add(PLACE_X);
+    let left = gap.saturating_mul(lane).saturating_add(PLACE_X + 8);
     left.saturating_add(gap.div_ceil(2))
 }

@@ -1,13 +1,14 @@
 //! A picture as a text for a terminal.
 
 use crate::canvas::{Canvas, Ink};
-use crate::choice::{Choice, Selection};
+use crate::choice::Choice;
 use crate::lanes::{Lanes, Row};
 use crate::layout::{Layout, PLACE, most_lanes};
 use crate::marks::{Mark, Marked, Tie, has_lane};
 use crate::screen::Screen;
+use crate::selection::{HEADER_ROWS, Selection};
 use crate::sentences::{event_text, put_debt_note, put_left_out, put_note};
-use crate::wrapping::{put_cut, wrapped};
+use crate::wrapping::wrapped;
 use acta_explain::{Prose, digits, name_text, put};
 use acta_machine::Handle;
 use acta_script::owed_line;
@@ -24,6 +25,8 @@ struct Page<'a, A: Handle> {
     layout: Layout,
     is_colored: bool,
     canvas: Canvas<A>,
+    // The transactions of the columns.
+    heads: Vec<TxnId, A>,
 }
 
 // What follows the lanes of a line: an event, and a note on it in this colour.
@@ -48,7 +51,7 @@ impl<'a, A: Handle> Page<'a, A> {
     // Puts a bar on each lane that is open at the row, or after it.
     fn put_open(&mut self, row: usize, is_after: bool) {
         self.canvas.clear();
-        for (lane, t) in self.selection.lanes.iter().enumerate() {
+        for (lane, t) in self.heads.iter().enumerate() {
             if self.lanes.is_open(*t, row, is_after) {
                 let column = lane.saturating_mul(self.layout.lane);
                 self.canvas.put(column, '|', Ink::Faint);
@@ -65,8 +68,15 @@ impl<'a, A: Handle> Page<'a, A> {
         if marked.mark != Mark::Met {
             self.canvas.put(column, glyph, ink);
         }
-        if let Mark::Operation(op) = marked.mark {
-            self.canvas.put_number(column.saturating_add(1), op.0, ink);
+        match marked.mark {
+            Mark::Operation(op) => self.canvas.put_number(column.saturating_add(1), op.0, ink),
+            Mark::Start if self.selection.is_reused => {
+                // (the lane may have been that of another)
+                let number = u32::from(marked.txn.0);
+                self.canvas
+                    .put_number(column.saturating_add(1), number, ink);
+            }
+            _ => {}
         }
     }
 
@@ -79,7 +89,7 @@ impl<'a, A: Handle> Page<'a, A> {
         }
     }
 
-    // Puts a tie to the lane of the partner, with a head there unless it starts the partner.
+    // Puts a tie to the lane of the partner, with a head there.
     fn put_tie(&mut self, from: TxnId, partner: Marked, tie: Tie) {
         let to = self.column(partner.txn);
         let (glyph, ink) = match tie {
@@ -92,9 +102,7 @@ impl<'a, A: Handle> Page<'a, A> {
             self.canvas.put(to, '*', Ink::Plain);
         }
         if let (Some(from), Some(to)) = (self.column(from), to) {
-            if tie != Tie::Starts {
-                self.put_head(from, to, ink);
-            }
+            self.put_head(from, to, ink);
             self.canvas.fill(from.min(to), from.max(to), glyph, ink);
         }
     }
@@ -143,11 +151,14 @@ impl<'a, A: Handle> Page<'a, A> {
     // row.
     fn put_words(&mut self, text: Prose<A>, words: Words<'_>) -> Prose<A> {
         let layout = self.layout;
-        let text = put_cut(text, words.event, layout.words);
+        let wide = words.event.width();
+        if layout.words < wide {
+            return self.put_long(text, words);
+        }
+        let text = text.put(words.event);
         if words.note.is_empty() {
             return text.put("\n");
         }
-        let wide = words.event.width().min(layout.words);
         if layout.note > 0 && wide <= layout.event {
             let indent = layout.event.saturating_add(2);
             let text = text.pad(indent.saturating_sub(wide));
@@ -156,6 +167,22 @@ impl<'a, A: Handle> Page<'a, A> {
             let width = layout.words.saturating_sub(2);
             self.put_note(text.put("\n"), words, width, 2, false)
         }
+    }
+
+    // Adds the words of a line whose event doesn't fit beside the lanes: the event in lines, and the note below it.
+    fn put_long(&mut self, text: Prose<A>, words: Words<'_>) -> Prose<A> {
+        let width = self.layout.words.saturating_sub(2);
+        let event = Words {
+            note: words.event,
+            is_list: false,
+            ink: Ink::Plain,
+            ..words
+        };
+        let text = self.put_note(text, event, width, 2, true);
+        if words.note.is_empty() {
+            return text;
+        }
+        self.put_note(text, words, width, 2, false)
     }
 
     // Adds the note in lines, at most so wide and so far from the lanes. The first may be beside the event.
@@ -187,7 +214,7 @@ impl<'a, A: Handle> Page<'a, A> {
     // Adds the line of the numbers of the lanes.
     fn put_header(&mut self, text: Prose<A>) -> Prose<A> {
         self.canvas.clear();
-        for (lane, t) in self.selection.lanes.iter().enumerate() {
+        for (lane, t) in self.heads.iter().enumerate() {
             let column = lane.saturating_mul(self.layout.lane);
             self.canvas.put_number(column, u32::from(t.0), Ink::Plain);
         }
@@ -211,7 +238,7 @@ impl<'a, A: Handle> Page<'a, A> {
             return text.fail();
         };
         let text = self.put_front(text, label.as_str());
-        let Ok(event) = event_text(self.lanes, row) else {
+        let Ok(event) = event_text(self.lanes, row, self.layout.words) else {
             return text.fail();
         };
         let Ok(note) = put_note(Prose::new(self.alloc), row).done() else {
@@ -252,17 +279,31 @@ impl<'a, A: Handle> Page<'a, A> {
         self.put_words(text, words)
     }
 
-    // Adds all rows, and what is owed.
+    // Adds all rows, with a header above every so many, and what is owed.
     fn put_lines(&mut self, mut text: Prose<A>) -> Prose<A> {
         let (lanes, selection) = (self.lanes, self.selection);
-        for number in selection.rows.iter() {
+        for (count, number) in selection.rows.iter().enumerate() {
+            selection.pass(&mut self.heads, *number);
+            if count % HEADER_ROWS == 0 {
+                text = self.put_header(text);
+            }
             if let Some(row) = lanes.row(*number) {
                 text = self.put_line(text, &row);
             }
         }
+        if selection.rows.is_empty() {
+            text = self.put_header(text);
+        }
+        self.put_debts(text)
+    }
+
+    // Adds the debts.
+    fn put_debts(&mut self, mut text: Prose<A>) -> Prose<A> {
+        let (lanes, selection) = (self.lanes, self.selection);
         let Ok(debts) = selection.debts(lanes) else {
             return text.fail();
         };
+        selection.pass(&mut self.heads, lanes.places.len());
         for owed in debts.iter() {
             text = self.put_debt(text, owed);
         }
@@ -270,21 +311,12 @@ impl<'a, A: Handle> Page<'a, A> {
     }
 }
 
-// Adds how much was left out, in lines of at most this width.
-fn put_ending<A: Handle>(
-    mut text: Prose<A>,
-    lanes: &Lanes<A>,
-    selection: &Selection<A>,
-    width: usize,
-) -> Prose<A> {
-    let alloc = lanes.run.allocator();
-    let Ok(left_out) = put_left_out(Prose::new(alloc), lanes, selection).done() else {
-        return text.fail();
-    };
-    if left_out.is_empty() {
+/// Adds a notice in lines of at most this width.
+pub fn put_notice<A: Handle>(mut text: Prose<A>, alloc: A, notice: &str, width: usize) -> Prose<A> {
+    if notice.is_empty() {
         return text;
     }
-    let Ok(lines) = wrapped(alloc, left_out.as_str(), width, false) else {
+    let Ok(lines) = wrapped(alloc, notice, width, false) else {
         return text.fail();
     };
     for line in lines.iter() {
@@ -298,7 +330,7 @@ fn longest<A: Handle>(lanes: &Lanes<A>, selection: &Selection<A>) -> Result<usiz
     let mut longest = "event".len();
     for number in selection.rows.iter() {
         if let Some(row) = lanes.row(*number) {
-            longest = longest.max(event_text(lanes, &row)?.as_str().width());
+            longest = longest.max(event_text(lanes, &row, usize::MAX)?.as_str().width());
         }
     }
     if selection.has_end {
@@ -325,6 +357,7 @@ pub fn draw_text<A: Handle>(
     let alloc = lanes.run.allocator();
     let selection = Selection::of(lanes, choice, most_lanes(lanes, screen.width))?;
     let layout = Layout::of(lanes, &selection, screen.width, longest(lanes, &selection)?);
+    let left_out = put_left_out(Prose::new(alloc), lanes, &selection, choice).done()?;
     let mut page = Page {
         alloc,
         lanes,
@@ -332,10 +365,8 @@ pub fn draw_text<A: Handle>(
         layout,
         is_colored: screen.is_colored,
         canvas: Canvas::new(alloc, layout.lanes)?,
+        heads: Vec::from_slice(alloc, selection.columns.heads.as_slice())?,
     };
-    let text = page.put_header(Prose::new(alloc));
-    let text = page.put_lines(text);
-    put_ending(text, lanes, &selection, screen.width)
-        .put(stop)
-        .done()
+    let text = put_notice(Prose::new(alloc), alloc, left_out.as_str(), screen.width);
+    page.put_lines(text).put(stop).done()
 }

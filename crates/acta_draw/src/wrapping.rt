@@ -1,6 +1,6 @@
 //! Texts that fit a width: cut, or split into lines.
 
-use acta_explain::Prose;
+use acta_explain::{Prose, put};
 use acta_machine::Handle;
 use std::alloc::{AllocError, Allocator};
 use unicode_width::UnicodeWidthStr;
@@ -8,15 +8,28 @@ use unicode_width::UnicodeWidthStr;
 // What ends a text that was cut.
 const MORE: &str = "..";
 
-/// Adds the front of a text, at most so wide. A text that is cut ends in two dots.
-pub fn put_cut<A: Allocator>(mut prose: Prose<A>, text: &str, width: usize) -> Prose<A> {
+// The front of a text of so many characters. A word is cut only if it is the first.
+fn front_of(text: &str, room: usize) -> &str {
+    let end = match text.char_indices().nth(room) {
+        Some((end, _)) => end,
+        None => return text,
+    };
+    let front = text.get(..end).unwrap_or("");
+    let is_whole = text.get(end..).unwrap_or("").starts_with(' ');
+    match front.rfind(' ') {
+        Some(space) if !is_whole => front.get(..space).unwrap_or(front),
+        _ => front,
+    }
+}
+
+/// Adds the front of a text, at most so wide. A text that is cut ends in two dots; it is cut between two words, where it has
+/// several.
+pub fn put_cut<A: Allocator>(prose: Prose<A>, text: &str, width: usize) -> Prose<A> {
     if text.width() <= width {
         return prose.put(text);
     }
-    for c in text.chars().take(width.saturating_sub(MORE.len())) {
-        prose = prose.put(c);
-    }
-    prose.put(MORE)
+    let front = front_of(text, width.saturating_sub(MORE.len()));
+    put!(prose; front, MORE)
 }
 
 // Lines that grow, each at most so wide.

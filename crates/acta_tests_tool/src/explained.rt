@@ -5,7 +5,7 @@ use crate::expecting::{MOST, at_least, holds, made, tells};
 use crate::runs::ends;
 use acta_args::ModelName;
 use acta_compare::{Asked as AskedModels, Compared, compare_tool};
-use acta_draw::{Choice, Drawing, Form, Screen, draw_tool};
+use acta_draw::{Choice, Drawing, Form, Screen, View, draw_tool};
 use acta_explain::{NonBlankLine, RunTrace, explain_tool};
 use acta_io::{LineKind, Metered, Outcome, ReadFault, Watched};
 use acta_lang::assemble;
@@ -23,8 +23,8 @@ use std::thread::Threads;
 #[derive(Clone, Copy, PartialEq, Eq, Debug)]
 enum Ask {
     Explain(LineKind),
-    Draw,
-    DrawSvg,
+    Draw(View),
+    DrawSvg(View),
     Explore(Ends, Option<&'static str>),
     Serialize(Orders, u32),
     Compare(Compared, Standard),
@@ -72,10 +72,19 @@ fn serve<R: Threads + Sync, B: Allocator + Send + Sync>(
             let other = standard.text().as_bytes();
             return compare_tool(heap, asked, model, other, &mut input, &mut output, &mut ());
         }
-        Ask::Draw => Form::Text { width: Some(100) },
-        Ask::DrawSvg => Form::Svg,
+        Ask::Draw(_) => Form::Text { width: Some(100) },
+        Ask::DrawSvg(_) => Form::Svg,
     };
-    let choice = Choice::ALL;
+    let view = match ask {
+        Ask::Draw(view) | Ask::DrawSvg(view) => view,
+        _ => View::Lanes,
+    };
+    let choice = Choice {
+        view,
+        page: Some(1),
+        is_reusing: true,
+        ..Choice::ALL
+    };
     let drawing = Drawing { form, choice };
     let screen = Screen::PLAIN;
     draw_tool(heap, &drawing, screen, model, &mut input, &mut output)
@@ -312,19 +321,44 @@ fn faults(rt: HostRuntime) {
         (Ask::Explain(LineKind::Events), FAULTY),
         ("1", 20),
     );
-    refuse_run(&rt, (&heap, rt.alloc()), (Ask::Draw, FAULTY), ("1", 20));
+    refuse_run(
+        &rt,
+        (&heap, rt.alloc()),
+        (Ask::Draw(View::Lanes), FAULTY),
+        ("1", 20),
+    );
 }
 
 #[test]
 fn drawn(rt: HostRuntime) {
     let heap = Refusing::new(rt.alloc());
-    refuse_run(&rt, (&heap, rt.alloc()), (Ask::Draw, EVENTS), ("0", 50));
+    let asked = (Ask::Draw(View::Lanes), EVENTS);
+    refuse_run(&rt, (&heap, rt.alloc()), asked, ("0", 50));
 }
 
 #[test]
 fn drawn_as_svg(rt: HostRuntime) {
     let heap = Refusing::new(rt.alloc());
-    refuse_run(&rt, (&heap, rt.alloc()), (Ask::DrawSvg, EVENTS), ("0", 50));
+    let asked = (Ask::DrawSvg(View::Lanes), EVENTS);
+    refuse_run(&rt, (&heap, rt.alloc()), asked, ("0", 50));
+}
+
+#[test]
+fn drawn_waits(rt: HostRuntime) {
+    let heap = Refusing::new(rt.alloc());
+    let view = View::Waits { at: Some(4) };
+    refuse_run(
+        &rt,
+        (&heap, rt.alloc()),
+        (Ask::Draw(view), EVENTS),
+        ("0", 50),
+    );
+    refuse_run(
+        &rt,
+        (&heap, rt.alloc()),
+        (Ask::DrawSvg(view), EVENTS),
+        ("0", 50),
+    );
 }
 
 // Explains an event of a class or an object that the model lacks, which no line can have.

@@ -1,0 +1,159 @@
+//! The lines of an SVG from refused events to the operations, edges and transactions that block them.
+
+use crate::blockers::Blocker;
+use crate::lanes::Lanes;
+use crate::markup::{END_OF_GROUP, put_titled};
+use crate::selection::Selection;
+use crate::svg_layout::SvgLayout;
+use acta_explain::{Prose, put};
+use acta_machine::Handle;
+use acta_table::TxnId;
+use std::alloc::{AllocError, Allocator};
+
+// How far the end of a line is from the foot of an arrow.
+const FOOT: usize = 9;
+
+// The most height of a line. For a blocker farther up there is only the lower end of a line.
+const MOST_HEIGHT: usize = 1_200;
+
+/// A line from a refused event to a blocker of it.
+#[derive(Clone, Copy)]
+pub struct Block {
+    /// The row of the refused event.
+    row: usize,
+    blocker: Blocker,
+    // The point of the refused event, and that of the blocker.
+    from: (usize, usize),
+    to: (usize, usize),
+}
+
+// The parts of a picture that a line joins.
+#[derive(Drop)]
+struct Joined<'a, A: Handle> {
+    lanes: &'a Lanes<A>,
+    selection: &'a Selection<A>,
+    layout: &'a SvgLayout<A>,
+}
+
+impl<'a, A: Handle> Joined<'a, A> {
+    // The middle of the lane of the transaction.
+    fn x(&self, t: TxnId) -> Option<usize> {
+        Some(self.layout.lane_x(self.selection.column(t)?))
+    }
+
+    // The point below the mark of a row on the lane of the transaction, or of the one that does the event.
+    fn mark_point(&self, row: usize, t: Option<TxnId>) -> Option<(usize, usize)> {
+        let row_box = self.layout.box_of(row)?;
+        let actor = self.lanes.row(row)?.figure.actor.txn;
+        let x = self.x(t.unwrap_or(actor))?;
+        Some((x, row_box.y.saturating_add(11)))
+    }
+
+    // The point below the foot of the arrow of an edge, beside the lane of the one that depends.
+    fn edge_point(&self, row: usize, number: u32) -> Option<(usize, usize)> {
+        let row_box = self.layout.box_of(row)?;
+        let number = u64::from(number);
+        let place = row_box.arrows.iter().position(|arrow| arrow.has(number))?;
+        let arrow = row_box.arrows.get(place)?;
+        let (from, to) = (self.x(arrow.j)?, self.x(arrow.i)?);
+        let x = if from < to {
+            from.saturating_add(FOOT)
+        } else {
+            from.saturating_sub(FOOT)
+        };
+        Some((x, row_box.y_of(place).saturating_add(3)))
+    }
+
+    // The line from the refused event of a row to the blocker, where both are drawn.
+    fn block(&self, row: usize, blocker: Option<Blocker>) -> Option<Block> {
+        let blocker = blocker?;
+        let target = self.lanes.row_of(Some(blocker), row)?;
+        let to = match blocker {
+            Blocker::Operation(_) => self.mark_point(target, None)?,
+            Blocker::Edge(number) => self.edge_point(target, number)?,
+            Blocker::Start(t) | Blocker::End(t) => self.mark_point(target, Some(t))?,
+        };
+        let (x, y) = self.mark_point(row, None)?;
+        let from = (x, y.saturating_sub(19));
+        Some(Block {
+            row,
+            blocker,
+            from,
+            to: near(from, to),
+        })
+    }
+}
+
+// The end of a line from a point to another: that point, or a near one in its direction.
+fn near(from: (usize, usize), to: (usize, usize)) -> (usize, usize) {
+    let (x, y) = from;
+    let (to_x, to_y) = to;
+    if y.saturating_sub(to_y) <= MOST_HEIGHT {
+        to
+    } else if to_x < x {
+        (x.saturating_sub(20), y.saturating_sub(18))
+    } else {
+        (x.saturating_add(20), y.saturating_sub(18))
+    }
+}
+
+/// The lines of all refused events that are drawn.
+pub fn blocks_of<A: Handle>(
+    lanes: &Lanes<A>,
+    selection: &Selection<A>,
+    layout: &SvgLayout<A>,
+) -> Result<Vec<Block, A>, AllocError> {
+    let joined = Joined {
+        lanes,
+        selection,
+        layout,
+    };
+    let mut blocks = Vec::new(lanes.run.allocator());
+    for row_box in layout.boxes.iter() {
+        let blockers = lanes.blockers(row_box.number);
+        if let Some(block) = joined.block(row_box.number, blockers.first) {
+            blocks.push(block)?;
+        }
+        if let Some(block) = joined.block(row_box.number, blockers.second) {
+            blocks.push(block)?;
+        }
+    }
+    Ok(blocks)
+}
+
+// Adds the name of a blocker.
+fn put_name<A: Allocator>(prose: Prose<A>, blocker: Blocker) -> Prose<A> {
+    match blocker {
+        Blocker::Operation(op) => put!(prose; "operation ", op.0),
+        Blocker::Edge(number) => put!(prose; "edge ", number),
+        Blocker::Start(t) => put!(prose; "the start of ", t.0),
+        Blocker::End(t) => put!(prose; "the end of ", t.0),
+    }
+}
+
+/// Adds a line. On one lane it goes round the marks between its ends.
+pub fn put_block<A: Handle>(
+    out: Prose<A>,
+    lanes: &Lanes<A>,
+    block: &Block,
+    gap: usize,
+) -> Prose<A> {
+    let alloc = lanes.run.allocator();
+    let event = lanes
+        .row(block.row)
+        .map_or("", |row| row.text.event.as_str());
+    let Ok(title) = put!(put_name(Prose::new(alloc), block.blocker); " blocks ", event).done()
+    else {
+        return out.fail();
+    };
+    let ((x, y), (to_x, to_y)) = (block.from, block.to);
+    let out = put_titled(out, title.as_str());
+    let out = put!(out; "<path class=\"block\" d=\"M", x, " ", y);
+    let out = if x == to_x {
+        let side = x.saturating_add(gap.saturating_mul(2) / 5);
+        put!(out; "C", side, " ", y, " ", side, " ", to_y, " ", to_x, " ", to_y)
+    } else {
+        put!(out; "L", to_x, " ", to_y)
+    };
+    put!(out; "\" marker-end=\"url(#acta-draw-block)\"/>", END_OF_GROUP)
+}

@@ -1,0 +1,118 @@
+//! The short notation of an operation: the object, a sign, the argument, and the return where it says something.
+
+use crate::lanes::{Row, returned};
+use crate::wrapping::put_cut;
+use acta_explain::{Prose, name_text, put, put_return};
+use acta_machine::Handle;
+use acta_script::object_name;
+use acta_table::{Event, Model, Op, Ret};
+use std::alloc::{AllocError, Allocator};
+use unicode_width::UnicodeWidthStr;
+
+// The most characters of an object's name in the notation, and the least of one that is cut in an event.
+const MOST_OF_NAME: usize = 12;
+
+const LEAST_OF_NAME: usize = 4;
+
+/// The form of an operation's notation.
+#[derive(Clone, Copy, PartialEq, Eq, Debug)]
+pub enum Notation {
+    Write,
+    Read,
+    Add,
+    Insert,
+    Remove,
+    Has,
+    Size,
+}
+
+/// All forms, each with an example and its meaning.
+pub const NOTATIONS: [(Notation, &str, &str); 7] = [
+    (Notation::Write, "x:=5", "writes 5 to x"),
+    (Notation::Read, "x?=5", "reads x, gets 5"),
+    (Notation::Add, "n+5", "adds 5 to n"),
+    (Notation::Insert, "s+{5}=yes", "adds element 5: was absent"),
+    (Notation::Remove, "s-{5}=yes", "removes 5: was there"),
+    (Notation::Has, "s?{5}=no", "asks for 5: not there"),
+    (Notation::Size, "s?#=5", "counts s, gets 5"),
+];
+
+/// The form of the operation's notation.
+pub fn notation_of(op: Op) -> Notation {
+    match op {
+        Op::Write(_) => Notation::Write,
+        Op::Read | Op::Get => Notation::Read,
+        Op::Add(_) => Notation::Add,
+        Op::Insert(_) => Notation::Insert,
+        Op::Remove(_) => Notation::Remove,
+        Op::Has(_) => Notation::Has,
+        Op::Size => Notation::Size,
+    }
+}
+
+// Adds the sign of the operation, and its argument.
+fn put_sign<A: Allocator>(prose: Prose<A>, op: Op) -> Prose<A> {
+    match op {
+        Op::Write(value) => put!(prose; ":=", value),
+        Op::Read | Op::Get => prose.put("?"),
+        Op::Add(value) if value < 0 => prose.put(value),
+        Op::Add(value) => put!(prose; "+", value),
+        Op::Insert(value) => put!(prose; "+{", value, "}"),
+        Op::Remove(value) => put!(prose; "-{", value, "}"),
+        Op::Has(value) => put!(prose; "?{", value, "}"),
+        Op::Size => prose.put("?#"),
+    }
+}
+
+// Adds the return, if it says more than that the operation was done.
+fn put_answer<A: Allocator>(prose: Prose<A>, ret: Option<Ret>) -> Prose<A> {
+    match ret {
+        None | Some(Ret::Done) => prose,
+        Some(ret) => put_return(prose.put("="), ret),
+    }
+}
+
+/// The notation of the operation that a row does, if it does one. A long name is cut.
+pub fn operation_label<A: Handle>(
+    alloc: A,
+    model: &Model<A>,
+    row: &Row<'_, A>,
+) -> Result<String<A>, AllocError> {
+    let Event::Operate(_, object, op) = row.step.event else {
+        return Ok(String::new(alloc));
+    };
+    let name = name_text(object_name(model, object));
+    let label = put_cut(Prose::new(alloc), name, MOST_OF_NAME);
+    put_answer(put_sign(label, op), returned(&row.step.answer)).done()
+}
+
+/// Adds an event, at most so wide. The name of the object of an operation is cut before its argument and its return are.
+pub fn put_event<A: Allocator>(
+    prose: Prose<A>,
+    event: &str,
+    answer: &str,
+    width: usize,
+) -> Prose<A> {
+    let room = width.saturating_sub(answer.width());
+    let excess = event.width().saturating_sub(room);
+    match words_of(event) {
+        Some((front, object, op)) if excess > 0 => {
+            let most = object.width().saturating_sub(excess).max(LEAST_OF_NAME);
+            put!(put_cut(put!(prose; front, " "), object, most); " ", op, answer)
+        }
+        _ => put_cut(prose, event, room).put(answer),
+    }
+}
+
+// Of an event that does an operation the words before the object, the object, and the words after it.
+fn words_of(event: &str) -> Option<(&str, &str, &str)> {
+    let (object_at, _) = event.char_indices().filter(|(_, c)| *c == ' ').nth(1)?;
+    let front = event.get(..object_at)?;
+    let rest = event.get(object_at..)?.trim_start();
+    let (object, op) = rest.split_once(' ')?;
+    if front.starts_with("do ") {
+        Some((front, object, op))
+    } else {
+        None
+    }
+}
