@@ -82,7 +82,7 @@ struct Terminals {
 }
 
 // Says that lines are read, if they are typed: no answer comes before their end.
-fn tell_reading<R: Eprint>(rt: &R, terminals: Terminals) {
+fn report_reading<R: Eprint>(rt: &R, terminals: Terminals) {
     if terminals.input && terminals.error {
         let _ = eprintln!(rt; "reading lines until Ctrl-D; the answers come then");
     }
@@ -130,7 +130,7 @@ fn suggest<R: Eprint>(rt: &R, advice: Advice) {
 }
 
 // Judges the lines of the standard input, and says on the standard error what the verdict suggests.
-fn judge_told<R: Eprint + Input + Print + AllocGlobal + Threads + Sync>(
+fn judge_reported<R: Eprint + Input + Print + AllocGlobal + Threads + Sync>(
     rt: &R,
     args: &Args<'_>,
     model: &[u8],
@@ -174,11 +174,11 @@ fn serve_run<R: Eprint + Files + Input + Print + AllocGlobal + Threads + Wait + 
     };
     let model = model.as_slice();
     if reads_lines(args.command) {
-        tell_reading(rt, terminals);
+        report_reading(rt, terminals);
     }
     let is_terminal = terminals.error;
     if is_terminal && matches!(args.command, Command::Judge) {
-        return Ok(judge_told(rt, args, model));
+        return Ok(judge_reported(rt, args, model));
     }
     let mut input = Metered::new(rt.reader());
     let mut output = Watched::new(io::writer(rt));
@@ -215,7 +215,7 @@ fn explain_by<R: Eprint + Files + Input + Print + AllocGlobal + Threads + Sync>(
         Ok(model) => model,
         Err(reason) => return Outcome::Unread(reason),
     };
-    tell_reading(rt, terminals);
+    report_reading(rt, terminals);
     explain_tool(
         rt,
         rt.alloc(),
@@ -235,7 +235,7 @@ fn serve_explain<R: Eprint + Files + Input + Print + AllocGlobal + Threads + Syn
 ) -> Result<Outcome, UsageFault> {
     Ok(match parse::<ExplainLine>(rt.alloc(), words)? {
         Asked::Lines(kind, name) => explain_by(rt, terminals, kind, name),
-        Asked::Words(told) => write_words(told, &mut Watched::new(io::writer(rt))),
+        Asked::Words(reported) => write_words(reported, &mut Watched::new(io::writer(rt))),
     })
 }
 
@@ -251,7 +251,7 @@ fn serve_draw<R: Env + Eprint + Files + Input + Print + AllocGlobal>(
         Ok(model) => model,
         Err(reason) => return Ok(Outcome::Unread(reason)),
     };
-    tell_reading(rt, terminals);
+    report_reading(rt, terminals);
     Ok(draw_tool(
         rt.alloc(),
         &asked.drawing,
@@ -273,7 +273,7 @@ fn serve_explore<R: Clock + Eprint + Files + Input + Print + AllocGlobal>(
         Ok(model) => model,
         Err(reason) => return Ok(Outcome::Unread(reason)),
     };
-    tell_reading(rt, terminals);
+    report_reading(rt, terminals);
     Ok(explore_tool(
         rt.alloc(),
         asked,
@@ -299,7 +299,7 @@ fn serve_compare<R: Clock + Eprint + Files + Input + Print + AllocGlobal>(
         Ok(other) => other,
         Err(reason) => return Ok(Outcome::Unread(reason)),
     };
-    tell_reading(rt, terminals);
+    report_reading(rt, terminals);
     Ok(compare_tool(
         rt.alloc(),
         asked,
@@ -322,7 +322,7 @@ fn serve_serialize<R: Eprint + Files + Input + Print + AllocGlobal>(
         Ok(model) => model,
         Err(reason) => return Ok(Outcome::Unread(reason)),
     };
-    tell_reading(rt, terminals);
+    report_reading(rt, terminals);
     Ok(serialize_tool(
         rt.alloc(),
         asked,
@@ -398,7 +398,7 @@ fn models_named<'a, R: AllocGlobal>(rt: &R, words: &'a [String]) -> Result<Named
 }
 
 // Tells the path of a model, if it has one, in a line.
-fn tell_path<R: Print>(rt: &R, model: Option<ModelName<'_>>) -> Outcome {
+fn report_path<R: Print>(rt: &R, model: Option<ModelName<'_>>) -> Outcome {
     let Some(name) = model else {
         return Outcome::Done;
     };
@@ -413,16 +413,16 @@ fn tell_path<R: Print>(rt: &R, model: Option<ModelName<'_>>) -> Outcome {
 
 // Tells the paths of the models that the words after `--models` name, a line each. The script `acta` asks for them where
 // the program has ended with status 3.
-fn tell_models<R: Print + AllocGlobal>(rt: &R, words: &[String]) -> Result<Outcome, UsageFault> {
+fn report_models<R: Print + AllocGlobal>(rt: &R, words: &[String]) -> Result<Outcome, UsageFault> {
     let Named { model, other } = models_named(rt, words)?;
-    Ok(match tell_path(rt, model) {
-        Outcome::Done => tell_path(rt, other),
+    Ok(match report_path(rt, model) {
+        Outcome::Done => report_path(rt, other),
         ended => ended,
     })
 }
 
 // Tells the version.
-fn tell_version<R: Print>(rt: &R) -> Outcome {
+fn report_version<R: Print>(rt: &R) -> Outcome {
     match println!(rt; "acta {VERSION}") {
         Ok(()) => Outcome::Done,
         Err(_) => Outcome::Unwritten,
@@ -446,8 +446,8 @@ fn serve<R: Clock + Env + Eprint + Files + Input + Print + AllocGlobal + Threads
         "compare" => serve_compare(rt, terminals, words)?,
         "serialize" => serve_serialize(rt, terminals, words)?,
         "shell" => serve_shell(rt, terminals, words)?,
-        "--version" | "-V" => tell_version(rt),
-        "--models" => tell_models(rt, words.get(1..).unwrap_or(&[]))?,
+        "--version" | "-V" => report_version(rt),
+        "--models" => report_models(rt, words.get(1..).unwrap_or(&[]))?,
         _ if is_command(command) => {
             let args = acta_tool::parse(rt.alloc(), words)?;
             serve_run(rt, terminals, &args)?
@@ -484,7 +484,7 @@ fn list_standards(rt: &HostRuntime) {
 }
 
 // Says why the words ask for nothing, or what they ask to be told. If memory ran out, nothing is said.
-fn tell_usage(rt: &HostRuntime, words: &[String], fault: &UsageFault) {
+fn report_usage(rt: &HostRuntime, words: &[String], fault: &UsageFault) {
     match fault {
         UsageFault::Memory(_) => {}
         UsageFault::Usage(e) => {
@@ -516,7 +516,7 @@ fn main(rt: HostRuntime) -> ExitCode {
         Err(fault) => (none, Err(Failure::Words(fault))),
     };
     if let Err(Failure::Words(fault)) = &outcome {
-        tell_usage(&rt, words.as_slice(), fault);
+        report_usage(&rt, words.as_slice(), fault);
     }
     ExitCode::from(exit_status(&outcome))
 }

@@ -20,7 +20,7 @@ use Rattle.acta_axioms.specs.History.{places_behind, places}
 use Rattle.acta_axioms.specs.Operations.{Operation, is_operate, number_after, operation_in, operation_at, operations, Standing, held_by, ended_by, heir, followed, carried, standing, standing_of}
 use Rattle.acta_axioms.specs.Walks.{held_op, held_ops}
 use Rattle.acta_axioms.specs.inside.Holding.{in_hand, brought, brought_from, op_done, followed_on, next_number}
-use Rattle.acta_axioms.specs.inside.Lineages.{heir_by}
+use Rattle.acta_axioms.specs.inside.TxnRecords.{heir_by}
 use Rattle.acta_axioms.specs.inside.Walking.{standing_in}
 use Rattle.acta_axioms.proofs.Growth.{found-passes, at_end, length-places, added, operations-push, number_after-push, shown-push, standing-push, standing-new, operation_place, operations_within}
 

@@ -11,7 +11,7 @@ use Rattle.acta_table.specs.Classes.{kind_at}
 use Rattle.acta_objects.specs.Objects.{is_register_op, is_counter_op, is_set_op, suits}
 use Rattle.acta_objects.specs.Conflicts.{register_conflicts, counter_conflicts, set_conflicts, conflicts, conflict_on}
 use Rattle.acta_sets.specs.Operations.{ops_conflict}
-use Rattle.acta_sets.proofs.Laws.{conflicts_alike}
+use Rattle.acta_sets.proofs.Laws.{conflicts_equivalent}
 use Rattle.acta_axioms.specs.Values.{do_conflict, is_well_formed}
 
 of_registers : (p q : Op) → (is_register_op p && (is_register_op q && register_conflicts p q)) ≡ register_conflicts p q
@@ -71,7 +71,7 @@ do_conflict-on m object p q = of_object (kind_at m object)
 -- where an operation is well formed, it conflicts with those that the table counts
 kind-conflicts : (k : Option Kind) (p op : Op) → option_map_or (λ kind. suits kind op) k false ≡ true → ops_conflict p op ≡ option_map_or (λ kind. conflicts kind p op) k false
 kind-conflicts None p op is = absurd (false≢true is)
-kind-conflicts (Some kind) p op is = sym (conflicts_alike kind p op is)
+kind-conflicts (Some kind) p op is = sym (conflicts_equivalent kind p op is)
 
 pub suits-conflicts : {A : Type 0} (m : Parts A) (object : ℕ) (p op : Op) → is_well_formed m object op ≡ true → ops_conflict p op ≡ conflict_on m object p op
 suits-conflicts m object p op is = kind-conflicts (kind_at m object) p op is

@@ -30,7 +30,7 @@ use Rattle.acta_axioms.specs.SerialItems.{serial_items}
 use Rattle.acta_table.specs.declared.model.Kind.TheVariants.{Register, Counter, Elements}
 use Rattle.acta_table.specs.declared.event.Op.{Op}
 use Rattle.acta_table.specs.declared.event.Ret.{Ret}
-use Rattle.acta_axioms.proofs.Histories.{begin, spawn, split, join, delegate, form, operate, commit, abort, edge, owes, fault, plain, model, edgeless, parting, nesting, loose, class, Said, said, holds, is_due, breaks}
+use Rattle.acta_axioms.proofs.Histories.{begin, spawn, split, join, delegate, form, operate, commit, abort, edge, owes, fault, plain, model, edgeless, parting, nesting, loose, class, Said, parsed, holds, is_due, breaks}
 
 -- the numbers of these operations
 abbrev numbers : List Operation → List ℕ
@@ -59,16 +59,16 @@ unruly =
     ∷ operate 1 9 Read Done ∷ operate 1 0 (Insert (pos 1)) (Flag true) ∷ commit 1 ∷ abort 1 ∷ begin 65535 9 ∷ []
 
 -- a transaction that owes both a commit and an abort: each formula is owed, and still it is not legal
-abbrev torn : List (Kept (Unit {0}))
-torn = form Scd 2 1 ∷ form Ed 2 1 ∷ begin 1 3 ∷ begin 2 3 ∷ commit 1 ∷ []
+abbrev all_owing_both : List (Kept (Unit {0}))
+all_owing_both = form Scd 2 1 ∷ form Ed 2 1 ∷ begin 1 3 ∷ begin 2 3 ∷ commit 1 ∷ []
 
 -- an operation that is handed over: its new holder commits it, and the end of the one that did it is nothing to it
-abbrev handed : List (Kept (Unit {0}))
-handed = begin 1 4 ∷ begin 2 4 ∷ operate 1 0 (Write (pos 5)) Done ∷ delegate 1 2 (1 ∷ []) ∷ abort 1 ∷ commit 2 ∷ []
+abbrev transferred : List (Kept (Unit {0}))
+transferred = begin 1 4 ∷ begin 2 4 ∷ operate 1 0 (Write (pos 5)) Done ∷ delegate 1 2 (1 ∷ []) ∷ abort 1 ∷ commit 2 ∷ []
 
 -- but it can be handed back
 abbrev returned : List (Kept (Unit {0}))
-returned = take 4 handed ++ delegate 2 1 (1 ∷ []) ∷ abort 2 ∷ commit 1 ∷ []
+returned = take 4 transferred ++ delegate 2 1 (1 ∷ []) ∷ abort 2 ∷ commit 1 ∷ []
 
 -- a delegation by one that doesn't hold the operation leaves it where it is, and so does one behind its end
 abbrev unheld : List (Kept (Unit {0}))
@@ -147,7 +147,7 @@ held =
     (model, written, 1, 0 ∷ 1 ∷ 2 ∷ 3 ∷ 9 ∷ [], None ∷ None ∷ Some 1 ∷ Some 1 ∷ Some 1 ∷ [])
     ∷ (model, written, 0, 9 ∷ [], None ∷ [])
     ∷ (model, written, 2, 9 ∷ [], None ∷ [])
-    ∷ (model, handed, 1, 2 ∷ 3 ∷ 4 ∷ 5 ∷ 6 ∷ 9 ∷ [], None ∷ Some 1 ∷ Some 2 ∷ Some 2 ∷ Some 2 ∷ Some 2 ∷ [])
+    ∷ (model, transferred, 1, 2 ∷ 3 ∷ 4 ∷ 5 ∷ 6 ∷ 9 ∷ [], None ∷ Some 1 ∷ Some 2 ∷ Some 2 ∷ Some 2 ∷ Some 2 ∷ [])
     ∷ (model, returned, 1, 3 ∷ 4 ∷ 5 ∷ 6 ∷ 7 ∷ [], Some 1 ∷ Some 2 ∷ Some 1 ∷ Some 1 ∷ Some 1 ∷ [])
     ∷ (model, unheld, 1, 3 ∷ 4 ∷ 5 ∷ 6 ∷ 7 ∷ [], Some 1 ∷ Some 1 ∷ Some 1 ∷ Some 1 ∷ Some 1 ∷ [])
     ∷ (model, unknown, 1, 4 ∷ [], Some 1 ∷ [])
@@ -173,7 +173,7 @@ fates =
     ∷ (model, unruly, 2, 9 ∷ [], Some Committed ∷ [])
     ∷ (model, unruly, 3, 9 ∷ [], Some Committed ∷ [])
     ∷ (model, unruly, 4, 9 ∷ [], Some Committed ∷ [])
-    ∷ (model, handed, 1, 3 ∷ 4 ∷ 5 ∷ 6 ∷ [], Some InProgress ∷ Some InProgress ∷ Some InProgress ∷ Some Committed ∷ [])
+    ∷ (model, transferred, 1, 3 ∷ 4 ∷ 5 ∷ 6 ∷ [], Some InProgress ∷ Some InProgress ∷ Some InProgress ∷ Some Committed ∷ [])
     ∷ (model, returned, 1, 5 ∷ 6 ∷ 7 ∷ [], Some InProgress ∷ Some InProgress ∷ Some Committed ∷ [])
     ∷ (model, unheld, 1, 4 ∷ 5 ∷ 6 ∷ 7 ∷ [], Some InProgress ∷ Some Committed ∷ Some Committed ∷ Some Committed ∷ [])
     ∷ (model, own, 1, 4 ∷ [], Some Committed ∷ [])
@@ -201,7 +201,7 @@ sets_shown :
     × (map numbers (conflict_set model counted 1 ∷ conflict_set model counted 2 ∷ []) ≡ (2 ∷ 3 ∷ []) ∷ [] ∷ [])
     × (numbers (view_set model counted) ≡ 2 ∷ 3 ∷ [])
     × (return_due model counted 1 Get ≡ Some (Value (pos 7)))
-    × (map (λ t. numbers (access_set model (take 4 handed) t)) (1 ∷ 2 ∷ []) ≡ [] ∷ (1 ∷ []) ∷ [])
+    × (map (λ t. numbers (access_set model (take 4 transferred) t)) (1 ∷ 2 ∷ []) ≡ [] ∷ (1 ∷ []) ∷ [])
     × (map (λ n. numbers (access_set model (take n partial) 2)) (6 ∷ 7 ∷ 8 ∷ [])
     ≡ (3 ∷ []) ∷ (2 ∷ 3 ∷ []) ∷ (1 ∷ 2 ∷ 3 ∷ 4 ∷ []) ∷ [])
     × (map (λ t. numbers (conflict_set nesting (take 4 nested) t)) (1 ∷ 2 ∷ 3 ∷ []) ≡ (2 ∷ []) ∷ [] ∷ (1 ∷ 2 ∷ []) ∷ [])
@@ -246,26 +246,26 @@ formulas =
     ∷ (Wcd, begin 1 3 ∷ begin 2 3 ∷ commit 1 ∷ [], breaks)
     ∷ []
 
-formulas_shown : map (λ r. said r.0 r.1) formulas ≡ map (λ r. r.2) formulas
+formulas_shown : map (λ r. parsed r.0 r.1) formulas ≡ map (λ r. r.2) formulas
 unfolding is_false is_legal
 formulas_shown = refl
 
 -- before the commit nothing is owed
-torn_shown :
-    (owed model torn ≡ owes 1 2 Commit ∷ owes 2 2 Abort ∷ [])
-    × (owed model (take 4 torn) ≡ [])
-    × (map (is_broken_in torn) (edges model torn) ≡ false ∷ false ∷ [])
-    × (has_clash model torn ≡ true)
-    × (is_legal model torn ≡ false)
+owing_both_shown :
+    (owed model all_owing_both ≡ owes 1 2 Commit ∷ owes 2 2 Abort ∷ [])
+    × (owed model (take 4 all_owing_both) ≡ [])
+    × (map (is_broken_in all_owing_both) (edges model all_owing_both) ≡ false ∷ false ∷ [])
+    × (has_clash model all_owing_both ≡ true)
+    × (is_legal model all_owing_both ≡ false)
     × (is_legal parting parted ≡ true)
 unfolding is_false owed is_legal
-torn_shown = (refl, refl, refl, refl, refl, refl)
+owing_both_shown = (refl, refl, refl, refl, refl, refl)
 
 -- the faults in places, first of the histories above, and then of some with this fault or that
 abbrev faulty : List (Parts (Unit {0}) × List (Kept (Unit {0})) × List Fault)
 faulty =
     -- none
-    (model, written, []) ∷ (model, counted, []) ∷ (model, torn, []) ∷ (model, handed, []) ∷ (model, returned, [])
+    (model, written, []) ∷ (model, counted, []) ∷ (model, all_owing_both, []) ∷ (model, transferred, []) ∷ (model, returned, [])
     ∷ (parting, parted, []) ∷ (nesting, nested, []) ∷ (loose, read_loosely, [])
     -- some; a commit that stands before the begin counts as an end, and the class only after the start
     ∷ (model, commit 1 ∷ begin 1 0 ∷ [], fault EndedAfterBegun 1 1 ∷ [])
@@ -300,7 +300,7 @@ faulty =
     ∷ (model, begin 1 0 ∷ form Cd 2 1 ∷ form Cd 1 2 ∷ form Cd 3 2 ∷ [], fault Allowed 2 2 ∷ fault Allowed 3 1 ∷ [])
     ∷ (edgeless, form Cd 3 2 ∷ [], fault Allowed 1 3 ∷ [])
     -- what is handed over can't be handed over once more by the same
-    ∷ (model, take 4 handed ++ delegate 1 2 (1 ∷ []) ∷ [], fault Responsible 5 1 ∷ [])
+    ∷ (model, take 4 transferred ++ delegate 1 2 (1 ∷ []) ∷ [], fault Responsible 5 1 ∷ [])
     -- a delegation by one that is not in progress, to one, and by one that has ended to one that hasn't begun
     ∷ by model
     (begin 2 4 ∷ delegate 1 2 [] ∷ delegate 2 3 [] ∷ commit 2 ∷ delegate 2 3 [] ∷ [])
@@ -353,7 +353,7 @@ linked =
     (begin 1 0 ∷ begin 2 0 ∷ begin 3 0 ∷ operate 3 0 (Write (pos 5)) Done ∷ operate 1 0 (Write (pos 5)) Done
     ∷ operate 3 0 (Write (pos 5)) Done ∷ operate 2 0 Read (Value (pos 5)) ∷ [])
     (edge Ad 2 1 ∷ edge Td 2 1 ∷ edge Ad 2 3 ∷ edge Td 2 3 ∷ [])
-    -- none on an ancestor that is spared, nor where the class refuses
+    -- none on an ancestor that is exempt, nor where the class refuses
     ∷ (loose, begin 1 0 ∷ spawn 1 2 1 ∷ operate 1 0 (Write (pos 5)) Done ∷ operate 2 0 Read (Value (pos 5)) ∷ [], [])
     ∷ (model, begin 1 0 ∷ begin 2 0 ∷ operate 1 0 (Write (pos 5)) Done ∷ operate 2 0 Read (Value (pos 5)) ∷ [], [])
     ∷ []

@@ -15,7 +15,7 @@ use Rattle.acta_objects.specs.WellFormed.{bad_operation}
 use Rattle.acta_axioms.specs.declared.fault.Axiom.{Axiom}
 use Rattle.acta_axioms.specs.declared.fault.Axiom.TheVariants.{BegunOnce, EndedAfterBegun, EndedOnce, OperatesInProgress, FormOfEvent, Allowed, PartiesInProgress, Responsible, HandsWhole, Conflict, Return, Heir, FormedInTime}
 use Rattle.acta_axioms.specs.History.{number, has_begun, has_ended, is_in_progress}
-use Rattle.acta_axioms.specs.Faults.{when, first_named, begun_again, ended_unbegun, ended_again, operated_idle, ill_formed, not_allowed, idle_party, handed_unheld, kept_back, in_conflict, wrong_return, without_heir, not_in_time, breaches, faults_of, faults_at}
+use Rattle.acta_axioms.specs.Faults.{when, first_named, begun_again, ended_unbegun, ended_again, operated_idle, ill_formed, not_allowed, idle_party, transferred_unheld, kept_back, in_conflict, wrong_return, without_heir, not_in_time, breaches, faults_of, faults_at}
 use Rattle.acta_axioms.specs.Legal.{is_legal}
 use Rattle.acta_axioms.specs.Claims.{MeetsAxioms, status_at}
 use Rattle.acta_axioms.proofs.Growth.{at_end, faults_in_places-push}
@@ -30,8 +30,8 @@ pub record IsFaultless {A : Type 0} (m : Parts A) (before : List (Kept A)) (k : 
   pub form_of_event : ill_formed m k.event ≡ []
   pub allowed : not_allowed m before k.event ≡ []
   pub parties_in_progress : idle_party before k.event ≡ []
-  pub responsible : handed_unheld m before k.event ≡ []
-  pub hands_whole : kept_back m before k.event ≡ []
+  pub responsible : transferred_unheld m before k.event ≡ []
+  pub transfers_whole : kept_back m before k.event ≡ []
   pub conflict : in_conflict m before k.event ≡ []
   pub return : wrong_return m before k.ret k.event ≡ []
   pub heir : without_heir m before k.event ≡ []
@@ -49,7 +49,7 @@ faults_at-none m h k ok =
     ++ (faults_of Allowed n (ok.allowed i)
     ++ (faults_of PartiesInProgress n (ok.parties_in_progress i)
     ++ (faults_of Responsible n (ok.responsible i)
-    ++ (faults_of HandsWhole n (ok.hands_whole i)
+    ++ (faults_of HandsWhole n (ok.transfers_whole i)
     ++ (faults_of Conflict n (ok.conflict i)
     ++ (faults_of Return n (ok.return i)
     ++ (faults_of Heir n (ok.heir i)
@@ -76,7 +76,7 @@ faultless-from m h k none =
     let f5 = none-both (faults_of FormOfEvent n (ill_formed m k.event)) _ f4.1 in
     let f6 = none-both (faults_of Allowed n (not_allowed m h k.event)) _ f5.1 in
     let f7 = none-both (faults_of PartiesInProgress n (idle_party h k.event)) _ f6.1 in
-    let f8 = none-both (faults_of Responsible n (handed_unheld m h k.event)) _ f7.1 in
+    let f8 = none-both (faults_of Responsible n (transferred_unheld m h k.event)) _ f7.1 in
     let f9 = none-both (faults_of HandsWhole n (kept_back m h k.event)) _ f8.1 in
     let f10 = none-both (faults_of Conflict n (in_conflict m h k.event)) _ f9.1 in
     let f11 = none-both (faults_of Return n (wrong_return m h k.ret k.event)) _ f10.1 in
@@ -91,7 +91,7 @@ faultless-from m h k none =
       allowed = no_by Allowed n _ f6.0;
       parties_in_progress = no_by PartiesInProgress n _ f7.0;
       responsible = no_by Responsible n _ f8.0;
-      hands_whole = no_by HandsWhole n _ f9.0;
+      transfers_whole = no_by HandsWhole n _ f9.0;
       conflict = no_by Conflict n _ f10.0;
       return = no_by Return n _ f11.0;
       heir = no_by Heir n _ f12.0;
@@ -143,7 +143,7 @@ faultless-begin m h t class status form allowed =
       allowed = allowed;
       parties_in_progress = refl;
       responsible = refl;
-      hands_whole = refl;
+      transfers_whole = refl;
       conflict = refl;
       return = refl;
       heir = refl;
@@ -163,7 +163,7 @@ faultless-form m h kind j i form allowed in_time =
       allowed = allowed;
       parties_in_progress = refl;
       responsible = refl;
-      hands_whole = refl;
+      transfers_whole = refl;
       conflict = refl;
       return = refl;
       heir = refl;
@@ -183,7 +183,7 @@ faultless-spawn m h t c class status status_of_child form allowed =
       allowed = allowed;
       parties_in_progress = ap (λ b. cond (not b) (t.0 ∷ []) []) (under_way h t.0 status);
       responsible = refl;
-      hands_whole = refl;
+      transfers_whole = refl;
       conflict = refl;
       return = refl;
       heir = refl;
@@ -192,7 +192,7 @@ faultless-spawn m h t c class status status_of_child form allowed =
 
 -- a split by one in progress of one that has not begun, of operations that it holds, and of all where it has to
 pub faultless-split : {A : Type 0} (m : Parts A) (h : List (Kept A)) (t u : TxnId) (class : ClassId) (ops : List OpNo) → status_at h t.0 ≡ InProgress → status_at h u.0 ≡ NotBegun →
-    ill_formed m (Split t u class ops) ≡ [] → not_allowed m h (Split t u class ops) ≡ [] → handed_unheld m h (Split t u class ops) ≡ [] → kept_back m h (Split t u class ops) ≡ [] →
+    ill_formed m (Split t u class ops) ≡ [] → not_allowed m h (Split t u class ops) ≡ [] → transferred_unheld m h (Split t u class ops) ≡ [] → kept_back m h (Split t u class ops) ≡ [] →
     IsFaultless m h (record { event = Split t u class ops; ret = None })
 faultless-split m h t u class ops status status_of_other form allowed held whole =
     record {
@@ -204,7 +204,7 @@ faultless-split m h t u class ops status status_of_other form allowed held whole
       allowed = allowed;
       parties_in_progress = ap (λ b. cond (not b) (t.0 ∷ []) []) (under_way h t.0 status);
       responsible = held;
-      hands_whole = whole;
+      transfers_whole = whole;
       conflict = refl;
       return = refl;
       heir = refl;
@@ -224,7 +224,7 @@ faultless-join m h t u status status_of_other form allowed =
       allowed = allowed;
       parties_in_progress = ap (λ b. cond (not b) (u.0 ∷ []) []) (under_way h u.0 status_of_other);
       responsible = refl;
-      hands_whole = refl;
+      transfers_whole = refl;
       conflict = refl;
       return = refl;
       heir = refl;
@@ -241,7 +241,7 @@ both-under-way h t u status status_of_other = of_test (t.0 == u.0)
 
 -- a delegation by one in progress to one in progress, of operations that it holds, and of all where it has to
 pub faultless-delegate : {A : Type 0} (m : Parts A) (h : List (Kept A)) (t u : TxnId) (ops : List OpNo) → status_at h t.0 ≡ InProgress → status_at h u.0 ≡ InProgress →
-    ill_formed m (Delegate t u ops) ≡ [] → not_allowed m h (Delegate t u ops) ≡ [] → handed_unheld m h (Delegate t u ops) ≡ [] → kept_back m h (Delegate t u ops) ≡ [] →
+    ill_formed m (Delegate t u ops) ≡ [] → not_allowed m h (Delegate t u ops) ≡ [] → transferred_unheld m h (Delegate t u ops) ≡ [] → kept_back m h (Delegate t u ops) ≡ [] →
     IsFaultless m h (record { event = Delegate t u ops; ret = None })
 faultless-delegate m h t u ops status status_of_other form allowed held whole =
     record {
@@ -253,7 +253,7 @@ faultless-delegate m h t u ops status status_of_other form allowed held whole =
       allowed = allowed;
       parties_in_progress = both-under-way h t u status status_of_other;
       responsible = held;
-      hands_whole = whole;
+      transfers_whole = whole;
       conflict = refl;
       return = refl;
       heir = refl;
@@ -273,7 +273,7 @@ faultless-permit m h t u ob status status_of_other form allowed =
       allowed = allowed;
       parties_in_progress = both-under-way h t u status status_of_other;
       responsible = refl;
-      hands_whole = refl;
+      transfers_whole = refl;
       conflict = refl;
       return = refl;
       heir = refl;
@@ -293,7 +293,7 @@ faultless-commit m h t status form allowed left =
       allowed = allowed;
       parties_in_progress = refl;
       responsible = refl;
-      hands_whole = refl;
+      transfers_whole = refl;
       conflict = refl;
       return = refl;
       heir = left;
@@ -312,7 +312,7 @@ faultless-abort m h t status form allowed =
       allowed = allowed;
       parties_in_progress = refl;
       responsible = refl;
-      hands_whole = refl;
+      transfers_whole = refl;
       conflict = refl;
       return = refl;
       heir = refl;

@@ -14,7 +14,7 @@ use Rattle.acta_table.specs.declared.event.TxnId.{TxnId}
 use Rattle.acta_table.specs.Fates.{is_open}
 use Rattle.acta_table.specs.Sets.{is_named}
 use Rattle.acta_sets.specs.declared.held_op.HeldOp.{HeldOp}
-use Rattle.acta_sets.specs.Operations.{added, handed, handed_of, handed_from, ended}
+use Rattle.acta_sets.specs.Operations.{added, transferred, transferred_of, transferred_from, ended}
 use Rattle.acta_axioms.specs.inside.Holding.{in_hand, ended_so, brought, brought_from, op_done}
 
 flip : (a b : ℕ) → (a == b) ≡ (b == a)
@@ -38,19 +38,19 @@ named_step true false false b y x same = refl
 named_step false e true b y x same = refl
 named_step false e false b y x same = refl
 
-split_is : (A : Type 0) (left : Option TxnId) (s u : TxnId) (class : ClassId) (ops : List OpNo) (n : ℕ) (xs : List HeldOp) → handed_from n s.0 ops u xs ≡ brought_from {A = A} left (Split s u class ops) n xs
+split_is : (A : Type 0) (left : Option TxnId) (s u : TxnId) (class : ClassId) (ops : List OpNo) (n : ℕ) (xs : List HeldOp) → transferred_from n s.0 ops u xs ≡ brought_from {A = A} left (Split s u class ops) n xs
 split_is A left s u class ops n [] = refl
 split_is A left s u class ops n (x ∷ xs) = λ i. sym (named_step (is_open x.fate) (s.0 == x.holder.0) (x.holder.0 == s.0) (is_named ops n) (in_hand u x) x (flip s.0 x.holder.0)) i ∷ split_is A left s u class ops (n + 1) xs i
 
-delegate_is : (A : Type 0) (left : Option TxnId) (s u : TxnId) (ops : List OpNo) (n : ℕ) (xs : List HeldOp) → handed_from n s.0 ops u xs ≡ brought_from {A = A} left (Delegate s u ops) n xs
+delegate_is : (A : Type 0) (left : Option TxnId) (s u : TxnId) (ops : List OpNo) (n : ℕ) (xs : List HeldOp) → transferred_from n s.0 ops u xs ≡ brought_from {A = A} left (Delegate s u ops) n xs
 delegate_is A left s u ops n [] = refl
 delegate_is A left s u ops n (x ∷ xs) = λ i. sym (named_step (is_open x.fate) (s.0 == x.holder.0) (x.holder.0 == s.0) (is_named ops n) (in_hand u x) x (flip s.0 x.holder.0)) i ∷ delegate_is A left s u ops (n + 1) xs i
 
-join_is : (A : Type 0) (left : Option TxnId) (s u : TxnId) (n : ℕ) (xs : List HeldOp) → handed s.0 u xs ≡ brought_from {A = A} left (Join s u) n xs
+join_is : (A : Type 0) (left : Option TxnId) (s u : TxnId) (n : ℕ) (xs : List HeldOp) → transferred s.0 u xs ≡ brought_from {A = A} left (Join s u) n xs
 join_is A left s u n [] = refl
 join_is A left s u n (x ∷ xs) = λ i. sym (one_step (is_open x.fate) (s.0 == x.holder.0) (x.holder.0 == s.0) (in_hand u x) x (flip s.0 x.holder.0)) i ∷ join_is A left s u (n + 1) xs i
 
-heir_is : (A : Type 0) (s u : TxnId) (n : ℕ) (xs : List HeldOp) → handed s.0 u xs ≡ brought_from {A = A} (Some u) (Commit s) n xs
+heir_is : (A : Type 0) (s u : TxnId) (n : ℕ) (xs : List HeldOp) → transferred s.0 u xs ≡ brought_from {A = A} (Some u) (Commit s) n xs
 heir_is A s u n [] = refl
 heir_is A s u n (x ∷ xs) = λ i. sym (one_step (is_open x.fate) (s.0 == x.holder.0) (x.holder.0 == s.0) (in_hand u x) x (flip s.0 x.holder.0)) i ∷ heir_is A s u (n + 1) xs i
 
@@ -70,16 +70,16 @@ still false x = refl
 abbrev pub further_on : {A : Type 0} → Option TxnId → Event A → List HeldOp → List HeldOp
 further_on left e xs = brought_from left e 1 xs ++ option_to_list (op_done e)
 
-pub split-on : {A : Type 0} (left : Option TxnId) (e : Event A) (s u : TxnId) (class : ClassId) (ops : List OpNo) (xs : List HeldOp) → e ≡ Split s u class ops → handed_of s.0 ops u xs ≡ further_on left e xs
+pub split-on : {A : Type 0} (left : Option TxnId) (e : Event A) (s u : TxnId) (class : ClassId) (ops : List OpNo) (xs : List HeldOp) → e ≡ Split s u class ops → transferred_of s.0 ops u xs ≡ further_on left e xs
 split-on {A} left e s u class ops xs is = split_is A left s u class ops 1 xs ∙ sym (append-nil (brought_from {A = A} left (Split s u class ops) 1 xs)) ∙ ap (λ (f : Event A). further_on left f xs) (sym is)
 
-pub delegate-on : {A : Type 0} (left : Option TxnId) (e : Event A) (s u : TxnId) (ops : List OpNo) (xs : List HeldOp) → e ≡ Delegate s u ops → handed_of s.0 ops u xs ≡ further_on left e xs
+pub delegate-on : {A : Type 0} (left : Option TxnId) (e : Event A) (s u : TxnId) (ops : List OpNo) (xs : List HeldOp) → e ≡ Delegate s u ops → transferred_of s.0 ops u xs ≡ further_on left e xs
 delegate-on {A} left e s u ops xs is = delegate_is A left s u ops 1 xs ∙ sym (append-nil (brought_from {A = A} left (Delegate s u ops) 1 xs)) ∙ ap (λ (f : Event A). further_on left f xs) (sym is)
 
-pub join-on : {A : Type 0} (left : Option TxnId) (e : Event A) (s u : TxnId) (xs : List HeldOp) → e ≡ Join s u → handed s.0 u xs ≡ further_on left e xs
+pub join-on : {A : Type 0} (left : Option TxnId) (e : Event A) (s u : TxnId) (xs : List HeldOp) → e ≡ Join s u → transferred s.0 u xs ≡ further_on left e xs
 join-on {A} left e s u xs is = join_is A left s u 1 xs ∙ sym (append-nil (brought_from {A = A} left (Join s u) 1 xs)) ∙ ap (λ (f : Event A). further_on left f xs) (sym is)
 
-pub heir-on : {A : Type 0} (e : Event A) (s u : TxnId) (xs : List HeldOp) → e ≡ Commit s → handed s.0 u xs ≡ further_on (Some u) e xs
+pub heir-on : {A : Type 0} (e : Event A) (s u : TxnId) (xs : List HeldOp) → e ≡ Commit s → transferred s.0 u xs ≡ further_on (Some u) e xs
 heir-on {A} e s u xs is = heir_is A s u 1 xs ∙ sym (append-nil (brought_from {A = A} (Some u) (Commit s) 1 xs)) ∙ ap (λ (f : Event A). further_on (Some u) f xs) (sym is)
 
 pub commit-on : {A : Type 0} (e : Event A) (s : TxnId) (xs : List HeldOp) → e ≡ Commit s → ended s.0 Committed xs ≡ further_on None e xs

@@ -150,8 +150,8 @@ pub record Said : Type 0 where
   pub broken : Bool
   pub legal : Bool
 
-abbrev pub said : Dep → List (Kept (Unit {0})) → Said
-said kind ks =
+abbrev pub parsed : Dep → List (Kept (Unit {0})) → Said
+parsed kind ks =
     let h = form kind 2 1 ∷ ks in
     record {
       false_there = is_false kind (course h 2) (course h 1);

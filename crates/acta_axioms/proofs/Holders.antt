@@ -20,7 +20,7 @@ use Rattle.acta_table.specs.Numbered.{ascending}
 use Rattle.acta_table.specs.Policies.{forms, edge_on, edges_on, edges_upon}
 use Rattle.acta_table.specs.Fates.{is_open}
 use Rattle.acta_axioms.specs.Edges.{holders_against}
-use Rattle.acta_axioms.specs.Operations.{Operation, Standing, is_spared, is_of_others, standing, operations, conflict_set}
+use Rattle.acta_axioms.specs.Operations.{Operation, Standing, is_exempt, is_of_others, standing, operations, conflict_set}
 use Rattle.acta_axioms.specs.Values.{do_conflict, conflicting}
 
 all-insert : (p : ℕ → Bool) (ns : List ℕ) (n : ℕ) → list_all p ns ≡ true → p n ≡ true → list_all p (insert_key nat_cmp ns n) ≡ true
@@ -93,5 +93,5 @@ holders-others m h t object op =
   where
     other : (on : ℕ) (s : Standing) → is_of_others m h t on s ≡ true → not (s.holder == t) ≡ true
     other on s is =
-        let parts = and_parts (is_open s.fate && not (s.holder == t)) (not (is_spared m h t on s.holder)) is in
+        let parts = and_parts (is_open s.fate && not (s.holder == t)) (not (is_exempt m h t on s.holder)) is in
         (and_parts (is_open s.fate) (not (s.holder == t)) parts.0).1

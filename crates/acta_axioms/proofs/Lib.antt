@@ -11,11 +11,11 @@ pub mod ByOperations
 pub mod Faultless
 mod Named
 mod Tables
-mod Lineages
+mod TxnRecords
 mod Bringing
 mod Following
 pub mod Searches
-pub mod Unopposed
+pub mod Unconflicted
 mod EdgesWanted
 pub mod Permitting
 mod Taken

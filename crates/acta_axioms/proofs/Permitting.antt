@@ -15,7 +15,7 @@ use Rattle.acta_axioms.specs.History.{starts, course, has_begun, has_ended, is_i
 use Rattle.acta_axioms.specs.declared.course.Course.{Course}
 use Rattle.acta_axioms.specs.Permits.{has_permitted, is_permitted}
 use Rattle.acta_axioms.specs.Claims.{status_at}
-use Rattle.acta_axioms.specs.inside.Lineages.{is_late}
+use Rattle.acta_axioms.specs.inside.TxnRecords.{is_late}
 use Rattle.acta_axioms.specs.inside.Walking.{permits_behind, is_left}
 use Rattle.acta_axioms.proofs.Growth.{ends, or_here, course-push}
 use Rattle.acta_axioms.proofs.ValueGrowth.{eqb-turned}

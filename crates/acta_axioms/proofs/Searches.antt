@@ -26,7 +26,7 @@ use Rattle.acta_table.specs.declared.dep.Edge.{Edge}
 use Rattle.acta_table.specs.declared.answer.Fate.{Fate}
 use Rattle.acta_table.specs.declared.answer.Fate.TheVariants.{InProgress, Committed, Aborted}
 use Rattle.acta_table.specs.Ancestors.{ancestors_from}
-use Rattle.acta_table.specs.Classes.{spares}
+use Rattle.acta_table.specs.Classes.{exempts}
 use Rattle.acta_table.specs.Fates.{is_aborted, is_open}
 use Rattle.acta_table.specs.Numbered.{ascending}
 use Rattle.acta_table.specs.Policies.{refuses, edges_upon}
@@ -39,7 +39,7 @@ use Rattle.acta_sets.specs.declared.held_op.HeldOp.{HeldOp}
 use Rattle.acta_sets.specs.Operations.{is_held, ops_conflict, is_against as is_against_in, holders_against as holders_against_in}
 use Rattle.acta_axioms.specs.declared.seeking.Sought.TheVariants.{Others, Against}
 use Rattle.acta_axioms.specs.History.{has_class, class_of, ancestors}
-use Rattle.acta_axioms.specs.Operations.{Operation, Standing, standing, operations, is_spared, is_of_others, access_set, conflict_set}
+use Rattle.acta_axioms.specs.Operations.{Operation, Standing, standing, operations, is_exempt, is_of_others, access_set, conflict_set}
 use Rattle.acta_axioms.specs.Permits.{is_permitted}
 use Rattle.acta_axioms.specs.inside.Against.{is_against_but}
 use Rattle.acta_axioms.specs.Values.{do_conflict, conflicting, value, is_well_formed}
@@ -48,7 +48,7 @@ use Rattle.acta_axioms.specs.Walks.{held_op, held_ops, op_numbers}
 use Rattle.acta_values.specs.KeptValues.{kinds_of}
 use Rattle.acta_values.specs.Live.{live_on, live_ops}
 use Rattle.acta_values.specs.Stores.{Stored}
-use Rattle.acta_axioms.specs.inside.Walking.{standing_in, spared, spared_numbers, AreSpared, is_against, is_sought, numbers_of}
+use Rattle.acta_axioms.specs.inside.Walking.{standing_in, exempt, exempt_numbers, AreExempt, is_against, is_sought, numbers_of}
 use Rattle.acta_axioms.proofs.ByOperations.{holders-shown, value-shown}
 use Rattle.acta_axioms.proofs.Conflicts.{do_conflict-on, suits-conflicts, ill-conflicts}
 use Rattle.acta_axioms.proofs.Numbers.{numbers-shown}
@@ -60,23 +60,23 @@ line-next n i parent p here next within is follows =
     let more : n - i ≡ suc (n - (i + 1)) = omega (arith, within) in
     (λ x. ancestors_from (more x) parent (is x)) ∙ ap (λ o. p ∷ ancestors_from (n - (i + 1)) parent o) (sym follows)
 
--- one is in the set where it is spared
+-- one is in the set where it is exempt
 by-number : (ts : List TxnId) (u : ℕ) → list_any (λ n. n == u) (map (λ t. t.0) ts) ≡ list_any (λ t. t.0 == u) ts
 by-number [] u = refl
 by-number (t ∷ ts) u = ap (λ b. (t.0 == u) || b) (by-number ts u)
 
-pub in-spared : {A : Type 0} (m : Parts A) (h : List (Kept A)) (t u : ℕ) → list_any (is_at (nat_cmp u)) (spared_numbers m h t) ≡ (has_class (λ k. spares k.scope) m h t && list_any (λ a. a.0 == u) (ancestors h t))
-in-spared m h t u = in-ascending u (map (λ x. x.0) (spared m h t)) ∙ by-number (spared m h t) u ∙ of_test (has_class (λ k. spares k.scope) m h t)
+pub in-exempt : {A : Type 0} (m : Parts A) (h : List (Kept A)) (t u : ℕ) → list_any (is_at (nat_cmp u)) (exempt_numbers m h t) ≡ (has_class (λ k. exempts k.scope) m h t && list_any (λ a. a.0 == u) (ancestors h t))
+in-exempt m h t u = in-ascending u (map (λ x. x.0) (exempt m h t)) ∙ by-number (exempt m h t) u ∙ of_test (has_class (λ k. exempts k.scope) m h t)
   where
     of_test : (b : Bool) → list_any (λ a. a.0 == u) (if b then ancestors h t else []) ≡ (b && list_any (λ a. a.0 == u) (ancestors h t))
     of_test true = refl
     of_test false = refl
 
--- those who are spared on an object: ancestors, and those who permit it
-pub spared-on : {A : Type 0} (m : Parts A) (h : List (Kept A)) (t object : ℕ) (base keys : List ℕ) (found : List TxnId) → base ≡ spared_numbers m h t → ((u : ℕ) → list_any (λ s. s.0 == u) found ≡ is_permitted h u t object)
-    → ((u : ℕ) → list_any (λ k. k == u) keys ≡ (list_any (λ k. k == u) base || list_any (λ s. s.0 == u) found)) → AreSpared m h t object keys
-spared-on m h t object base keys found ancestors_are permit all u =
-    all u ∙ (λ i. (ap (λ (ns : List ℕ). list_any (λ k. k == u) ns) ancestors_are ∙ sym (any-number u (spared_numbers m h t)) ∙ in-spared m h t u) i || permit u i)
+-- those who are exempt on an object: ancestors, and those who permit it
+pub exempt-on : {A : Type 0} (m : Parts A) (h : List (Kept A)) (t object : ℕ) (base keys : List ℕ) (found : List TxnId) → base ≡ exempt_numbers m h t → ((u : ℕ) → list_any (λ s. s.0 == u) found ≡ is_permitted h u t object)
+    → ((u : ℕ) → list_any (λ k. k == u) keys ≡ (list_any (λ k. k == u) base || list_any (λ s. s.0 == u) found)) → AreExempt m h t object keys
+exempt-on m h t object base keys found ancestors_are permit all u =
+    all u ∙ (λ i. (ap (λ (ns : List ℕ). list_any (λ k. k == u) ns) ancestors_are ∙ sym (any-number u (exempt_numbers m h t)) ∙ in-exempt m h t u) i || permit u i)
 
 none_and : (a : Bool) → (a && false) ≡ false
 none_and true = refl
@@ -104,12 +104,12 @@ moved_on false a b true c = refl
 moved_on false a b false c = refl
 
 -- in the words of the table
-against_but : {A : Type 0} (m : Parts A) (h : List (Kept A)) (t object : ℕ) (op : Op) (x : HeldOp) → is_well_formed m object op ≡ true → is_against_but t (is_spared m h t object) object op x ≡ is_against m h t object op x
+against_but : {A : Type 0} (m : Parts A) (h : List (Kept A)) (t object : ℕ) (op : Op) (x : HeldOp) → is_well_formed m object op ≡ true → is_against_but t (is_exempt m h t object) object op x ≡ is_against m h t object op x
 against_but m h t object op x is =
-    ap (λ b. is_open x.fate && not (x.holder.0 == t) && not (is_spared m h t object x.holder.0) && (x.ob.0 == object) && b) (suits-conflicts m object x.op op is)
-    ∙ moved_on (is_open x.fate) (not (x.holder.0 == t)) (not (is_spared m h t object x.holder.0)) (x.ob.0 == object) (conflict_on m object x.op op)
+    ap (λ b. is_open x.fate && not (x.holder.0 == t) && not (is_exempt m h t object x.holder.0) && (x.ob.0 == object) && b) (suits-conflicts m object x.op op is)
+    ∙ moved_on (is_open x.fate) (not (x.holder.0 == t)) (not (is_exempt m h t object x.holder.0)) (x.ob.0 == object) (conflict_on m object x.op op)
 
-against_by : {A : Type 0} (m : Parts A) (h : List (Kept A)) (t object : ℕ) (op : Op) (keys : List ℕ) (x : HeldOp) → AreSpared m h t object keys → is_well_formed m object op ≡ true → is_against_in t keys object op x ≡ is_against m h t object op x
+against_by : {A : Type 0} (m : Parts A) (h : List (Kept A)) (t object : ℕ) (op : Op) (keys : List ℕ) (x : HeldOp) → AreExempt m h t object keys → is_well_formed m object op ≡ true → is_against_in t keys object op x ≡ is_against m h t object op x
 against_by m h t object op keys x same is =
     ap (λ b. is_open x.fate && not (x.holder.0 == t) && not b && (x.ob.0 == object) && ops_conflict x.op op) (same x.holder.0)
     ∙ against_but m h t object op x is
@@ -123,29 +123,29 @@ any_none : (test : HeldOp → Bool) (xs : List HeldOp) → ((x : HeldOp) → tes
 any_none test [] none = refl
 any_none test (x ∷ xs) none = ap (λ b. b || list_any test xs) (none x) ∙ any_none test xs none
 
-any-by : {A : Type 0} (m : Parts A) (h : List (Kept A)) (t object : ℕ) (op : Op) (keys : List ℕ) (xs : List HeldOp) → AreSpared m h t object keys → is_well_formed m object op ≡ true →
+any-by : {A : Type 0} (m : Parts A) (h : List (Kept A)) (t object : ℕ) (op : Op) (keys : List ℕ) (xs : List HeldOp) → AreExempt m h t object keys → is_well_formed m object op ≡ true →
     list_any (is_against_in t keys object op) xs ≡ list_any (is_against m h t object op) xs
 any-by m h t object op keys xs same is = ap (λ (test : HeldOp → Bool). list_any test xs) (λ i x. against_by m h t object op keys x same is i)
 
 any-ill : {A : Type 0} (m : Parts A) (h : List (Kept A)) (t object : ℕ) (op : Op) (xs : List HeldOp) → is_well_formed m object op ≡ false → false ≡ list_any (is_against m h t object op) xs
 any-ill m h t object op xs is = sym (any_none (is_against m h t object op) xs (λ x. none_against m h t object op x is))
 
-pub any-tells : {A : Type 0} (m : Parts A) (h : List (Kept A)) (t object : ℕ) (op : Op) (keys : List ℕ) (xs : List HeldOp) → AreSpared m h t object keys
+pub any-tells : {A : Type 0} (m : Parts A) (h : List (Kept A)) (t object : ℕ) (op : Op) (keys : List ℕ) (xs : List HeldOp) → AreExempt m h t object keys
     → (is_well_formed m object op && list_any (is_against_in t keys object op) xs) ≡ list_any (is_against m h t object op) xs
-any-tells m h t object op keys xs same = told (is_well_formed m object op) (any-by m h t object op keys xs same) (any-ill m h t object op xs)
+any-tells m h t object op keys xs same = reported (is_well_formed m object op) (any-by m h t object op keys xs same) (any-ill m h t object op xs)
   where
-    told : (b : Bool) → (b ≡ true → list_any (is_against_in t keys object op) xs ≡ list_any (is_against m h t object op) xs) → (b ≡ false → false ≡ list_any (is_against m h t object op) xs)
+    reported : (b : Bool) → (b ≡ true → list_any (is_against_in t keys object op) xs ≡ list_any (is_against m h t object op) xs) → (b ≡ false → false ≡ list_any (is_against m h t object op) xs)
         → (b && list_any (is_against_in t keys object op) xs) ≡ list_any (is_against m h t object op) xs
-    told true is ill = is refl
-    told false is ill = ill refl
+    reported true is ill = is refl
+    reported false is ill = ill refl
 
 -- where no operation of another conflicts, none is against
-pub none-opposed : {A : Type 0} (m : Parts A) (h : List (Kept A)) (t object : ℕ) (op : Op) (xs : List HeldOp) → (is_well_formed m object op && list_any (is_against_but t (is_spared m h t object) object op) xs) ≡ false → list_any (is_against m h t object op) xs ≡ false
-none-opposed m h t object op xs none = told (is_well_formed m object op) refl none
+pub none-conflicted : {A : Type 0} (m : Parts A) (h : List (Kept A)) (t object : ℕ) (op : Op) (xs : List HeldOp) → (is_well_formed m object op && list_any (is_against_but t (is_exempt m h t object) object op) xs) ≡ false → list_any (is_against m h t object op) xs ≡ false
+none-conflicted m h t object op xs none = reported (is_well_formed m object op) refl none
   where
-    told : (b : Bool) → is_well_formed m object op ≡ b → (b && list_any (is_against_but t (is_spared m h t object) object op) xs) ≡ false → list_any (is_against m h t object op) xs ≡ false
-    told true is e = sym (ap (λ (test : HeldOp → Bool). list_any test xs) (λ i x. against_but m h t object op x is i)) ∙ e
-    told false is e = sym (any-ill m h t object op xs is)
+    reported : (b : Bool) → is_well_formed m object op ≡ b → (b && list_any (is_against_but t (is_exempt m h t object) object op) xs) ≡ false → list_any (is_against m h t object op) xs ≡ false
+    reported true is e = sym (ap (λ (test : HeldOp → Bool). list_any test xs) (λ i x. against_but m h t object op x is i)) ∙ e
+    reported false is e = sym (any-ill m h t object op xs is)
 
 -- where none is against, none is found
 none_numbered : (test : HeldOp → Bool) (n : ℕ) (xs : List HeldOp) → list_any test xs ≡ false → [] ≡ numbers_from test n xs
@@ -161,7 +161,7 @@ pub holders-found : {A : Type 0} (m : Parts A) (h : List (Kept A)) (t object : �
 holders-found m h t object op =
     ap ascending (sym (holders-shown m h t object op (λ o. held_op o (standing m h o)) (is_against m h t object op) (λ x. x.holder.0) (λ o. against-tells m h t object op o (standing m h o)) (λ o. refl)))
 
-holders-by : {A : Type 0} (m : Parts A) (h : List (Kept A)) (t object : ℕ) (op : Op) (keys : List ℕ) → AreSpared m h t object keys → is_well_formed m object op ≡ true →
+holders-by : {A : Type 0} (m : Parts A) (h : List (Kept A)) (t object : ℕ) (op : Op) (keys : List ℕ) → AreExempt m h t object keys → is_well_formed m object op ≡ true →
     holders_against_in t keys object op (held_ops m h) ≡ holders_against m h t object op
 holders-by m h t object op keys same is =
     ap (λ xs. ascending (map (λ (x : HeldOp). x.holder.0) xs)) (filter_agree (is_against_in t keys object op) (is_against m h t object op) (λ x. against_by m h t object op keys x same is) (held_ops m h))
@@ -175,14 +175,14 @@ holders-ill : {A : Type 0} (m : Parts A) (h : List (Kept A)) (t object : ℕ) (o
 holders-ill m h t object op is =
     ap (λ xs. ascending (map (λ (x : HeldOp). x.holder.0) xs)) (none_held (is_against m h t object op) (held_ops m h) (λ x. none_against m h t object op x is)) ∙ holders-found m h t object op
 
-pub holders-tell : {A : Type 0} (m : Parts A) (h : List (Kept A)) (t object : ℕ) (op : Op) (keys : List ℕ) → AreSpared m h t object keys
+pub holders-tell : {A : Type 0} (m : Parts A) (h : List (Kept A)) (t object : ℕ) (op : Op) (keys : List ℕ) → AreExempt m h t object keys
     → (if is_well_formed m object op then holders_against_in t keys object op (held_ops m h) else []) ≡ holders_against m h t object op
-holders-tell m h t object op keys same = told (is_well_formed m object op) (holders-by m h t object op keys same) (holders-ill m h t object op)
+holders-tell m h t object op keys same = reported (is_well_formed m object op) (holders-by m h t object op keys same) (holders-ill m h t object op)
   where
-    told : (b : Bool) → (b ≡ true → holders_against_in t keys object op (held_ops m h) ≡ holders_against m h t object op) → (b ≡ false → [] ≡ holders_against m h t object op)
+    reported : (b : Bool) → (b ≡ true → holders_against_in t keys object op (held_ops m h) ≡ holders_against m h t object op) → (b ≡ false → [] ≡ holders_against m h t object op)
         → (if b then holders_against_in t keys object op (held_ops m h) else []) ≡ holders_against m h t object op
-    told true is ill = is refl
-    told false is ill = ill refl
+    reported true is ill = is refl
+    reported false is ill = ill refl
 
 -- the numbers of those that pass a test
 found : {A : Type 0} (m : Parts A) (h : List (Kept A)) (test : HeldOp → Bool) → numbers_of test (held_ops m h) ≡ op_numbers (filter (λ o. test (held_op o (standing m h o))) (operations h))

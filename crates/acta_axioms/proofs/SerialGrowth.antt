@@ -19,11 +19,11 @@ use Rattle.acta_table.specs.declared.event.Ret.{Ret}
 use Rattle.acta_table.specs.declared.event.TxnId.{TxnId}
 use Rattle.acta_table.specs.declared.model.Class.{Class}
 use Rattle.acta_table.specs.declared.model.Parts.{Parts}
-use Rattle.acta_table.specs.Classes.{spares, has_heir}
+use Rattle.acta_table.specs.Classes.{exempts, has_heir}
 use Rattle.acta_table.specs.Fates.{is_open, is_committed, is_aborted}
 use Rattle.acta_axioms.specs.declared.course.Course.{Course}
 use Rattle.acta_axioms.specs.History.{number, places_behind, starts, course, has_begun, has_ended, is_in_progress, has_class, class_of, spawner, parent_of, ancestors}
-use Rattle.acta_axioms.specs.Operations.{Operation, Standing, number_after, operations, held_by, ended_by, heir, followed, carried, standing, is_spared, is_of_others, is_in_view, view_set, conflict_set}
+use Rattle.acta_axioms.specs.Operations.{Operation, Standing, number_after, operations, held_by, ended_by, heir, followed, carried, standing, is_exempt, is_of_others, is_in_view, view_set, conflict_set}
 use Rattle.acta_axioms.specs.Values.{do_conflict, conflicting}
 use Rattle.acta_axioms.specs.Faults.{ill_formed, faults_at, faults_in_places}
 use Rattle.acta_axioms.specs.Claims.{status_at}
@@ -228,9 +228,9 @@ no_heir m h t none = of (has_class (λ k. has_heir k.at_commit) m h t)
     of false = refl
 
 -- an operation that conflicts with nothing stands against none in progress of others
-unopposed : {A : Type 0} (m : Parts A) (h : List (Kept A)) (t : ℕ) (o : Operation) (f : ℕ → Fate) → o.invoker ≡ t → has_class is_strict_class m h t ≡ true → ((u v object : ℕ) → has_permitted h u v object ≡ false) → AllByRecursion (λ x. standing m h x ≡ stands_so f x) (operations h) → conflicting m h t o.object o.op ≡ []
+unconflicted : {A : Type 0} (m : Parts A) (h : List (Kept A)) (t : ℕ) (o : Operation) (f : ℕ → Fate) → o.invoker ≡ t → has_class is_strict_class m h t ≡ true → ((u v object : ℕ) → has_permitted h u v object ≡ false) → AllByRecursion (λ x. standing m h x ≡ stands_so f x) (operations h) → conflicting m h t o.object o.op ≡ []
     → list_all (λ x. (x.invoker == o.invoker) || is_free m x o) (filter (λ x. is_open (f x.invoker)) (operations h)) ≡ true
-unopposed {A} m h t o f of_t strict unpermitted stand none =
+unconflicted {A} m h t o f of_t strict unpermitted stand none =
     (λ i. list_all (λ x. (x.invoker == of_t i) || not ((x.object == o.object) && sym (do_conflict-on m o.object x.op o.op) i)) waiting)
     ∙ none-against (λ x. x.invoker == t) (λ x. (x.object == o.object) && do_conflict m o.object x.op o.op) waiting
     (ap (filter (λ x. (x.object == o.object) && do_conflict m o.object x.op o.op)) (sym others) ∙ none)
@@ -241,8 +241,8 @@ unopposed {A} m h t o f of_t strict unpermitted stand none =
     no_permit : (u object : ℕ) → is_permitted h u t object ≡ false
     no_permit u object = unpermitted-counts h u t object (unpermitted u t object)
 
-    unspared : (u object : ℕ) → is_spared m h t object u ≡ false
-    unspared u object = λ i. (of-strict (λ (k : Class A). spares k.scope) false (λ k s. s.scope) (class_of m h t) strict i && list_any (λ a. a.0 == u) (ancestors h t)) || no_permit u object i
+    not_exempt : (u object : ℕ) → is_exempt m h t object u ≡ false
+    not_exempt u object = λ i. (of-strict (λ (k : Class A). exempts k.scope) false (λ k s. s.scope) (class_of m h t) strict i && list_any (λ a. a.0 == u) (ancestors h t)) || no_permit u object i
 
     and-true : (b : Bool) → (b && not false) ≡ b
     and-true true = refl
@@ -251,7 +251,7 @@ unopposed {A} m h t o f of_t strict unpermitted stand none =
     others : conflict_set m h t ≡ filter (λ x. not (x.invoker == t)) waiting
     others =
         filter-within (λ x. standing m h x ≡ stands_so f x) (λ x. is_of_others m h t x.object (standing m h x)) (λ x. is_open (f x.invoker) && not (x.invoker == t))
-        (λ x so. ap (is_of_others m h t x.object) so ∙ ap (λ b. is_open (f x.invoker) && not (x.invoker == t) && not b) (unspared x.invoker x.object) ∙ and-true (is_open (f x.invoker) && not (x.invoker == t)))
+        (λ x so. ap (is_of_others m h t x.object) so ∙ ap (λ b. is_open (f x.invoker) && not (x.invoker == t) && not b) (not_exempt x.invoker x.object) ∙ and-true (is_open (f x.invoker) && not (x.invoker == t)))
         (operations h) stand
         ∙ filter-both (λ x. is_open (f x.invoker)) (λ x. not (x.invoker == t)) (operations h)
 
@@ -265,7 +265,7 @@ step-operate {A} m h ret t ob op strict fine so_far =
           (subst (AreSerial m (operations h ++ o ∷ []) (fates h)) (sym (order-push h k ∙ append-nil (commit_order h)))
           (serial-operate values_after returned_from (λ x. x.ret) (AreValues m) (values-step m) (λ x. x.invoker) (is_free m) (commute-values m) (first_values m) (operations h) (fates h) (commit_order h) o on
           (ap (λ os. returned_from (fold values_after (first_values m) os) o) (sym seen) ∙ due-replayed m h o ∙ returns-due m h ret t ob op fine.form_of_event fine.return)
-          (unopposed m h t.0 o (fates h) refl class so_far.unpermitted so_far.stand (conflicts-none m h t ob op class fine.conflict))
+          (unconflicted m h t.0 o (fates h) refl class so_far.unpermitted so_far.stand (conflicts-none m h t ob op class fine.conflict))
           so_far.serial));
       stand =
           stand-push m h k (fates h) (fates h) (λ x. stays_idle (fates h x.invoker) x.invoker (held_by x.invoker) refl) ((λ i. record { holder = t.0; fate = sym on i }), tt) so_far.stand;

@@ -21,7 +21,7 @@ use Rattle.acta_table.specs.declared.event.TxnId.{TxnId}
 use Rattle.acta_table.specs.declared.model.Class.{Class}
 use Rattle.acta_table.specs.declared.model.Object.{Object}
 use Rattle.acta_table.specs.declared.model.Parts.{Parts}
-use Rattle.acta_table.specs.Classes.{class_at, can_start, can_do, spares}
+use Rattle.acta_table.specs.Classes.{class_at, can_start, can_do, exempts}
 use Rattle.acta_table.specs.Events.{kind_of, acting, class_named}
 use Rattle.acta_table.specs.Policies.{refuses}
 use Rattle.acta_table.specs.Refusals.{broken_if}
@@ -55,7 +55,7 @@ unbroken-if false rule e = refl
 pub record StrictParts {A : Type 0} (k : Class A) : Type 0 where
   pub spawned : k.starts.spawned ≡ false
   pub split : k.starts.split ≡ false
-  pub scope : spares k.scope ≡ false
+  pub scope : exempts k.scope ≡ false
   pub policy : refuses k.policy ≡ true
   pub spawns : can_do spawn_kind k ≡ false
   pub splits : can_do split_kind k ≡ false
@@ -66,7 +66,7 @@ pub record StrictParts {A : Type 0} (k : Class A) : Type 0 where
 pub strict-parts : {A : Type 0} (k : Class A) → is_strict_class k ≡ true → StrictParts k
 strict-parts k e =
     let t2 = not k.starts.spawned && not k.starts.split in
-    let t3 = t2 && not (spares k.scope) in
+    let t3 = t2 && not (exempts k.scope) in
     let t4 = t3 && refuses k.policy in
     let t5 = t4 && not (can_do spawn_kind k) in
     let t6 = t5 && not (can_do split_kind k) in
@@ -78,7 +78,7 @@ strict-parts k e =
     let p6 = and_parts t5 (not (can_do split_kind k)) p7.0 in
     let p5 = and_parts t4 (not (can_do spawn_kind k)) p6.0 in
     let p4 = and_parts t3 (refuses k.policy) p5.0 in
-    let p3 = and_parts t2 (not (spares k.scope)) p4.0 in
+    let p3 = and_parts t2 (not (exempts k.scope)) p4.0 in
     let p2 = and_parts (not k.starts.spawned) (not k.starts.split) p3.0 in
     record {
       spawned = not-true _ p2.0;

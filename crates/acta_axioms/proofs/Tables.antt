@@ -3,7 +3,7 @@ use Rattle.std.proofs.Common.{◌≡◌, ℕ, zero, suc, List, ◌++◌, length,
 use Rattle.std.proofs.Math.ListN.{replicate}
 use Rattle.std.proofs.lemmas.List.{append-nil, take_all, drop_all}
 
--- a table of rows that are all alike has no other behind its end
+-- a table of rows that are all equivalent has no other behind its end
 pub get_or-blank : {X : Type 0} (n t : ℕ) (x : X) → get_or (replicate n x) t x ≡ x
 get_or-blank zero t x = refl
 get_or-blank (suc n) zero x = refl

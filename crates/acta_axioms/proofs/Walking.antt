@@ -11,18 +11,18 @@ use Rattle.acta_table.specs.declared.model.Parts.{Parts}
 use Rattle.acta_table.specs.Edges.{formed}
 use Rattle.acta_table.specs.Events.{named}
 use Rattle.acta_values.specs.Stores.{Stored}
-use Rattle.acta_axioms.specs.declared.lineage.Lineage.{Lineage}
+use Rattle.acta_axioms.specs.declared.txn_record.TxnRecord.{TxnRecord}
 use Rattle.acta_axioms.specs.Edges.{formed_by, edges}
 use Rattle.acta_axioms.specs.Walks.{Walked, stepped, with_next, held_ops}
 use Rattle.acta_axioms.specs.inside.Holding.{brought_from, op_done}
-use Rattle.acta_axioms.specs.inside.Lineages.{unbegun, begun_in, ended_in, is_late, further, heir_in}
+use Rattle.acta_axioms.specs.inside.TxnRecords.{unbegun, begun_in, ended_in, is_late, further, heir_in}
 use Rattle.acta_axioms.specs.inside.Walking.{permits_behind, is_left, IsKept}
 use Rattle.acta_axioms.proofs.Permitting.{left-push}
 use Rattle.acta_sets.specs.Permits.{Permitted}
 use Rattle.acta_axioms.specs.History.{end}
 use Rattle.acta_axioms.proofs.Bringing.{held_ops-push}
 use Rattle.acta_axioms.proofs.EdgeGrowth.{edges-push}
-use Rattle.acta_axioms.proofs.Lineages.{lines-more, heir-tabled}
+use Rattle.acta_axioms.proofs.TxnRecords.{lines-more, heir-tabled}
 
 -- the item at the place that is reached
 pub record IsNext {A : Type 0} (h : List (Kept A)) (n : ℕ) (k : Kept A) : Type 0 where
@@ -55,7 +55,7 @@ shown-more {A} m h n k w next is =
     ∙ ap stepped is
 
 -- what is kept
-pub kept-more : {A : Type 0} (m : Parts A) (h : List (Kept A)) (n : ℕ) (k : Kept A) (lines new_lines : List Lineage) (store new_store : Stored) (es new_es : List Edge) (ps new_ps : Permitted) (left : Option TxnId) → IsNext h n k →
+pub kept-more : {A : Type 0} (m : Parts A) (h : List (Kept A)) (n : ℕ) (k : Kept A) (lines new_lines : List TxnRecord) (store new_store : Stored) (es new_es : List Edge) (ps new_ps : Permitted) (left : Option TxnId) → IsNext h n k →
     IsKept m h n lines store es ps → new_es ≡ formed es (formed_by m (take n h) k.event) → left ≡ heir_in m lines k.event → new_store ≡ record store { items = brought_from left k.event 1 store.items ++ option_to_list (op_done k.event) } → new_ps ≡ permits_behind (is_late (ended_in lines) k.event) k.event ps →
     length new_lines ≡ length lines → ((t : ℕ) → get_or new_lines t unbegun ≡ further (n + 1) (begun_in lines) k.event t (get_or lines t unbegun)) → IsKept m h (n + 1) new_lines new_store new_es new_ps
 kept-more m h n k lines new_lines store new_store es new_es ps new_ps left next kept formed_are left_is brought_are permitted_are long noted =

@@ -12,7 +12,7 @@ use Rattle.acta_table.specs.declared.event.Event.{Event}
 use Rattle.acta_table.specs.declared.event.Event.TheVariants.{Spawn, Split, Join, Delegate, Form, Operate, Commit, Abort, Permit}
 use Rattle.acta_table.specs.declared.event.Kept.{Kept}
 use Rattle.acta_table.specs.declared.model.Parts.{Parts}
-use Rattle.acta_table.specs.Events.{kind_of, named, acting, started, class_named, operations_named, hands_over}
+use Rattle.acta_table.specs.Events.{kind_of, named, acting, started, class_named, operations_named, transfers_over}
 use Rattle.acta_table.specs.Classes.{class_at, can_start, can_do, is_whole, has_heir}
 use Rattle.acta_table.specs.Dependencies.{is_begin_kind}
 use Rattle.acta_table.specs.Numbered.{smallest}
@@ -112,19 +112,19 @@ abbrev pub has_number : List ℕ → ℕ → Bool
 has_number ns n = list_any (λ q. q == n) ns
 
 -- responsible: what is handed over is not held in progress by the one that hands it over
-abbrev pub handed_unheld : {A : Type 0} → Parts A → List (Kept A) → Event A → List ℕ
-handed_unheld m before e =
+abbrev pub transferred_unheld : {A : Type 0} → Parts A → List (Kept A) → Event A → List ℕ
+transferred_unheld m before e =
     filter (λ o. not (has_number (held_numbers m before e) o)) (numbers_of (operations_named e))
 
 -- whether the event hands operations over, and its transaction's class wants all of them handed over
-abbrev pub hands_whole : {A : Type 0} → Parts A → List (Kept A) → Event A → Bool
-hands_whole m before e =
-    hands_over e && option_map_or (has_class (λ k. is_whole k.extent) m before) (acting e) false
+abbrev pub transfers_whole : {A : Type 0} → Parts A → List (Kept A) → Event A → Bool
+transfers_whole m before e =
+    transfers_over e && option_map_or (has_class (λ k. is_whole k.extent) m before) (acting e) false
 
 -- hands over the whole: one that must hand over all that it holds leaves something out
 abbrev pub kept_back : {A : Type 0} → Parts A → List (Kept A) → Event A → List ℕ
 kept_back m before e =
-    if hands_whole m before e
+    if transfers_whole m before e
     then filter (λ o. not (is_named (operations_named e) o)) (held_numbers m before e)
     else []
 
@@ -187,7 +187,7 @@ breaches m before ret e =
     ∷ (FormOfEvent, ill_formed m e)
     ∷ (Allowed, not_allowed m before e)
     ∷ (PartiesInProgress, idle_party before e)
-    ∷ (Responsible, handed_unheld m before e)
+    ∷ (Responsible, transferred_unheld m before e)
     ∷ (HandsWhole, kept_back m before e)
     ∷ (Conflict, in_conflict m before e)
     ∷ (Return, wrong_return m before ret e)

@@ -11,7 +11,7 @@ use Rattle.acta_table.specs.declared.event.TxnId.{TxnId}
 use Rattle.acta_table.specs.declared.answer.Fate.{Fate}
 use Rattle.acta_table.specs.declared.answer.Fate.TheVariants.{InProgress, Committed, Aborted}
 use Rattle.acta_table.specs.declared.model.Parts.{Parts}
-use Rattle.acta_table.specs.Classes.{spares, has_heir}
+use Rattle.acta_table.specs.Classes.{exempts, has_heir}
 use Rattle.acta_table.specs.Sets.{is_named}
 use Rattle.acta_table.specs.Fates.{is_open, is_aborted}
 use Rattle.acta_axioms.specs.History.{Place, number, places, has_class, parent_of, ancestors}
@@ -113,15 +113,15 @@ is_held_by t s = (s.holder == t) && is_open s.fate
 abbrev pub access_set : {A : Type 0} → Parts A → List (Kept A) → ℕ → List Operation
 access_set m h t = filter (λ o. is_held_by t (standing m h o)) (operations h)
 
--- whether t is spared what u holds on the object: u is an ancestor of t, and t's class leaves out of its conflict set
+-- whether t is exempt what u holds on the object: u is an ancestor of t, and t's class leaves out of its conflict set
 -- what ancestors hold, or u has permitted t to work on the object
-abbrev pub is_spared : {A : Type 0} → Parts A → List (Kept A) → ℕ → ℕ → ℕ → Bool
-is_spared m h t object u =
-    (has_class (λ k. spares k.scope) m h t && list_any (λ a. a.0 == u) (ancestors h t)) || is_permitted h u t object
+abbrev pub is_exempt : {A : Type 0} → Parts A → List (Kept A) → ℕ → ℕ → ℕ → Bool
+is_exempt m h t object u =
+    (has_class (λ k. exempts k.scope) m h t && list_any (λ a. a.0 == u) (ancestors h t)) || is_permitted h u t object
 
 -- whether an operation on the object, with this holder and fate, is in progress, and its holder is another than t, and not exempt
 abbrev pub is_of_others : {A : Type 0} → Parts A → List (Kept A) → ℕ → ℕ → Standing → Bool
-is_of_others m h t object s = is_open s.fate && not (s.holder == t) && not (is_spared m h t object s.holder)
+is_of_others m h t object s = is_open s.fate && not (s.holder == t) && not (is_exempt m h t object s.holder)
 
 -- the conflict set of t: the operations in progress that others hold, where its class can leave out its ancestors, and
 -- those who permit it leave out what they hold on the object

@@ -8,7 +8,7 @@ use Rattle.acta_table.specs.declared.event.Kept.{Kept}
 use Rattle.acta_table.specs.declared.event.Ret.{Ret}
 use Rattle.acta_table.specs.declared.model.Class.{Class}
 use Rattle.acta_table.specs.declared.model.Parts.{Parts}
-use Rattle.acta_table.specs.Classes.{can_do, spares, kind_at}
+use Rattle.acta_table.specs.Classes.{can_do, exempts, kind_at}
 use Rattle.acta_table.specs.Fates.{is_committed}
 use Rattle.acta_table.specs.Policies.{refuses}
 use Rattle.acta_objects.specs.declared.state.ObjectState.{ObjectState}
@@ -19,7 +19,7 @@ use Rattle.acta_axioms.specs.Operations.{Operation, Standing, operations, standi
 -- not spawn, split, join, delegate or permit
 abbrev pub is_strict_class : {A : Type 0} → Class A → Bool
 is_strict_class k =
-    not k.starts.spawned && not k.starts.split && not (spares k.scope) && refuses k.policy
+    not k.starts.spawned && not k.starts.split && not (exempts k.scope) && refuses k.policy
     && not (can_do spawn_kind k) && not (can_do split_kind k) && not (can_do join_kind k) && not (can_do delegate_kind k)
     && not (can_do permit_kind k)
 

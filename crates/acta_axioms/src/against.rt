@@ -26,22 +26,22 @@ pub fn is_well_formed<A: Allocator>(model: &Model<A>, object: ObjId, op: &Op) ->
 
 /// Whether an operation of another, in progress, whom `t` doesn't spare, conflicts with this one on the object. One that
 /// is ill formed conflicts with none.
-pub fn has_against<A: Handle>(
+pub fn has_conflict<A: Handle>(
     model: &Model<A>,
     operations: &OpTable<A>,
     t: TxnId,
-    spares: &BTreeSet<u16, A>,
+    exempts: &BTreeSet<u16, A>,
     object: ObjId,
     op: &Op,
 ) -> bool
-    ensures { result ≡ (is_well_formed model.now object.0 op.now && list_any (is_against t.0 spares.now.keys object.0 op.now) operations.now) }
+    ensures { result ≡ (is_well_formed model.now object.0 op.now && list_any (is_against t.0 exempts.now.keys object.0 op.now) operations.now) }
 {
-    is_well_formed(model, object, op) && operations.has_against(t, spares, object, op)
+    is_well_formed(model, object, op) && operations.has_conflict(t, exempts, object, op)
 }
 
 /// Whether an operation of another, in progress, conflicts with this one on the object, whomever `t` may spare. Where
-/// none does, none stands against it, and whom `t` spares need not be found out.
-pub fn is_opposed<A: Handle>(
+/// none does, none stands against it, and whom `t` exempts need not be found out.
+pub fn may_conflict<A: Handle>(
     alloc: A,
     model: &Model<A>,
     operations: &OpTable<A>,
@@ -49,24 +49,24 @@ pub fn is_opposed<A: Handle>(
     object: ObjId,
     op: &Op,
 ) -> bool
-    ensures { (spared : ℕ → Bool) → result ≡ false → (is_well_formed model.now object.0 op.now && list_any (is_against_but t.0 spared object.0 op.now) operations.now) ≡ false }
+    ensures { (exempt : ℕ → Bool) → result ≡ false → (is_well_formed model.now object.0 op.now && list_any (is_against_but t.0 exempt object.0 op.now) operations.now) ≡ false }
 {
-    has_against(model, operations, t, &BTreeSet::new(alloc), object, op)
+    has_conflict(model, operations, t, &BTreeSet::new(alloc), object, op)
 }
 
 /// The number of the first operation that does.
-pub fn first_against<A: Handle>(
+pub fn first_conflict<A: Handle>(
     model: &Model<A>,
     operations: &OpTable<A>,
     t: TxnId,
-    spares: &BTreeSet<u16, A>,
+    exempts: &BTreeSet<u16, A>,
     object: ObjId,
     op: &Op,
 ) -> Option<u32>
-    ensures { result ≡ (if is_well_formed model.now object.0 op.now then first_number (is_against t.0 spares.now.keys object.0 op.now) operations.now else None) }
+    ensures { result ≡ (if is_well_formed model.now object.0 op.now then first_number (is_against t.0 exempts.now.keys object.0 op.now) operations.now else None) }
 {
     if is_well_formed(model, object, op) {
-        operations.first_against(t, spares, object, op)
+        operations.first_conflict(t, exempts, object, op)
     } else {
         None
     }
@@ -78,14 +78,14 @@ pub fn holders_against<A: Handle>(
     model: &Model<A>,
     operations: &OpTable<A>,
     t: TxnId,
-    spares: &BTreeSet<u16, A>,
+    exempts: &BTreeSet<u16, A>,
     object: ObjId,
     op: &Op,
 ) -> Result<BTreeSet<u16, A>, AllocError>
-    ensures { IfOk result (λ holders. holders.keys ≡ (if is_well_formed model.now object.0 op.now then holders_against t.0 spares.now.keys object.0 op.now operations.now else [])) }
+    ensures { IfOk result (λ holders. holders.keys ≡ (if is_well_formed model.now object.0 op.now then holders_against t.0 exempts.now.keys object.0 op.now operations.now else [])) }
 {
     if is_well_formed(model, object, op) {
-        operations.holders_against(t, spares, object, op)
+        operations.holders_against(t, exempts, object, op)
     } else {
         Ok(BTreeSet::new(alloc))
     }

@@ -6,7 +6,7 @@ use acta_table::{Event, Fate, TxnId};
 use std::alloc::Allocator;
 
 // The operation, in the hand of u where it goes to u.
-fn handed(item: HeldOp, goes: bool, u: TxnId) -> HeldOp
+fn transferred(item: HeldOp, goes: bool, u: TxnId) -> HeldOp
     ensures { result ≡ (if goes then in_hand u item else item) }
 {
     if goes {
@@ -35,11 +35,19 @@ fn held_behind<A: Allocator>(
 {
     let holder = item.holder.0;
     match event {
-        Event::Split(s, u, _, ops) => handed(item, s.0 == holder && ops.has_number(number), *u),
-        Event::Join(s, u) => handed(item, s.0 == holder, *u),
-        Event::Delegate(s, u, ops) => handed(item, s.0 == holder && ops.has_number(number), *u),
+        Event::Split(s, u, _, ops) => transferred(
+            item,
+            s.0 == holder && ops.has_number(number),
+            *u,
+        ),
+        Event::Join(s, u) => transferred(item, s.0 == holder, *u),
+        Event::Delegate(s, u, ops) => transferred(
+            item,
+            s.0 == holder && ops.has_number(number),
+            *u,
+        ),
         Event::Commit(s) => match heir {
-            Some(u) => handed(item, s.0 == holder, u),
+            Some(u) => transferred(item, s.0 == holder, u),
             None => ended(item, s.0 == holder, Fate::Committed),
         },
         Event::Abort(s) => ended(item, s.0 == holder, Fate::Aborted),

@@ -13,7 +13,6 @@ mod fault;
 mod forming;
 mod groups;
 mod holding;
-mod lineage;
 mod places;
 mod seeking;
 mod sentences;
@@ -21,11 +20,12 @@ mod serial;
 mod strict;
 mod taking;
 mod trail;
+mod txn_record;
 mod walk;
 
 pub use acta_sets::Handle;
 pub use against::{
-    edges_wanted, first_against, holders_against, is_opposed, is_well_formed, with_txns,
+    edges_wanted, first_conflict, holders_against, is_well_formed, may_conflict, with_txns,
 };
 pub use course::Course;
 pub use fault::{Axiom, Fault};

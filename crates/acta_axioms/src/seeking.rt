@@ -1,14 +1,14 @@
 ghost use Rattle.std.specs.Prelude.{◌≡◌, ◌==◌, ℕ, false, map, IfOk};
 ghost use Rattle.std.specs.List.{list_any};
 ghost use Rattle.acta_table.specs.Numbered.{ascending};
-ghost use Rattle.acta_table.specs.Classes.{spares};
+ghost use Rattle.acta_table.specs.Classes.{exempts};
 ghost use Rattle.acta_objects.specs.Conflicts.{conflict_on};
 ghost use Rattle.acta_axioms.specs.History.{has_begun, has_class, ancestors};
 ghost use Rattle.acta_axioms.specs.Edges.{holders_against};
 ghost use Rattle.acta_axioms.specs.Walks.{held_ops};
-ghost use Rattle.acta_axioms.specs.Operations.{is_spared, is_of_others};
+ghost use Rattle.acta_axioms.specs.Operations.{is_exempt, is_of_others};
 ghost use Rattle.acta_axioms.specs.Permits.{is_permitted};
-ghost use Rattle.acta_axioms.specs.inside.Walking.{standing_in, spared_numbers, AreSpared, is_against, is_sought, numbers_of};
+ghost use Rattle.acta_axioms.specs.inside.Walking.{standing_in, exempt_numbers, AreExempt, is_against, is_sought, numbers_of};
 
 use crate::against;
 use crate::against::with_txns;
@@ -51,8 +51,8 @@ impl<'a, A: Handle> Walk<'a, A> {
     }
 
     // Whether the transaction's class leaves its ancestors out of its conflict set.
-    fn spares_ancestors(&self, t: TxnId) -> bool
-        ensures { result ≡ has_class (λ k. spares k.scope) self.now.model self.now.front t.0 }
+    fn exempts_ancestors(&self, t: TxnId) -> bool
+        ensures { result ≡ has_class (λ k. exempts k.scope) self.now.model self.now.front t.0 }
     {
         match self.class(t) {
             Some(class) => matches!(class.scope, Scope::NonAncestors),
@@ -61,10 +61,10 @@ impl<'a, A: Handle> Walk<'a, A> {
     }
 
     // The ancestors of the transaction that its class leaves out of its conflict set.
-    fn spared_numbers(&self, t: TxnId) -> Result<BTreeSet<u16, A>, AllocError>
-        ensures { IfOk result (λ numbers. numbers.keys ≡ spared_numbers self.now.model self.now.front t.0) }
+    fn exempt_numbers(&self, t: TxnId) -> Result<BTreeSet<u16, A>, AllocError>
+        ensures { IfOk result (λ numbers. numbers.keys ≡ exempt_numbers self.now.model self.now.front t.0) }
     {
-        if self.spares_ancestors(t) {
+        if self.exempts_ancestors(t) {
             self.ancestors(t)
         } else {
             Ok(BTreeSet::new(self.allocator()))
@@ -106,31 +106,31 @@ impl<'a, A: Handle> Walk<'a, A> {
         Ok(found)
     }
 
-    /// Those whose operations on the object the transaction is spared: ancestors that its class leaves out of its
+    /// Those whose operations on the object the transaction is exempt: ancestors that its class leaves out of its
     /// conflict set, and those who permit it to work there.
-    pub(crate) fn spared_on(&self, t: TxnId, object: ObjId) -> Result<BTreeSet<u16, A>, AllocError>
-        ensures { IfOk result (λ numbers. AreSpared self.now.model self.now.front t.0 object.0 numbers.keys) }
+    pub(crate) fn exempt_on(&self, t: TxnId, object: ObjId) -> Result<BTreeSet<u16, A>, AllocError>
+        ensures { IfOk result (λ numbers. AreExempt self.now.model self.now.front t.0 object.0 numbers.keys) }
     {
         let permitters = self.permitters(t, object)?;
-        with_txns(self.spared_numbers(t)?, &permitters)
+        with_txns(self.exempt_numbers(t)?, &permitters)
     }
 
-    // Whether t, who spares these ancestors, is spared what u holds on the object.
-    fn is_spared(&self, t: TxnId, spared: &BTreeSet<u16, A>, object: ObjId, u: TxnId) -> bool
-        requires { spared.now.keys ≡ spared_numbers self.now.model self.now.front t.0 }
-        ensures { result ≡ is_spared self.now.model self.now.front t.0 object.0 u.0 }
+    // Whether t, who exempts these ancestors, is exempt what u holds on the object.
+    fn is_exempt(&self, t: TxnId, exempt: &BTreeSet<u16, A>, object: ObjId, u: TxnId) -> bool
+        requires { exempt.now.keys ≡ exempt_numbers self.now.model self.now.front t.0 }
+        ensures { result ≡ is_exempt self.now.model self.now.front t.0 object.0 u.0 }
     {
-        spared.contains(&u.0) || self.is_permitted(u, t, object)
+        exempt.contains(&u.0) || self.is_permitted(u, t, object)
     }
 
-    // Whether the operation is in the conflict set of the transaction, which spares these ancestors.
-    fn is_of_others(&self, t: TxnId, spared: &BTreeSet<u16, A>, item: &HeldOp) -> bool
-        requires { spared.now.keys ≡ spared_numbers self.now.model self.now.front t.0 }
+    // Whether the operation is in the conflict set of the transaction, which exempts these ancestors.
+    fn is_of_others(&self, t: TxnId, exempt: &BTreeSet<u16, A>, item: &HeldOp) -> bool
+        requires { exempt.now.keys ≡ exempt_numbers self.now.model self.now.front t.0 }
         ensures { result ≡ is_of_others self.now.model self.now.front t.0 item.now.ob.0 (standing_in item.now) }
     {
         matches!(item.fate, Fate::InProgress)
             && item.holder.0 != t.0
-            && !self.is_spared(t, spared, item.ob, item.holder)
+            && !self.is_exempt(t, exempt, item.ob, item.holder)
     }
 
     // Whether two operations on the object conflict.
@@ -143,55 +143,55 @@ impl<'a, A: Handle> Walk<'a, A> {
         }
     }
 
-    // Whether the operation is on this object and in the transaction's conflict set, which spares these, and
+    // Whether the operation is on this object and in the transaction's conflict set, which exempts these, and
     // conflicts with this one.
     fn is_against(
         &self,
         t: TxnId,
-        spared: &BTreeSet<u16, A>,
+        exempt: &BTreeSet<u16, A>,
         object: ObjId,
         op: &Op,
         item: &HeldOp,
     ) -> bool
-        requires { spared.now.keys ≡ spared_numbers self.now.model self.now.front t.0 }
+        requires { exempt.now.keys ≡ exempt_numbers self.now.model self.now.front t.0 }
         ensures { result ≡ is_against self.now.model self.now.front t.0 object.0 op.now item.now }
     {
         item.ob.0 == object.0
-            && self.is_of_others(t, spared, item)
+            && self.is_of_others(t, exempt, item)
             && self.do_conflict(object, &item.op, op)
     }
 
     /// Whether an operation of another on this object, in progress, conflicts with this one, whomever the transaction
-    /// spares. Where none does, none of its conflict set does.
-    pub(crate) fn is_opposed(&self, t: TxnId, object: ObjId, op: &Op) -> bool
+    /// exempts. Where none does, none of its conflict set does.
+    pub(crate) fn may_conflict(&self, t: TxnId, object: ObjId, op: &Op) -> bool
         ensures { result ≡ false → list_any (is_against self.now.model self.now.front t.0 object.0 op.now) (held_ops self.now.model self.now.front) ≡ false }
     {
-        against::is_opposed(self.allocator(), self.model, self.table(), t, object, op)
+        against::may_conflict(self.allocator(), self.model, self.table(), t, object, op)
     }
 
-    /// Whether an operation on this object and in the transaction's conflict set, which spares these, conflicts with
+    /// Whether an operation on this object and in the transaction's conflict set, which exempts these, conflicts with
     /// this one.
-    pub(crate) fn has_against(
+    pub(crate) fn has_conflict(
         &self,
         t: TxnId,
-        spared: &BTreeSet<u16, A>,
+        exempt: &BTreeSet<u16, A>,
         object: ObjId,
         op: &Op,
     ) -> bool
-        requires { AreSpared self.now.model self.now.front t.0 object.0 spared.now.keys }
+        requires { AreExempt self.now.model self.now.front t.0 object.0 exempt.now.keys }
         ensures { result ≡ list_any (is_against self.now.model self.now.front t.0 object.0 op.now) (held_ops self.now.model self.now.front) }
     {
-        against::has_against(self.model, self.table(), t, spared, object, op)
+        against::has_conflict(self.model, self.table(), t, exempt, object, op)
     }
 
-    // Whether the operation is one of those that are looked for, for a transaction that spares these.
-    fn is_sought(&self, t: TxnId, spared: &BTreeSet<u16, A>, sought: &Sought, item: &HeldOp) -> bool
-        requires { spared.now.keys ≡ spared_numbers self.now.model self.now.front t.0 }
+    // Whether the operation is one of those that are looked for, for a transaction that exempts these.
+    fn is_sought(&self, t: TxnId, exempt: &BTreeSet<u16, A>, sought: &Sought, item: &HeldOp) -> bool
+        requires { exempt.now.keys ≡ exempt_numbers self.now.model self.now.front t.0 }
         ensures { result ≡ is_sought self.now.model self.now.front t.0 sought.now item.now }
     {
         match sought {
-            Sought::Others => self.is_of_others(t, spared, item),
-            Sought::Against(object, op) => self.is_against(t, spared, *object, op, item),
+            Sought::Others => self.is_of_others(t, exempt, item),
+            Sought::Against(object, op) => self.is_against(t, exempt, *object, op, item),
         }
     }
 
@@ -199,11 +199,11 @@ impl<'a, A: Handle> Walk<'a, A> {
     pub(crate) fn seek(&self, t: TxnId, sought: &Sought) -> Result<Vec<OpNo, A>, AllocError>
         ensures { IfOk result (λ numbers. numbers.items ≡ numbers_of (is_sought self.now.model self.now.front t.0 sought.now) (held_ops self.now.model self.now.front)) }
     {
-        let spared = self.spared_numbers(t)?;
+        let exempt = self.exempt_numbers(t)?;
         let mut numbers = Vec::new(self.allocator());
         let mut number = 1u32;
         for item in self.operations() {
-            if self.is_sought(t, &spared, sought, item) {
+            if self.is_sought(t, &exempt, sought, item) {
                 numbers.push(OpNo(number))?;
             }
             number += 1;
@@ -220,16 +220,16 @@ impl<'a, A: Handle> Walk<'a, A> {
     ) -> Result<BTreeSet<u16, A>, AllocError>
         ensures { IfOk result (λ holders. holders.keys ≡ holders_against self.now.model self.now.front t.0 object.0 op.now) }
     {
-        if !self.is_opposed(t, object, op) {
+        if !self.may_conflict(t, object, op) {
             return Ok(BTreeSet::new(self.allocator()));
         }
-        let spared = self.spared_on(t, object)?;
+        let exempt = self.exempt_on(t, object)?;
         against::holders_against(
             self.allocator(),
             self.model,
             self.table(),
             t,
-            &spared,
+            &exempt,
             object,
             op,
         )

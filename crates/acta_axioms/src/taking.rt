@@ -22,11 +22,11 @@ fn follow<A: Handle>(
     ensures err { OnErr result (store.new ≡ store.old) }
 {
     match event {
-        Event::Split(s, u, _, ops) => store.hand(*s, ops, *u),
-        Event::Join(s, u) => store.hand_all(*s, *u),
-        Event::Delegate(s, u, ops) => store.hand(*s, ops, *u),
+        Event::Split(s, u, _, ops) => store.transfer(*s, ops, *u),
+        Event::Join(s, u) => store.transfer_all(*s, *u),
+        Event::Delegate(s, u, ops) => store.transfer(*s, ops, *u),
         Event::Commit(s) => match heir {
-            Some(u) => store.hand_all(*s, u),
+            Some(u) => store.transfer_all(*s, u),
             None => {
                 store.end_all(*s, Fate::Committed);
                 Ok(())

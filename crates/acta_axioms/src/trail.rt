@@ -4,7 +4,7 @@ ghost use Rattle.acta_axioms.specs.inside.Walking.{standing_in};
 ghost use Rattle.acta_axioms.specs.inside.Holding.{followed_on, next_number};
 
 use crate::holding::{brought, op_done};
-use crate::lineage::heir_behind;
+use crate::txn_record::heir_behind;
 use crate::walk::Walk;
 use acta_sets::{Handle, HeldOp};
 use acta_table::{Event, OpNo, TxnId};

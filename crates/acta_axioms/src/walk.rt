@@ -9,13 +9,13 @@ ghost use Rattle.acta_axioms.specs.Edges.{edges};
 ghost use Rattle.acta_axioms.specs.Faults.{has_number};
 ghost use Rattle.acta_sets.specs.Operations.{operation_at};
 ghost use Rattle.acta_axioms.specs.Walks.{stepped, held_ops, op_numbers};
-ghost use Rattle.acta_axioms.specs.inside.Lineages.{lineage};
+ghost use Rattle.acta_axioms.specs.inside.TxnRecords.{txn_record};
 
 use crate::course::Course;
 use crate::forming::Formed;
-use crate::lineage::{Lineage, UNBEGUN, heir_of, is_late, largest_named, lineage_of, note};
 use crate::seeking::Sought;
 use crate::taking::{Before, go_on};
+use crate::txn_record::{TxnRecord, UNBEGUN, heir_of, is_late, largest_named, note, record_of};
 use acta_objects::ObjectState;
 use acta_sets::{Handle, HeldOp, OpTable, Permits};
 use acta_table::{Class, Edge, Kept, MOST_EVENTS, Model, ObjId, Op, OpNo, Ret, TxnId};
@@ -31,7 +31,7 @@ pub struct Walk<'a, A: Handle> {
     pub(crate) model: &'a Model<A>,
     kept: &'a [Kept<A>],
     pub(crate) taken: usize,
-    pub(crate) lines: Vec<Lineage, A>,
+    pub(crate) lines: Vec<TxnRecord, A>,
     pub(crate) store: Store<A>,
     edges: Formed<A>,
     // The permits of which neither transaction has ended.
@@ -131,11 +131,11 @@ impl<'a, A: Handle> Walk<'a, A> {
     pub fn conflicting(&self, t: TxnId, object: ObjId, op: &Op) -> Result<Vec<OpNo, A>, AllocError>
         ensures { IfOk result (λ ops. ops.items ≡ op_numbers (conflicting self.now.model self.now.front t.0 object.0 op.now)) }
     {
-        if !self.is_opposed(t, object, op) {
+        if !self.may_conflict(t, object, op) {
             return Ok(Vec::new(self.allocator()));
         }
-        let spared = self.spared_on(t, object)?;
-        if self.has_against(t, &spared, object, op) {
+        let exempt = self.exempt_on(t, object)?;
+        if self.has_conflict(t, &exempt, object, op) {
             self.seek(t, &Sought::Against(object, *op))
         } else {
             Ok(Vec::new(self.allocator()))
@@ -197,10 +197,10 @@ impl<'a, A: Handle> Walk<'a, A> {
     }
 
     // What is known of the transaction.
-    fn line(&self, t: TxnId) -> Lineage
-        ensures { result ≡ lineage self.now.front t.0 }
+    fn line(&self, t: TxnId) -> TxnRecord
+        ensures { result ≡ txn_record self.now.front t.0 }
     {
-        lineage_of(self.lines.as_slice(), t)
+        record_of(self.lines.as_slice(), t)
     }
 
     /// The first places of the transaction's start, commit, abort and join.

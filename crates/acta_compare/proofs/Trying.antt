@@ -9,37 +9,37 @@ use Rattle.acta_table.specs.Numbered.{numbers_from}
 use Rattle.acta_words.specs.Text.{words_of}
 use Rattle.acta_script.specs.declared.fault.LineFault.{LineFault}
 use Rattle.acta_script.specs.Reading.{event_of}
-use Rattle.acta_io.specs.Input.{said_by}
+use Rattle.acta_io.specs.Input.{parsed_by}
 use Rattle.acta_io.proofs.Lines.{has_word}
 use Rattle.acta_machine.specs.Table.{State, after, after_all, answer_to, answers_to}
 use Rattle.acta_machine.proofs.Runs.{model-after}
 use Rattle.acta_compare.specs.declared.seen.Seen.{Seen}
-use Rattle.acta_compare.specs.Seen.{events_among, said_each, seen_of, seen_with}
+use Rattle.acta_compare.specs.Seen.{events_among, parsed_each, seen_of, seen_with}
 use Rattle.acta_compare.specs.inside.Lines.{seen_at, seen_by, seen_from, state_at, state_by, state_from}
 
 -- what a line says, before what the rest say
-said-next : {A : Type 0} (s : State A) (said : Option (Result (Event A) LineFault)) (rest : List (List ℕ))
-    → seen_with (cons_option said (said_each s.model rest)) (answers_to s (events_among (cons_option said (said_each s.model rest))))
-    ≡ cons_option (option_map (seen_by s) said) (seen_from (state_by s said) rest)
-said-next s None rest = refl
-said-next s (Some (Err fault)) rest = refl
-said-next {A} s (Some (Ok event)) rest =
-    ap (λ (m : Parts A). seen_of (answer_to s event) ∷ seen_with (said_each m rest) (answers_to (after s event) (events_among (said_each m rest))))
+parsed-next : {A : Type 0} (s : State A) (parsed : Option (Result (Event A) LineFault)) (rest : List (List ℕ))
+    → seen_with (cons_option parsed (parsed_each s.model rest)) (answers_to s (events_among (cons_option parsed (parsed_each s.model rest))))
+    ≡ cons_option (option_map (seen_by s) parsed) (seen_from (state_by s parsed) rest)
+parsed-next s None rest = refl
+parsed-next s (Some (Err fault)) rest = refl
+parsed-next {A} s (Some (Ok event)) rest =
+    ap (λ (m : Parts A). seen_of (answer_to s event) ∷ seen_with (parsed_each m rest) (answers_to (after s event) (events_among (parsed_each m rest))))
     (sym (model-after s event))
 
 -- the next line, before the rest
 pub seen-next : {A : Type 0} (s : State A) (line : List ℕ) (rest : List (List ℕ)) → seen_from s (line ∷ rest) ≡ cons_option (seen_at s line) (seen_from (state_at s line) rest)
-seen-next s line rest = said-next s (said_by (event_of s.model) line) rest
+seen-next s line rest = parsed-next s (parsed_by (event_of s.model) line) rest
 
-moved-next : {A : Type 0} (s : State A) (said : Option (Result (Event A) LineFault)) (rest : List (List ℕ))
-    → after_all s (events_among (cons_option said (said_each s.model rest))) ≡ state_from (state_by s said) rest
+moved-next : {A : Type 0} (s : State A) (parsed : Option (Result (Event A) LineFault)) (rest : List (List ℕ))
+    → after_all s (events_among (cons_option parsed (parsed_each s.model rest))) ≡ state_from (state_by s parsed) rest
 moved-next s None rest = refl
 moved-next s (Some (Err fault)) rest = refl
 moved-next {A} s (Some (Ok event)) rest =
-    ap (λ (m : Parts A). after_all (after s event) (events_among (said_each m rest))) (sym (model-after s event))
+    ap (λ (m : Parts A). after_all (after s event) (events_among (parsed_each m rest))) (sym (model-after s event))
 
 pub state-next : {A : Type 0} (s : State A) (line : List ℕ) (rest : List (List ℕ)) → state_from s (line ∷ rest) ≡ state_from (state_at s line) rest
-state-next s line rest = moved-next s (said_by (event_of s.model) line) rest
+state-next s line rest = moved-next s (parsed_by (event_of s.model) line) rest
 
 -- a line that has a word is seen, and the machine moves on
 pub seen-one : {A : Type 0} (s t : State A) (found next all : List Seen) (lines rest : List (List ℕ)) (line : List ℕ) (one : Seen)
@@ -58,11 +58,11 @@ state-one {A} s t all lines rest line parts moved so_far =
     ap (λ (u : State A). state_from u rest) moved ∙ sym (state-next s line rest) ∙ ap (state_from s) (sym parts) ∙ so_far
 
 -- each line that has a word has something to compare
-each-by : {A : Type 0} (s : State A) (is_blank : Bool) (said : Result (Event A) LineFault) (rest : List (List ℕ)) (n : ℕ)
+each-by : {A : Type 0} (s : State A) (is_blank : Bool) (parsed : Result (Event A) LineFault) (rest : List (List ℕ)) (n : ℕ)
     → ((t : State A) → length (seen_from t rest) ≡ length (numbers_from has_word (n + 1) rest))
-    → length (cons_option (option_map (seen_by s) (if is_blank then None else Some said)) (seen_from (state_by s (if is_blank then None else Some said)) rest))
+    → length (cons_option (option_map (seen_by s) (if is_blank then None else Some parsed)) (seen_from (state_by s (if is_blank then None else Some parsed)) rest))
     ≡ length (if not is_blank then n ∷ numbers_from has_word (n + 1) rest else numbers_from has_word (n + 1) rest)
-each-by s true said rest n others = others s
+each-by s true parsed rest n others = others s
 each-by s false (Ok event) rest n others = ap suc (others (after s event))
 each-by s false (Err fault) rest n others = ap suc (others s)
 

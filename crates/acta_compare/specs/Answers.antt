@@ -6,7 +6,7 @@ use Rattle.acta_io.specs.declared.input.BadLine.{BadLine}
 use Rattle.acta_io.specs.declared.models.NoModel.{NoModel}
 use Rattle.acta_io.specs.Models.{of_either}
 use Rattle.acta_io.specs.Reports.{Output, refused_model}
-use Rattle.acta_io.specs.Input.{said_in}
+use Rattle.acta_io.specs.Input.{parsed_in}
 use Rattle.acta_compare.specs.declared.args.Compared.{Compared}
 use Rattle.acta_compare.specs.declared.args.Compared.TheVariants.{Answers, Ends}
 
@@ -23,7 +23,7 @@ IsAnswerUnless _ _ out = out.is_refused ≡ true
 abbrev pub IsAnswerOn : {A : Type 0} → Compared → Parts A → Parts A → List ℕ → Output → Type 0
 IsAnswerOn Answers m other input out = out.is_refused ≡ false
 IsAnswerOn (Ends most) m other input out =
-    IsAnswerUnless (said_in (program_line_of m 16) input).stop (said_in (program_line_of other 16) input).stop out
+    IsAnswerUnless (parsed_in (program_line_of m 16) input).stop (parsed_in (program_line_of other 16) input).stop out
 
 -- the output on a model, where this is what the bytes of the second mean
 abbrev pub IsAnswerWith : {A : Type 0} → Compared → Parts A → Result (Parts A) NoModel → List ℕ → Output → Type 0

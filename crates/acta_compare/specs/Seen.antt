@@ -8,7 +8,7 @@ use Rattle.acta_table.specs.declared.model.Parts.{Parts}
 use Rattle.acta_words.specs.Text.{lines_of}
 use Rattle.acta_script.specs.declared.fault.LineFault.{LineFault}
 use Rattle.acta_script.specs.Reading.{event_of}
-use Rattle.acta_io.specs.Input.{said_by}
+use Rattle.acta_io.specs.Input.{parsed_by}
 use Rattle.acta_machine.specs.Table.{run_answers}
 use Rattle.acta_compare.specs.declared.seen.Seen.{Seen}
 use Rattle.acta_compare.specs.declared.seen.Seen.TheVariants.{Unread, Admitted, Refused}
@@ -19,25 +19,25 @@ seen_of (answer.Admitted place ret) = Admitted ret
 seen_of (answer.Refused rule by) = Refused rule
 
 -- what each of the lines that has a word says on a model: an event, or a fault
-abbrev pub said_each : {A : Type 0} → Parts A → List (List ℕ) → List (Result (Event A) LineFault)
-said_each m lines = filter_map (said_by (event_of m)) lines
+abbrev pub parsed_each : {A : Type 0} → Parts A → List (List ℕ) → List (Result (Event A) LineFault)
+parsed_each m lines = filter_map (parsed_by (event_of m)) lines
 
 -- the events, without the faults
 abbrev pub events_among : {A : Type 0} → List (Result (Event A) LineFault) → List (Event A)
 events_among [] = []
-events_among (Ok event ∷ said) = event ∷ events_among said
-events_among (Err fault ∷ said) = events_among said
+events_among (Ok event ∷ parsed) = event ∷ events_among parsed
+events_among (Err fault ∷ parsed) = events_among parsed
 
 -- what is compared at each line, where these are the answers to the events
 abbrev pub seen_with : {A : Type 0} → List (Result (Event A) LineFault) → List Answer → List Seen
-seen_with (Ok event ∷ said) (one ∷ answers) = seen_of one ∷ seen_with said answers
-seen_with (Err fault ∷ said) answers = Unread fault ∷ seen_with said answers
+seen_with (Ok event ∷ parsed) (one ∷ answers) = seen_of one ∷ seen_with parsed answers
+seen_with (Err fault ∷ parsed) answers = Unread fault ∷ seen_with parsed answers
 seen_with _ _ = []
 
 -- the events of the lines of an input that the model can read
 abbrev pub events_in : {A : Type 0} → Parts A → List ℕ → List (Event A)
-events_in m input = events_among (said_each m (lines_of input))
+events_in m input = events_among (parsed_each m (lines_of input))
 
 -- what a model answers to each line of an input that has a word, in a run over the events of the lines that it can read
 abbrev pub seen_in : {A : Type 0} → Parts A → List ℕ → List Seen
-seen_in m input = seen_with (said_each m (lines_of input)) (run_answers m (events_in m input))
+seen_in m input = seen_with (parsed_each m (lines_of input)) (run_answers m (events_in m input))

@@ -4,8 +4,8 @@ ghost use Rattle.std.specs.Prelude.{◌≡◌, false, IfOk};
 
 use crate::differences::{Comparison, Difference};
 use crate::owed::owed_only;
+use crate::reported::Reported;
 use crate::side::Side;
-use crate::told::Told;
 use acta_explain::{NonBlankLine, Prose, first_listed, non_blank_lines, put, put_more};
 use acta_io::Report;
 use acta_machine::Handle;
@@ -24,8 +24,8 @@ fn put_same<A: Handle>(prose: Prose<A>, lines: usize) -> Prose<A> {
 fn put_first<A: Handle>(
     prose: Prose<A>,
     alloc: A,
-    one: &Told<'_, A>,
-    other: &Told<'_, A>,
+    one: &Reported<'_, A>,
+    other: &Reported<'_, A>,
     line: NonBlankLine<'_>,
 ) -> Prose<A> {
     let prose = put!(prose; "the answers differ first at line ", line.line, ": ");
@@ -64,8 +64,8 @@ fn first_place(differences: &[Difference], lines: &[NonBlankLine<'_>]) -> usize 
 // The lines at which the answers differ. The runs are taken up to the first.
 fn differences_text<A: Handle>(
     alloc: A,
-    one: &mut Told<'_, A>,
-    other: &mut Told<'_, A>,
+    one: &mut Reported<'_, A>,
+    other: &mut Reported<'_, A>,
     comparison: &Comparison<A>,
     lines: &[NonBlankLine<'_>],
     at: usize,
@@ -86,8 +86,8 @@ fn differences_text<A: Handle>(
 // What is owed after the last line under only one of the models. The runs are taken from the line at this place on.
 fn owed_text<A: Handle>(
     alloc: A,
-    one: &mut Told<'_, A>,
-    other: &mut Told<'_, A>,
+    one: &mut Reported<'_, A>,
+    other: &mut Reported<'_, A>,
     comparison: &Comparison<A>,
     lines: &[NonBlankLine<'_>],
     at: usize,
@@ -108,8 +108,8 @@ fn owed_text<A: Handle>(
 // Where two models differ on the lines.
 fn comparison_text<A: Handle>(
     alloc: A,
-    one: &mut Told<'_, A>,
-    other: &mut Told<'_, A>,
+    one: &mut Reported<'_, A>,
+    other: &mut Reported<'_, A>,
     comparison: &Comparison<A>,
     lines: &[NonBlankLine<'_>],
 ) -> Result<String<A>, AllocError> {
@@ -133,8 +133,8 @@ fn text_on<A: Handle>(
     input: &[u8],
 ) -> Result<String<A>, AllocError> {
     let lines = non_blank_lines(alloc, input)?;
-    let mut first = Told::new(alloc, one)?;
-    let mut second = Told::new(alloc, other)?;
+    let mut first = Reported::new(alloc, one)?;
+    let mut second = Reported::new(alloc, other)?;
     comparison_text(alloc, &mut first, &mut second, comparison, lines.as_slice())
 }
 

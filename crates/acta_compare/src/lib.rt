@@ -12,9 +12,9 @@ mod ends;
 mod only;
 mod owed;
 mod report;
+mod reported;
 mod seen;
 mod side;
-mod told;
 mod trial;
 
 pub use args::{Asked, CompareLine, Compared};

@@ -2,7 +2,7 @@
 
 ghost use Rattle.std.specs.Prelude.{◌≡◌, ◌≤◌, ◌+◌, true, ◌||◌, is_some, IfOk, IfSome, false};
 ghost use Rattle.acta_io.specs.Outcome.{AnswersBy, FailsBy, IsUnreadTooLong, KeepsUnread, WritesBy, reason_of};
-ghost use Rattle.acta_io.specs.Input.{said_in};
+ghost use Rattle.acta_io.specs.Input.{parsed_in};
 ghost use Rattle.acta_io.specs.inside.Reports.{output_of};
 ghost use Rattle.acta_script.specs.Reading.{program_line_of};
 ghost use Rattle.acta_explore.specs.Ends.{AreAllEnds};
@@ -191,7 +191,7 @@ fn compare_ends<A: Handle, W: Watch>(
     input: &[u8],
     watch: &mut W,
 ) -> Result<Report<A>, AllocError>
-    ensures { IfOk result (λ report. IsAnswerUnless (said_in (program_line_of one.now.model.now 16) input.now).stop (said_in (program_line_of other.now.model.now 16) input.now).stop (output_of report)) }
+    ensures { IfOk result (λ report. IsAnswerUnless (parsed_in (program_line_of one.now.model.now 16) input.now).stop (parsed_in (program_line_of other.now.model.now 16) input.now).stop (output_of report)) }
 {
     let reader = ProgramLines {
         alloc,
@@ -214,8 +214,8 @@ fn compare_ends<A: Handle, W: Watch>(
         one,
         other,
         input,
-        read.said.as_slice(),
-        second.said.as_slice(),
+        read.parsed.as_slice(),
+        second.parsed.as_slice(),
         watch,
     )
 }

@@ -56,7 +56,7 @@ stop-next s i last lt = let more : last - i ≡ suc (last - (i + 1)) = omega (ar
 -- that holds there
 module _ {A : Type 0} (s r t : State A) (h : List (Kept A)) (at : ℕ) (bs : List Break) (inside : IsInside s h at) (i : ℕ) (k : Kept A) (o : Option ℕ)
     (kept : r ≡ with_kept s.model (take i h)) (below : i < length h) (item : k ≡ get_or h i k) (goes : t ≡ after r k.event) (follows : FollowsPlaces t)
-    (told : stop_of (session_of s h at bs) ≡ stop_among (session_of s h at bs) (range_with_len (i + 1) (length h - i)))
+    (reported : stop_of (session_of s h at bs) ≡ stop_among (session_of s h at bs) (range_with_len (i + 1) (length h - i)))
     (found : o ≡ first_number (holds_of t k.event) bs) where
   pub turn-kept : t ≡ with_kept s.model (take (i + 1) h)
   turn-kept = kept-next s.model h inside.whole i k r t kept below item goes
@@ -71,7 +71,7 @@ module _ {A : Type 0} (s r t : State A) (h : List (Kept A)) (at : ℕ) (bs : Lis
       → stop_of (session_of s h at bs) ≡ option_map_or (λ b. Broke b (i + 1)) p (stop_among (session_of s h at bs) (range_with_len (i + 1 + 1) (length h - (i + 1))))
   stop-by p is =
       let session = session_of s h at bs in
-      told ∙ stop-next session i (length h) below
+      reported ∙ stop-next session i (length h) below
       ∙ ap (λ (x : Option ℕ). option_map_or (λ b. Broke b (i + 1)) x (stop_among session (range_with_len (i + 1 + 1) (length h - (i + 1)))))
       (break-reached session i k t inside.whole below item turn-kept ∙ sym found ∙ is)
 
@@ -82,7 +82,7 @@ module _ {A : Type 0} (s r t : State A) (h : List (Kept A)) (at : ℕ) (bs : Lis
   goes-on is = stop-by None is
 
 pub stops-end : {A : Type 0} (s : Session A) (i : ℕ) → length s.history ≤ i → stop_of s ≡ stop_among s (range_with_len (i + 1) (length s.history - i)) → stop_of s ≡ Finished
-stops-end s i end told = let none : length s.history - i ≡ 0 = omega (arith, end) in told ∙ ap (λ n. stop_among s (range_with_len (i + 1) n)) none
+stops-end s i end reported = let none : length s.history - i ≡ 0 = omega (arith, end) in reported ∙ ap (λ n. stop_among s (range_with_len (i + 1) n)) none
 
 -- a stop that is found for a copy of the machine
 pub stop-is : {A : Type 0} (s copied : State A) (h list : List (Kept A)) (at : ℕ) (bs breaks : List Break) (q : Session A) (stop : Stop) → IsInside s h at → session_of s h at bs ≡ q

@@ -184,7 +184,7 @@ impl<A: Handle> Debugger<A> {
     pub fn step(&mut self) -> Result<(), MoveError>
         ensures ok { OnOk result (stepped self.old ≡ Ok self.new) }
         ensures err { OnErr result (self.new ≡ self.old) }
-        ensures barred { (e : Fault) → stepped self.old ≡ Err e → result ≡ Err e }
+        ensures blocked { (e : Fault) → stepped self.old ≡ Err e → result ≡ Err e }
         ensures only { IfErr result (λ e. (stepped self.old ≡ Err e) ⊎ (e ≡ MoveError.Memory)) }
     {
         let at = self.at;
@@ -202,7 +202,7 @@ impl<A: Handle> Debugger<A> {
     pub fn back(&mut self) -> Result<(), MoveError>
         ensures ok { OnOk result (stepped_back self.old ≡ Ok self.new) }
         ensures err { OnErr result (self.new ≡ self.old) }
-        ensures barred { (e : Fault) → stepped_back self.old ≡ Err e → result ≡ Err e }
+        ensures blocked { (e : Fault) → stepped_back self.old ≡ Err e → result ≡ Err e }
         ensures only { IfErr result (λ e. (stepped_back self.old ≡ Err e) ⊎ (e ≡ MoveError.Memory)) }
     {
         let at = self.at;
@@ -219,7 +219,7 @@ impl<A: Handle> Debugger<A> {
     pub fn goto(&mut self, n: u32) -> Result<(), MoveError>
         ensures ok { OnOk result (gone_to self.old n ≡ Ok self.new) }
         ensures err { OnErr result (self.new ≡ self.old) }
-        ensures barred { (e : Fault) → gone_to self.old n ≡ Err e → result ≡ Err e }
+        ensures blocked { (e : Fault) → gone_to self.old n ≡ Err e → result ≡ Err e }
         ensures only { IfErr result (λ e. (gone_to self.old n ≡ Err e) ⊎ (e ≡ MoveError.Memory)) }
     {
         self.come_near(n as usize);
@@ -240,7 +240,7 @@ impl<A: Handle> Debugger<A> {
     fn goto_place(&mut self, n: u32) -> Result<(), MoveError>
         ensures ok { OnOk result (gone_to self.old n ≡ Ok self.new) }
         ensures err { OnErr result (self.new ≡ self.old) }
-        ensures barred { (e : Fault) → gone_to self.old n ≡ Err e → result ≡ Err e }
+        ensures blocked { (e : Fault) → gone_to self.old n ≡ Err e → result ≡ Err e }
         ensures only { IfErr result (λ e. (gone_to self.old n ≡ Err e) ⊎ (e ≡ MoveError.Memory)) }
     {
         if n > self.last() {

@@ -11,7 +11,7 @@ use Rattle.acta_table.specs.Dependencies.{is_commit, is_abort}
 use Rattle.acta_table.specs.Numbered.{smallest}
 use Rattle.acta_deps.specs.Statuses.{with_status}
 use Rattle.acta_deps.specs.Debts.{debt_by, debt_of, owes_commit, owes_abort, owes_both, clashes_by, owing_both, clashing}
-use Rattle.acta_deps.specs.inside.Bars.{tears, other_of}
+use Rattle.acta_deps.specs.inside.BlockKinds.{would_owe_both, other_of}
 use Rattle.acta_table.proofs.Smallest.{least_from, least_is_smallest}
 use Rattle.acta_deps.proofs.SmallestSame.{has, smallest_same, smallest_none}
 
@@ -83,7 +83,7 @@ same-debt s t new e i j = λ x. debt_by e.kind (if i x then new else s e.i.0) (i
 
 -- one that owes by this edge after the change, by no edge that tears it, did before
 before : (is : Option Missing → Bool) → is None ≡ false → (s : ℕ → Status) (t : ℕ) (new : Status) (es : List Edge) (u : ℕ) → (u == t) ≡ false → owes_both (with_status s t new) es u ≡ true
-    → (e : Edge) → ((e.j.0 == u) && tears (with_status s t new) es t e) ≡ false → ((e.j.0 == u) && is (debt_of (with_status s t new) e)) ≡ true → ((e.j.0 == u) && is (debt_of s e)) ≡ true
+    → (e : Edge) → ((e.j.0 == u) && would_owe_both (with_status s t new) es t e) ≡ false → ((e.j.0 == u) && is (debt_of (with_status s t new) e)) ≡ true → ((e.j.0 == u) && is (debt_of s e)) ≡ true
 before is nothing s t new es u other both e calm h = of (e.i.0 == t) refl
   where
     s' : ℕ → Status
@@ -103,13 +103,13 @@ before is nothing s t new es u other both e calm h = of (e.i.0 == t) refl
     some (Some m) q = refl
 
     of : (on : Bool) → (e.i.0 == t) ≡ on → ((e.j.0 == u) && is (debt_of s e)) ≡ true
-    of true on = absurd (true≢false (sym (and_from (e.j.0 == u) (tears s' es t e) on_u (and_from ((e.i.0 == t) && is_some (debt_of s' e)) (owes_both s' es e.j.0) (and_from (e.i.0 == t) (is_some (debt_of s' e)) on (some (debt_of s' e) owed)) (ap (owes_both s' es) same ∙ both))) ∙ calm))
+    of true on = absurd (true≢false (sym (and_from (e.j.0 == u) (would_owe_both s' es t e) on_u (and_from ((e.i.0 == t) && is_some (debt_of s' e)) (owes_both s' es e.j.0) (and_from (e.i.0 == t) (is_some (debt_of s' e)) on (some (debt_of s' e) owed)) (ap (owes_both s' es) same ∙ both))) ∙ calm))
     of false on = and_from (e.j.0 == u) (is (debt_of s e)) on_u (ap is (sym (same-debt s t new e on (ap (λ v. v == t) same ∙ other))) ∙ owed)
 
 -- The one that changes, where it owes both, and those that an edge on it tears
 
-abbrev pub torn : (ℕ → Status) → List Edge → ℕ → List ℕ
-torn s es t = (if owes_both s es t then t ∷ [] else []) ++ map (λ (e : Edge). e.j.0) (filter (tears s es t) es)
+abbrev pub all_owing_both : (ℕ → Status) → List Edge → ℕ → List ℕ
+all_owing_both s es t = (if owes_both s es t then t ∷ [] else []) ++ map (λ (e : Edge). e.j.0) (filter (would_owe_both s es t) es)
 
 first-by : (t u : ℕ) (b : Bool) → has (if b then t ∷ [] else []) u ≡ (b && (t == u))
 first-by t u true = or-nothing (t == u)
@@ -119,51 +119,51 @@ first-by t u true = or-nothing (t == u)
     or-nothing false = refl
 first-by t u false = refl
 
-in-torn : (s : ℕ → Status) (es : List Edge) (t u : ℕ) → has (torn s es t) u ≡ ((owes_both s es t && (t == u)) || list_any (λ e. (e.j.0 == u) && tears s es t e) es)
-in-torn s es t u =
-    list_any-append (λ n. n == u) (if owes_both s es t then t ∷ [] else []) (map (λ (e : Edge). e.j.0) (filter (tears s es t) es))
-    ∙ (λ i. first-by t u (owes_both s es t) i || shown (tears s es t) u es i)
+in-all_owing_both : (s : ℕ → Status) (es : List Edge) (t u : ℕ) → has (all_owing_both s es t) u ≡ ((owes_both s es t && (t == u)) || list_any (λ e. (e.j.0 == u) && would_owe_both s es t e) es)
+in-all_owing_both s es t u =
+    list_any-append (λ n. n == u) (if owes_both s es t then t ∷ [] else []) (map (λ (e : Edge). e.j.0) (filter (would_owe_both s es t) es))
+    ∙ (λ i. first-by t u (owes_both s es t) i || shown (would_owe_both s es t) u es i)
 
-torn-false : (s : ℕ → Status) (es : List Edge) (t u : ℕ) → owes_both s es u ≡ false → ((owes_both s es t && (t == u)) || list_any (λ e. (e.j.0 == u) && tears s es t e) es) ≡ false
-torn-false s es t u none =
+all_owing_both-false : (s : ℕ → Status) (es : List Edge) (t u : ℕ) → owes_both s es u ≡ false → ((owes_both s es t && (t == u)) || list_any (λ e. (e.j.0 == u) && would_owe_both s es t e) es) ≡ false
+all_owing_both-false s es t u none =
     or_from _ _
     (false_from_ne_true _ (λ h.
     let parts = and_parts (owes_both s es t) (t == u) h in
     true≢false (sym parts.0 ∙ ap (owes_both s es) (eqb-true t u parts.1) ∙ none)))
-    (none_any (λ e. (e.j.0 == u) && tears s es t e) es (λ e. false_from_ne_true _ (λ h.
-    let parts = and_parts (e.j.0 == u) (tears s es t e) h in
+    (none_any (λ e. (e.j.0 == u) && would_owe_both s es t e) es (λ e. false_from_ne_true _ (λ h.
+    let parts = and_parts (e.j.0 == u) (would_owe_both s es t e) h in
     let both = and_parts ((e.i.0 == t) && is_some (debt_of s e)) (owes_both s es e.j.0) parts.1 in
     true≢false (sym both.1 ∙ ap (owes_both s es) (eqb-true e.j.0 u parts.0) ∙ none))))
 
-torn-true : (s : ℕ → Status) (t : ℕ) (new : Status) (es : List Edge) (u : ℕ) → owes_both s es u ≡ false → owes_both (with_status s t new) es u ≡ true
-    → (here : Bool) → (t == u) ≡ here → (any : Bool) → list_any (λ e. (e.j.0 == u) && tears (with_status s t new) es t e) es ≡ any
-    → ((owes_both (with_status s t new) es t && (t == u)) || list_any (λ e. (e.j.0 == u) && tears (with_status s t new) es t e) es) ≡ true
-torn-true s t new es u clear both true here any is =
+all_owing_both-true : (s : ℕ → Status) (t : ℕ) (new : Status) (es : List Edge) (u : ℕ) → owes_both s es u ≡ false → owes_both (with_status s t new) es u ≡ true
+    → (here : Bool) → (t == u) ≡ here → (any : Bool) → list_any (λ e. (e.j.0 == u) && would_owe_both (with_status s t new) es t e) es ≡ any
+    → ((owes_both (with_status s t new) es t && (t == u)) || list_any (λ e. (e.j.0 == u) && would_owe_both (with_status s t new) es t e) es) ≡ true
+all_owing_both-true s t new es u clear both true here any is =
     or_left _ _ (and_from (owes_both (with_status s t new) es t) (t == u) (ap (owes_both (with_status s t new) es) (eqb-true t u here) ∙ both) here)
-torn-true s t new es u clear both false here true is = or_right _ _ is
-torn-true s t new es u clear both false here false is =
+all_owing_both-true s t new es u clear both false here true is = or_right _ _ is
+all_owing_both-true s t new es u clear both false here false is =
     let s' : ℕ → Status = with_status s t new in
     let other : (u == t) ≡ false = ne_eqb u t (λ e. true≢false (sym (eq-eqb t u (sym e)) ∙ here)) in
     let parts = and_parts (list_any (owes_commit s' u) es) (list_any (owes_abort s' u) es) both in
-    let commit : list_any (owes_commit s u) es ≡ true = any-unless (owes_commit s' u) (owes_commit s u) (λ e. (e.j.0 == u) && tears s' es t e) (before is_commit refl s t new es u other both) es is parts.0 in
-    let abort : list_any (owes_abort s u) es ≡ true = any-unless (owes_abort s' u) (owes_abort s u) (λ e. (e.j.0 == u) && tears s' es t e) (before is_abort refl s t new es u other both) es is parts.1 in
+    let commit : list_any (owes_commit s u) es ≡ true = any-unless (owes_commit s' u) (owes_commit s u) (λ e. (e.j.0 == u) && would_owe_both s' es t e) (before is_commit refl s t new es u other both) es is parts.0 in
+    let abort : list_any (owes_abort s u) es ≡ true = any-unless (owes_abort s' u) (owes_abort s u) (λ e. (e.j.0 == u) && would_owe_both s' es t e) (before is_abort refl s t new es u other both) es is parts.1 in
     absurd (true≢false (sym (and_from (list_any (owes_commit s u) es) (list_any (owes_abort s u) es) commit abort) ∙ clear))
 
-torn-by : (s : ℕ → Status) (t : ℕ) (new : Status) (es : List Edge) (u : ℕ) → owes_both s es u ≡ false → (b : Bool) → owes_both (with_status s t new) es u ≡ b → has (torn (with_status s t new) es t) u ≡ b
-torn-by s t new es u clear true is = in-torn (with_status s t new) es t u ∙ torn-true s t new es u clear is (t == u) refl (list_any (λ e. (e.j.0 == u) && tears (with_status s t new) es t e) es) refl
-torn-by s t new es u clear false is = in-torn (with_status s t new) es t u ∙ torn-false (with_status s t new) es t u is
+all_owing_both-by : (s : ℕ → Status) (t : ℕ) (new : Status) (es : List Edge) (u : ℕ) → owes_both s es u ≡ false → (b : Bool) → owes_both (with_status s t new) es u ≡ b → has (all_owing_both (with_status s t new) es t) u ≡ b
+all_owing_both-by s t new es u clear true is = in-all_owing_both (with_status s t new) es t u ∙ all_owing_both-true s t new es u clear is (t == u) refl (list_any (λ e. (e.j.0 == u) && would_owe_both (with_status s t new) es t e) es) refl
+all_owing_both-by s t new es u clear false is = in-all_owing_both (with_status s t new) es t u ∙ all_owing_both-false (with_status s t new) es t u is
 
 first-least : (t : ℕ) (ns : List ℕ) (b : Bool) → least_from (if b then Some t else None) ns ≡ smallest ((if b then t ∷ [] else []) ++ ns)
 first-least t ns true = least_is_smallest (t ∷ ns)
 first-least t ns false = least_is_smallest ns
 
 -- where nobody owed both, the smallest who does after the change is the smallest of those
-pub clashing_is_torn : (s : ℕ → Status) (t : ℕ) (new : Status) (es : List Edge) → ((u : ℕ) → owes_both s es u ≡ false)
-    → least_from (if owes_both (with_status s t new) es t then Some t else None) (map (λ (e : Edge). e.j.0) (filter (tears (with_status s t new) es t) es)) ≡ clashing (with_status s t new) es
-clashing_is_torn s t new es clear =
+pub clashing_is_owing_both : (s : ℕ → Status) (t : ℕ) (new : Status) (es : List Edge) → ((u : ℕ) → owes_both s es u ≡ false)
+    → least_from (if owes_both (with_status s t new) es t then Some t else None) (map (λ (e : Edge). e.j.0) (filter (would_owe_both (with_status s t new) es t) es)) ≡ clashing (with_status s t new) es
+clashing_is_owing_both s t new es clear =
     let s' : ℕ → Status = with_status s t new in
-    first-least t (map (λ (e : Edge). e.j.0) (filter (tears s' es t) es)) (owes_both s' es t)
-    ∙ smallest_same (torn s' es t) (owing_both s' es) (λ u. torn-by s t new es u (clear u) (owes_both s' es u) refl ∙ sym (in_owing s' es u))
+    first-least t (map (λ (e : Edge). e.j.0) (filter (would_owe_both s' es t) es)) (owes_both s' es t)
+    ∙ smallest_same (all_owing_both s' es t) (owing_both s' es) (λ u. all_owing_both-by s t new es u (clear u) (owes_both s' es u) refl ∙ sym (in_owing s' es u))
 
 -- One that owes by the edge owes both where it owes the other
 
@@ -177,8 +177,8 @@ other-by true s es e (Some Abort) is commit abort = ap (λ b. list_any (owes_com
     and-true false = refl
 other-by false s es e o is commit abort = refl
 
-pub tears_by : (s : ℕ → Status) (es : List Edge) (t place : ℕ) (e : Edge) → 0 < place → place ≤ length es → ((d : Edge) → e ≡ get_or es (place - 1) d) → tears s es t e ≡ ((e.i.0 == t) && other_of (debt_of s e) (list_any (owes_commit s e.j.0) es) (list_any (owes_abort s e.j.0) es))
-tears_by s es t place e some within read =
+pub would_owe_both_by : (s : ℕ → Status) (es : List Edge) (t place : ℕ) (e : Edge) → 0 < place → place ≤ length es → ((d : Edge) → e ≡ get_or es (place - 1) d) → would_owe_both s es t e ≡ ((e.i.0 == t) && other_of (debt_of s e) (list_any (owes_commit s e.j.0) es) (list_any (owes_abort s e.j.0) es))
+would_owe_both_by s es t place e some within read =
     other-by (e.i.0 == t) s es e (debt_of s e) refl
     (λ is. list_any_at (owes_commit s e.j.0) es (place - 1) e (omega arith) (ap (owes_commit s e.j.0) (sym (read e)) ∙ and_from (e.j.0 == e.j.0) (is_commit (debt_of s e)) (eq-eqb e.j.0 e.j.0 refl) (ap is_commit is)))
     (λ is. list_any_at (owes_abort s e.j.0) es (place - 1) e (omega arith) (ap (owes_abort s e.j.0) (sym (read e)) ∙ and_from (e.j.0 == e.j.0) (is_abort (debt_of s e)) (eq-eqb e.j.0 e.j.0 refl) (ap is_abort is)))

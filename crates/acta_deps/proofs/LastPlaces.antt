@@ -17,7 +17,7 @@ latest_le ts t (suc n) =
     let h : latest ts t n ≤ n = latest_le ts t n in
     cond_both (get_or ts n 0 == t) (suc n) (latest ts t n) (λ x. x ≤ suc n) (λ _. omega arith) (λ _. omega arith)
 
--- lists that begin alike have the same places there
+-- lists that begin equivalent have the same places there
 latest_same : (ts us : List ℕ) (t n : ℕ) → ((k : ℕ) → k < n → get_or ts k 0 ≡ get_or us k 0) → latest ts t n ≡ latest us t n
 latest_same ts us t zero h = refl
 latest_same ts us t (suc n) h =

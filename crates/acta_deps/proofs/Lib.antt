@@ -1,6 +1,6 @@
 pub mod FormedEdges
 mod LastPlaces
-mod Obstacles
+mod Blocks
 mod StatusTables
 mod Walks
 mod SmallestSame

@@ -2,6 +2,6 @@ pub mod Statuses
 pub mod Debts
 pub mod Dependencies
 pub mod Deps
-pub mod Obstacles
+pub mod Blocks
 pub mod Waiting
 pub mod inside

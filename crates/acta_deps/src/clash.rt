@@ -5,7 +5,7 @@ ghost use Rattle.acta_table.specs.declared.dep.Edge.{Edge};
 ghost use Rattle.acta_deps.specs.Deps.{status_of};
 ghost use Rattle.acta_deps.specs.Debts.{debt_of, owes_commit, owes_abort, owes_both, clashing};
 ghost use Rattle.acta_deps.specs.Dependencies.{clash};
-ghost use Rattle.acta_deps.specs.inside.Bars.{owes, other_of, tears};
+ghost use Rattle.acta_deps.specs.inside.BlockKinds.{owes, other_of, would_owe_both};
 ghost use Rattle.acta_deps.specs.inside.Refused.{status_after};
 
 use crate::debt::{debt_by, is_abort, is_commit};
@@ -98,10 +98,10 @@ impl<A: Allocator> Deps<A> {
     }
 
     // Whether the edge of this number is on the one that changes, and the other would owe by it, and owe both.
-    fn tears(&self, change: Change, place: u16) -> bool
+    fn would_owe_both(&self, change: Change, place: u16) -> bool
         requires place { 0 < place }
         requires within { place ≤ length self.now.edges }
-        ensures { (d : Edge) → result ≡ tears (status_after self.now change) self.now.edges change.txn.0 (slice_index_or self.now.edges (place - 1) d) }
+        ensures { (d : Edge) → result ≡ would_owe_both (status_after self.now change) self.now.edges change.txn.0 (slice_index_or self.now.edges (place - 1) d) }
     {
         let e = self.edge(place);
         let debt = self.debt_after(change, e);
@@ -110,12 +110,12 @@ impl<A: Allocator> Deps<A> {
     }
 
     // The smaller of the least so far and the one that the edge tears, where it does.
-    fn with_torn(&self, change: Change, place: u16, least: Option<u32>) -> Option<u32>
+    fn with_owing_both(&self, change: Change, place: u16, least: Option<u32>) -> Option<u32>
         requires place { 0 < place }
         requires within { place ≤ length self.now.edges }
-        ensures { (d : Edge) → result ≡ (if tears (status_after self.now change) self.now.edges change.txn.0 (slice_index_or self.now.edges (place - 1) d) then Some (option_map_or (min (slice_index_or self.now.edges (place - 1) d).j.0) least (slice_index_or self.now.edges (place - 1) d).j.0) else least) }
+        ensures { (d : Edge) → result ≡ (if would_owe_both (status_after self.now change) self.now.edges change.txn.0 (slice_index_or self.now.edges (place - 1) d) then Some (option_map_or (min (slice_index_or self.now.edges (place - 1) d).j.0) least (slice_index_or self.now.edges (place - 1) d).j.0) else least) }
     {
-        if self.tears(change, place) {
+        if self.would_owe_both(change, place) {
             lesser(least, u32::from(self.edge(place).j.0))
         } else {
             least
@@ -123,7 +123,7 @@ impl<A: Allocator> Deps<A> {
     }
 
     // The one that changes, where it would owe both.
-    fn torn(&self, change: Change) -> Option<u32>
+    fn all_owing_both(&self, change: Change) -> Option<u32>
         ensures { result ≡ (if owes_both (status_after self.now change) self.now.edges change.txn.0 then Some change.txn.0 else None) }
     {
         if self.owes_both(change, change.txn) {
@@ -138,12 +138,12 @@ impl<A: Allocator> Deps<A> {
     pub(crate) fn clashing(&self, change: Change) -> Option<u32>
         ensures { result ≡ clashing (status_after self.now change) self.now.edges }
     {
-        self.known();
+        self.lemma_invariant();
         let parties = self.by_i();
         let mut place = parties.last(change.txn);
-        let mut least = self.torn(change);
+        let mut least = self.all_owing_both(change);
         while place > 0 {
-            least = self.with_torn(change, place, least);
+            least = self.with_owing_both(change, place, least);
             place = parties.before(place);
         }
         least

@@ -69,7 +69,7 @@ impl<A: Allocator> Deps<A> {
 
     /// What holds of each table, for laws that need it: a number that no transaction can have has not begun, and no
     /// transaction owes both a commit and an abort. Changes nothing.
-    pub fn known(&self)
+    pub fn lemma_invariant(&self)
         ensures nobody { (t : ℕ) → is_bad_number t ≡ true → status_of self.now t ≡ Status.NotBegun }
         ensures clear { (t : ℕ) → owes_both (status_of self.now) self.now.edges t ≡ false }
     {
@@ -156,7 +156,7 @@ impl<A: Allocator> Deps<A> {
         ensures status { status_of self.new ≡ with_status (status_of self.old) t.0 Status.Joined }
         ensures edges { self.new.edges ≡ self.old.edges }
     {
-        self.known();
+        self.lemma_invariant();
         self.set(t, Status::Joined);
     }
 

@@ -8,17 +8,17 @@
 //! A call that allocates returns `Err` if memory runs out.
 #![tactic(auto)]
 
-mod bar;
+mod block;
+mod block_kind;
 mod clash;
 mod debt;
 mod deps;
 mod edge_list;
 mod lacking;
-mod obstacle;
 mod places;
 mod refused;
 mod rules;
 mod waiting;
 
+pub use block::{Block, BlockingEdge, Clash, NumberedEdge};
 pub use deps::Deps;
-pub use obstacle::{Barring, Clash, NumberedEdge, Obstacle};

@@ -3,11 +3,11 @@ ghost use Rattle.std.specs.Option.{option_or};
 ghost use Rattle.acta_table.specs.Numbered.{first_number};
 ghost use Rattle.acta_table.specs.Refusals.{broken_by};
 ghost use Rattle.acta_deps.specs.Deps.{status_of};
-ghost use Rattle.acta_deps.specs.inside.Bars.{bars, party};
+ghost use Rattle.acta_deps.specs.inside.BlockKinds.{blocks, party};
 ghost use Rattle.acta_deps.specs.inside.Refused.{refusal_upon};
 ghost use Rattle.acta_deps.specs.Dependencies.{commit_order, weak_begin, unpayable_commit, start_refusal, commit_refusal, abort_refusal, join_refusal, refusal_to};
 
-use crate::bar::Bar;
+use crate::block_kind::BlockKind;
 use crate::clash::Change;
 use crate::deps::Deps;
 use crate::places::Places;
@@ -23,38 +23,39 @@ fn or_here(test: bool, place: u16, behind: Option<u32>) -> Option<u32>
 
 impl<A: Allocator> Deps<A> {
     // The transactions that edges bar in this way, by the number of the edge.
-    fn parties(&self, bar: Bar) -> &Places<A>
-        ensures { result.now ≡ map (party bar) self.now.edges }
+    fn parties(&self, block_kind: BlockKind) -> &Places<A>
+        ensures { result.now ≡ map (party block_kind) self.now.edges }
     {
-        match bar {
-            Bar::CommittedFirst | Bar::BeganFirst | Bar::CannotPayCommit | Bar::CannotPayAbort => {
-                self.by_i()
-            }
+        match block_kind {
+            BlockKind::CommittedFirst
+            | BlockKind::BeganFirst
+            | BlockKind::CannotPayCommit
+            | BlockKind::CannotPayAbort => { self.by_i() }
             _ => self.by_j(),
         }
     }
 
-    // The number of the first edge that bars `t` in this way.
-    fn first_barring(&self, bar: Bar, t: TxnId) -> Option<u32>
-        ensures { result ≡ first_number (bars bar (status_of self.now) t.0) self.now.edges }
+    // The number of the first edge that blocks `t` in this way.
+    fn first_blocking(&self, block_kind: BlockKind, t: TxnId) -> Option<u32>
+        ensures { result ≡ first_number (blocks block_kind (status_of self.now) t.0) self.now.edges }
     {
-        let parties = self.parties(bar);
+        let parties = self.parties(block_kind);
         let edges = self.edges();
         let mut place = parties.last(t);
         let mut first = None;
         while place > 0 {
             let e = &edges[place as usize - 1];
-            first = or_here(self.is_barred(bar, t, e), place, first);
+            first = or_here(self.is_blocked(block_kind, t, e), place, first);
             place = parties.before(place);
         }
         first
     }
 
-    // The rule, where an edge bars `t` in this way, with the first such edge.
-    fn broken(&self, rule: Rule, bar: Bar, t: TxnId) -> Option<Refusal>
-        ensures { result ≡ broken_by rule (first_number (bars bar (status_of self.now) t.0) self.now.edges) }
+    // The rule, where an edge blocks `t` in this way, with the first such edge.
+    fn broken(&self, rule: Rule, block_kind: BlockKind, t: TxnId) -> Option<Refusal>
+        ensures { result ≡ broken_by rule (first_number (blocks block_kind (status_of self.now) t.0) self.now.edges) }
     {
-        match self.first_barring(bar, t) {
+        match self.first_blocking(block_kind, t) {
             Some(number) => Some(Refusal::by(rule, number)),
             None => None,
         }
@@ -82,11 +83,11 @@ fn broken_by(rule: Rule, number: Option<u32>) -> Option<Refusal>
 impl<A: Allocator> Deps<A> {
     // The first edges by which others bar the commit of `t`.
     fn later(&self, t: TxnId) -> Later
-        ensures order { result.order ≡ first_number (bars Bar.CommittedFirst (status_of self.now) t.0) self.now.edges }
-        ensures begun { result.begun ≡ first_number (bars Bar.BeganFirst (status_of self.now) t.0) self.now.edges }
-        ensures unpayable { result.unpayable ≡ first_number (bars Bar.CannotPayCommit (status_of self.now) t.0) self.now.edges }
+        ensures order { result.order ≡ first_number (blocks BlockKind.CommittedFirst (status_of self.now) t.0) self.now.edges }
+        ensures begun { result.begun ≡ first_number (blocks BlockKind.BeganFirst (status_of self.now) t.0) self.now.edges }
+        ensures unpayable { result.unpayable ≡ first_number (blocks BlockKind.CannotPayCommit (status_of self.now) t.0) self.now.edges }
     {
-        let parties = self.parties(Bar::CommittedFirst);
+        let parties = self.parties(BlockKind::CommittedFirst);
         let edges = self.edges();
         let mut place = parties.last(t);
         let mut order = None;
@@ -94,9 +95,17 @@ impl<A: Allocator> Deps<A> {
         let mut unpayable = None;
         while place > 0 {
             let e = &edges[place as usize - 1];
-            order = or_here(self.is_barred(Bar::CommittedFirst, t, e), place, order);
-            begun = or_here(self.is_barred(Bar::BeganFirst, t, e), place, begun);
-            unpayable = or_here(self.is_barred(Bar::CannotPayCommit, t, e), place, unpayable);
+            order = or_here(
+                self.is_blocked(BlockKind::CommittedFirst, t, e),
+                place,
+                order,
+            );
+            begun = or_here(self.is_blocked(BlockKind::BeganFirst, t, e), place, begun);
+            unpayable = or_here(
+                self.is_blocked(BlockKind::CannotPayCommit, t, e),
+                place,
+                unpayable,
+            );
             place = parties.before(place);
         }
         Later {
@@ -129,10 +138,10 @@ impl<A: Allocator> Deps<A> {
             txn: t,
             status: Status::InProgress,
         };
-        self.broken(Rule::BeginDep, Bar::AwaitsBegin, t)
-            .or_else(|| self.broken(Rule::SerialDep, Bar::AwaitsEnd, t))
-            .or_else(|| self.broken(Rule::BeginOnCommit, Bar::AwaitsCommit, t))
-            .or_else(|| self.broken(Rule::BeginOnAbort, Bar::AwaitsAbort, t))
+        self.broken(Rule::BeginDep, BlockKind::AwaitsBegin, t)
+            .or_else(|| self.broken(Rule::SerialDep, BlockKind::AwaitsEnd, t))
+            .or_else(|| self.broken(Rule::BeginOnCommit, BlockKind::AwaitsCommit, t))
+            .or_else(|| self.broken(Rule::BeginOnAbort, BlockKind::AwaitsAbort, t))
             .or_else(|| self.clash(change))
     }
 
@@ -145,8 +154,8 @@ impl<A: Allocator> Deps<A> {
             txn: t,
             status: Status::Committed,
         };
-        self.broken(Rule::TerminationDep, Bar::EndsAfter, t)
-            .or_else(|| self.broken(Rule::OwesAbort, Bar::OwesAbort, t))
+        self.broken(Rule::TerminationDep, BlockKind::EndsAfter, t)
+            .or_else(|| self.broken(Rule::OwesAbort, BlockKind::OwesAbort, t))
             .or_else(|| self.broken_by_later(t))
             .or_else(|| self.clash(change))
     }
@@ -160,9 +169,9 @@ impl<A: Allocator> Deps<A> {
             txn: t,
             status: Status::Aborted,
         };
-        self.broken(Rule::TerminationDep, Bar::EndsAfter, t)
-            .or_else(|| self.broken(Rule::OwesCommit, Bar::OwesCommit, t))
-            .or_else(|| self.broken(Rule::Unpayable, Bar::CannotPayAbort, t))
+        self.broken(Rule::TerminationDep, BlockKind::EndsAfter, t)
+            .or_else(|| self.broken(Rule::OwesCommit, BlockKind::OwesCommit, t))
+            .or_else(|| self.broken(Rule::Unpayable, BlockKind::CannotPayAbort, t))
             .or_else(|| self.clash(change))
     }
 
@@ -171,8 +180,8 @@ impl<A: Allocator> Deps<A> {
     fn join_refusal(&self, t: TxnId) -> Option<Refusal>
         ensures { result ≡ join_refusal (status_of self.now) self.now.edges t.0 }
     {
-        let owing_abort = self.broken(Rule::OwesAbort, Bar::OwesAbort, t);
-        owing_abort.or_else(|| self.broken(Rule::OwesCommit, Bar::OwesCommit, t))
+        let owing_abort = self.broken(Rule::OwesAbort, BlockKind::OwesAbort, t);
+        owing_abort.or_else(|| self.broken(Rule::OwesCommit, BlockKind::OwesCommit, t))
     }
 
     // The lowest rule that the change would break.

@@ -56,7 +56,7 @@ impl<A: Allocator> Deps<A> {
 
 impl<A: Allocator + Copy> Deps<A> {
     // A way from `t` through those that wait for one another, to one that it met before; or nobody.
-    fn way_back(&self, t: TxnId) -> Result<Vec<TxnId, A>, AllocError> {
+    fn cycle_back_to(&self, t: TxnId) -> Result<Vec<TxnId, A>, AllocError> {
         let alloc = self.allocator();
         let mut search = Search {
             path: Vec::new(alloc),
@@ -96,12 +96,12 @@ impl<A: Allocator + Copy> Deps<A> {
     /// A chain of transactions from `t` on, each of which waits for the next to end, where it comes back to one of
     /// them: then none of these can commit or abort unless another event changes how one stands. `None` where no such
     /// chain was found.
-    pub fn closed_wait(&self, t: TxnId) -> Result<Option<Items<TxnId, A>>, AllocError>
+    pub fn waits_for_cycle(&self, t: TxnId) -> Result<Option<Items<TxnId, A>>, AllocError>
         ensures chain { IfOk result (λ found. IfSome found (IsChain (status_of self.now) self.now.edges)) }
         ensures closed { IfOk result (λ found. IfSome found IsClosed) }
         ensures start { IfOk result (λ found. IfSome found (StartsWith t)) }
     {
-        let chain = self.way_back(t)?;
+        let chain = self.cycle_back_to(t)?;
         if chain.first() == Some(&t) && is_closed(&chain) && self.is_chain(&chain) {
             Ok(Some(Items::of(chain)))
         } else {

@@ -105,7 +105,7 @@ impl<A: Handle> Lanes<A> {
         input: &[u8],
         last: Option<u32>,
     ) -> Result<Lanes<A>, AllocError> {
-        let Input { said, stop } = read;
+        let Input { parsed, stop } = read;
         let mut lanes = Lanes {
             run: RunTrace::new(alloc, model)?,
             places: Vec::new(alloc),
@@ -113,7 +113,7 @@ impl<A: Handle> Lanes<A> {
             stop,
             blockers: Vec::new(alloc),
         };
-        lanes.take_all(said, input, last)?;
+        lanes.take_all(parsed, input, last)?;
         lanes.note_places()?;
         if lanes.stop.is_none() {
             lanes.owed = lanes.run.machine().owed()?;

@@ -5,7 +5,7 @@ ghost use Rattle.acta_script.specs.Reading.{event_of};
 ghost use Rattle.acta_io.specs.Outcome.{FailsBy, IsUnreadTooLong, KeepsUnread, WritesBy, reason_of};
 ghost use Rattle.acta_io.specs.Models.{of_either};
 ghost use Rattle.acta_io.specs.Refusals.{EndsAs, refuses_events};
-ghost use Rattle.acta_io.specs.Input.{said_in};
+ghost use Rattle.acta_io.specs.Input.{parsed_in};
 
 use crate::args::{Drawing, Form};
 use crate::choice::View;
@@ -79,7 +79,7 @@ pub fn draw_run<A: Handle>(
     model: Model<A>,
     input: &[u8],
 ) -> Result<Report<A>, AllocError>
-    ensures { IfOk result (λ report. report.is_refused ≡ is_some (said_in (event_of model) input.now).stop) }
+    ensures { IfOk result (λ report. report.is_refused ≡ is_some (parsed_in (event_of model) input.now).stop) }
 {
     let reader = EventLines {
         alloc,

@@ -13,7 +13,7 @@ use crate::fault::{ConditionError, ConditionFault, Expected};
 use crate::tokens::{Rest, Token, tokens_of};
 use crate::words::{AND, COMPLETE, NOT, OWING, STUCK};
 use acta_objects::Members;
-use acta_script::{ProgramLine, return_said, status_word};
+use acta_script::{ProgramLine, parse_return, status_word};
 use acta_table::{Event, Kind, Model, ObjId, Status, TxnId};
 use acta_words::{read_i32, read_i64, read_u16, read_u32, words_of};
 use std::alloc::{AllocError, Allocator};
@@ -195,7 +195,7 @@ fn read_returned<A: Allocator>(
     let Some((value, rest)) = rest.split() else {
         return Err(rest.fault(Expected::Return));
     };
-    let Ok(ret) = return_said(&[value.text]) else {
+    let Ok(ret) = parse_return(&[value.text]) else {
         return Err(value.fault(Expected::Return));
     };
     alone(Test::Returned(line, ret), rest)

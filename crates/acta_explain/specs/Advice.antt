@@ -11,7 +11,7 @@ use Rattle.acta_judge.specs.Verdicts.{verdict}
 use Rattle.acta_script.specs.Reading.{kept_of}
 use Rattle.acta_io.specs.declared.input.BadLine.{BadLine}
 use Rattle.acta_io.specs.declared.models.NoModel.{NoModel}
-use Rattle.acta_io.specs.Input.{said_in}
+use Rattle.acta_io.specs.Input.{parsed_in}
 use Rattle.acta_explain.specs.declared.advice.Advice.{Advice}
 use Rattle.acta_explain.specs.declared.advice.Advice.TheVariants.{Serialize, SayReturns}
 
@@ -47,4 +47,4 @@ advice_on m kept None = advice_of m kept
 -- the same, where this is what the bytes of a model mean
 abbrev pub advice_by : {A : Type 0} → Result (Parts A) NoModel → List ℕ → Option Advice
 advice_by (Err fault) input = None
-advice_by (Ok m) input = advice_on m (said_in (kept_of m) input).said (said_in (kept_of m) input).stop
+advice_by (Ok m) input = advice_on m (parsed_in (kept_of m) input).parsed (parsed_in (kept_of m) input).stop

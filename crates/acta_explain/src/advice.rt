@@ -104,6 +104,6 @@ pub fn advice_for<A: Handle + Send + Sync, R: Threads + Sync>(
     let read = read_lines(alloc, &reader, input)?;
     match read.stop {
         Some(_) => Ok(None),
-        None => advice_of(rt, alloc, &model, read.said.as_slice()),
+        None => advice_of(rt, alloc, &model, read.parsed.as_slice()),
     }
 }

@@ -5,7 +5,7 @@ ghost use Rattle.std.specs.Prelude.{◌≡◌, ◌≤◌, length, nat_lt, true, 
 ghost use Rattle.acta_script.specs.Reading.{kept_of};
 ghost use Rattle.acta_table.specs.declared.limits.TheConstants.{MOST_EVENTS};
 ghost use Rattle.acta_io.specs.Refusals.{refuses_kept_on};
-ghost use Rattle.acta_io.specs.Input.{said_in};
+ghost use Rattle.acta_io.specs.Input.{parsed_in};
 
 use crate::faults::{LineForm, Stop, put_lines, put_stop};
 use crate::lines::{LineIndex, LineText, NonBlankLine, StepText, non_blank_lines};
@@ -350,11 +350,11 @@ pub fn explain_judged<A: Handle + Send + Sync, R: Threads + Sync>(
     model: &Model<A>,
     input: &[u8],
 ) -> Result<Report<A>, AllocError>
-    ensures { IfOk result (λ report. report.is_refused ≡ refuses_kept_on (said_in (kept_of model.now) input.now)) }
+    ensures { IfOk result (λ report. report.is_refused ≡ refuses_kept_on (parsed_in (kept_of model.now) input.now)) }
 {
     let read = read_lines(alloc, &KeptLines { alloc, model }, input)?;
     match read.stop {
         Some(bad) => stopped(alloc, model, &Stop::of(input, bad, LineForm::Kept)),
-        None => explain_kept(rt, alloc, model, read.said.as_slice(), input),
+        None => explain_kept(rt, alloc, model, read.parsed.as_slice(), input),
     }
 }

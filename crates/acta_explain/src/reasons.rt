@@ -10,7 +10,7 @@ use crate::phrases::{
 use crate::prose::Prose;
 use crate::put;
 use acta_hope::{Hope, Release, endless_wait, heir, is_ancestor, lets_go, operation_at};
-use acta_machine::{Barring, Clash, FormFault, Handle, Lack, Machine, NumberedOp, Reason};
+use acta_machine::{BlockingEdge, Clash, FormFault, Handle, Lack, Machine, NumberedOp, Reason};
 use acta_script::{event_word, object_name};
 use acta_table::{Class, Dep, Edge, Event, EventKind, Fate, OpNo, Rule, Status, TxnId};
 
@@ -78,15 +78,15 @@ fn put_bad_set<A: Handle>(prose: Prose<A>, number: OpNo, operations: usize) -> P
     }
 }
 
-// Adds for which transactions the one that depends waits, where an edge bars its end and some wait for one another.
+// Adds for which transactions the one that depends waits, where an edge blocks its end and some wait for one another.
 fn put_waits_of<A: Handle>(prose: Prose<A>, machine: &Machine<A>, reason: &Reason) -> Prose<A> {
-    let Reason::Barred(barring) = reason else {
+    let Reason::Blocked(blocking_edge) = reason else {
         return prose;
     };
-    if !matches!(barring.rule, Rule::TerminationDep) {
+    if !matches!(blocking_edge.rule, Rule::TerminationDep) {
         return prose;
     }
-    match endless_wait(machine, barring.by.edge.j) {
+    match endless_wait(machine, blocking_edge.by.edge.j) {
         Ok(Some(waits)) => put_closed(prose, waits.as_slice()),
         Ok(None) => prose,
         Err(_) => prose.fail(),
@@ -126,7 +126,7 @@ impl<'a, A: Handle> Refused<'a, A> {
             }
             Reason::PartialDelegation(_) => { self.put_whole(self.put_hope(prose, hope)) }
             // (that it has to wait is said already)
-            Reason::Barred(_) if !matches!(hope, Hope::Never) => {
+            Reason::Blocked(_) if !matches!(hope, Hope::Never) => {
                 if looks_for_waits {
                     put_waits_of(prose, self.machine, reason)
                 } else {
@@ -194,7 +194,7 @@ impl<'a, A: Handle> Refused<'a, A> {
                     ", and conflicts with it.")
             }
             Reason::FormTooLate { txn, status } => self.put_form_too_late(prose, txn, status),
-            Reason::Barred(barring) => self.put_barred(prose, &barring),
+            Reason::Blocked(blocking_edge) => self.put_barred(prose, &blocking_edge),
             Reason::Clash(clash) => self.put_clash(prose, &clash),
             Reason::NoHeir { parent, status } => self.put_no_heir(prose, parent, status),
         }
@@ -396,43 +396,43 @@ impl<'a, A: Handle> Refused<'a, A> {
 
 // Dependencies.
 impl<'a, A: Handle> Refused<'a, A> {
-    fn put_barred(&self, prose: Prose<A>, barring: &Barring) -> Prose<A> {
-        let number = u64::from(barring.by.number);
-        let prose = put!(prose; barring.rule.name(), ", by ");
+    fn put_barred(&self, prose: Prose<A>, blocking_edge: &BlockingEdge) -> Prose<A> {
+        let number = u64::from(blocking_edge.by.number);
+        let prose = put!(prose; blocking_edge.rule.name(), ", by ");
         let prose = put_formed_edge(prose, self.lines, number).put("\n");
-        match barring.rule {
+        match blocking_edge.rule {
             Rule::BeginDep
             | Rule::SerialDep
             | Rule::BeginOnCommit
             | Rule::BeginOnAbort
-            | Rule::TerminationDep => self.put_awaits(prose, barring),
-            Rule::OwesAbort | Rule::OwesCommit => self.put_owes(prose, barring),
-            Rule::CommitOrder | Rule::WeakBegin => self.put_too_late(prose, barring),
-            _ => self.put_unpayable(prose, barring),
+            | Rule::TerminationDep => self.put_awaits(prose, blocking_edge),
+            Rule::OwesAbort | Rule::OwesCommit => self.put_owes(prose, blocking_edge),
+            Rule::CommitOrder | Rule::WeakBegin => self.put_too_late(prose, blocking_edge),
+            _ => self.put_unpayable(prose, blocking_edge),
         }
     }
 
     // Adds that the one that depends may do something only after the other has done something.
-    fn put_awaits(&self, prose: Prose<A>, barring: &Barring) -> Prose<A> {
-        let edge = barring.by.edge;
-        let (before, after) = awaited(barring.rule);
+    fn put_awaits(&self, prose: Prose<A>, blocking_edge: &BlockingEdge) -> Prose<A> {
+        let edge = blocking_edge.by.edge;
+        let (before, after) = awaited(blocking_edge.rule);
         let prose = put!(prose; edge.j.0, before, edge.i.0, after);
-        self.put_stands(prose, edge.i, barring.i).put(".")
+        self.put_stands(prose, edge.i, blocking_edge.i).put(".")
     }
 
-    fn put_owes(&self, prose: Prose<A>, barring: &Barring) -> Prose<A> {
-        let edge = barring.by.edge;
+    fn put_owes(&self, prose: Prose<A>, blocking_edge: &BlockingEdge) -> Prose<A> {
+        let edge = blocking_edge.by.edge;
         let (_, debt) = debt_phrases(edge.kind);
         let prose = put!(prose; edge.j.0, " owes ", debt, ", since ");
-        let prose = self.put_stands(prose, edge.i, barring.i);
+        let prose = self.put_stands(prose, edge.i, blocking_edge.i);
         put!(prose; ", and so may not ", event_word(self.event.kind()), ".")
     }
 
     // Adds that one may commit only before another begins, or commits.
-    fn put_too_late(&self, prose: Prose<A>, barring: &Barring) -> Prose<A> {
-        let edge = barring.by.edge;
+    fn put_too_late(&self, prose: Prose<A>, blocking_edge: &BlockingEdge) -> Prose<A> {
+        let edge = blocking_edge.by.edge;
         let prose = put!(prose; edge.i.0, " may commit only before ", edge.j.0);
-        let prose = if matches!(barring.rule, Rule::CommitOrder) {
+        let prose = if matches!(blocking_edge.rule, Rule::CommitOrder) {
             put!(prose; " does, and ", edge.j.0, " ")
         } else {
             let prose = put!(prose; " begins; ", edge.j.0, " has begun");
@@ -441,16 +441,16 @@ impl<'a, A: Handle> Refused<'a, A> {
                 None => prose.put(", and "),
             }
         };
-        let prose = put_standing(prose, self.lines, edge.j, barring.j);
+        let prose = put_standing(prose, self.lines, edge.j, blocking_edge.j);
         put!(prose; ".")
     }
 
-    fn put_unpayable(&self, prose: Prose<A>, barring: &Barring) -> Prose<A> {
-        let edge = barring.by.edge;
+    fn put_unpayable(&self, prose: Prose<A>, blocking_edge: &BlockingEdge) -> Prose<A> {
+        let edge = blocking_edge.by.edge;
         let (cause, debt) = debt_phrases(edge.kind);
         let prose = put!(prose; "By ", cause, " of ", edge.i.0, ", ", edge.j.0, " would owe ", debt,
             ", which it can't do any more: ");
-        put!(self.put_stands(prose, edge.j, barring.j); ".")
+        put!(self.put_stands(prose, edge.j, blocking_edge.j); ".")
     }
 
     fn put_clash(&self, prose: Prose<A>, clash: &Clash) -> Prose<A> {

@@ -4,7 +4,7 @@
 ghost use Rattle.std.specs.Prelude.{◌≡◌, ◌||◌, IfOk, is_some};
 ghost use Rattle.acta_script.specs.Answers.{answer_line};
 ghost use Rattle.acta_script.specs.Reading.{event_of, seated_of};
-ghost use Rattle.acta_io.specs.Input.{said_in};
+ghost use Rattle.acta_io.specs.Input.{parsed_in};
 ghost use Rattle.acta_io.specs.Refusals.{refuses_script_on};
 ghost use Rattle.acta_io.specs.declared.input.TheConstants.{MOST_SEATS};
 
@@ -200,17 +200,17 @@ pub fn explain_run<A: Handle>(
     model: Model<A>,
     input: &[u8],
 ) -> Result<Report<A>, AllocError>
-    ensures { IfOk result (λ report. report.is_refused ≡ is_some (said_in (event_of model) input.now).stop) }
+    ensures { IfOk result (λ report. report.is_refused ≡ is_some (parsed_in (event_of model) input.now).stop) }
 {
     let reader = EventLines {
         alloc,
         model: &model,
     };
-    let Input { said, stop } = read_lines(alloc, &reader, input)?;
+    let Input { parsed, stop } = read_lines(alloc, &reader, input)?;
     run_report(
         alloc,
         model,
-        said,
+        parsed,
         input,
         stop_at(input, stop, LineForm::Event),
     )
@@ -235,15 +235,15 @@ pub fn explain_seated<A: Handle>(
     model: Model<A>,
     input: &[u8],
 ) -> Result<Report<A>, AllocError>
-    ensures { IfOk result (λ report. report.is_refused ≡ is_some (said_in (seated_of model MOST_SEATS) input.now).stop) }
+    ensures { IfOk result (λ report. report.is_refused ≡ is_some (parsed_in (seated_of model MOST_SEATS) input.now).stop) }
 {
     let reader = SeatedLines {
         alloc,
         model: &model,
         seats: MOST_SEATS,
     };
-    let Input { said, stop } = read_lines(alloc, &reader, input)?;
-    let events = events_of(alloc, said)?;
+    let Input { parsed, stop } = read_lines(alloc, &reader, input)?;
+    let events = events_of(alloc, parsed)?;
     run_report(
         alloc,
         model,
@@ -278,5 +278,5 @@ pub fn explain_script<A: Handle>(
 {
     let Script { events, commands } = read_script(alloc, &model, input)?;
     let stop = script_stop(input, events.stop, commands.stop);
-    run_report(alloc, model, events.said, input, stop)
+    run_report(alloc, model, events.parsed, input, stop)
 }

@@ -33,7 +33,7 @@ use Rattle.acta_explore.specs.declared.point.Done.{Done}
 use Rattle.acta_explore.specs.contracts.key.LineOpPartialEq.TheImpl as line_op_eq
 use Rattle.acta_explore.specs.contracts.key.TxnPartialEq.TheImpl as entry_eq
 use Rattle.acta_explore.specs.contracts.point.DonePartialEq.TheImpl as done_eq
-use Rattle.acta_explore.proofs.Alike.{done-decides, status-decides}
+use Rattle.acta_explore.proofs.Equivalence.{done-decides, status-decides}
 
 pub option-same : {X : Type 0} {E : X → X → Bool} → ((a b : X) → E a b ≡ true → a ≡ b) → (a b : Option X) → option_eq E a b ≡ true → a ≡ b
 option-same d None None h = refl

@@ -14,7 +14,7 @@ use Rattle.acta_table.specs.declared.model.Parts.{Parts}
 use Rattle.acta_table.specs.Edges.{formed}
 use Rattle.acta_table.specs.Sets.{numbers_of}
 use Rattle.acta_sets.specs.declared.held_op.HeldOp.{HeldOp}
-use Rattle.acta_sets.specs.Operations.{is_held, handed_op, ended_op, moved_from, operation_at}
+use Rattle.acta_sets.specs.Operations.{is_held, transferred_op, ended_op, moved_from, operation_at}
 use Rattle.acta_machine.specs.Summary.{Summary, stood, terminated, permit_given, entered, linked, given, inherited, operated, fated, counted}
 use Rattle.acta_machine.specs.Changes.{begun, edges_due, settled, changed, effect}
 use Rattle.acta_machine.specs.Families.{heir_of}
@@ -25,7 +25,7 @@ use Rattle.acta_explore.specs.Equivalence.{by_line, is_on, without_lists, AreSam
 use Rattle.acta_explore.specs.Programs.{is_operation}
 use Rattle.acta_explore.proofs.Filters.{map-same, push-same, by_line-map, by_line-push}
 use Rattle.acta_explore.proofs.Named.{AreNamed, given_line, moved-lines, length-moved}
-use Rattle.acta_explore.proofs.Rules.{AreAlike, with_lists, with_ops, rule_in, formed-same, refused-same, value-same, return-same, due-same}
+use Rattle.acta_explore.proofs.Rules.{AreEquivalent, with_lists, with_ops, rule_in, formed-same, refused-same, value-same, return-same, due-same}
 
 -- two summaries agree on what programs can see, where these lines did their operations
 pub record AreLike (s u : Summary) (ls ks : List ℕ) : Type 0 where
@@ -50,13 +50,13 @@ change-same f k ls ks xs ys same =
     (subst (λ (os : List LineOp). AreSameByObject (map (λ o. record { line = o.line; held = f o.held }) (by_line ls xs)) os) (sym (by_line-map f ks ys))
     (map-same (λ o. record { line = o.line; held = f o.held }) (λ o ob. k o.held o.line ob) (by_line ls xs) (by_line ks ys) same))
 
-on-handed : (t : ℕ) (u : TxnId) (i : HeldOp) (l ob : ℕ) → is_on ob (record { line = l; held = handed_op t u i }) ≡ is_on ob (record { line = l; held = i })
-on-handed t u i l ob = on-if (is_held t i) i (record i { holder = u }) l ob refl
+on-transferred : (t : ℕ) (u : TxnId) (i : HeldOp) (l ob : ℕ) → is_on ob (record { line = l; held = transferred_op t u i }) ≡ is_on ob (record { line = l; held = i })
+on-transferred t u i l ob = on-if (is_held t i) i (record i { holder = u }) l ob refl
 
 on-ended : (t : ℕ) (fate : Fate) (i : HeldOp) (l ob : ℕ) → is_on ob (record { line = l; held = ended_op t fate i }) ≡ is_on ob (record { line = l; held = i })
 on-ended t fate i l ob = on-if (is_held t i) i (record i { fate = fate }) l ob refl
 
-module _ {A : Type 0} (m : Parts A) (s : Summary) (ls ks : List ℕ) (xs ys : List HeldOp) (es fs : List Edge) (ops others : List OpNo) (a : AreAlike ls ks xs ys es fs ops others) (l : ℕ) where
+module _ {A : Type 0} (m : Parts A) (s : Summary) (ls ks : List ℕ) (xs ys : List HeldOp) (es fs : List Edge) (ops others : List OpNo) (a : AreEquivalent ls ks xs ys es fs ops others) (l : ℕ) where
   abbrev p : Summary
   p = with_lists s xs es
 
@@ -103,14 +103,14 @@ module _ {A : Type 0} (m : Parts A) (s : Summary) (ls ks : List ℕ) (xs ys : Li
   settled-same : (t : TxnId) (heir : Option TxnId) → AreLike (settled (terminated p t has_committed) t heir) (settled (terminated q t has_committed) t heir) ls ks
   unfolding terminated inherited fated
   settled-same t None = mapped-ops (terminated s t has_committed) (ended_op t.0 _) (on-ended t.0 _)
-  settled-same t (Some heir) = mapped-ops (terminated s t has_committed) (handed_op t.0 heir) (on-handed t.0 heir)
+  settled-same t (Some heir) = mapped-ops (terminated s t has_committed) (transferred_op t.0 heir) (on-transferred t.0 heir)
 
   changed-same : (e : Event A) → AreLike (changed m p (with_ops e ops)) (changed m q (with_ops e others)) (lines_after e l ls) (lines_after e l ks)
   unfolding stood terminated permit_given entered given inherited operated fated
   changed-same (Begin t class) = same-ops (begun s t class None)
   changed-same (Spawn t c class) = same-ops (begun s c class (Some t))
   changed-same (Split t u class named) = given-ops (begun s u class None) u
-  changed-same (Join t u) = mapped-ops (terminated s t has_joined) (handed_op t.0 u) (on-handed t.0 u)
+  changed-same (Join t u) = mapped-ops (terminated s t has_joined) (transferred_op t.0 u) (on-transferred t.0 u)
   changed-same (Delegate t u named) = given-ops s u
   changed-same (Form kind j i) = same-ops s
   changed-same (Operate t ob op) = more-ops s _
@@ -132,10 +132,10 @@ linked-with : (s : Summary) (xs : List HeldOp) (es due : List Edge) → linked (
 unfolding linked
 linked-with s xs es due = refl
 
-effect-with : {A : Type 0} (m : Parts A) (s : Summary) (ls ks : List ℕ) (xs ys : List HeldOp) (es fs : List Edge) (ops others : List OpNo) → AreAlike ls ks xs ys es fs ops others → (l : ℕ) (e : Event A) → AreLike (effect m (with_lists s xs es) (with_ops e ops)) (effect m (with_lists s ys fs) (with_ops e others)) (lines_after e l ls) (lines_after e l ks)
+effect-with : {A : Type 0} (m : Parts A) (s : Summary) (ls ks : List ℕ) (xs ys : List HeldOp) (es fs : List Edge) (ops others : List OpNo) → AreEquivalent ls ks xs ys es fs ops others → (l : ℕ) (e : Event A) → AreLike (effect m (with_lists s xs es) (with_ops e ops)) (effect m (with_lists s ys fs) (with_ops e others)) (lines_after e l ls) (lines_after e l ks)
 effect-with m s ls ks xs ys es fs ops others a l e =
     let due = edges_due m (with_lists s xs es) (with_ops e ops) in
-    let b : AreAlike ls ks xs ys (formed es due) (formed fs due) ops others = record {
+    let b : AreEquivalent ls ks xs ys (formed es due) (formed fs due) ops others = record {
       here = a.here;
       there = a.there;
       operations = a.operations;
@@ -152,15 +152,15 @@ effect-with m s ls ks xs ys es fs ops others a l e =
     (subst (λ (r : Summary). AreLike (changed m (with_lists s xs (formed es due)) (with_ops e ops)) (changed m r (with_ops e others)) (lines_after e l ls) (lines_after e l ks)) (sym (linked-with s ys fs due)) like)))
 
 -- operations that are named in both by their lines
-pub record AreNamedAlike (s u : Summary) (ls ks : List ℕ) (ops others : List OpNo) : Type 0 where
+pub record AreNamedEquivalently (s u : Summary) (ls ks : List ℕ) (ops others : List OpNo) : Type 0 where
   pub named : ℕ → Bool
   pub here : AreNamed named ops 1 ls
   pub there : AreNamed named others 1 ks
   pub unknown : list_any (λ n. is_none (operation_at s.operations n)) (numbers_of ops) ≡ list_any (λ n. is_none (operation_at u.operations n)) (numbers_of others)
 
-module _ {A : Type 0} (m : Parts A) (s u : Summary) (ls ks : List ℕ) (ops others : List OpNo) (like : AreLike s u ls ks) (names : AreNamedAlike s u ls ks ops others) where
-  alike : AreAlike ls ks s.operations u.operations s.edges u.edges ops others
-  alike = record {
+module _ {A : Type 0} (m : Parts A) (s u : Summary) (ls ks : List ℕ) (ops others : List OpNo) (like : AreLike s u ls ks) (names : AreNamedEquivalently s u ls ks ops others) where
+  equivalent : AreEquivalent ls ks s.operations u.operations s.edges u.edges ops others
+  equivalent = record {
     here = like.here;
     there = like.there;
     operations = like.operations;
@@ -175,22 +175,22 @@ module _ {A : Type 0} (m : Parts A) (s u : Summary) (ls ks : List ℕ) (ops othe
   pub like-refused : (e : Event A) → rule_in (lowest_broken m s (with_ops e ops)) ≡ rule_in (lowest_broken m u (with_ops e others))
   like-refused e =
       subst (λ (b : Summary). rule_in (lowest_broken m s (with_ops e ops)) ≡ rule_in (lowest_broken m (with_lists b u.operations u.edges) (with_ops e others))) like.rest
-      (refused-same m (without_lists s) ls ks s.operations u.operations s.edges u.edges ops others alike e)
+      (refused-same m (without_lists s) ls ks s.operations u.operations s.edges u.edges ops others equivalent e)
 
   -- it returns the same
   pub like-return : (e : Event A) → return_due m s (with_ops e ops) ≡ return_due m u (with_ops e others)
   like-return e =
       subst (λ (b : Summary). return_due m s (with_ops e ops) ≡ return_due m (with_lists b u.operations u.edges) (with_ops e others)) like.rest
-      (return-same m (without_lists s) ls ks s.operations u.operations s.edges u.edges ops others alike e)
+      (return-same m (without_lists s) ls ks s.operations u.operations s.edges u.edges ops others equivalent e)
 
   -- the values are the same
   pub like-value : (ob : ℕ) → value_of m s ob ≡ value_of m u ob
   like-value ob =
       subst (λ (b : Summary). value_of m s ob ≡ value_of m (with_lists b u.operations u.edges) ob) like.rest
-      (value-same m (without_lists s) ls ks s.operations u.operations s.edges u.edges ops others alike ob)
+      (value-same m (without_lists s) ls ks s.operations u.operations s.edges u.edges ops others equivalent ob)
 
   -- and the event leaves them in agreement
   pub like-effect : (l : ℕ) (e : Event A) → AreLike (effect m s (with_ops e ops)) (effect m u (with_ops e others)) (lines_after e l ls) (lines_after e l ks)
   like-effect l e =
       subst (λ (b : Summary). AreLike (effect m s (with_ops e ops)) (effect m (with_lists b u.operations u.edges) (with_ops e others)) (lines_after e l ls) (lines_after e l ks)) like.rest
-      (effect-with m (without_lists s) ls ks s.operations u.operations s.edges u.edges ops others alike l e)
+      (effect-with m (without_lists s) ls ks s.operations u.operations s.edges u.edges ops others equivalent l e)

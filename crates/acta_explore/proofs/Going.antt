@@ -22,7 +22,7 @@ use Rattle.acta_explore.specs.Points.{Point, gone_on, stepped, IsEnd}
 use Rattle.acta_explore.specs.Programs.{Programs, is_of_line, done_by, done_at, lines_done, next_line, next_from, operated_lines, event_now}
 use Rattle.acta_explore.specs.inside.Noting.{noted, noted_at}
 pub use Rattle.acta_explore.specs.inside.Numbered.{IsNumbered}
-use Rattle.acta_explore.proofs.Effects.{AreLike, AreNamedAlike, lines_after, like-refused, like-return, like-effect}
+use Rattle.acta_explore.proofs.Effects.{AreLike, AreNamedEquivalently, lines_after, like-refused, like-return, like-effect}
 use Rattle.acta_explore.proofs.Numbering.{Differ, numbered_lines, is_line_named, are-named, unknown-same}
 use Rattle.acta_explore.proofs.Pairs.{Pairs}
 use Rattle.acta_explore.proofs.Rules.{with_ops, rule_in}
@@ -89,7 +89,7 @@ operated-differ (s ∷ steps) pairs = operated-pairs s.line s.ret (operated_line
 pub like-of : {A : Type 0} (programs : Programs A) (p q : Point A) → IsNumbered p → IsNumbered q → AreEquivalent programs p q → AreLike (known p) (known q) (operated_lines p.steps) (operated_lines q.steps)
 like-of programs p q here there e = record { rest = e.rest; edges = e.edges; operations = e.operations; here = here.counted; there = there.counted }
 
-pub names-of : {A : Type 0} (programs : Programs A) (p q : Point A) (e : Event A) → IsNumbered p → IsNumbered q → AreSameByObject (line_ops p) (line_ops q) → AreNamedAlike (known p) (known q) (operated_lines p.steps) (operated_lines q.steps) (each_once (numbered_lines (operated_lines p.steps) (lines_named programs e))) (each_once (numbered_lines (operated_lines q.steps) (lines_named programs e)))
+pub names-of : {A : Type 0} (programs : Programs A) (p q : Point A) (e : Event A) → IsNumbered p → IsNumbered q → AreSameByObject (line_ops p) (line_ops q) → AreNamedEquivalently (known p) (known q) (operated_lines p.steps) (operated_lines q.steps) (each_once (numbered_lines (operated_lines p.steps) (lines_named programs e))) (each_once (numbered_lines (operated_lines q.steps) (lines_named programs e)))
 names-of programs p q e here there same = record {
   named = is_line_named (lines_named programs e);
   here = are-named (operated_lines p.steps) (lines_named programs e) (operated-differ p.steps here.lines);

@@ -1,4 +1,4 @@
-pub mod Alike
+pub mod Equivalence
 mod Anys
 mod Circling
 mod Comparing

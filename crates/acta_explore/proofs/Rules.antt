@@ -35,7 +35,7 @@ use Rattle.acta_sets.specs.declared.held_op.HeldOp.{HeldOp}
 use Rattle.acta_sets.specs.Operations.{is_held, operation_at}
 use Rattle.acta_machine.specs.Summary.{Summary}
 use Rattle.acta_machine.specs.Changes.{edges_due}
-use Rattle.acta_machine.specs.Conflicts.{stands_against, opponents}
+use Rattle.acta_machine.specs.Conflicts.{stands_against, conflicting_holders}
 use Rattle.acta_machine.specs.Families.{class_of}
 use Rattle.acta_machine.specs.Rules.{full, not_in_progress, already_begun, not_in_model, partner_not_in_progress, not_responsible, partial_delegation, bad_set, conflict, form_too_late, edges_full, broken_before_conflict, broken_before_edges, earlier_broken, dependency, no_heir, lowest_broken, refuses_conflicts, not_held, is_of_another, unknown_in, left_out, wants_whole}
 use Rattle.acta_machine.specs.Values.{live_on, live_ops, value_of, return_due}
@@ -177,7 +177,7 @@ abbrev pub with_lists : Summary → List HeldOp → List Edge → Summary
 with_lists s items edges = record s { operations = items; edges = edges }
 
 -- two lists of operations and edges that programs can't tell apart, and operations that are named in both by their lines
-pub record AreAlike (ls ks : List ℕ) (xs ys : List HeldOp) (es fs : List Edge) (ops others : List OpNo) : Type 0 where
+pub record AreEquivalent (ls ks : List ℕ) (xs ys : List HeldOp) (es fs : List Edge) (ops others : List OpNo) : Type 0 where
   pub here : length ls ≡ length xs
   pub there : length ks ≡ length ys
   pub operations : AreSameByObject (by_line ls xs) (by_line ks ys)
@@ -187,7 +187,7 @@ pub record AreAlike (ls ks : List ℕ) (xs ys : List HeldOp) (es fs : List Edge)
   pub named_there : AreNamed named others 1 ks
   pub unknown : list_any (λ n. is_none (operation_at xs n)) (numbers_of ops) ≡ list_any (λ n. is_none (operation_at ys n)) (numbers_of others)
 
-module _ {A : Type 0} (m : Parts A) (s : Summary) (ls ks : List ℕ) (xs ys : List HeldOp) (es fs : List Edge) (ops others : List OpNo) (a : AreAlike ls ks xs ys es fs ops others) where
+module _ {A : Type 0} (m : Parts A) (s : Summary) (ls ks : List ℕ) (xs ys : List HeldOp) (es fs : List Edge) (ops others : List OpNo) (a : AreEquivalent ls ks xs ys es fs ops others) where
   abbrev p : Summary
   p = with_lists s xs es
 
@@ -235,8 +235,8 @@ module _ {A : Type 0} (m : Parts A) (s : Summary) (ls ks : List ℕ) (xs ys : Li
   against-same : (t : ℕ) (ob : ObjId) (op : Op) → filter (stands_against m p t ob op) xs ≡ filter (stands_against m q t ob op) ys
   against-same t ob op = filter-same ls ks xs ys a.here a.there a.operations ob.0 (stands_against m p t ob op) (λ o e. off _ (is_on ob.0 o) _ e)
 
-  opponents-same : (t : ℕ) (ob : ObjId) (op : Op) → opponents m p t ob op ≡ opponents m q t ob op
-  opponents-same t ob op = ap (λ (is : List HeldOp). ascending (map (λ i. i.holder.0) is)) (against-same t ob op)
+  conflicting_holders-same : (t : ℕ) (ob : ObjId) (op : Op) → conflicting_holders m p t ob op ≡ conflicting_holders m q t ob op
+  conflicting_holders-same t ob op = ap (λ (is : List HeldOp). ascending (map (λ i. i.holder.0) is)) (against-same t ob op)
 
   conflict-by : (b : Bool) (t : ℕ) (ob : ObjId) (op : Op) → rule_in (broken_by Conflict (if b then first_number (stands_against m p t ob op) xs else None)) ≡ rule_in (broken_by Conflict (if b then first_number (stands_against m q t ob op) ys else None))
   conflict-by false t ob op = refl
@@ -333,7 +333,7 @@ module _ {A : Type 0} (m : Parts A) (s : Summary) (ls ks : List ℕ) (xs ys : Li
     set = refl;
     conflict = conflict-by (refuses_conflicts m s t.0) t.0 ob op;
     time = refl;
-    due = ap (λ (us : List ℕ). option_map_or (λ k. edges_upon k.policy t us) (class_of m s t.0) []) (opponents-same t.0 ob op);
+    due = ap (λ (us : List ℕ). option_map_or (λ k. edges_upon k.policy t us) (class_of m s t.0) []) (conflicting_holders-same t.0 ob op);
     dependency = refl;
     heir = refl;
   }

@@ -38,9 +38,9 @@ step_by turn l ret = record { seat = turn.seat; line = l; alternative = turn.alt
 -- the point after an admitted event
 pub went-on : {A : Type 0} (p : Point A) (turn : Turn) (l : ℕ) (e : Event A) (place : ℕ) (ret : Option Ret) (steps : List Step) (state : State A) → answer_to p.state e ≡ Admitted place ret → steps ≡ p.steps ++ step_by turn l ret ∷ [] → state ≡ after p.state e → Some (record { steps = steps; state = state }) ≡ tried p turn l e
 went-on p turn l e place ret steps state h m s =
-    let told = admission p.state e place ret h in
-    let same : steps ≡ p.steps ++ step_by turn l (kept_as p.state e).ret ∷ [] = m ∙ ap (λ (r : Option Ret). p.steps ++ step_by turn l r ∷ []) told.1 in
-    (λ i. Some (record { steps = same i; state = s i })) ∙ sym (tried-so p turn l e (refusal_in p.state e) told.0)
+    let reported = admission p.state e place ret h in
+    let same : steps ≡ p.steps ++ step_by turn l (kept_as p.state e).ret ∷ [] = m ∙ ap (λ (r : Option Ret). p.steps ++ step_by turn l r ∷ []) reported.1 in
+    (λ i. Some (record { steps = same i; state = s i })) ∙ sym (tried-so p turn l e (refusal_in p.state e) reported.0)
 
 lines-new : (l : ℕ) (steps : List Step) → IsUndone steps l → AllByRecursion (λ k. Differ k l) (map (λ s. s.line) steps)
 lines-new l [] all = tt
@@ -54,12 +54,12 @@ own-more steps s own new =
 -- it returns what the event does
 pub returns-on : {A : Type 0} (p : Point A) (turn : Turn) (l : ℕ) (e : Event A) (place : ℕ) (ret : Option Ret) (steps : List Step) (state : State A) → ReturnAsKept p.steps p.state.kept → answer_to p.state e ≡ Admitted place ret → steps ≡ p.steps ++ step_by turn l ret ∷ [] → state ≡ after p.state e → ReturnAsKept steps state.kept
 returns-on p turn l e place ret steps state so h m s =
-    let told = admission p.state e place ret h in
+    let reported = admission p.state e place ret h in
     ap (map (λ (r : Step). r.ret)) m
     ∙ (map-append (λ r. r.ret) p.steps (step_by turn l ret ∷ [])
-    ∙ ((λ i. so i ++ told.1 i ∷ [])
+    ∙ ((λ i. so i ++ reported.1 i ∷ [])
     ∙ (sym (map-append (λ k. k.ret) p.state.kept (kept_as p.state e ∷ []))
-    ∙ ap (λ (t : State _). map (λ k. k.ret) t.kept) (sym (s ∙ after-admitted p.state e told.0)))))
+    ∙ ap (λ (t : State _). map (λ k. k.ret) t.kept) (sym (s ∙ after-admitted p.state e reported.0)))))
 
 -- there are as many steps as events
 pub as-many : {A : Type 0} (steps : List Step) (kept : List (Kept A)) → ReturnAsKept steps kept → length steps ≡ length kept

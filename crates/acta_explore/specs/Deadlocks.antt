@@ -13,12 +13,12 @@ use Rattle.acta_machine.specs.Changes.{summary_of}
 use Rattle.acta_machine.specs.Reasons.{refusal_of, IsSo}
 use Rattle.acta_machine.specs.Table.{refusal_in, status_in}
 use Rattle.acta_machine.specs.declared.reason.Reason.{Reason}
-use Rattle.acta_machine.specs.declared.reason.Reason.TheVariants.{NotInProgress, PartnerNotInProgress, Conflict, Barred}
+use Rattle.acta_machine.specs.declared.reason.Reason.TheVariants.{NotInProgress, PartnerNotInProgress, Conflict, Blocked}
 use Rattle.acta_explore.specs.declared.point.Done.{Done}
 use Rattle.acta_explore.specs.Points.{Point}
 use Rattle.acta_explore.specs.Programs.{Programs, lines_done, next_line, event_at}
 
--- whether the rule bars the j of an edge only until the i begins, commits or aborts; the other rules on dependencies bar
+-- whether the rule blocks the j of an edge only until the i begins, commits or aborts; the other rules on dependencies bar
 -- an event for good
 abbrev pub bars_until : Rule → Bool
 bars_until BeginDep = true
@@ -29,12 +29,12 @@ bars_until TerminationDep = true
 bars_until _ = false
 
 -- the transaction for which an event waits that is refused for this reason: one that has not begun, the holder of the
--- operation that it conflicts with, or the i of an edge that bars the j until then, while i may still commit or abort
+-- operation that it conflicts with, or the i of an edge that blocks the j until then, while i may still commit or abort
 abbrev pub waited_for : Reason → Option TxnId
 waited_for (NotInProgress t status) = if is_new status then Some t else None
 waited_for (PartnerNotInProgress t status) = if is_new status then Some t else None
 waited_for (Conflict op) = Some op.held.holder
-waited_for (Barred b) = if bars_until b.rule && may_end b.i then Some b.by.edge.i else None
+waited_for (Blocked b) = if bars_until b.rule && may_end b.i then Some b.by.edge.i else None
 waited_for _ = None
 
 -- the event is refused, and waits for t

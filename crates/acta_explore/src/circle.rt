@@ -40,7 +40,7 @@ struct Reached {
     from: usize,
 }
 
-// Whether the rule bars the j of an edge only until the i begins, commits or aborts.
+// Whether the rule blocks the j of an edge only until the i begins, commits or aborts.
 fn bars_until(rule: Rule) -> bool
     ensures { result ≡ bars_until rule }
 {
@@ -66,12 +66,12 @@ fn waited_for(reason: Reason) -> Option<TxnId>
             }
         }
         Reason::Conflict(op) => Some(op.held.holder),
-        Reason::Barred(barring) => {
-            if !bars_until(barring.rule) {
+        Reason::Blocked(blocking_edge) => {
+            if !bars_until(blocking_edge.rule) {
                 return None;
             }
-            match barring.i {
-                Status::NotBegun | Status::InProgress => Some(barring.by.edge.i),
+            match blocking_edge.i {
+                Status::NotBegun | Status::InProgress => Some(blocking_edge.by.edge.i),
                 _ => None,
             }
         }
@@ -371,7 +371,7 @@ fn way_by<A: Allocator>(
 }
 
 // A shortest way from the seat through seats of which each waits for the next, back to it; or nothing.
-fn way_back<A: Handle>(alloc: A, links: &[Link], seat: u8) -> Result<Vec<u8, A>, AllocError> {
+fn cycle_back_to<A: Handle>(alloc: A, links: &[Link], seat: u8) -> Result<Vec<u8, A>, AllocError> {
     let mut reached = Vec::new(alloc);
     reached.push(Reached { seat, from: 0 })?;
     // (the search reaches each seat once)
@@ -402,7 +402,7 @@ pub fn deadlock<A: Handle>(
     ensures start { IfOk result (λ found. IfSome found (λ chain. BeginsWith seat chain.items)) }
 {
     let links = links(alloc, plan, point)?;
-    let chain = way_back(alloc, links.as_slice(), seat)?;
+    let chain = cycle_back_to(alloc, links.as_slice(), seat)?;
     if is_closed(chain.as_slice(), seat) && is_chain(links.as_slice(), chain.as_slice()) {
         Ok(Some(chain))
     } else {

@@ -19,10 +19,10 @@ use Rattle.acta_table.specs.declared.event.TxnId.{TxnId}
 use Rattle.acta_table.specs.declared.model.Parts.{Parts}
 use Rattle.acta_table.specs.Dependencies.{is_commit, is_abort}
 use Rattle.acta_table.specs.Numbered.{item_at}
-use Rattle.acta_deps.specs.declared.obstacle.Clash.{Clash as ClashEdges}
+use Rattle.acta_deps.specs.declared.block.Clash.{Clash as ClashEdges}
 use Rattle.acta_deps.specs.Debts.{debt_by, debt_of, owes_commit, owes_abort, clashes_by, clashing}
 use Rattle.acta_deps.specs.Dependencies.{cannot_pay_commit, cannot_pay_abort, is_awaited, begin_dep, serial_dep, begin_on_commit, begin_on_abort, termination_dep, owing_abort, owing_commit, commit_order, weak_begin, unpayable_commit, unpayable_abort, clash, start_refusal, commit_refusal, abort_refusal, join_refusal}
-use Rattle.acta_deps.specs.Obstacles.{IsClash}
+use Rattle.acta_deps.specs.Blocks.{IsClash}
 use Rattle.acta_deps.specs.Statuses.{has_begun, has_ended, has_committed, has_aborted, has_joined, with_status}
 use Rattle.acta_machine.specs.Reasons.{refusal_of, statuses_after}
 use Rattle.acta_machine.specs.Rules.{not_in_progress, already_begun, dependency, earlier_broken}
@@ -36,8 +36,8 @@ use Rattle.acta_hope.specs.Hopes.{OnlyWhere, IsWhy, Holds}
 use Rattle.acta_hope.specs.declared.hoping.Hope.{Hope}
 use Rattle.acta_hope.specs.declared.hoping.Hope.TheVariants.{Never, OnceCommitted, Unknown}
 use Rattle.acta_hope.specs.Parts.{IsOfClash, is_wd, is_helped}
-use Rattle.acta_hope.proofs.Bars.{by-parts, none-all, passes, none-passes-at, item-more}
-use Rattle.acta_hope.proofs.BarringEdges.{right-false}
+use Rattle.acta_hope.proofs.BlockKinds.{by-parts, none-all, passes, none-passes-at, item-more}
+use Rattle.acta_hope.proofs.BlockingEdges.{right-false}
 use Rattle.acta_hope.proofs.Debts.{missing-is, debt-parts, debt-later}
 use Rattle.acta_hope.proofs.Growth.{summary_in}
 use Rattle.acta_hope.proofs.Hopes.{Only, only-later, never-later, none-smallest}
@@ -320,6 +320,6 @@ of-clash {A} state e c i hope is stands why = of hope is
     of _ is = absurd is
 
 -- something is said
-pub told-clash : (c : ClashEdges) (i : Status) (hope : Hope) → IsOfClash c i hope → hope ≡ Unknown → ⊥
-told-clash c i Unknown is same = is
-told-clash c i _ is same = cc
+pub reported-clash : (c : ClashEdges) (i : Status) (hope : Hope) → IsOfClash c i hope → hope ≡ Unknown → ⊥
+reported-clash c i Unknown is same = is
+reported-clash c i _ is same = cc

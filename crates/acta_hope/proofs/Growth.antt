@@ -26,7 +26,7 @@ use Rattle.acta_deps.specs.Debts.{debt_by, debt_of, owes_commit, owes_abort}
 use Rattle.acta_deps.specs.Dependencies.{termination_dep, owing_abort, owing_commit, commit_order, weak_begin, unpayable_commit, unpayable_abort, clash, commit_refusal, abort_refusal, join_refusal}
 use Rattle.acta_deps.specs.Statuses.{has_begun, has_ended, with_status}
 use Rattle.acta_sets.specs.declared.held_op.HeldOp.{HeldOp}
-use Rattle.acta_sets.specs.Operations.{is_held, operation_at, moved_from, moved, ended_op, ended, handed_op, handed, added}
+use Rattle.acta_sets.specs.Operations.{is_held, operation_at, moved_from, moved, ended_op, ended, transferred_op, transferred, added}
 use Rattle.acta_sets.specs.Permits.{Permitted}
 use Rattle.acta_machine.specs.Summary.{Summary, with_entry, stood, terminated, permit_given, entered, linked, given, inherited, operated, fated, counted}
 use Rattle.acta_machine.specs.Changes.{edges_due, settled, effect, summary_of}
@@ -37,7 +37,7 @@ use Rattle.acta_machine.proofs.Broken.{by_none, in_progress, not_begun}
 use Rattle.acta_machine.proofs.Histories.{summary_more}
 use Rattle.acta_machine.proofs.Unbroken.{Unbroken, unbroken, none-earlier, none-dependency}
 use Rattle.acta_hope.specs.Growth.{IsOpLater, AreLater, StaysOwed, IsLater, paid}
-use Rattle.acta_hope.proofs.Bars.{none-all, none-passes-at, item-more}
+use Rattle.acta_hope.proofs.BlockKinds.{none-all, none-passes-at, item-more}
 use Rattle.acta_hope.proofs.Debts.{debt-parts, debt-later}
 
 -- operations
@@ -78,8 +78,8 @@ ops-moved : (n : ℕ) (ops : List OpNo) (u : TxnId) (is : List HeldOp) → AreLa
 ops-moved n ops u [] = tt
 ops-moved n ops u (i ∷ is) = (op-held (is_named ops n) i u, ops-moved (n + 1) ops u is)
 
-ops-handed : (t : ℕ) (u : TxnId) (is : List HeldOp) → AreLater is (handed t u is)
-ops-handed t u is = ops-map (handed_op t u) (λ i. op-held (is_held t i) i u) is
+ops-transferred : (t : ℕ) (u : TxnId) (is : List HeldOp) → AreLater is (transferred t u is)
+ops-transferred t u is = ops-map (transferred_op t u) (λ i. op-held (is_held t i) i u) is
 
 op-ended : (t : ℕ) (fate : Fate) (i : HeldOp) → IsOpLater i (ended_op t fate i)
 op-ended t fate i = of (i.holder.0 == t) (is_open i.fate) refl
@@ -294,14 +294,14 @@ later-rest s operations edges permits ops more = record {
 later-commit : (s : Summary) (t : TxnId) (heir : Option TxnId) → s.status t.0 ≡ InProgress → Pays s t.0 has_committed → IsLater s (counted (settled (terminated (linked s []) t has_committed) t heir))
 unfolding terminated linked fated inherited counted
 later-commit s t None on pays = later-end s t.0 has_committed (ended t.0 Committed s.operations) s.edges _ on refl pays (ops-ended t.0 Committed s.operations) (edges-same s.edges)
-later-commit s t (Some u) on pays = later-end s t.0 has_committed (handed t.0 u s.operations) s.edges _ on refl pays (ops-handed t.0 u s.operations) (edges-same s.edges)
+later-commit s t (Some u) on pays = later-end s t.0 has_committed (transferred t.0 u s.operations) s.edges _ on refl pays (ops-transferred t.0 u s.operations) (edges-same s.edges)
 
 later-effect : {A : Type 0} (m : Parts A) (s : Summary) (e : Event A) → Unbroken m s e → dependency s e ≡ None → IsLater s (effect m s e)
 unfolding stood terminated permit_given entered linked given inherited operated fated counted not_in_progress already_begun
 later-effect m s (Begin t class) u fine = later-start s t.0 (Some class) None s.operations s.edges (not_begun s AlreadyBegun t.0 u.begun) (ops-same s.operations) (edges-same s.edges)
 later-effect m s (Spawn t c class) u fine = later-start s c.0 (Some class) (Some t) s.operations _ (not_begun s AlreadyBegun c.0 u.begun) (ops-same s.operations) (edges-formed s.edges (edges_due m s (Spawn t c class)))
 later-effect m s (Split t v class ops) u fine = later-start s v.0 (Some class) None (moved ops v s.operations) _ (not_begun s AlreadyBegun v.0 u.begun) (ops-moved 1 ops v s.operations) (edges-formed s.edges (edges_due m s (Split t v class ops)))
-later-effect m s (Join t v) u fine = later-end s t.0 has_joined (handed t.0 v s.operations) s.edges _ (in_progress s NotInProgress t.0 u.progress) refl (join-pays s t.0 fine) (ops-handed t.0 v s.operations) (edges-same s.edges)
+later-effect m s (Join t v) u fine = later-end s t.0 has_joined (transferred t.0 v s.operations) s.edges _ (in_progress s NotInProgress t.0 u.progress) refl (join-pays s t.0 fine) (ops-transferred t.0 v s.operations) (edges-same s.edges)
 later-effect m s (Delegate t v ops) u fine = later-rest s (moved ops v s.operations) s.edges s.permits (ops-moved 1 ops v s.operations) (edges-same s.edges)
 later-effect m s (Form kind j i) u fine = later-rest s s.operations _ s.permits (ops-same s.operations) (edges-formed s.edges (edges_due m s (Form kind j i)))
 later-effect m s (Operate t ob op) u fine = later-rest s (added s.operations t ob op) _ s.permits (ops-more s.operations _) (edges-formed s.edges (edges_due m s (Operate t ob op)))

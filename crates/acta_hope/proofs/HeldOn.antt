@@ -20,18 +20,18 @@ use Rattle.acta_table.specs.declared.event.OpNo.{OpNo}
 use Rattle.acta_table.specs.declared.event.TxnId.{TxnId}
 use Rattle.acta_table.specs.declared.model.Class.{Class}
 use Rattle.acta_table.specs.declared.model.Parts.{Parts}
-use Rattle.acta_table.specs.Classes.{can_do, class_at, spares}
+use Rattle.acta_table.specs.Classes.{can_do, class_at, exempts}
 use Rattle.acta_table.specs.Events.{acting, operations_named}
 use Rattle.acta_table.specs.Fates.{is_open}
 use Rattle.acta_table.specs.Sets.{is_named, numbers_of}
 use Rattle.acta_deps.specs.Statuses.{has_begun}
 use Rattle.acta_sets.specs.declared.held_op.HeldOp.{HeldOp}
-use Rattle.acta_sets.specs.Operations.{is_among, is_held, operation_at, ended_op, handed_op, moved_from, moved}
+use Rattle.acta_sets.specs.Operations.{is_among, is_held, operation_at, ended_op, transferred_op, moved_from, moved}
 use Rattle.acta_sets.specs.Permits.{without_permits}
 use Rattle.acta_objects.specs.Conflicts.{conflict_on}
 use Rattle.acta_machine.specs.Changes.{effect, settled}
 use Rattle.acta_machine.specs.Conflicts.{stands_against}
-use Rattle.acta_machine.specs.Families.{ancestors_of, has_class, heir_of, spared}
+use Rattle.acta_machine.specs.Families.{ancestors_of, has_class, heir_of, exempt}
 use Rattle.acta_machine.specs.Rules.{class_may, conflict, lowest_broken, is_allowed, not_in_model, not_in_progress, txn_may}
 use Rattle.acta_machine.specs.Summary.{Summary, stood, terminated, permit_given, entered, linked, given, inherited, operated, fated, counted}
 use Rattle.acta_machine.specs.Table.{State, after, after_all, kept_as, moved_on, refusal_in}
@@ -41,7 +41,7 @@ use Rattle.acta_machine.proofs.Histories.{summary_more}
 use Rattle.acta_machine.proofs.Unbroken.{unbroken, none-earlier}
 use Rattle.acta_hope.specs.Growth.{IsLater}
 use Rattle.acta_hope.specs.Hopes.{IsHopeless, stands_in}
-use Rattle.acta_hope.specs.Parts.{holds_on, is_held_on, spares_none}
+use Rattle.acta_hope.specs.Parts.{holds_on, is_held_on, exempts_none}
 use Rattle.acta_hope.proofs.Growth.{summary_in, model-after, later-after, later-after_all}
 use Rattle.acta_hope.proofs.Hopes.{held-then, is_something, only-later}
 use Rattle.acta_hope.proofs.LettingGo.{mapped-at, moved-got, not-eqb}
@@ -68,8 +68,8 @@ not-held-by i u other = λ k. other k && is_open i.fate
 ended-stays : (i : HeldOp) (u : ℕ) (fate : Fate) → (i.holder.0 == u) ≡ false → ended_op u fate i ≡ i
 ended-stays i u fate other = λ k. if not-held-by i u other k then record i { fate = fate } else i
 
-handed-stays : (i : HeldOp) (u : ℕ) (v : TxnId) → (i.holder.0 == u) ≡ false → handed_op u v i ≡ i
-handed-stays i u v other = λ k. if not-held-by i u other k then record i { holder = v } else i
+transferred-stays : (i : HeldOp) (u : ℕ) (v : TxnId) → (i.holder.0 == u) ≡ false → transferred_op u v i ≡ i
+transferred-stays i u v other = λ k. if not-held-by i u other k then record i { holder = v } else i
 
 moved-stays : (ops : List OpNo) (v : TxnId) (is : List HeldOp) (n : ℕ) (i : HeldOp) → operation_at is n ≡ Some i → is_named ops n ≡ false → operation_at (moved ops v is) n ≡ Some i
 moved-stays ops v is zero i at off = cc
@@ -201,7 +201,7 @@ module _ {A : Type 0} (n : ℕ) (i : HeldOp) (t : ℕ) (m : Parts A) (s : Summar
       }
   still-kept (event.Join u v) none =
       let other = not-eqb h u.0 (apart m s h u.0 kind.Join lacks.join (allowed m s (event.Join u v) none)) in
-      ended-keeps u.0 (effect m s (event.Join u v)) (handed_op u.0 v) (handed-stays i u.0 v other) refl refl
+      ended-keeps u.0 (effect m s (event.Join u v)) (transferred_op u.0 v) (transferred-stays i u.0 v other) refl refl
   still-kept (event.Delegate u v ops) none =
       let other = not-eqb h u.0 (apart m s h u.0 kind.Delegate lacks.delegate (allowed m s (event.Delegate u v ops) none)) in
       record {
@@ -217,7 +217,7 @@ module _ {A : Type 0} (n : ℕ) (i : HeldOp) (t : ℕ) (m : Parts A) (s : Summar
 
       of : (heir : Option TxnId) → IsKept n i t (counted (settled (terminated (linked s []) u has_committed) u heir))
       of None = ended-keeps u.0 (counted (settled (terminated (linked s []) u has_committed) u None)) (ended_op u.0 Committed) (ended-stays i u.0 Committed other) refl refl
-      of (Some v) = ended-keeps u.0 (counted (settled (terminated (linked s []) u has_committed) u (Some v))) (handed_op u.0 v) (handed-stays i u.0 v other) refl refl
+      of (Some v) = ended-keeps u.0 (counted (settled (terminated (linked s []) u has_committed) u (Some v))) (transferred_op u.0 v) (transferred-stays i u.0 v other) refl refl
   still-kept (event.Abort u) none =
       let other = not-eqb h u.0 (apart m s h u.0 kind.Abort lacks.abort (allowed m s (event.Abort u) none)) in
       ended-keeps u.0 (effect m s (event.Abort u)) (ended_op u.0 Aborted) (ended-stays i u.0 Aborted other) refl refl
@@ -249,8 +249,8 @@ module _ {A : Type 0} (n : ℕ) (i : HeldOp) (t : ℕ) where
   kept-on state kept lacks [] = kept
   kept-on state kept lacks (e ∷ es) = kept-on (after state e) (kept-after state e kept lacks) (lacks-after state e lacks) es
 
-spared-none : {A : Type 0} (m : Parts A) (s : Summary) (t : ℕ) → has_class (λ k. spares k.scope) m s t ≡ false → spared m s t ≡ []
-spared-none m s t is = λ k. if is k then ancestors_of s t else []
+exempt-none : {A : Type 0} (m : Parts A) (s : Summary) (t : ℕ) → has_class (λ k. exempts k.scope) m s t ≡ false → exempt m s t ≡ []
+exempt-none m s t is = λ k. if is k then ancestors_of s t else []
 
 -- an operation that stands in the way, and whose holder holds on, stands there for ever
 pub held-on : {A : Type 0} (state : State A) (t : TxnId) (ob : ObjId) (op : Op) (n : ℕ) (i : HeldOp) →
@@ -269,20 +269,20 @@ held-on {A} state t ob op n i at stands on holds es =
     l : Summary
     l = summary_in (after_all state es)
 
-    both : (spares_none m s t.0 ≡ true) × (holds_on m s i.holder.0 ≡ true)
-    both = and_parts (spares_none m s t.0) (holds_on m s i.holder.0) holds
+    both : (exempts_none m s t.0 ≡ true) × (holds_on m s i.holder.0 ≡ true)
+    both = and_parts (exempts_none m s t.0) (holds_on m s i.holder.0) holds
 
-    none_spared : has_class (λ k. spares k.scope) m s t.0 ≡ false
-    none_spared = not-true (has_class (λ k. spares k.scope) m s t.0) both.0
+    none_exempt : has_class (λ k. exempts k.scope) m s t.0 ≡ false
+    none_exempt = not-true (has_class (λ k. exempts k.scope) m s t.0) both.0
 
     permits_not : s.permits i.holder.0 t.0 i.ob.0 ≡ false
-    permits_not = unpermitted-of (is_open i.fate) (not (i.holder.0 == t.0)) (not (is_among (spared m s t.0) i.holder)) (s.permits i.holder.0 t.0 i.ob.0) (i.ob.0 == ob.0) (conflict_on m ob.0 i.op op) stands
+    permits_not = unpermitted-of (is_open i.fate) (not (i.holder.0 == t.0)) (not (is_among (exempt m s t.0) i.holder)) (s.permits i.holder.0 t.0 i.ob.0) (i.ob.0 == ob.0) (conflict_on m ob.0 i.op op) stands
 
     later_kept : IsKept n i t.0 l
     later_kept = kept-on n i t.0 state (record { at = at; unpermitted = permits_not }) (lacks-of m s i.holder.0 both.1) es
 
-    sp : spared m l t.0 ≡ spared m s t.0
-    sp = spared-none m l t.0 (has-stays (λ k. spares k.scope) m s l (later-after_all state es) t.0 on ∙ none_spared) ∙ sym (spared-none m s t.0 none_spared)
+    sp : exempt m l t.0 ≡ exempt m s t.0
+    sp = exempt-none m l t.0 (has-stays (λ k. exempts k.scope) m s l (later-after_all state es) t.0 on ∙ none_exempt) ∙ sym (exempt-none m s t.0 none_exempt)
 
     pm : l.permits i.holder.0 t.0 i.ob.0 ≡ s.permits i.holder.0 t.0 i.ob.0
     pm = later_kept.unpermitted ∙ sym permits_not

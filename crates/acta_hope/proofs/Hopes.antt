@@ -39,7 +39,7 @@ use Rattle.acta_machine.specs.Table.{State, after_all, refusal_in}
 use Rattle.acta_machine.proofs.Broken.{if_none, by_none, in_progress, not_begun, not_broken}
 use Rattle.acta_machine.proofs.FamilyTies.{kept-many}
 use Rattle.acta_machine.proofs.Histories.{operations_few}
-use Rattle.acta_machine.proofs.Handing.{named-held}
+use Rattle.acta_machine.proofs.Transferring.{named-held}
 use Rattle.acta_machine.proofs.Unbroken.{linked-room, Unbroken, unbroken, none-earlier, none-heirless}
 use Rattle.acta_hope.specs.Growth.{IsLater}
 use Rattle.acta_hope.specs.Hopes.{IsHopeless, is_operate}

@@ -17,16 +17,16 @@ use Rattle.acta_table.specs.declared.event.OpNo.{OpNo}
 use Rattle.acta_table.specs.declared.event.TxnId.{TxnId}
 use Rattle.acta_table.specs.declared.model.Parts.{Parts}
 use Rattle.acta_table.specs.Ancestors.{ancestors_from}
-use Rattle.acta_table.specs.Classes.{spares}
+use Rattle.acta_table.specs.Classes.{exempts}
 use Rattle.acta_table.specs.Fates.{is_open}
 use Rattle.acta_table.specs.Events.{acting}
 use Rattle.acta_table.specs.Sets.{is_named}
 use Rattle.acta_sets.specs.declared.held_op.HeldOp.{HeldOp}
-use Rattle.acta_sets.specs.Operations.{is_among, is_held, operation_at, ended_op, handed_op, moved_from, moved}
+use Rattle.acta_sets.specs.Operations.{is_among, is_held, operation_at, ended_op, transferred_op, moved_from, moved}
 use Rattle.acta_objects.specs.Conflicts.{conflict_on}
 use Rattle.acta_machine.specs.Changes.{effect, settled, summary_of}
 use Rattle.acta_machine.specs.Conflicts.{stands_against}
-use Rattle.acta_machine.specs.Families.{has_class, heir_of, spared}
+use Rattle.acta_machine.specs.Families.{has_class, heir_of, exempt}
 use Rattle.acta_machine.specs.Rules.{lowest_broken, txn_may}
 use Rattle.acta_machine.specs.Summary.{Summary, terminated, permit_given, linked, given, inherited, fated, counted}
 use Rattle.acta_machine.specs.Table.{State, after, kept_as, moved_on, operations_in, refusal_in}
@@ -69,11 +69,11 @@ module _ {A : Type 0} (m : Parts A) (l : Summary) (t : ℕ) (ob : ObjId) (op : O
   own-off : (i : HeldOp) → (i.holder.0 == t) ≡ true → stands_against m l t ob op i ≡ false
   own-off i is = off-2 _ (i.holder.0 == t) _ _ _ _ is
 
-  spared-off : (i : HeldOp) → is_among (spared m l t) i.holder ≡ true → stands_against m l t ob op i ≡ false
-  spared-off i is = off-3 (is_open i.fate) (not (i.holder.0 == t)) (is_among (spared m l t) i.holder) (not (l.permits i.holder.0 t i.ob.0)) (i.ob.0 == ob.0) (conflict_on m ob.0 i.op op) is
+  exempt-off : (i : HeldOp) → is_among (exempt m l t) i.holder ≡ true → stands_against m l t ob op i ≡ false
+  exempt-off i is = off-3 (is_open i.fate) (not (i.holder.0 == t)) (is_among (exempt m l t) i.holder) (not (l.permits i.holder.0 t i.ob.0)) (i.ob.0 == ob.0) (conflict_on m ob.0 i.op op) is
 
   permitted-off : (i : HeldOp) → l.permits i.holder.0 t i.ob.0 ≡ true → stands_against m l t ob op i ≡ false
-  permitted-off i is = off-4 (is_open i.fate) (not (i.holder.0 == t)) (not (is_among (spared m l t) i.holder)) (l.permits i.holder.0 t i.ob.0) (i.ob.0 == ob.0) (conflict_on m ob.0 i.op op) is
+  permitted-off i is = off-4 (is_open i.fate) (not (i.holder.0 == t)) (not (is_among (exempt m l t) i.holder)) (l.permits i.holder.0 t i.ob.0) (i.ob.0 == ob.0) (conflict_on m ob.0 i.op op) is
 
   at-off : (n : ℕ) (i : HeldOp) → operation_at l.operations n ≡ Some i → stands_against m l t ob op i ≡ false → option_map_or (stands_against m l t ob op) (operation_at l.operations n) false ≡ false
   at-off n i at off = ap (λ o. option_map_or (stands_against m l t ob op) o false) at ∙ off
@@ -112,8 +112,8 @@ ended-closed fate closed i = of (i.holder.0 == i.holder.0) (is_open i.fate) (sam
     of false b own is = cc
 
 -- one that it has handed over is held by the other, if it is in progress
-handed-then : (P : HeldOp → Type 0) (u : TxnId) (i : HeldOp) → (is_open i.fate ≡ false → P i) → P (record i { holder = u }) → P (handed_op i.holder.0 u i)
-handed-then P u i over held = of (i.holder.0 == i.holder.0) (is_open i.fate) (same_number i.holder.0) refl
+transferred-then : (P : HeldOp → Type 0) (u : TxnId) (i : HeldOp) → (is_open i.fate ≡ false → P i) → P (record i { holder = u }) → P (transferred_op i.holder.0 u i)
+transferred-then P u i over held = of (i.holder.0 == i.holder.0) (is_open i.fate) (same_number i.holder.0) refl
   where
     of : (a b : Bool) → a ≡ true → is_open i.fate ≡ b → P (if a && b then record i { holder = u } else i)
     of true true own is = held
@@ -164,9 +164,9 @@ line-more (suc n) parent (Some p) u is = of (p.0 == u.0) is (line-more n parent 
     of true is more = refl
     of false is more = more is
 
-spared-more : (spares : Bool) (n : ℕ) (parent : ℕ → Option TxnId) (o : Option TxnId) (u : TxnId) → is_among (if spares then ancestors_from n parent o else []) u ≡ true → is_among (if spares then ancestors_from (n + 1) parent o else []) u ≡ true
-spared-more true n parent o u is = let same : suc n ≡ n + 1 = omega arith in ap (λ k. is_among (ancestors_from k parent o) u) (sym same) ∙ line-more n parent o u is
-spared-more false n parent o u is = cc
+exempt-more : (exempts : Bool) (n : ℕ) (parent : ℕ → Option TxnId) (o : Option TxnId) (u : TxnId) → is_among (if exempts then ancestors_from n parent o else []) u ≡ true → is_among (if exempts then ancestors_from (n + 1) parent o else []) u ≡ true
+exempt-more true n parent o u is = let same : suc n ≡ n + 1 = omega arith in ap (λ k. is_among (ancestors_from k parent o) u) (sym same) ∙ line-more n parent o u is
+exempt-more false n parent o u is = cc
 
 module _ {A : Type 0} (m : Parts A) (s : Summary) (t : TxnId) (ob : ObjId) (op : Op) (n : OpNo) (i : HeldOp) (at : operation_at s.operations n.0 ≡ Some i) where
   -- the operation stands in the way no longer
@@ -178,10 +178,10 @@ module _ {A : Type 0} (m : Parts A) (s : Summary) (t : TxnId) (ob : ObjId) (op :
       at-off m l t.0 ob op n.0 (ended_op i.holder.0 fate i) (ap (λ ops. operation_at ops n.0) is ∙ mapped-at (ended_op i.holder.0 fate) s.operations n.0 i at)
       (closed-off m l t.0 ob op (ended_op i.holder.0 fate i) (ended-closed fate closed i))
 
-  handed-gone : (l : Summary) (u : TxnId) → (stands_against m l t.0 ob op (record i { holder = u }) ≡ false) → l.operations ≡ map (handed_op i.holder.0 u) s.operations → IsGone l
-  handed-gone l u off is =
-      at-off m l t.0 ob op n.0 (handed_op i.holder.0 u i) (ap (λ ops. operation_at ops n.0) is ∙ mapped-at (handed_op i.holder.0 u) s.operations n.0 i at)
-      (handed-then (λ j. stands_against m l t.0 ob op j ≡ false) u i (closed-off m l t.0 ob op i) off)
+  transferred-gone : (l : Summary) (u : TxnId) → (stands_against m l t.0 ob op (record i { holder = u }) ≡ false) → l.operations ≡ map (transferred_op i.holder.0 u) s.operations → IsGone l
+  transferred-gone l u off is =
+      at-off m l t.0 ob op n.0 (transferred_op i.holder.0 u i) (ap (λ ops. operation_at ops n.0) is ∙ mapped-at (transferred_op i.holder.0 u) s.operations n.0 i at)
+      (transferred-then (λ j. stands_against m l t.0 ob op j ≡ false) u i (closed-off m l t.0 ob op i) off)
 
   -- after a commit of the holder, where its heir is this one
   abbrev left_to : Option TxnId → Summary
@@ -194,9 +194,9 @@ module _ {A : Type 0} (m : Parts A) (s : Summary) (t : TxnId) (ob : ObjId) (op :
       of : (heir : Option TxnId) → option_map_or (is_exempt m s t.0) heir true ≡ true → IsGone (left_to heir)
       of None is = ended-gone (left_to None) Committed refl refl
       of (Some p) is =
-          elim (or_cases (p.0 == t.0) (is_among (spared m s t.0) p) is) [
-            | inl own ↦ handed-gone (left_to (Some p)) p (own-off m (left_to (Some p)) t.0 ob op (record i { holder = p }) own) refl
-            | inr among ↦ handed-gone (left_to (Some p)) p (spared-off m (left_to (Some p)) t.0 ob op (record i { holder = p }) (spared-more (has_class (λ k. spares k.scope) m s t.0) s.kept s.parent (s.parent t.0) p among)) refl
+          elim (or_cases (p.0 == t.0) (is_among (exempt m s t.0) p) is) [
+            | inl own ↦ transferred-gone (left_to (Some p)) p (own-off m (left_to (Some p)) t.0 ob op (record i { holder = p }) own) refl
+            | inr among ↦ transferred-gone (left_to (Some p)) p (exempt-off m (left_to (Some p)) t.0 ob op (record i { holder = p }) (exempt-more (has_class (λ k. exempts k.scope) m s t.0) s.kept s.parent (s.parent t.0) p among)) refl
           ]
 
   abort-gone : IsGone (effect m s (event.Abort i.holder))
@@ -205,7 +205,7 @@ module _ {A : Type 0} (m : Parts A) (s : Summary) (t : TxnId) (ob : ObjId) (op :
 
   join-gone : IsGone (effect m s (event.Join i.holder t))
   unfolding terminated linked inherited counted
-  join-gone = handed-gone (effect m s (event.Join i.holder t)) t (own-off m (effect m s (event.Join i.holder t)) t.0 ob op (record i { holder = t }) (same_number t.0)) refl
+  join-gone = transferred-gone (effect m s (event.Join i.holder t)) t (own-off m (effect m s (event.Join i.holder t)) t.0 ob op (record i { holder = t }) (same_number t.0)) refl
 
   delegate-gone : (ops : List OpNo) → is_named ops n.0 ≡ true → IsGone (effect m s (event.Delegate i.holder t ops))
   unfolding linked given counted

@@ -1,5 +1,5 @@
-pub mod BarringEdges
-pub mod Bars
+pub mod BlockingEdges
+pub mod BlockKinds
 pub mod Clashes
 pub mod Counting
 pub mod Debts

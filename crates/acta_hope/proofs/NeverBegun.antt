@@ -1,4 +1,4 @@
--- A transaction of which an edge bars the start for ever never begins.
+-- A transaction of which an edge blocks the start for ever never begins.
 use Rattle.std.proofs.Common.{◌≡◌, ◌<◌, ◌≤◌, ℕ, zero, suc, ◌+◌, Bool, true, false, ◌==◌, ◌&&◌, List, [], ◌∷◌, length, Option, Some, None, refl, sym, ap, ◌∙◌, subst, ◌⊎◌, inl, inr, eqb-true, eq-eqb, arith}
 use Rattle.std.specs.Prelude.{if◌then◌else◌, get_or, replicate, set, slice_get}
 use Rattle.std.proofs.lemmas.Bool.{true≢false, and_parts, cases_lt}
@@ -25,7 +25,7 @@ use Rattle.acta_machine.proofs.Broken.{by_none, in_progress}
 use Rattle.acta_machine.proofs.Histories.{summary_more}
 use Rattle.acta_machine.proofs.Unbroken.{unbroken, none-earlier, none-dependency}
 use Rattle.acta_hope.specs.Starts.{bars_start, is_lost_by, AreLost, NeverBegins}
-use Rattle.acta_hope.proofs.Bars.{none-all, none-passes-at, item-more}
+use Rattle.acta_hope.proofs.BlockKinds.{none-all, none-passes-at, item-more}
 use Rattle.acta_hope.proofs.Growth.{summary_in, later-after}
 use Rattle.acta_hope.proofs.Waits.{settled-status}
 
@@ -53,13 +53,13 @@ off true true is_a is_b e = cc
 off true false is_a is_b e = cc
 off false b is_a is_b e = cc
 
--- a transaction starts only where no edge bars that for ever
-start-barred : (s : Summary) (t n : ℕ) (f : Edge) → start_refusal s.status s.edges t ≡ None → item_at s.edges n ≡ Some f → f.j.0 ≡ t → bars_start f.kind (s.status f.i.0) ≡ true → ⊥
+-- a transaction starts only where no edge blocks that for ever
+start-blocked : (s : Summary) (t n : ℕ) (f : Edge) → start_refusal s.status s.edges t ≡ None → item_at s.edges n ≡ Some f → f.j.0 ≡ t → bars_start f.kind (s.status f.i.0) ≡ true → ⊥
 unfolding start_refusal serial_dep begin_on_commit begin_on_abort
-start-barred s t n f none at same bars =
+start-blocked s t n f none at same blocks =
     let all = none-all (begin_dep s.status s.edges t ∷ serial_dep s.status s.edges t ∷ begin_on_commit s.status s.edges t ∷ begin_on_abort s.status s.edges t ∷ clash s.status s.edges t InProgress ∷ []) none in
     let own = eq-eqb f.j.0 t same in
-    elim (awaits f.kind (s.status f.i.0) bars) [
+    elim (awaits f.kind (s.status f.i.0) blocks) [
       | inl is ↦ off (f.j.0 == t) (awaits_end f.kind (s.status f.i.0)) own is (none-passes-at (depends awaits_end s.status t) s.edges n f (by_none SerialDep _ all.1.0) at)
       | inr more ↦ elim more [
         | inl is ↦ off (f.j.0 == t) (awaits_commit f.kind (s.status f.i.0)) own is (none-passes-at (depends awaits_commit s.status t) s.edges n f (by_none BeginOnCommit _ all.1.1.0) at)
@@ -80,44 +80,44 @@ on-new s t u on new same = let clash_of = sym new ∙ ap s.status same ∙ on in
 -- an event that breaks no rule doesn't begin it
 still-new : {A : Type 0} (m : Parts A) (s : Summary) (e : Event A) (n : ℕ) (f : Edge) → lowest_broken m s e ≡ None → item_at s.edges n ≡ Some f → s.status f.j.0 ≡ NotBegun → bars_start f.kind (s.status f.i.0) ≡ true → (effect m s e).status f.j.0 ≡ NotBegun
 unfolding stood terminated permit_given entered linked given inherited operated fated counted not_in_progress
-still-new m s (event.Begin u class) n f none at new bars = kept-new s.status u.0 InProgress f.j.0 (λ is. start-barred s u.0 n f (none-dependency m s (event.Begin u class) none) at is bars) new
-still-new m s (event.Spawn u c class) n f none at new bars = kept-new s.status c.0 InProgress f.j.0 (λ is. start-barred s c.0 n f (none-dependency m s (event.Spawn u c class) none) at is bars) new
-still-new m s (event.Split u v class ops) n f none at new bars = kept-new s.status v.0 InProgress f.j.0 (λ is. start-barred s v.0 n f (none-dependency m s (event.Split u v class ops) none) at is bars) new
-still-new m s (event.Join u v) n f none at new bars = kept-new s.status u.0 Joined f.j.0 (on-new s u.0 f.j.0 (in_progress s NotInProgress u.0 (unbroken m s (event.Join u v) (none-earlier m s (event.Join u v) none)).progress) new) new
-still-new m s (event.Delegate u v ops) n f none at new bars = new
-still-new m s (event.Form kind v u) n f none at new bars = new
-still-new m s (event.Operate u ob op) n f none at new bars = new
-still-new m s (event.Commit u) n f none at new bars =
+still-new m s (event.Begin u class) n f none at new blocks = kept-new s.status u.0 InProgress f.j.0 (λ is. start-blocked s u.0 n f (none-dependency m s (event.Begin u class) none) at is blocks) new
+still-new m s (event.Spawn u c class) n f none at new blocks = kept-new s.status c.0 InProgress f.j.0 (λ is. start-blocked s c.0 n f (none-dependency m s (event.Spawn u c class) none) at is blocks) new
+still-new m s (event.Split u v class ops) n f none at new blocks = kept-new s.status v.0 InProgress f.j.0 (λ is. start-blocked s v.0 n f (none-dependency m s (event.Split u v class ops) none) at is blocks) new
+still-new m s (event.Join u v) n f none at new blocks = kept-new s.status u.0 Joined f.j.0 (on-new s u.0 f.j.0 (in_progress s NotInProgress u.0 (unbroken m s (event.Join u v) (none-earlier m s (event.Join u v) none)).progress) new) new
+still-new m s (event.Delegate u v ops) n f none at new blocks = new
+still-new m s (event.Form kind v u) n f none at new blocks = new
+still-new m s (event.Operate u ob op) n f none at new blocks = new
+still-new m s (event.Commit u) n f none at new blocks =
     ap (λ (g : ℕ → Status). g f.j.0) (settled-status (terminated (linked s []) u Committed) u (heir_of m (linked s []) u.0))
     ∙ kept-new s.status u.0 Committed f.j.0 (on-new s u.0 f.j.0 (in_progress s NotInProgress u.0 (unbroken m s (event.Commit u) (none-earlier m s (event.Commit u) none)).progress) new) new
-still-new m s (event.Abort u) n f none at new bars = kept-new s.status u.0 Aborted f.j.0 (on-new s u.0 f.j.0 (in_progress s NotInProgress u.0 (unbroken m s (event.Abort u) (none-earlier m s (event.Abort u) none)).progress) new) new
-still-new m s (event.Permit u v ob) n f none at new bars = new
+still-new m s (event.Abort u) n f none at new blocks = kept-new s.status u.0 Aborted f.j.0 (on-new s u.0 f.j.0 (in_progress s NotInProgress u.0 (unbroken m s (event.Abort u) (none-earlier m s (event.Abort u) none)).progress) new) new
+still-new m s (event.Permit u v ob) n f none at new blocks = new
 
-barred-ended : (kind : Dep) (x : Status) → bars_start kind x ≡ true → has_ended x ≡ true
-barred-ended kind Committed is = refl
-barred-ended kind Aborted is = refl
-barred-ended kind Joined is = refl
-barred-ended Sd NotBegun is = cc
-barred-ended Sd InProgress is = cc
-barred-ended Bcd NotBegun is = cc
-barred-ended Bcd InProgress is = cc
-barred-ended Bad NotBegun is = cc
-barred-ended Bad InProgress is = cc
-barred-ended _ x is = absurd (true≢false (sym is))
+blocked-ended : (kind : Dep) (x : Status) → bars_start kind x ≡ true → has_ended x ≡ true
+blocked-ended kind Committed is = refl
+blocked-ended kind Aborted is = refl
+blocked-ended kind Joined is = refl
+blocked-ended Sd NotBegun is = cc
+blocked-ended Sd InProgress is = cc
+blocked-ended Bcd NotBegun is = cc
+blocked-ended Bcd InProgress is = cc
+blocked-ended Bad NotBegun is = cc
+blocked-ended Bad InProgress is = cc
+blocked-ended _ x is = absurd (true≢false (sym is))
 
 module _ (n : ℕ) (f : Edge) where
-  -- the edge is in force, the one that depends has not begun, and the edge bars its start for ever
+  -- the edge is in force, the one that depends has not begun, and the edge blocks its start for ever
   record IsLost (s : Summary) : Type 0 where
     at : item_at s.edges n ≡ Some f
     new : s.status f.j.0 ≡ NotBegun
-    bars : bars_start f.kind (s.status f.i.0) ≡ true
+    blocks : bars_start f.kind (s.status f.i.0) ≡ true
 
 module _ {A : Type 0} (n : ℕ) (f : Edge) where
   new-moved : (state : State A) (e : Event A) (r : Option Refusal) → lowest_broken state.model (summary_in state) e ≡ r → IsLost n f (summary_in state) → (summary_in (moved_on state e r)).status f.j.0 ≡ NotBegun
   new-moved state e (Some r) broken lost = lost.new
   new-moved state e None none lost =
       ap (λ (s : Summary). s.status f.j.0) (summary_more state.model state.kept (kept_as state e))
-      ∙ still-new state.model (summary_in state) e n f none lost.at lost.new lost.bars
+      ∙ still-new state.model (summary_in state) e n f none lost.at lost.new lost.blocks
 
   new-after : (state : State A) (e : Event A) → IsLost n f (summary_in state) → (summary_in (after state e)).status f.j.0 ≡ NotBegun
   unfolding after
@@ -129,7 +129,7 @@ module _ {A : Type 0} (n : ℕ) (f : Edge) where
       record {
         at = ap (λ es. item_at es n) later.edges.1 ∙ item-more (summary_in state).edges later.edges.0 n f lost.at;
         new = new-after state e lost;
-        bars = ap (bars_start f.kind) (later.ended f.i.0 (barred-ended f.kind ((summary_in state).status f.i.0) lost.bars)) ∙ lost.bars;
+        blocks = ap (bars_start f.kind) (later.ended f.i.0 (blocked-ended f.kind ((summary_in state).status f.i.0) lost.blocks)) ∙ lost.blocks;
       }
 
   lost-on : (state : State A) → IsLost n f (summary_in state) → NeverBegins state f.j.0
@@ -140,11 +140,11 @@ is_unbegun : (x : Status) → is_new x ≡ true → x ≡ NotBegun
 is_unbegun NotBegun is = refl
 is_unbegun _ is = cc
 
--- by an edge that bars its start for ever, a transaction never begins
+-- by an edge that blocks its start for ever, a transaction never begins
 pub never-begins : {A : Type 0} (state : State A) (n : ℕ) (f : Edge) → item_at (summary_in state).edges n ≡ Some f → is_lost_by (summary_in state).status f ≡ true → NeverBegins state f.j.0
 never-begins {A} state n f at is =
     let parts = and_parts (is_new ((summary_in state).status f.j.0)) (bars_start f.kind ((summary_in state).status f.i.0)) is in
-    lost-on {A = A} n f state (record { at = at; new = is_unbegun ((summary_in state).status f.j.0) parts.0; bars = parts.1 })
+    lost-on {A = A} n f state (record { at = at; new = is_unbegun ((summary_in state).status f.j.0) parts.0; blocks = parts.1 })
 
 -- the numbers of edges, by transaction
 

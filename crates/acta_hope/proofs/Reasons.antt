@@ -13,20 +13,20 @@ use Rattle.acta_table.specs.declared.event.TxnId.{TxnId}
 use Rattle.acta_table.specs.Events.{acting}
 use Rattle.acta_table.specs.Fates.{is_open}
 use Rattle.acta_deps.specs.Statuses.{has_begun, has_ended, is_decided, is_in_progress}
-use Rattle.acta_deps.specs.declared.obstacle.Barring.{Barring}
+use Rattle.acta_deps.specs.declared.block.BlockingEdge.{BlockingEdge}
 use Rattle.acta_sets.specs.Operations.{is_held, is_held_in, operation_at}
 use Rattle.acta_machine.specs.Reasons.{refusal_of}
 use Rattle.acta_machine.specs.Summary.{Summary}
 use Rattle.acta_machine.specs.Table.{State, after_all, operations_in, status_in}
 use Rattle.acta_machine.specs.declared.reason.NumberedOp.{NumberedOp}
 use Rattle.acta_machine.specs.declared.reason.Reason.{Reason}
-use Rattle.acta_machine.specs.declared.reason.Reason.TheVariants.{Barred, Conflict, EdgesFull, PartialDelegation, Full, Form, NotInProgress, AlreadyBegun, NotInModel, PartnerNotInProgress, NotResponsible, BadSet, FormTooLate, NoHeir}
+use Rattle.acta_machine.specs.declared.reason.Reason.TheVariants.{Blocked, Conflict, EdgesFull, PartialDelegation, Full, Form, NotInProgress, AlreadyBegun, NotInModel, PartnerNotInProgress, NotResponsible, BadSet, FormTooLate, NoHeir}
 use Rattle.acta_hope.specs.declared.hoping.Hope.{Hope}
 use Rattle.acta_hope.specs.declared.hoping.Hope.TheVariants.{Never, OnceBegun, OnceHeld, OnceDecided, OnceCommitted, OnceAborted, OnceFree, OnceLetGo, OnceFewer, Unknown}
-use Rattle.acta_hope.specs.Hopes.{IsHopeless, OnlyWhere, IsWhy, Holds, HasForce, is_of_edge, are_listed, opponents_of, stands_in}
-use Rattle.acta_hope.specs.Parts.{IsOfBegun, IsOfConflict, IsOfHeld, IsOfLeftOut, IsOfBarring, IsOfEdges, may_be_untold, bars_for_good, is_no_operation}
+use Rattle.acta_hope.specs.Hopes.{IsHopeless, OnlyWhere, IsWhy, Holds, HasForce, is_of_edge, are_listed, conflicting_holders_of, stands_in}
+use Rattle.acta_hope.specs.Parts.{IsOfBegun, IsOfConflict, IsOfHeld, IsOfLeftOut, IsOfBlockingEdge, IsOfEdges, may_be_unreported, blocks_for_good, is_no_operation}
 use Rattle.acta_hope.specs.Rulings.{IsBrokenBy}
-use Rattle.acta_hope.proofs.BarringEdges.{barred-never, barred-force, barred-told, barred-begun, barred-serial, barred-termination, barred-commit, barred-abort}
+use Rattle.acta_hope.proofs.BlockingEdges.{blocked-never, blocked-force, blocked-reported, blocked-begun, blocked-serial, blocked-termination, blocked-commit, blocked-abort}
 use Rattle.acta_hope.proofs.Growth.{summary_in, model-after_all}
 use Rattle.acta_hope.proofs.Hopes.{Only, Not, only-later, never-later, not-full, not-formed, not-acting, once-acting, not-partner, once-partner, not-started, not-allowed, once-held, not-held, once-there, never-there, not-late, not-few, forms-same, not-heir, once-heir, acting-off, partner-off, heir-off, set-acts, responsible-acts}
 use Rattle.acta_hope.proofs.Rulings.{is-broken}
@@ -100,40 +100,40 @@ module _ {A : Type 0} (state : State A) (e : Event A) where
   pub of-no-operation : (n : OpNo) (count : ℕ) → is_no_operation n.0 ≡ true → IsWhy state e (BadSet n count) → IsHopeless state e
   of-no-operation n count outside why = never-there state e n.0 outside (broken (BadSet n count) why)
 
-  -- the rule by which the edge bars
-  by-rule : (b : Barring) → IsWhy state e (Barred b) → (rule : Rule) → b.rule ≡ rule → IsBrokenBy state.model s e (record { rule = rule; by = Some b.by.number }) rule
-  by-rule b why rule is = subst (λ (k : Rule). IsBrokenBy state.model s e (record { rule = k; by = Some b.by.number }) k) is (broken (Barred b) why)
+  -- the rule by which the edge blocks
+  by-rule : (b : BlockingEdge) → IsWhy state e (Blocked b) → (rule : Rule) → b.rule ≡ rule → IsBrokenBy state.model s e (record { rule = rule; by = Some b.by.number }) rule
+  by-rule b why rule is = subst (λ (k : Rule). IsBrokenBy state.model s e (record { rule = k; by = Some b.by.number }) k) is (broken (Blocked b) why)
 
-  decided : (b : Barring) → IsWhy state e (Barred b) → (b.rule ≡ SerialDep) ⊎ (b.rule ≡ TerminationDep) → Only state.model s e (λ l. is_decided (l.status b.by.edge.i.0) ≡ true)
-  decided b why (inl is) = barred-serial state.model s e b.by.number b.by.edge why.so.0 (by-rule b why SerialDep is)
-  decided b why (inr is) = barred-termination state.model s e b.by.number b.by.edge why.so.0 (by-rule b why TerminationDep is)
+  decided : (b : BlockingEdge) → IsWhy state e (Blocked b) → (b.rule ≡ SerialDep) ⊎ (b.rule ≡ TerminationDep) → Only state.model s e (λ l. is_decided (l.status b.by.edge.i.0) ≡ true)
+  decided b why (inl is) = blocked-serial state.model s e b.by.number b.by.edge why.so.0 (by-rule b why SerialDep is)
+  decided b why (inr is) = blocked-termination state.model s e b.by.number b.by.edge why.so.0 (by-rule b why TerminationDep is)
 
-  pub of-barring : (b : Barring) (hope : Hope) → IsOfBarring b hope → IsWhy state e (Barred b) → Holds state e hope
-  of-barring b Never is why =
-      never-later state e (barred-never state.model s e b.by.number b.by.edge why.so.0 b.rule ((λ k. bars_for_good b.rule (sym why.so.1 k) (sym why.so.2 k)) ∙ is) (broken (Barred b) why))
-  of-barring b (OnceBegun t) is why =
+  pub of-blocking_edge : (b : BlockingEdge) (hope : Hope) → IsOfBlockingEdge b hope → IsWhy state e (Blocked b) → Holds state e hope
+  of-blocking_edge b Never is why =
+      never-later state e (blocked-never state.model s e b.by.number b.by.edge why.so.0 b.rule ((λ k. blocks_for_good b.rule (sym why.so.1 k) (sym why.so.2 k)) ∙ is) (broken (Blocked b) why))
+  of-blocking_edge b (OnceBegun t) is why =
       subst (λ (v : TxnId). OnlyWhere (λ later. has_begun (status_in later v.0) ≡ true) state e) (sym is.1)
-      (only-later state e (λ l. has_begun (l.status b.by.edge.i.0) ≡ true) (barred-begun state.model s e b.by.number b.by.edge why.so.0 (by-rule b why BeginDep is.0)))
-  of-barring b (OnceDecided t) is why =
+      (only-later state e (λ l. has_begun (l.status b.by.edge.i.0) ≡ true) (blocked-begun state.model s e b.by.number b.by.edge why.so.0 (by-rule b why BeginDep is.0)))
+  of-blocking_edge b (OnceDecided t) is why =
       subst (λ (v : TxnId). OnlyWhere (λ later. is_decided (status_in later v.0) ≡ true) state e) (sym is.1)
       (only-later state e (λ l. is_decided (l.status b.by.edge.i.0) ≡ true) (decided b why is.0))
-  of-barring b (OnceCommitted t) is why =
+  of-blocking_edge b (OnceCommitted t) is why =
       subst (λ (v : TxnId). OnlyWhere (λ later. status_in later v.0 ≡ Committed) state e) (sym is.1)
-      (only-later state e (λ l. l.status b.by.edge.i.0 ≡ Committed) (barred-commit state.model s e b.by.number b.by.edge why.so.0 (by-rule b why BeginOnCommit is.0)))
-  of-barring b (OnceAborted t) is why =
+      (only-later state e (λ l. l.status b.by.edge.i.0 ≡ Committed) (blocked-commit state.model s e b.by.number b.by.edge why.so.0 (by-rule b why BeginOnCommit is.0)))
+  of-blocking_edge b (OnceAborted t) is why =
       subst (λ (v : TxnId). OnlyWhere (λ later. status_in later v.0 ≡ Aborted) state e) (sym is.1)
-      (only-later state e (λ l. l.status b.by.edge.i.0 ≡ Aborted) (barred-abort state.model s e b.by.number b.by.edge why.so.0 (by-rule b why BeginOnAbort is.0)))
-  of-barring b (OnceHeld t k) is why = absurd is
-  of-barring b (OnceFree k) is why = absurd is
-  of-barring b (OnceLetGo t k) is why = absurd is
-  of-barring b OnceFewer is why = absurd is
-  of-barring b Unknown is why = tt
+      (only-later state e (λ l. l.status b.by.edge.i.0 ≡ Aborted) (blocked-abort state.model s e b.by.number b.by.edge why.so.0 (by-rule b why BeginOnAbort is.0)))
+  of-blocking_edge b (OnceHeld t k) is why = absurd is
+  of-blocking_edge b (OnceFree k) is why = absurd is
+  of-blocking_edge b (OnceLetGo t k) is why = absurd is
+  of-blocking_edge b OnceFewer is why = absurd is
+  of-blocking_edge b Unknown is why = tt
 
   pub of-edges : (hope : Hope) → IsOfEdges e hope → IsWhy state e EdgesFull → Holds state e hope
   of-edges Never is why = never-later state e (not-few state.model s e (refusal_of EdgesFull) (forms-same state.model s e is) (broken EdgesFull why))
   of-edges OnceFewer is why = λ es none.
-      ap (λ m. are_listed (opponents_of state.model s e) (opponents_of m (summary_in (after_all state es)) e)) (model-after_all state es)
-      ∙ only-later state e (λ l. are_listed (opponents_of state.model s e) (opponents_of state.model l e) ≡ false) (fewer-then state.model s e (refusal_of EdgesFull) is (broken EdgesFull why)) es none
+      ap (λ m. are_listed (conflicting_holders_of state.model s e) (conflicting_holders_of m (summary_in (after_all state es)) e)) (model-after_all state es)
+      ∙ only-later state e (λ l. are_listed (conflicting_holders_of state.model s e) (conflicting_holders_of state.model l e) ≡ false) (fewer-then state.model s e (refusal_of EdgesFull) is (broken EdgesFull why)) es none
   of-edges _ is why = absurd is
 
   pub of-conflict : (op : NumberedOp) (hope : Hope) → IsOfConflict state.model s e op hope → IsWhy state e (Conflict op) → Holds state e hope
@@ -154,7 +154,7 @@ module _ {A : Type 0} (state : State A) (e : Event A) where
   -- what the reason names breaks the rule
   pub force : (reason : Reason) → IsWhy state e reason → HasForce state e reason
   force (Conflict op) why = conflict-stands state.model s e op.number.0 op.held why.so (broken (Conflict op) why).0
-  force (Barred b) why = λ is. barred-force state.model s e b.by.number b.by.edge why.so.0 b.rule is (broken (Barred b) why)
+  force (Blocked b) why = λ is. blocked-force state.model s e b.by.number b.by.edge why.so.0 b.rule is (broken (Blocked b) why)
   force _ why = tt
 
   -- of these reasons something is said
@@ -163,38 +163,38 @@ module _ {A : Type 0} (state : State A) (e : Event A) where
   off t status Unknown is same stands = true≢false (sym (ap is_in_progress is) ∙ stands)
   off t status _ is same stands = cc
 
-  pub told-acting : (t : TxnId) (status : Status) (hope : Hope) → IsOfBegun t status hope → IsWhy state e (NotInProgress t status) → hope ≡ Unknown → ⊥
-  told-acting t status hope is why same = off t status hope is same (ap is_in_progress why.so ∙ acting-off state.model s e t.0 (broken (NotInProgress t status) why))
+  pub reported-acting : (t : TxnId) (status : Status) (hope : Hope) → IsOfBegun t status hope → IsWhy state e (NotInProgress t status) → hope ≡ Unknown → ⊥
+  reported-acting t status hope is why same = off t status hope is same (ap is_in_progress why.so ∙ acting-off state.model s e t.0 (broken (NotInProgress t status) why))
 
-  pub told-partner : (t : TxnId) (status : Status) (hope : Hope) → IsOfBegun t status hope → IsWhy state e (PartnerNotInProgress t status) → hope ≡ Unknown → ⊥
-  told-partner t status hope is why same = off t status hope is same (ap is_in_progress why.so ∙ partner-off state.model s e t.0 (broken (PartnerNotInProgress t status) why))
+  pub reported-partner : (t : TxnId) (status : Status) (hope : Hope) → IsOfBegun t status hope → IsWhy state e (PartnerNotInProgress t status) → hope ≡ Unknown → ⊥
+  reported-partner t status hope is why same = off t status hope is same (ap is_in_progress why.so ∙ partner-off state.model s e t.0 (broken (PartnerNotInProgress t status) why))
 
-  pub told-heir : (t : TxnId) (status : Status) (hope : Hope) → IsOfBegun t status hope → IsWhy state e (NoHeir t status) → hope ≡ Unknown → ⊥
-  told-heir t status hope is why same = off t status hope is same (ap is_in_progress why.so ∙ heir-off state.model s e t.0 (broken (NoHeir t status) why).0)
+  pub reported-heir : (t : TxnId) (status : Status) (hope : Hope) → IsOfBegun t status hope → IsWhy state e (NoHeir t status) → hope ≡ Unknown → ⊥
+  reported-heir t status hope is why same = off t status hope is same (ap is_in_progress why.so ∙ heir-off state.model s e t.0 (broken (NoHeir t status) why).0)
 
   acts : (n : OpNo) (hope : Hope) → IsOfHeld e n hope → hope ≡ Unknown → (acting e ≡ None → ⊥) → ⊥
   acts n Unknown is same never = never is
   acts n _ is same never = cc
 
-  pub told-responsible : (op : NumberedOp) (hope : Hope) → IsOfHeld e op.number hope → IsWhy state e (NotResponsible op) → hope ≡ Unknown → ⊥
-  told-responsible op hope is why same = acts op.number hope is same (responsible-acts s e op.number.0 (broken (NotResponsible op) why))
+  pub reported-responsible : (op : NumberedOp) (hope : Hope) → IsOfHeld e op.number hope → IsWhy state e (NotResponsible op) → hope ≡ Unknown → ⊥
+  reported-responsible op hope is why same = acts op.number hope is same (responsible-acts s e op.number.0 (broken (NotResponsible op) why))
 
-  pub told-set : (n : OpNo) (count : ℕ) (hope : Hope) → IsOfHeld e n hope → IsWhy state e (BadSet n count) → hope ≡ Unknown → ⊥
-  told-set n count hope is why same = acts n hope is same (set-acts s e n.0 (broken (BadSet n count) why))
+  pub reported-set : (n : OpNo) (count : ℕ) (hope : Hope) → IsOfHeld e n hope → IsWhy state e (BadSet n count) → hope ≡ Unknown → ⊥
+  reported-set n count hope is why same = acts n hope is same (set-acts s e n.0 (broken (BadSet n count) why))
 
-  pub told-left-out : (op : NumberedOp) (hope : Hope) → IsOfLeftOut e op.number hope → IsWhy state e (PartialDelegation op) → hope ≡ Unknown → ⊥
-  told-left-out op Unknown is why same = whole-acts state.model s e op.number.0 (broken (PartialDelegation op) why).0 is
-  told-left-out op _ is why same = cc
+  pub reported-left-out : (op : NumberedOp) (hope : Hope) → IsOfLeftOut e op.number hope → IsWhy state e (PartialDelegation op) → hope ≡ Unknown → ⊥
+  reported-left-out op Unknown is why same = whole-acts state.model s e op.number.0 (broken (PartialDelegation op) why).0 is
+  reported-left-out op _ is why same = cc
 
-  pub told-barring : (b : Barring) (hope : Hope) → IsOfBarring b hope → IsWhy state e (Barred b) → hope ≡ Unknown → is_of_edge b.rule ≡ false
-  told-barring b Unknown is why same =
-      barred-told state.model s e b.by.number b.by.edge why.so.0 b.rule ((λ k. may_be_untold b.rule (sym why.so.1 k) (sym why.so.2 k)) ∙ is) (broken (Barred b) why)
-  told-barring b _ is why same = cc
+  pub reported-blocking_edge : (b : BlockingEdge) (hope : Hope) → IsOfBlockingEdge b hope → IsWhy state e (Blocked b) → hope ≡ Unknown → is_of_edge b.rule ≡ false
+  reported-blocking_edge b Unknown is why same =
+      blocked-reported state.model s e b.by.number b.by.edge why.so.0 b.rule ((λ k. may_be_unreported b.rule (sym why.so.1 k) (sym why.so.2 k)) ∙ is) (broken (Blocked b) why)
+  reported-blocking_edge b _ is why same = cc
 
-pub told-edges : {A : Type 0} (e : Event A) (hope : Hope) → IsOfEdges e hope → hope ≡ Unknown → ⊥
-told-edges e Unknown is same = is
-told-edges e _ is same = cc
+pub reported-edges : {A : Type 0} (e : Event A) (hope : Hope) → IsOfEdges e hope → hope ≡ Unknown → ⊥
+reported-edges e Unknown is same = is
+reported-edges e _ is same = cc
 
-pub told-conflict : {A : Type 0} (m : Parts A) (s : Summary) (e : Event A) (op : NumberedOp) (hope : Hope) → IsOfConflict m s e op hope → hope ≡ Unknown → ⊥
-told-conflict m s e op Unknown is same = is
-told-conflict m s e op _ is same = cc
+pub reported-conflict : {A : Type 0} (m : Parts A) (s : Summary) (e : Event A) (op : NumberedOp) (hope : Hope) → IsOfConflict m s e op hope → hope ≡ Unknown → ⊥
+reported-conflict m s e op Unknown is same = is
+reported-conflict m s e op _ is same = cc

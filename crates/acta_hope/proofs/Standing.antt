@@ -21,7 +21,7 @@ use Rattle.acta_table.specs.declared.model.Parts.{Parts}
 use Rattle.acta_table.specs.declared.policy.Policy.{Policy}
 use Rattle.acta_table.specs.Classes.{class_at, is_whole}
 use Rattle.acta_table.specs.Edges.{is_among, formed}
-use Rattle.acta_table.specs.Events.{acting, operations_named, hands_over}
+use Rattle.acta_table.specs.Events.{acting, operations_named, transfers_over}
 use Rattle.acta_table.specs.Numbered.{first_number, item_at, numbers_from, numbers_where}
 use Rattle.acta_table.specs.Policies.{edges_on, edges_upon}
 use Rattle.acta_table.specs.Refusals.{broken_by}
@@ -30,15 +30,15 @@ use Rattle.acta_deps.specs.Statuses.{has_begun, is_in_progress}
 use Rattle.acta_sets.specs.declared.held_op.HeldOp.{HeldOp}
 use Rattle.acta_sets.specs.Operations.{is_held, operation_at}
 use Rattle.acta_machine.specs.Changes.{edges_due}
-use Rattle.acta_machine.specs.Conflicts.{stands_against, opponents}
+use Rattle.acta_machine.specs.Conflicts.{stands_against, conflicting_holders}
 use Rattle.acta_machine.specs.Families.{class_of, has_class}
 use Rattle.acta_machine.specs.Rules.{conflict, edges_full, fails, not_in_progress, partial_delegation, refuses_conflicts, wants_whole, left_out, left_out_by, lowest_broken}
 use Rattle.acta_machine.specs.Summary.{Summary}
 use Rattle.acta_machine.proofs.Broken.{by_none, in_progress}
 use Rattle.acta_machine.proofs.Unbroken.{linked-room, Unbroken, unbroken, none-earlier}
 use Rattle.acta_hope.specs.Growth.{IsLater}
-use Rattle.acta_hope.specs.Hopes.{stands_in, opponents_of, is_listed, are_listed, is_operate}
-use Rattle.acta_hope.proofs.Bars.{none-passes-at, passes}
+use Rattle.acta_hope.specs.Hopes.{stands_in, conflicting_holders_of, is_listed, are_listed, is_operate}
+use Rattle.acta_hope.proofs.BlockKinds.{none-passes-at, passes}
 use Rattle.acta_hope.proofs.Counting.{among-left, among-right, among-either, formed-covered, left-true, right-true}
 use Rattle.acta_hope.proofs.Hopes.{Only, by_some, if_some}
 
@@ -130,15 +130,15 @@ due-all t None us vs g listed is = is
 due-all t (Some k) us vs g listed is = upon-all k.policy t us vs g listed is
 
 -- where it is admitted, one of those who stood in its way no longer does
-pub fewer-then : {A : Type 0} (m : Parts A) (s : Summary) (e : Event A) (r : Refusal) → is_operate e ≡ true → (edges_full m s e ≡ Some r) × (not_in_progress s e ≡ None) → Only m s e (λ l. are_listed (opponents_of m s e) (opponents_of m l e) ≡ false)
+pub fewer-then : {A : Type 0} (m : Parts A) (s : Summary) (e : Event A) (r : Refusal) → is_operate e ≡ true → (edges_full m s e ≡ Some r) × (not_in_progress s e ≡ None) → Only m s e (λ l. are_listed (conflicting_holders_of m s e) (conflicting_holders_of m l e) ≡ false)
 unfolding edges_full not_in_progress
 fewer-then {A} m s (Operate t ob op) r is broken l later none = of (are_listed us vs) refl
   where
     us : List ℕ
-    us = opponents m s t.0 ob op
+    us = conflicting_holders m s t.0 ob op
 
     vs : List ℕ
-    vs = opponents m l t.0 ob op
+    vs = conflicting_holders m l t.0 ob op
 
     of : (b : Bool) → are_listed us vs ≡ b → b ≡ false
     of false listed = refl
@@ -242,16 +242,16 @@ left-let-go {A} m s e t n acts broken l later none = of (operation_at l.operatio
     left : left_out_by m s e t ≡ Some n
     left = left-then m s e t n acts broken.0
 
-    wants : (hands_over e ≡ true) × (wants_whole m s t ≡ true)
-    wants = guard-and (hands_over e) (wants_whole m s t) (left_out s (operations_named e) t) n left
+    wants : (transfers_over e ≡ true) × (wants_whole m s t ≡ true)
+    wants = guard-and (transfers_over e) (wants_whole m s t) (left_out s (operations_named e) t) n left
 
     -- it isn't named
     missing : not (is_named (operations_named e) n) ≡ true
-    missing = found-passes (λ k. not (is_named (operations_named e) k)) (numbers_where (is_held t) s.operations) n (guard-some (hands_over e) (wants_whole m s t) (left_out s (operations_named e) t) n left)
+    missing = found-passes (λ k. not (is_named (operations_named e) k)) (numbers_where (is_held t) s.operations) n (guard-some (transfers_over e) (wants_whole m s t) (left_out s (operations_named e) t) n left)
 
     clear : left_out l (operations_named e) t ≡ None
     clear =
-        guard-both (hands_over e) (wants_whole m l t) (left_out l (operations_named e) t) wants.0 (has-stays (λ k. is_whole k.extent) m s l later t on ∙ wants.1)
+        guard-both (transfers_over e) (wants_whole m l t) (left_out l (operations_named e) t) wants.0 (has-stays (λ k. is_whole k.extent) m s l later t on ∙ wants.1)
         (left-none m l e t acts (unbroken m l e (none-earlier m l e none)).whole)
 
     of : (o : Option HeldOp) → operation_at l.operations n ≡ o → option_map_or (is_held t) o false ≡ false

@@ -12,13 +12,13 @@ use Rattle.acta_table.specs.declared.answer.Status.TheVariants.{Committed, Abort
 use Rattle.acta_deps.specs.Statuses.{has_begun, is_decided}
 use Rattle.acta_sets.specs.Operations.{is_held_in, operation_at}
 use Rattle.acta_machine.specs.Changes.{summary_of}
-use Rattle.acta_machine.specs.Conflicts.{stands_against, opponents}
+use Rattle.acta_machine.specs.Conflicts.{stands_against, conflicting_holders}
 use Rattle.acta_machine.specs.Reasons.{refusal_of, IsSo}
 use Rattle.acta_machine.specs.Summary.{Summary}
 use Rattle.acta_machine.specs.Table.{State, after_all, operations_in, refusal_in, status_in}
 use Rattle.acta_machine.specs.declared.reason.Reason.{Reason}
-use Rattle.acta_machine.specs.declared.reason.Reason.TheVariants.{Barred, Conflict}
-use Rattle.acta_hope.specs.Bars.{edge_test}
+use Rattle.acta_machine.specs.declared.reason.Reason.TheVariants.{Blocked, Conflict}
+use Rattle.acta_hope.specs.BlockKinds.{edge_test}
 use Rattle.acta_hope.specs.declared.hoping.Hope.{Hope}
 use Rattle.acta_hope.specs.declared.hoping.Hope.TheVariants.{Never, OnceBegun, OnceHeld, OnceDecided, OnceCommitted, OnceAborted, OnceFree, OnceLetGo, OnceFewer, Unknown}
 
@@ -42,13 +42,13 @@ abbrev pub stands_in_way : {A : Type 0} → State A → Event A → OpNo → Boo
 stands_in_way state e op = stands_in state.model (summary_of state.model state.kept) e op.0
 
 -- who holds operations that stand in the way of the event
-abbrev pub opponents_of : {A : Type 0} → Parts A → Summary → Event A → List ℕ
-opponents_of m s (Operate t ob op) = opponents m s t.0 ob op
-opponents_of m s _ = []
+abbrev pub conflicting_holders_of : {A : Type 0} → Parts A → Summary → Event A → List ℕ
+conflicting_holders_of m s (Operate t ob op) = conflicting_holders m s t.0 ob op
+conflicting_holders_of m s _ = []
 
 -- the same of a machine
-abbrev pub opponents_in : {A : Type 0} → State A → Event A → List ℕ
-opponents_in state e = opponents_of state.model (summary_of state.model state.kept) e
+abbrev pub conflicting_holders_in : {A : Type 0} → State A → Event A → List ℕ
+conflicting_holders_in state e = conflicting_holders_of state.model (summary_of state.model state.kept) e
 
 -- whether the number is among these, and whether all of these are
 abbrev pub is_listed : List ℕ → ℕ → Bool
@@ -72,10 +72,10 @@ Holds state e (OnceCommitted t) = OnlyWhere (λ later. status_in later t.0 ≡ C
 Holds state e (OnceAborted t) = OnlyWhere (λ later. status_in later t.0 ≡ Aborted) state e
 Holds state e (OnceFree op) = OnlyWhere (λ later. stands_in_way later e op ≡ false) state e
 Holds state e (OnceLetGo t op) = OnlyWhere (λ later. is_held_in t.0 (operations_in later) op ≡ false) state e
-Holds state e OnceFewer = OnlyWhere (λ later. are_listed (opponents_in state e) (opponents_in later e) ≡ false) state e
+Holds state e OnceFewer = OnlyWhere (λ later. are_listed (conflicting_holders_in state e) (conflicting_holders_in later e) ≡ false) state e
 Holds state e Unknown = ⊤
 
--- the rules by which an edge in force bars an event
+-- the rules by which an edge in force blocks an event
 abbrev pub is_of_edge : Rule → Bool
 is_of_edge BeginDep = true
 is_of_edge SerialDep = true
@@ -95,13 +95,13 @@ is_operate (Operate t ob op) = true
 is_operate _ = false
 
 -- the reasons for which nothing need be known
-abbrev pub MayBeUntold : Reason → Type 0
-MayBeUntold (Barred barring) = is_of_edge barring.rule ≡ false
-MayBeUntold _ = ⊥
+abbrev pub MayBeUnreported : Reason → Type 0
+MayBeUnreported (Blocked blocking_edge) = is_of_edge blocking_edge.rule ≡ false
+MayBeUnreported _ = ⊥
 
--- by what the reason names, the rule is broken: the operation stands in the way; or the edge is one by which the rule bars
+-- by what the reason names, the rule is broken: the operation stands in the way; or the edge is one by which the rule blocks
 -- the event
 abbrev pub HasForce : {A : Type 0} → State A → Event A → Reason → Type 0
 HasForce state e (Conflict op) = stands_in_way state e op.number ≡ true
-HasForce state e (Barred barring) = is_of_edge barring.rule ≡ true → edge_test e barring.rule (status_in state) barring.by.edge ≡ true
+HasForce state e (Blocked blocking_edge) = is_of_edge blocking_edge.rule ≡ true → edge_test e blocking_edge.rule (status_in state) blocking_edge.by.edge ≡ true
 HasForce state e _ = ⊤

@@ -1,4 +1,4 @@
-pub mod Bars
+pub mod BlockKinds
 pub mod Deadlocks
 pub mod Growth
 pub mod Hopes

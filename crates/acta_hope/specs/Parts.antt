@@ -7,7 +7,7 @@ use Rattle.acta_table.specs.declared.event.EventKind.TheVariants as kind
 use Rattle.acta_table.specs.declared.event.Event.{Event}
 use Rattle.acta_table.specs.declared.event.Event.TheVariants.{Operate}
 use Rattle.acta_table.specs.declared.model.Parts.{Parts}
-use Rattle.acta_table.specs.Classes.{spares}
+use Rattle.acta_table.specs.Classes.{exempts}
 use Rattle.acta_table.specs.declared.event.OpNo.{OpNo}
 use Rattle.acta_table.specs.declared.event.TxnId.{TxnId}
 use Rattle.acta_table.specs.declared.limits.TheConstants.{MOST_EVENTS}
@@ -16,8 +16,8 @@ use Rattle.acta_table.specs.declared.answer.Rule.{Rule}
 use Rattle.acta_table.specs.declared.answer.Rule.TheVariants.{BeginDep, SerialDep, BeginOnCommit, BeginOnAbort, TerminationDep, OwesAbort, OwesCommit, CommitOrder, WeakBegin, Unpayable}
 use Rattle.acta_table.specs.declared.dep.Dep.{Dep}
 use Rattle.acta_table.specs.declared.dep.Dep.TheVariants.{Wd}
-use Rattle.acta_deps.specs.declared.obstacle.Barring.{Barring}
-use Rattle.acta_deps.specs.declared.obstacle.Clash.{Clash}
+use Rattle.acta_deps.specs.declared.block.BlockingEdge.{BlockingEdge}
+use Rattle.acta_deps.specs.declared.block.Clash.{Clash}
 use Rattle.acta_deps.specs.Statuses.{has_begun, has_ended}
 use Rattle.acta_machine.specs.Families.{has_class}
 use Rattle.acta_machine.specs.Rules.{txn_may}
@@ -46,42 +46,42 @@ IsOfLeftOut e n (OnceLetGo t k) = (k ≡ n) × (acting e ≡ Some t.0)
 IsOfLeftOut e n Unknown = acting e ≡ None
 IsOfLeftOut e n _ = ⊥
 
--- whether by the rule an edge bars for good, where its transactions stand so
-abbrev pub bars_for_good : Rule → Status → Status → Bool
-bars_for_good SerialDep j i = has_ended i
-bars_for_good BeginOnCommit j i = has_ended i
-bars_for_good BeginOnAbort j i = has_ended i
-bars_for_good TerminationDep j i = has_ended i
-bars_for_good OwesAbort j i = has_ended i
-bars_for_good OwesCommit j i = has_ended i
-bars_for_good CommitOrder j i = has_ended j
-bars_for_good Unpayable j i = has_ended j
-bars_for_good WeakBegin j i = true
-bars_for_good _ j i = false
+-- whether by the rule an edge blocks for good, where its transactions stand so
+abbrev pub blocks_for_good : Rule → Status → Status → Bool
+blocks_for_good SerialDep j i = has_ended i
+blocks_for_good BeginOnCommit j i = has_ended i
+blocks_for_good BeginOnAbort j i = has_ended i
+blocks_for_good TerminationDep j i = has_ended i
+blocks_for_good OwesAbort j i = has_ended i
+blocks_for_good OwesCommit j i = has_ended i
+blocks_for_good CommitOrder j i = has_ended j
+blocks_for_good Unpayable j i = has_ended j
+blocks_for_good WeakBegin j i = true
+blocks_for_good _ j i = false
 
--- whether nothing may be said where an edge bars by the rule, and its transactions stand so
-abbrev pub may_be_untold : Rule → Status → Status → Bool
-may_be_untold BeginDep j i = false
-may_be_untold SerialDep j i = false
-may_be_untold BeginOnCommit j i = false
-may_be_untold BeginOnAbort j i = false
-may_be_untold TerminationDep j i = false
-may_be_untold WeakBegin j i = false
-may_be_untold OwesAbort j i = not (has_ended i)
-may_be_untold OwesCommit j i = not (has_ended i)
-may_be_untold CommitOrder j i = not (has_ended j)
-may_be_untold Unpayable j i = not (has_ended j)
-may_be_untold _ j i = true
+-- whether nothing may be said where an edge blocks by the rule, and its transactions stand so
+abbrev pub may_be_unreported : Rule → Status → Status → Bool
+may_be_unreported BeginDep j i = false
+may_be_unreported SerialDep j i = false
+may_be_unreported BeginOnCommit j i = false
+may_be_unreported BeginOnAbort j i = false
+may_be_unreported TerminationDep j i = false
+may_be_unreported WeakBegin j i = false
+may_be_unreported OwesAbort j i = not (has_ended i)
+may_be_unreported OwesCommit j i = not (has_ended i)
+may_be_unreported CommitOrder j i = not (has_ended j)
+may_be_unreported Unpayable j i = not (has_ended j)
+may_be_unreported _ j i = true
 
 -- it is for good, or until the one on which the edge is has done what is awaited
-abbrev pub IsOfBarring : Barring → Hope → Type 0
-IsOfBarring b Never = bars_for_good b.rule b.j b.i ≡ true
-IsOfBarring b (OnceBegun t) = (b.rule ≡ BeginDep) × (t ≡ b.by.edge.i)
-IsOfBarring b (OnceDecided t) = ((b.rule ≡ SerialDep) ⊎ (b.rule ≡ TerminationDep)) × (t ≡ b.by.edge.i)
-IsOfBarring b (OnceCommitted t) = (b.rule ≡ BeginOnCommit) × (t ≡ b.by.edge.i)
-IsOfBarring b (OnceAborted t) = (b.rule ≡ BeginOnAbort) × (t ≡ b.by.edge.i)
-IsOfBarring b Unknown = may_be_untold b.rule b.j b.i ≡ true
-IsOfBarring b _ = ⊥
+abbrev pub IsOfBlockingEdge : BlockingEdge → Hope → Type 0
+IsOfBlockingEdge b Never = blocks_for_good b.rule b.j b.i ≡ true
+IsOfBlockingEdge b (OnceBegun t) = (b.rule ≡ BeginDep) × (t ≡ b.by.edge.i)
+IsOfBlockingEdge b (OnceDecided t) = ((b.rule ≡ SerialDep) ⊎ (b.rule ≡ TerminationDep)) × (t ≡ b.by.edge.i)
+IsOfBlockingEdge b (OnceCommitted t) = (b.rule ≡ BeginOnCommit) × (t ≡ b.by.edge.i)
+IsOfBlockingEdge b (OnceAborted t) = (b.rule ≡ BeginOnAbort) × (t ≡ b.by.edge.i)
+IsOfBlockingEdge b Unknown = may_be_unreported b.rule b.j b.i ≡ true
+IsOfBlockingEdge b _ = ⊥
 
 -- whether the kind is the weak-abort dependency, by which one that has committed owes nothing
 abbrev pub is_wd : Dep → Bool
@@ -116,13 +116,13 @@ holds_on m s h =
     && not (txn_may m s h kind.Commit) && not (txn_may m s h kind.Abort) && not (txn_may m s h kind.Join)
     && not (txn_may m s h kind.Delegate) && not (txn_may m s h kind.Split) && not (txn_may m s h kind.Permit)
 
--- whether the class of t spares none of its ancestors
-abbrev pub spares_none : {A : Type 0} → Parts A → Summary → ℕ → Bool
-spares_none m s t = not (has_class (λ k. spares k.scope) m s t)
+-- whether the class of t exempts none of its ancestors
+abbrev pub exempts_none : {A : Type 0} → Parts A → Summary → ℕ → Bool
+exempts_none m s t = not (has_class (λ k. exempts k.scope) m s t)
 
--- an operation that stands in the way of t never lets it by where its holder holds on, and t's class spares nobody
+-- an operation that stands in the way of t never lets it by where its holder holds on, and t's class exempts nobody
 abbrev pub is_held_on : {A : Type 0} → Parts A → Summary → Event A → ℕ → Bool
-is_held_on m s (Operate t ob op) h = spares_none m s t.0 && holds_on m s h
+is_held_on m s (Operate t ob op) h = exempts_none m s t.0 && holds_on m s h
 is_held_on m s _ h = false
 
 -- it never is where the holder holds on

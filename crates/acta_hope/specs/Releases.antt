@@ -12,7 +12,7 @@ use Rattle.acta_table.specs.Sets.{is_named}
 use Rattle.acta_sets.specs.declared.held_op.HeldOp.{HeldOp}
 use Rattle.acta_sets.specs.Operations.{is_among, operation_at}
 use Rattle.acta_machine.specs.Changes.{summary_of}
-use Rattle.acta_machine.specs.Families.{spared, heir_of}
+use Rattle.acta_machine.specs.Families.{exempt, heir_of}
 use Rattle.acta_machine.specs.Rules.{txn_may}
 use Rattle.acta_machine.specs.Summary.{Summary}
 use Rattle.acta_machine.specs.Table.{State, after, operations_in, refusal_in}
@@ -20,9 +20,9 @@ use Rattle.acta_hope.specs.Hopes.{stands_in_way}
 use Rattle.acta_hope.specs.declared.releases.Release.{Release}
 use Rattle.acta_hope.specs.declared.releases.Release.TheVariants.{Commit, Abort, Delegate, Join, Permit}
 
--- whether what u holds never stands in the way of t: it is t, or an ancestor that t's class spares
+-- whether what u holds never stands in the way of t: it is t, or an ancestor that t's class exempts
 abbrev pub is_exempt : {A : Type 0} → Parts A → Summary → ℕ → TxnId → Bool
-is_exempt m s t u = (u.0 == t) || is_among (spared m s t) u
+is_exempt m s t u = (u.0 == t) || is_among (exempt m s t) u
 
 -- whether a commit of h leaves what it holds to nobody, or to one who is exempt
 abbrev pub frees_at_commit : {A : Type 0} → Parts A → Summary → ℕ → ℕ → Bool

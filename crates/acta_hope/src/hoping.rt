@@ -5,11 +5,11 @@ ghost use Rattle.acta_machine.specs.Changes.{summary_of};
 ghost use Rattle.acta_machine.specs.Reasons.{refusal_of, IsSo};
 ghost use Rattle.acta_machine.specs.Table.{refusal_in};
 ghost use Rattle.acta_deps.specs.Statuses.{has_ended};
-ghost use Rattle.acta_hope.specs.Hopes.{HasForce, Holds, IsWhy, MayBeUntold};
-ghost use Rattle.acta_hope.specs.Parts.{IsOfBarring, IsOfBegun, IsOfClash, IsOfConflict, IsOfEdges, IsOfHeld, IsOfLeftOut, holds_on, is_no_operation, is_wd, spares_none};
+ghost use Rattle.acta_hope.specs.Hopes.{HasForce, Holds, IsWhy, MayBeUnreported};
+ghost use Rattle.acta_hope.specs.Parts.{IsOfBlockingEdge, IsOfBegun, IsOfClash, IsOfConflict, IsOfEdges, IsOfHeld, IsOfLeftOut, holds_on, is_no_operation, is_wd, exempts_none};
 
 use crate::releases::{class_of, may_do};
-use acta_machine::{Barring, Clash, Handle, Machine, NumberedOp, Reason};
+use acta_machine::{BlockingEdge, Clash, Handle, Machine, NumberedOp, Reason};
 use acta_table::{Dep, Event, EventKind, Fate, MOST_EVENTS, OpNo, Rule, Scope, Status, TxnId};
 use std::alloc::AllocError;
 
@@ -29,7 +29,7 @@ pub enum Hope {
     /// It is admitted only where the transaction has aborted.
     OnceAborted(TxnId),
     /// It is admitted only where the operation no longer stands in its way: it has ended, the acting transaction or one that
-    /// its class spares holds it, or its holder has permitted the acting one to work on the object.
+    /// its class exempts holds it, or its holder has permitted the acting one to work on the object.
     OnceFree(OpNo),
     /// It is admitted only where the transaction no longer holds the operation in progress.
     OnceLetGo(TxnId, OpNo),
@@ -83,14 +83,14 @@ fn never_or(is_over: bool, hope: Hope) -> Hope
     if is_over { Hope::Never } else { hope }
 }
 
-// Where an edge in force bars it.
-fn barred(barring: &Barring) -> Hope
-    ensures { IsOfBarring barring.now result }
+// Where an edge in force blocks it.
+fn blocked(blocking_edge: &BlockingEdge) -> Hope
+    ensures { IsOfBlockingEdge blocking_edge.now result }
 {
-    let i = barring.by.edge.i;
-    let is_over = has_ended(barring.i);
-    let is_late = has_ended(barring.j);
-    match barring.rule {
+    let i = blocking_edge.by.edge.i;
+    let is_over = has_ended(blocking_edge.i);
+    let is_late = has_ended(blocking_edge.j);
+    match blocking_edge.rule {
         Rule::BeginDep => Hope::OnceBegun(i),
         Rule::SerialDep => never_or(is_over, Hope::OnceDecided(i)),
         Rule::TerminationDep => never_or(is_over, Hope::OnceDecided(i)),
@@ -136,9 +136,9 @@ fn holds_on<A: Handle>(machine: &Machine<A>, holder: TxnId) -> bool
         && !may_do(machine, holder, EventKind::Permit)
 }
 
-// Whether the class of the transaction spares none of its ancestors.
-fn spares_none<A: Handle>(machine: &Machine<A>, txn: TxnId) -> bool
-    ensures { result ≡ spares_none machine.now.model (summary_of machine.now.model machine.now.kept) txn.0 }
+// Whether the class of the transaction exempts none of its ancestors.
+fn exempts_none<A: Handle>(machine: &Machine<A>, txn: TxnId) -> bool
+    ensures { result ≡ exempts_none machine.now.model (summary_of machine.now.model machine.now.kept) txn.0 }
 {
     match class_of(machine, txn) {
         Some(class) => matches!(class.scope, Scope::Others),
@@ -152,7 +152,7 @@ fn in_conflict<A: Handle>(machine: &Machine<A>, event: &Event<A>, op: &NumberedO
 {
     match event {
         Event::Operate(txn, _, _)
-            if spares_none(machine, *txn) && holds_on(machine, op.held.holder) => { Hope::Never }
+            if exempts_none(machine, *txn) && holds_on(machine, op.held.holder) => { Hope::Never }
         _ => Hope::OnceFree(op.number),
     }
 }
@@ -178,7 +178,7 @@ fn is_no_operation(number: OpNo) -> bool
 pub fn hope_of<A: Handle>(machine: &Machine<A>, event: &Event<A>, reason: &Reason) -> Hope
     requires { IsWhy machine.now event.now reason.now }
     ensures hope { Holds machine.now event.now result }
-    ensures told { result ≡ Hope.Unknown → MayBeUntold reason.now }
+    ensures reported { result ≡ Hope.Unknown → MayBeUnreported reason.now }
 {
     match *reason {
         Reason::Full
@@ -202,7 +202,7 @@ pub fn hope_of<A: Handle>(machine: &Machine<A>, event: &Event<A>, reason: &Reaso
                 once_held(event, number)
             }
         }
-        Reason::Barred(barring) => barred(&barring),
+        Reason::Blocked(blocking_edge) => blocked(&blocking_edge),
         Reason::Clash(clash) => owes_both(&clash, machine.status(clash.abort.edge.i)),
         Reason::EdgesFull => too_many_edges(event),
         Reason::PartialDelegation(op) => once_let_go(event, op.number),
@@ -216,11 +216,11 @@ pub fn why_and_hope<A: Handle>(
     machine: &Machine<A>,
     event: &Event<A>,
 ) -> Result<Option<(Reason, Hope)>, AllocError>
-    ensures refusal { IfOk result (λ told. option_map (λ pair. refusal_of pair.0) told ≡ refusal_in machine.now event.now) }
-    ensures so { IfOk result (λ told. IfSome told (λ pair. IsSo machine.now.model (summary_of machine.now.model machine.now.kept) event.now pair.0)) }
-    ensures force { IfOk result (λ told. IfSome told (λ pair. HasForce machine.now event.now pair.0)) }
-    ensures hope { IfOk result (λ told. IfSome told (λ pair. Holds machine.now event.now pair.1)) }
-    ensures told { IfOk result (λ told. IfSome told (λ pair. pair.1 ≡ Hope.Unknown → MayBeUntold pair.0)) }
+    ensures refusal { IfOk result (λ reported. option_map (λ pair. refusal_of pair.0) reported ≡ refusal_in machine.now event.now) }
+    ensures so { IfOk result (λ reported. IfSome reported (λ pair. IsSo machine.now.model (summary_of machine.now.model machine.now.kept) event.now pair.0)) }
+    ensures force { IfOk result (λ reported. IfSome reported (λ pair. HasForce machine.now event.now pair.0)) }
+    ensures hope { IfOk result (λ reported. IfSome reported (λ pair. Holds machine.now event.now pair.1)) }
+    ensures reported { IfOk result (λ reported. IfSome reported (λ pair. pair.1 ≡ Hope.Unknown → MayBeUnreported pair.0)) }
 {
     match machine.why(event)? {
         Some(reason) => {

@@ -76,7 +76,7 @@ pub fn is_ancestor<A: Handle>(machine: &Machine<A>, t: TxnId, u: TxnId) -> bool
     false
 }
 
-// Whether what `u` holds never stands in the way of `t`: it is `t`, or an ancestor that the class of `t` spares.
+// Whether what `u` holds never stands in the way of `t`: it is `t`, or an ancestor that the class of `t` exempts.
 fn is_exempt<A: Handle>(machine: &Machine<A>, t: TxnId, u: TxnId) -> bool
     ensures { result ≡ is_exempt machine.now.model (summary_of machine.now.model machine.now.kept) t.0 u }
 {

@@ -22,7 +22,7 @@ pub fn endless_wait<A: Handle>(
     ensures start { IfOk result (λ found. IfSome found (StartsWith t)) }
     ensures endless { IfOk result (λ found. IfSome found (NoneEnds machine.now)) }
 {
-    match machine.closed_wait(t)? {
+    match machine.waits_for_cycle(t)? {
         Some(chain) => Ok(Some(chain)),
         None => Ok(None),
     }

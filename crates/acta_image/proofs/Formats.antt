@@ -85,9 +85,9 @@ last-format {X} {Y} {read} {spell} {Allowed} last part make part-made = record {
 }
 
 -- the same, spelled and allowed in other words
-pub said-format : {X : Type 0} {read : Reader X} {spell : X → List ℕ} {Allowed : X → Type 0} → IsFormat read spell Allowed → (other : X → List ℕ) (Other : X → Type 0)
+pub parsed-format : {X : Type 0} {read : Reader X} {spell : X → List ℕ} {Allowed : X → Type 0} → IsFormat read spell Allowed → (other : X → List ℕ) (Other : X → Type 0)
     → ((x : X) → spell x ≡ other x) → ((x : X) → Allowed x → Other x) → ((x : X) → Other x → Allowed x) → IsFormat read other Other
-said-format {X} {read} {spell} {Allowed} format other Other same to from = record {
+parsed-format {X} {read} {spell} {Allowed} format other Other same to from = record {
   takes = λ bytes x rest fits e. let t = format.takes bytes x rest fits e in (subst (λ (text : List ℕ). Takes bytes text rest) (same x) t.0, to x t.1);
   again = λ x rest ok. ap (λ (text : List ℕ). read (text ++ rest)) (sym (same x)) ∙ format.again x rest (from x ok);
 }

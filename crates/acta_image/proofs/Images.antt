@@ -31,7 +31,7 @@ use Rattle.acta_image.specs.Codes.{magic, most_may, object_code, policy_code}
 use Rattle.acta_image.specs.Spelling.{HasImageIn, class_bytes, head, image, image_in, object_bytes}
 use Rattle.acta_image.specs.Reading.{◌>>=◌, Reader, checked, diagnosed, fault_at, finished, give, loaded, read_class, read_head, read_items, read_object, read_parts, version_of, without_field}
 use Rattle.acta_image.specs.inside.Gives.{AreBytes}
-use Rattle.acta_image.proofs.Formats.{then-ok, then-is, done-is, IsFormat, then-format, last-format, said-format, items-format}
+use Rattle.acta_image.proofs.Formats.{then-ok, then-is, done-is, IsFormat, then-format, last-format, parsed-format, items-format}
 use Rattle.acta_image.proofs.FieldCodes.{guard-met, fault-format, field-format, byte-code, number-code, name-code, kind-code, version-code, starts-code, scope-format, commit-format, extent-format, policy-code, magic-format}
 use Rattle.acta_image.proofs.RowFormats.{edges-format}
 
@@ -62,7 +62,7 @@ most-small Two = omega arith
 object-format : {A : Type 0} (size : ℕ) → IsFormat (read_object {A = A} size) object_bytes ObjectSaid
 unfolding read_object
 object-format {A} size =
-    said-format
+    parsed-format
     (then-format (field-format (byte-code 1 LONGEST_NAME) at.ObjectNameLength size) (λ (o : Object A). length o.name) _ _ _
     (λ len l. then-format (field-format (name-code len) at.ObjectName size) (λ (o : Object A). o.name) _ _ _
     (λ name n. then-format (field-format (byte-code 0 2) at.ObjectKind size) (λ (o : Object A). object_code o.kind) _ _ _
@@ -76,7 +76,7 @@ object-format {A} size =
 class-format : {A : Type 0} (version : ImageVersion) (size : ℕ) → IsFormat (read_class {A = A} version size) class_bytes (ClassSaid version)
 unfolding read_class
 class-format {A} version size =
-    said-format
+    parsed-format
     (then-format (field-format (byte-code 1 LONGEST_NAME) at.ClassNameLength size) (λ (c : Class A). length c.name) _ _ _
     (λ len l. then-format (field-format (name-code len) at.ClassName size) (λ (c : Class A). c.name) _ _ _
     (λ name n. then-format (field-format starts-code at.Starts size) (λ (c : Class A). c.starts) _ _ _
@@ -109,7 +109,7 @@ HeadSaid h = ((1 ≤ h.classes) × (h.classes ≤ MOST_CLASSES)) × (h.objects �
 header-format : (size : ℕ) → IsFormat (read_head size) (λ h. head h.version h.classes h.objects) HeadSaid
 unfolding read_head
 header-format size =
-    said-format
+    parsed-format
     (then-format magic-format (λ (h : Head). magic) _ _ _
     (λ start s. then-format (fault-format version-code Version at.Version size) (λ (h : Head). h.version) _ _ _
     (λ version v. then-format (field-format (byte-code 1 MOST_CLASSES) at.Classes size) (λ (h : Head). h.classes) _ _ _
@@ -142,7 +142,7 @@ record IsBehind {A : Type 0} (h : Head) (m : Parts A) : Type 0 where
 
 behind-format : {A : Type 0} (h : Head) (size : ℕ) → IsFormat (behind {A = A} h size) (λ m. flat_map object_bytes m.objects ++ flat_map class_bytes m.classes) (IsBehind h)
 behind-format {A} h size =
-    said-format
+    parsed-format
     (then-format (items-format (object-format {A = A} size) h.objects) (λ (m : Parts A). m.objects) _ _ _
     (λ objects o. last-format (items-format (class-format {A = A} h.version size) h.classes) (λ (m : Parts A). m.classes) (λ classes. record { objects = objects; classes = classes }) (λ classes. refl))
     (λ objects o m r. ap (λ (z : Parts A). z.objects) (sym r.1)))
@@ -190,8 +190,8 @@ by-place P [] each k d within = absurd (omega (arith, within))
 by-place P (x ∷ xs) each zero d within = each.0
 by-place P (x ∷ xs) each (suc k) d within = by-place P xs each.1 k d (omega (arith, within))
 
-said-of : {A : Type 0} (version : ImageVersion) (m : Parts A) → AreOfModel m → HasImageIn version m → PartsSaid version m
-said-of version m has in_version =
+parsed-of : {A : Type 0} (version : ImageVersion) (m : Parts A) → AreOfModel m → HasImageIn version m → PartsSaid version m
+parsed-of version m has in_version =
     let p8 = or-none _ (fault_if (list_any (λ class. is_bad_policy class.policy) m.classes) BadPolicyKind) has.faultless in
     let p7 = or-none _ (fault_if (list_any lacks_parents m.classes) HeirWithoutSpawn) p8.0 in
     let p6 = or-none _ (fault_if (list_any has_begin_kind m.classes) BeginKindAtStart) p7.0 in
@@ -222,8 +222,8 @@ written-has m has = by-place _ m.classes (none-past m.classes (each _ m.classes 
     none-past [] all = tt
     none-past (c ∷ cs) all = (let lt = all.0.may in omega (arith, lt), none-past cs all.1)
 
-said-written : {A : Type 0} (m : Parts A) → AreOfModel m → PartsSaid Two m
-said-written m has = said-of Two m has (written-has m has)
+parsed-written : {A : Type 0} (m : Parts A) → AreOfModel m → PartsSaid Two m
+parsed-written m has = parsed-of Two m has (written-has m has)
 
 -- names are short
 short : {X : Type 0} (name : X → List ℕ) (Other : X → Type 0) (xs : List X) → AllByRecursion (λ x. (is_name (name x) ≡ true) × Other x) xs → AllByRecursion (λ x. length (name x) ≤ LONGEST_NAME) xs
@@ -231,14 +231,14 @@ short name Other [] all = tt
 short name Other (x ∷ xs) all = ((name-long (name x) all.0.0).1, short name Other xs all.1)
 
 pub short-objects : {A : Type 0} (m : Parts A) → AreOfModel m → All (λ o. length o.name ≤ LONGEST_NAME) m.objects
-short-objects m has = by-place _ m.objects (short (λ o. o.name) (λ o. HasFirst o.kind) m.objects (said-written m has).of_objects)
+short-objects m has = by-place _ m.objects (short (λ o. o.name) (λ o. HasFirst o.kind) m.objects (parsed-written m has).of_objects)
 
 pub short-classes : {A : Type 0} (m : Parts A) → AreOfModel m → All (λ c. length c.name ≤ LONGEST_NAME) m.classes
-short-classes m has = by-place _ m.classes (short (λ c. c.name) (λ c. HasSets c × (c.may ≤ most_may Two)) m.classes (said-written m has).of_classes)
+short-classes m has = by-place _ m.classes (short (λ c. c.name) (λ c. HasSets c × (c.may ≤ most_may Two)) m.classes (parsed-written m has).of_classes)
 
 -- and few
 pub few-names : {A : Type 0} (m : Parts A) → AreOfModel m → (length m.classes ≤ MOST_CLASSES) × (length m.objects ≤ MOST_OBJECTS)
-few-names m has = let said = said-written m has in (said.classes.1, said.objects)
+few-names m has = let parsed = parsed-written m has in (parsed.classes.1, parsed.objects)
 
 -- ---- the laws
 
@@ -246,11 +246,11 @@ diagnosed-again : {A : Type 0} (version : ImageVersion) (m : Parts A) → AreOfM
 unfolding diagnosed read_parts image_in
 diagnosed-again {A} version m has in_version =
     let size = length (image_in version m) in
-    let said = said-of version m has in_version in
+    let parsed = parsed-of version m has in_version in
     let h : Head = record { version = version; classes = length m.classes; objects = length m.objects } in
     let text = flat_map object_bytes m.objects ++ flat_map class_bytes m.classes in
-    let first = (header-format size).again h text (said.classes, said.objects) in
-    let others = (behind-format {A = A} h size).again m [] (record { classes = refl; objects = refl; of_objects = said.of_objects; of_classes = said.of_classes }) in
+    let first = (header-format size).again h text (parsed.classes, parsed.objects) in
+    let others = (behind-format {A = A} h size).again m [] (record { classes = refl; objects = refl; of_objects = parsed.of_objects; of_classes = parsed.of_classes }) in
     let whole = ap (λ (rest : List ℕ). behind {A = A} h size rest) (sym (append-nil text)) ∙ others in
     let read = then-is (read_head size (image_in version m)) (λ (x : Head × List ℕ). behind {A = A} x.0 size x.1) (h, text) (Ok (m, [])) first whole in
     then-is (read_parts {A = A} size (image_in version m)) (finished size) (m, []) (Ok m) read (ap (λ (o : Option ModelFault). checked size m o) has.faultless)

@@ -21,7 +21,7 @@ use Rattle.acta_image.specs.declared.fault.ImageFault.TheVariants.{BadField, Tru
 use Rattle.acta_image.specs.Spelling.{row_bytes, rows_bytes}
 use Rattle.acta_image.specs.Reading.{and_then, fault_at, field, field_or, found_or, some_if, dependent_in, rank, edge_in, row_in, read_rows, read_edges}
 use Rattle.acta_image.specs.inside.Gives.{AreBytes}
-use Rattle.acta_image.proofs.Formats.{then-ok, then-is, done, done-is, Takes, takes-then, IsFormat, then-format, said-format}
+use Rattle.acta_image.proofs.Formats.{then-ok, then-is, done, done-is, Takes, takes-then, IsFormat, then-format, parsed-format}
 use Rattle.acta_image.proofs.FieldCodes.{guard-ok, found-ok, some-ok, some-is, IsCode, field-format, byte-code}
 
 -- start edges in their order, each once
@@ -203,7 +203,7 @@ ascends-few least (e ∷ es) le ok =
 pub edges-format : (counted row : Field) (size : ℕ) → IsFormat (read_edges counted row size) rows_bytes Sorted
 unfolding read_edges
 edges-format counted row size =
-    said-format (then-format (field-format (byte-code 0 24) counted size) (λ es. length es) (read_rows row size 0) (flat_map row_bytes) (λ n es. (length es ≡ n) × Ascends 0 es) (λ n ok. rows-format row size 0 n) (λ n within es ok. ok.0))
+    parsed-format (then-format (field-format (byte-code 0 24) counted size) (λ es. length es) (read_rows row size 0) (flat_map row_bytes) (λ n es. (length es ≡ n) × Ascends 0 es) (λ n ok. rows-format row size 0 n) (λ n within es ok. ok.0))
     rows_bytes Sorted (λ es. refl) (λ es ok. ascends-sorted 0 es ok.1.1)
     (λ es sorted. let up = ascends-from 0 es sorted (from_zero es) in ((omega arith, let few = ascends-few 0 es (omega arith) up in omega (arith, few)), (refl, up)))
   where

@@ -213,7 +213,7 @@ fn read<A: Allocator + Copy>(alloc: A, bytes: &[u8]) -> Result<Model<A>, ReadErr
 
 // Bytes that are read as a model are its image in the version that they name, and the image of a model in a version is
 // read as the model.
-fn read_alike<A: Allocator>(alloc: &A, bytes: &[u8])
+fn read_equivalent<A: Allocator>(alloc: &A, bytes: &[u8])
     ensures had { (m : Parts A) → loaded bytes.now ≡ Ok m → HasImageIn (version_of bytes.now) m }
     ensures spelled { (m : Parts A) → loaded bytes.now ≡ Ok m → image_in (version_of bytes.now) m ≡ bytes.now }
     ensures only { (version : ImageVersion) (m : Parts A) → AreOfModel m → HasImageIn version m → image_in version m ≡ bytes.now → loaded bytes.now ≡ Ok m }
@@ -231,7 +231,7 @@ pub fn load<A: Allocator + Copy>(alloc: A, bytes: &[u8]) -> Result<Model<A>, Loa
     ensures spelled { IfOk result (λ model. image_in (version_of bytes.now) model ≡ bytes.now) }
     ensures only { (version : ImageVersion) (m : Parts A) → AreOfModel m → HasImageIn version m → image_in version m ≡ bytes.now → loaded bytes.now ≡ Ok m }
 {
-    read_alike(&alloc, bytes);
+    read_equivalent(&alloc, bytes);
     match read(alloc, bytes) {
         Ok(model) => Ok(model),
         Err(ReadError::Memory) => Err(LoadError::Memory),

@@ -137,13 +137,13 @@ fn push_model<A: Allocator>(bytes: &mut Vec<u8, A>, model: &Model<A>) -> Result<
 }
 
 // The image of a model is loaded as the model, and its names are short and few.
-fn known<A: Allocator>(model: &Model<A>)
+fn lemma_invariant<A: Allocator>(model: &Model<A>)
     ensures again { loaded (image model.now) ≡ Ok model.now }
     ensures objects { All (λ object. length object.name ≤ LONGEST_NAME) model.now.objects }
     ensures classes { All (λ class. length class.name ≤ LONGEST_NAME) model.now.classes }
     ensures few { (length model.now.classes ≤ MOST_CLASSES) × (length model.now.objects ≤ MOST_OBJECTS) }
 {
-    model.known();
+    model.lemma_invariant();
 }
 
 /// The image of the model in version 2 (the format is ours): the one list of bytes of that version which `load` reads
@@ -155,7 +155,7 @@ pub fn write_image<A: Allocator + Copy>(
     ensures image { IfOk result (λ bytes. bytes.items ≡ image model.now) }
     ensures again { loaded (image model.now) ≡ Ok model.now }
 {
-    known(model);
+    lemma_invariant(model);
     let mut bytes = Vec::new(alloc);
     push_model(&mut bytes, model)?;
     Ok(bytes)

@@ -7,27 +7,27 @@ use Rattle.acta_io.specs.declared.input.BadLine.{BadLine}
 
 -- what the lines say, up to the first that is faulty, and that one
 pub record Said (X : Type 0) : Type 0 where
-  pub said : List X
+  pub parsed : List X
   pub stop : Option BadLine
 
 -- what a line says, or its fault; nothing, where it has no word
-abbrev pub said_by : {X : Type 0} → (List ℕ → Result X LineFault) → List ℕ → Option (Result X LineFault)
-said_by read line = if length (words_of line) == 0 then None else Some (read line)
+abbrev pub parsed_by : {X : Type 0} → (List ℕ → Result X LineFault) → List ℕ → Option (Result X LineFault)
+parsed_by read line = if length (words_of line) == 0 then None else Some (read line)
 
 -- what the line of this number says, before what the lines behind it say; behind a faulty one no line counts
 abbrev pub with_line : {X : Type 0} → ℕ → Option (Result X LineFault) → Said X → Said X
 with_line n None rest = rest
-with_line n (Some (Ok x)) rest = record rest { said = x ∷ rest.said }
-with_line n (Some (Err fault)) rest = record { said = []; stop = Some (record { line = n; fault = fault }) }
+with_line n (Some (Ok x)) rest = record rest { parsed = x ∷ rest.parsed }
+with_line n (Some (Err fault)) rest = record { parsed = []; stop = Some (record { line = n; fault = fault }) }
 
 -- what the lines say, numbered from n on
-abbrev pub said_from : {X : Type 0} → (List ℕ → Result X LineFault) → ℕ → List (List ℕ) → Said X
-said_from read n [] = record { said = []; stop = None }
-said_from read n (line ∷ lines) = with_line n (said_by read line) (said_from read (n + 1) lines)
+abbrev pub parsed_from : {X : Type 0} → (List ℕ → Result X LineFault) → ℕ → List (List ℕ) → Said X
+parsed_from read n [] = record { parsed = []; stop = None }
+parsed_from read n (line ∷ lines) = with_line n (parsed_by read line) (parsed_from read (n + 1) lines)
 
 -- what the lines of an input say
-unfoldable pub said_in : {X : Type 0} → (List ℕ → Result X LineFault) → List ℕ → Said X
-said_in read input = said_from read 1 (lines_of input)
+unfoldable pub parsed_in : {X : Type 0} → (List ℕ → Result X LineFault) → List ℕ → Said X
+parsed_in read input = parsed_from read 1 (lines_of input)
 
 -- the numbers, from 1, of the lines that have a word
 unfoldable pub line_numbers : List ℕ → List ℕ

@@ -10,27 +10,27 @@ use Rattle.acta_io.specs.declared.input.TheConstants.{MOST_SEATS}
 use Rattle.acta_io.specs.declared.models.NoModel.{NoModel}
 use Rattle.acta_io.specs.declared.outcome.Outcome.{Outcome}
 use Rattle.acta_io.specs.declared.outcome.Outcome.TheVariants.{Done, Refused, Unread, Unwritten}
-use Rattle.acta_io.specs.Input.{Said, said_in}
+use Rattle.acta_io.specs.Input.{Said, parsed_in}
 use Rattle.acta_io.specs.Sections.{script_commands, script_events}
 
 -- event lines are refused if the model is faulty or a line is
 abbrev pub refuses_events : {A : Type 0} → Result (Parts A) NoModel → List ℕ → Bool
 refuses_events (Err fault) input = true
-refuses_events (Ok m) input = is_some (said_in (event_of m) input).stop
+refuses_events (Ok m) input = is_some (parsed_in (event_of m) input).stop
 
 -- kept lines are refused if a line is faulty, or if they are more than can be judged
 abbrev pub refuses_kept_on : {A : Type 0} → Said (Kept A) → Bool
-refuses_kept_on s = is_some s.stop || nat_lt MOST_EVENTS (length s.said)
+refuses_kept_on s = is_some s.stop || nat_lt MOST_EVENTS (length s.parsed)
 
 -- and if the model is faulty
 abbrev pub refuses_kept : {A : Type 0} → Result (Parts A) NoModel → List ℕ → Bool
 refuses_kept (Err fault) input = true
-refuses_kept (Ok m) input = refuses_kept_on (said_in (kept_of m) input)
+refuses_kept (Ok m) input = refuses_kept_on (parsed_in (kept_of m) input)
 
 -- seated lines are refused if the model is faulty or a line is, where there are as many seats as there may be
 abbrev pub refuses_seated : {A : Type 0} → Result (Parts A) NoModel → List ℕ → Bool
 refuses_seated (Err fault) input = true
-refuses_seated (Ok m) input = is_some (said_in (seated_of m MOST_SEATS) input).stop
+refuses_seated (Ok m) input = is_some (parsed_in (seated_of m MOST_SEATS) input).stop
 
 -- a debug script is refused if a line of its events is faulty, or a command is
 abbrev pub refuses_script_on : {A : Type 0} → Parts A → List ℕ → Bool

@@ -8,7 +8,7 @@ use Rattle.acta_words.specs.Text.{lines_of, words_of}
 use Rattle.acta_script.specs.Commands.{command_of}
 use Rattle.acta_script.specs.Reading.{event_of}
 use Rattle.acta_script.specs.declared.commands.DebugCommand.{DebugCommand}
-use Rattle.acta_io.specs.Input.{Said, said_from}
+use Rattle.acta_io.specs.Input.{Said, parsed_from}
 
 -- whether these words are `--` alone
 abbrev pub is_sign : List (List ℕ) → Bool
@@ -21,10 +21,10 @@ ends_events line = is_sign (words_of line)
 
 -- what the lines before that one say, as events
 unfoldable pub script_events : {A : Type 0} → Parts A → List ℕ → Said (Event A)
-script_events m input = said_from (event_of m) 1 (before_first ends_events (lines_of input))
+script_events m input = parsed_from (event_of m) 1 (before_first ends_events (lines_of input))
 
 -- what the lines after it say, as commands
 unfoldable pub script_commands : {A : Type 0} → Parts A → List ℕ → Said DebugCommand
 script_commands m input =
     let first_command = position_or_len ends_events (lines_of input) + 2 in
-    said_from (command_of m) first_command (after_first ends_events (lines_of input))
+    parsed_from (command_of m) first_command (after_first ends_events (lines_of input))

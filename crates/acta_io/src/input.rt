@@ -5,7 +5,7 @@ ghost use Rattle.acta_script.specs.declared.fault.LineFault.{LineFault};
 ghost use Rattle.acta_script.specs.Reading.{IsWhy};
 ghost use Rattle.acta_words.specs.Text.{words_of};
 ghost use Rattle.acta_words.specs.inside.LinesToCome.{lines_to_come};
-ghost use Rattle.acta_io.specs.Input.{line_numbers, said_by, said_from, said_in};
+ghost use Rattle.acta_io.specs.Input.{line_numbers, parsed_by, parsed_from, parsed_in};
 
 use acta_script::{
     DebugCommand, LineError, LineFault, ProgramLine, Seated, read_command, read_event, read_kept,
@@ -34,12 +34,12 @@ pub enum LineKind {
 /// How a line is read, as an X.
 pub trait LineReader<X> {
     // What a line says.
-    ghost said: { Self → List ℕ → Result X LineFault };
+    ghost parsed: { Self → List ℕ → Result X LineFault };
 
     /// What the line says, its fault, or want of memory.
     fn read(&self, line: &[u8]) -> Result<X, LineError>
-        ensures ok { IfOk result (λ x. said self.now line.now ≡ Ok x) }
-        ensures fault { IfErr result (IsWhy (said self.now line.now)) };
+        ensures ok { IfOk result (λ x. parsed self.now line.now ≡ Ok x) }
+        ensures fault { IfErr result (IsWhy (parsed self.now line.now)) };
 }
 
 /// Reads lines as events.
@@ -52,7 +52,7 @@ pub struct EventLines<'a, A: Allocator + Copy> {
 impl<'a, A: Allocator + Copy> LineReader<Event<A>> for EventLines<'a, A> {
     ghost use Rattle.acta_script.specs.Reading.{event_of};
 
-    ghost said = { λ r. event_of r.model.now };
+    ghost parsed = { λ r. event_of r.model.now };
 
     fn read(&self, line: &[u8]) -> Result<Event<A>, LineError> {
         read_event(self.alloc, self.model, line)
@@ -69,7 +69,7 @@ pub struct KeptLines<'a, A: Allocator + Copy> {
 impl<'a, A: Allocator + Copy> LineReader<Kept<A>> for KeptLines<'a, A> {
     ghost use Rattle.acta_script.specs.Reading.{kept_of};
 
-    ghost said = { λ r. kept_of r.model.now };
+    ghost parsed = { λ r. kept_of r.model.now };
 
     fn read(&self, line: &[u8]) -> Result<Kept<A>, LineError> {
         read_kept(self.alloc, self.model, line)
@@ -86,7 +86,7 @@ pub struct CommandLines<'a, A: Allocator + Copy> {
 impl<'a, A: Allocator + Copy> LineReader<DebugCommand> for CommandLines<'a, A> {
     ghost use Rattle.acta_script.specs.Commands.{command_of};
 
-    ghost said = { λ r. command_of r.model.now };
+    ghost parsed = { λ r. command_of r.model.now };
 
     fn read(&self, line: &[u8]) -> Result<DebugCommand, LineError> {
         read_command(self.alloc, self.model, line)
@@ -104,7 +104,7 @@ pub struct SeatedLines<'a, A: Allocator + Copy> {
 impl<'a, A: Allocator + Copy> LineReader<Seated<A>> for SeatedLines<'a, A> {
     ghost use Rattle.acta_script.specs.Reading.{seated_of};
 
-    ghost said = { λ r. seated_of r.model.now r.seats };
+    ghost parsed = { λ r. seated_of r.model.now r.seats };
 
     fn read(&self, line: &[u8]) -> Result<Seated<A>, LineError> {
         read_seated(self.alloc, self.model, self.seats, line)
@@ -122,7 +122,7 @@ pub struct ProgramLines<'a, A: Allocator + Copy> {
 impl<'a, A: Allocator + Copy> LineReader<ProgramLine<A>> for ProgramLines<'a, A> {
     ghost use Rattle.acta_script.specs.Reading.{program_line_of};
 
-    ghost said = { λ r. program_line_of r.model.now r.seats };
+    ghost parsed = { λ r. program_line_of r.model.now r.seats };
 
     fn read(&self, line: &[u8]) -> Result<ProgramLine<A>, LineError> {
         read_program_line(self.alloc, self.model, self.seats, line)
@@ -139,15 +139,15 @@ pub struct BadLine {
 /// What the lines of an input say, up to the first that is faulty, and that one.
 #[derive(Drop)]
 pub struct Input<X: Drop, A: Allocator> {
-    pub said: Vec<X, A>,
+    pub parsed: Vec<X, A>,
     pub stop: Option<BadLine>,
 }
 
 // What the line says; nothing where it has no word.
-fn said_by<X, L: LineReader<X>>(reader: &L, line: &[u8]) -> Result<Option<X>, LineError>
-    ensures ok { IfOk result (λ x. said_by (L.said reader.now) line.now ≡ option_map Ok x) }
+fn parsed_by<X, L: LineReader<X>>(reader: &L, line: &[u8]) -> Result<Option<X>, LineError>
+    ensures ok { IfOk result (λ x. parsed_by (L.parsed reader.now) line.now ≡ option_map Ok x) }
     ensures words { IfErr result (λ _. (length (words_of line.now) == 0) ≡ false) }
-    ensures fault { IfErr result (IsWhy (L.said reader.now line.now)) }
+    ensures fault { IfErr result (IsWhy (L.parsed reader.now line.now)) }
 {
     if has_words(line) {
         Ok(Some(reader.read(line)?))
@@ -165,38 +165,38 @@ pub fn read_left<X: Drop, A: Allocator, L: LineReader<X>>(
     taken: usize,
 ) -> Result<Input<X, A>, AllocError>
     requires { taken + length (lines_to_come left) < 2 ^ 64 }
-    ensures said { IfOk result (λ read. said_from (L.said reader.now) (taken + 1) (lines_to_come left.entry) ≡ record { said = read.said.items; stop = read.stop }) }
+    ensures parsed { IfOk result (λ read. parsed_from (L.parsed reader.now) (taken + 1) (lines_to_come left.entry) ≡ record { parsed = read.parsed.items; stop = read.stop }) }
 {
-    let mut said = Vec::new(alloc);
+    let mut parsed = Vec::new(alloc);
     let mut lines = left;
     let mut number = taken;
     while let Some(line) = lines.next() {
         number += 1;
-        match said_by(reader, line) {
-            Ok(Some(x)) => said.push(x)?,
+        match parsed_by(reader, line) {
+            Ok(Some(x)) => parsed.push(x)?,
             Ok(None) => {}
             Err(LineError::Fault(fault)) => {
                 let stop = Some(BadLine {
                     line: number,
                     fault,
                 });
-                return Ok(Input { said, stop });
+                return Ok(Input { parsed, stop });
             }
             Err(LineError::Memory) => return Err(AllocError),
         }
     }
-    Ok(Input { said, stop: None })
+    Ok(Input { parsed, stop: None })
 }
 
 /// What the lines of the input say, up to the first that is faulty; lines without a word are counted and passed over.
-#[tactic(auto, unfolding(crate::specs::Input::said_in))]
+#[tactic(auto, unfolding(crate::specs::Input::parsed_in))]
 pub fn read_lines<X: Drop, A: Allocator, L: LineReader<X>>(
     alloc: A,
     reader: &L,
     input: &[u8],
 ) -> Result<Input<X, A>, AllocError>
-    ensures said { IfOk result (λ read. said_in (L.said reader.now) input.now ≡ record { said = read.said.items; stop = read.stop }) }
-    ensures numbered { IfOk result (λ read. IfNone read.stop (length (line_numbers input.now) ≡ length read.said.items)) }
+    ensures parsed { IfOk result (λ read. parsed_in (L.parsed reader.now) input.now ≡ record { parsed = read.parsed.items; stop = read.stop }) }
+    ensures numbered { IfOk result (λ read. IfNone read.stop (length (line_numbers input.now) ≡ length read.parsed.items)) }
 {
     let lines = Lines::of(input);
     read_left(alloc, reader, lines, 0)

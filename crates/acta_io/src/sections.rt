@@ -4,9 +4,9 @@ ghost use Rattle.std.specs.Prelude.{◌≡◌, ◌<◌, ◌+◌, ◌-◌, ◌^�
 ghost use Rattle.acta_script.specs.Reading.{event_of};
 ghost use Rattle.acta_words.specs.Text.{lines_of};
 ghost use Rattle.acta_words.specs.inside.LinesToCome.{lines_to_come};
-ghost use Rattle.acta_io.specs.Input.{said_in};
+ghost use Rattle.acta_io.specs.Input.{parsed_in};
 ghost use Rattle.acta_io.specs.Sections.{ends_events, script_commands, script_events};
-ghost use Rattle.acta_io.specs.inside.Sections.{commands_from, said_of};
+ghost use Rattle.acta_io.specs.inside.Sections.{commands_from, parsed_of};
 
 use crate::input::{BadLine, CommandLines, EventLines, Input, read_left, read_lines};
 use acta_script::DebugCommand;
@@ -55,7 +55,7 @@ fn commands_behind<A: Allocator + Copy>(
     stop: BadLine,
 ) -> Result<Option<Input<DebugCommand, A>>, AllocError>
     requires { 0 < stop.line }
-    ensures { IfOk result (λ found. option_map said_of found ≡ commands_from model.now stop.line (drop (stop.line - 1) (lines_of input.now))) }
+    ensures { IfOk result (λ found. option_map parsed_of found ≡ commands_from model.now stop.line (drop (stop.line - 1) (lines_of input.now))) }
 {
     let mut lines = lines_behind(input, stop.line - 1);
     let Some(line) = lines.next() else {
@@ -77,26 +77,26 @@ fn script_behind<A: Allocator + Copy>(
     events: Vec<Event<A>, A>,
     stop: BadLine,
 ) -> Result<Script<A>, AllocError>
-    requires { said_in (event_of model.now) input.now ≡ record { said = events.items; stop = Some stop } }
-    ensures events { IfOk result (λ script. said_of script.events ≡ script_events model.now input.now) }
-    ensures commands { IfOk result (λ script. IfNone script.events.stop (said_of script.commands ≡ script_commands model.now input.now)) }
+    requires { parsed_in (event_of model.now) input.now ≡ record { parsed = events.items; stop = Some stop } }
+    ensures events { IfOk result (λ script. parsed_of script.events ≡ script_events model.now input.now) }
+    ensures commands { IfOk result (λ script. IfNone script.events.stop (parsed_of script.commands ≡ script_commands model.now input.now)) }
 {
     let found = commands_behind(alloc, model, input, stop)?;
     match found {
         Some(commands) => Ok(Script {
             events: Input {
-                said: events,
+                parsed: events,
                 stop: None,
             },
             commands,
         }),
         None => Ok(Script {
             events: Input {
-                said: events,
+                parsed: events,
                 stop: Some(stop),
             },
             commands: Input {
-                said: Vec::new(alloc),
+                parsed: Vec::new(alloc),
                 stop: None,
             },
         }),
@@ -111,17 +111,17 @@ pub fn read_script<A: Allocator + Copy>(
     model: &Model<A>,
     input: &[u8],
 ) -> Result<Script<A>, AllocError>
-    ensures events { IfOk result (λ script. said_of script.events ≡ script_events model.now input.now) }
-    ensures commands { IfOk result (λ script. IfNone script.events.stop (said_of script.commands ≡ script_commands model.now input.now)) }
+    ensures events { IfOk result (λ script. parsed_of script.events ≡ script_events model.now input.now) }
+    ensures commands { IfOk result (λ script. IfNone script.events.stop (parsed_of script.commands ≡ script_commands model.now input.now)) }
 {
     let reader = EventLines { alloc, model };
-    let Input { said, stop } = read_lines(alloc, &reader, input)?;
+    let Input { parsed, stop } = read_lines(alloc, &reader, input)?;
     match stop {
-        Some(stop) => script_behind(alloc, model, input, said, stop),
+        Some(stop) => script_behind(alloc, model, input, parsed, stop),
         None => Ok(Script {
-            events: Input { said, stop: None },
+            events: Input { parsed, stop: None },
             commands: Input {
-                said: Vec::new(alloc),
+                parsed: Vec::new(alloc),
                 stop: None,
             },
         }),

@@ -27,5 +27,5 @@ abbrev pub in_order : List Fault → List Fault
 in_order faults = merged [] faults
 
 -- whether a fault is among these: one by the same axiom, at the same place and by the same number
-abbrev pub is_told : Fault → List Fault → Bool
-is_told f faults = list_any (λ g. is_eq (fault_cmp f g)) faults
+abbrev pub is_reported : Fault → List Fault → Bool
+is_reported f faults = list_any (λ g. is_eq (fault_cmp f g)) faults

@@ -45,12 +45,12 @@ fn clashes_among<A: Handle>(owing: &BTreeSet<u16, A>, debts: &[Owed], debt: &Owe
 }
 
 /// The faults by who owes both a commit and an abort by these debts, at this place.
-pub(crate) fn tell_clashes<A: Handle>(
+pub(crate) fn report_clashes<A: Handle>(
     alloc: A,
     place: u32,
     debts: &[Owed],
 ) -> Result<Vec<Fault, A>, AllocError>
-    ensures { IfOk result (λ told. told.items ≡ faults_of Clash place (clashing_among debts.now)) }
+    ensures { IfOk result (λ reported. reported.items ≡ faults_of Clash place (clashing_among debts.now)) }
 {
     let owing = aborting(alloc, debts)?;
     let clash = Breach {
@@ -60,7 +60,7 @@ pub(crate) fn tell_clashes<A: Handle>(
     let mut faults = Vec::new(alloc);
     for debt in debts {
         if clashes_among(&owing, debts, debt) {
-            clash.tell(u64::from(debt.txn.0), &mut faults)?;
+            clash.report(u64::from(debt.txn.0), &mut faults)?;
         }
     }
     Ok(faults)

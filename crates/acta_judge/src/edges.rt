@@ -55,7 +55,7 @@ fn debt_in<'a, A: Handle>(walk: &Walk<'a, A>, e: &Edge) -> Option<Missing>
 }
 
 // Tells the fault by the edge of this number, if there is one.
-fn tell_edge<'a, A: Handle>(
+fn report_edge<'a, A: Handle>(
     walk: &Walk<'a, A>,
     number: u64,
     e: &Edge,
@@ -70,20 +70,20 @@ fn tell_edge<'a, A: Handle>(
         broken: Axiom::Dependency(e.kind),
         place,
     };
-    breach.tell(number, faults)
+    breach.report(number, faults)
 }
 
 impl<'a> Stretch<'a> {
     // What these edges give by the courses of the items in front.
-    fn tell<'w, A: Handle>(&self, alloc: A, walk: &Walk<'w, A>) -> Result<ByEdges<A>, AllocError>
-        ensures { IfOk result (λ told. told ≡ by_edges walk.now.front self.now) }
+    fn report<'w, A: Handle>(&self, alloc: A, walk: &Walk<'w, A>) -> Result<ByEdges<A>, AllocError>
+        ensures { IfOk result (λ reported. reported ≡ by_edges walk.now.front self.now) }
     {
         let mut faults = Vec::new(alloc);
         let mut owed = Vec::new(alloc);
         let edges = self.edges;
         let mut number = self.first;
         for e in edges {
-            tell_edge(walk, number, e, &mut faults)?;
+            report_edge(walk, number, e, &mut faults)?;
             if let Some(missing) = debt_in(walk, e) {
                 owed.push(Owed {
                     edge: EdgeNo(number),
@@ -123,43 +123,43 @@ fn stretches<'a, A: Handle>(
 }
 
 // What each stretch gives, found in threads.
-fn tell_stretches<'a, 's, A: Handle + Send + Sync, R: Threads + Sync>(
+fn report_stretches<'a, 's, A: Handle + Send + Sync, R: Threads + Sync>(
     rt: &R,
     alloc: A,
     walk: &Walk<'a, A>,
     stretches: &[Stretch<'s>],
 ) -> Result<Vec<ByEdges<A>, A>, AllocError>
-    ensures { IfOk result (λ told. told.items ≡ map (by_edges walk.now.front) stretches.now) }
+    ensures { IfOk result (λ reported. reported.items ≡ map (by_edges walk.now.front) stretches.now) }
 {
     match stretches
         .par_iter()
         .with_min_len(1)
         .map(
             |stretch: &Stretch| -> Result<ByEdges<A>, AllocError>
-                ensures { IfOk result (λ told. told ≡ by_edges walk.entry.now.front stretch.now) }
-            { stretch.tell(alloc, walk) },
+                ensures { IfOk result (λ reported. reported ≡ by_edges walk.entry.now.front stretch.now) }
+            { stretch.report(alloc, walk) },
         )
         .collect::<Result<Vec<ByEdges<A>, A>, AllocError>>(rt, alloc)
     {
-        Ok(told) => told,
+        Ok(reported) => reported,
         Err(error) => Err(error),
     }
 }
 
 /// What the edges that the items in front form give, in parts of this size.
 #[tactic(auto, unfolding(acta_axioms::specs::Legal::owed))]
-pub(crate) fn tell_edges<'a, A: Handle + Send + Sync, R: Threads + Sync>(
+pub(crate) fn report_edges<'a, A: Handle + Send + Sync, R: Threads + Sync>(
     rt: &R,
     alloc: A,
     walk: &Walk<'a, A>,
     size: usize,
 ) -> Result<Vec<ByEdges<A>, A>, AllocError>
     requires { 1 ≤ size }
-    ensures faults { IfOk result (λ told. flat_map (λ part. part.faults) told.items ≡ faults_in_edges walk.now.model walk.now.front) }
-    ensures owed { IfOk result (λ told. flat_map (λ part. part.owed) told.items ≡ owed walk.now.model walk.now.front) }
+    ensures faults { IfOk result (λ reported. flat_map (λ part. part.faults) reported.items ≡ faults_in_edges walk.now.model walk.now.front) }
+    ensures owed { IfOk result (λ reported. flat_map (λ part. part.owed) reported.items ≡ owed walk.now.model walk.now.front) }
 {
     let stretches = stretches(alloc, walk.edges(), size)?;
-    tell_stretches(rt, alloc, walk, stretches.as_slice())
+    report_stretches(rt, alloc, walk, stretches.as_slice())
 }
 
 /// What is owed by all edges, in order.

@@ -4,14 +4,14 @@ ghost use Rattle.std.specs.Prelude.{◌≡◌, ◌<◌, [], length, Err, IfOk};
 ghost use Rattle.acta_judge.specs.declared.verdict.JudgeError.{JudgeError};
 ghost use Rattle.std.specs.List.Sorted.{IsStrictlySortedBy};
 ghost use Rattle.acta_axioms.specs.declared.fault.Fault.{Fault};
-ghost use Rattle.acta_judge.specs.Order.{fault_cmp, is_told};
+ghost use Rattle.acta_judge.specs.Order.{fault_cmp, is_reported};
 ghost use Rattle.acta_judge.specs.Verdicts.{all_faults, verdict};
 
-use crate::clashes::tell_clashes;
+use crate::clashes::report_clashes;
 use crate::cut::Cut;
-use crate::edges::{owed_by, tell_edges};
+use crate::edges::{owed_by, report_edges};
 use crate::ordering::in_order;
-use crate::parts::tell_places;
+use crate::parts::report_places;
 use crate::verdict::{JudgeError, Verdict};
 use acta_axioms::{Handle, Walk};
 use acta_table::{Items, Kept, MOST_EVENTS, Model};
@@ -19,7 +19,7 @@ use std::alloc::AllocError;
 use std::thread::Threads;
 
 // The verdict on the list that a walk goes through from its front.
-fn told<'a, A: Handle + Send + Sync, R: Threads + Sync>(
+fn reported<'a, A: Handle + Send + Sync, R: Threads + Sync>(
     rt: &R,
     alloc: A,
     cut: Cut,
@@ -30,11 +30,11 @@ fn told<'a, A: Handle + Send + Sync, R: Threads + Sync>(
     ensures ascending { IfOk result (λ v. IsStrictlySortedBy fault_cmp v.faults) }
 {
     let size = cut.size(walk.ahead().len(), cut.places);
-    let places = tell_places(rt, alloc, walk, size)?;
+    let places = report_places(rt, alloc, walk, size)?;
     let size = cut.size(walk.edges().len(), cut.edges);
-    let edges = tell_edges(rt, alloc, walk, size)?;
+    let edges = report_edges(rt, alloc, walk, size)?;
     let owed = owed_by(alloc, edges.as_slice())?;
-    let clashes = tell_clashes(alloc, walk.front().len() as u32, owed.as_slice())?;
+    let clashes = report_clashes(alloc, walk.front().len() as u32, owed.as_slice())?;
     let faults = in_order(
         alloc,
         places.as_slice(),
@@ -58,7 +58,7 @@ pub fn judge<A: Handle + Send + Sync, R: Threads + Sync>(
 ) -> Result<Verdict<A>, JudgeError>
     ensures verdict { IfOk result (λ v. v ≡ verdict model.now kept.now) }
     ensures ascending { IfOk result (λ v. IsStrictlySortedBy fault_cmp v.faults) }
-    ensures each { (f : Fault) → IfOk result (λ v. is_told f v.faults ≡ is_told f (all_faults model.now kept.now)) }
+    ensures each { (f : Fault) → IfOk result (λ v. is_reported f v.faults ≡ is_reported f (all_faults model.now kept.now)) }
     ensures long { MOST_EVENTS < length kept.now → result ≡ Err JudgeError.TooLong }
     ensures short { result ≡ Err JudgeError.TooLong → MOST_EVENTS < length kept.now }
 {
@@ -75,7 +75,7 @@ pub fn judge_in_parts<A: Handle + Send + Sync, R: Threads + Sync>(
 ) -> Result<Verdict<A>, JudgeError>
     ensures verdict { IfOk result (λ v. v ≡ verdict model.now kept.now) }
     ensures ascending { IfOk result (λ v. IsStrictlySortedBy fault_cmp v.faults) }
-    ensures each { (f : Fault) → IfOk result (λ v. is_told f v.faults ≡ is_told f (all_faults model.now kept.now)) }
+    ensures each { (f : Fault) → IfOk result (λ v. is_reported f v.faults ≡ is_reported f (all_faults model.now kept.now)) }
     ensures long { MOST_EVENTS < length kept.now → result ≡ Err JudgeError.TooLong }
     ensures short { result ≡ Err JudgeError.TooLong → MOST_EVENTS < length kept.now }
 {
@@ -83,5 +83,5 @@ pub fn judge_in_parts<A: Handle + Send + Sync, R: Threads + Sync>(
         return Err(JudgeError::TooLong);
     }
     let mut walk = Walk::of(alloc, model, kept)?;
-    Ok(told(rt, alloc, cut, &mut walk)?)
+    Ok(reported(rt, alloc, cut, &mut walk)?)
 }

@@ -10,13 +10,13 @@ mod clashes;
 mod cut;
 mod edges;
 mod formulas;
+mod item_faults;
 mod judging;
 mod laws;
 mod ordering;
 mod parts;
 mod places;
 mod reporting;
-mod telling;
 mod verdict;
 
 pub use cut::Cut;

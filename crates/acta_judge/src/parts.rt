@@ -3,7 +3,7 @@
 ghost use Rattle.std.specs.Prelude.{◌≡◌, ◌≤◌, ◌++◌, flat_map, map, IfOk, OnOk};
 ghost use Rattle.acta_judge.specs.inside.Parts.{advanced, at_end, faults_ahead, faults_left, together};
 
-use crate::telling::tell_item;
+use crate::item_faults::report_item;
 use acta_axioms::{Fault, Handle, Walk};
 use acta_table::Items;
 use rayon::prelude::*;
@@ -21,43 +21,46 @@ fn skip<'a, A: Handle>(walk: &mut Walk<'a, A>, size: usize) -> Result<(), AllocE
 }
 
 // Tells the faults at the place that is reached, if there is one, and goes one item further.
-fn tell_next<'a, A: Handle>(
+fn report_next<'a, A: Handle>(
     walk: &mut Walk<'a, A>,
     faults: &mut Vec<Fault, A>,
 ) -> Result<(), AllocError>
-    ensures told { OnOk result (faults.new.items ≡ faults.old.items ++ faults_ahead 1 walk.old) }
+    ensures reported { OnOk result (faults.new.items ≡ faults.old.items ++ faults_ahead 1 walk.old) }
     ensures walked { OnOk result (walk.new ≡ advanced 1 walk.old) }
 {
     let Some(item) = walk.next() else {
         return Ok(());
     };
-    tell_item(walk, item, faults)?;
+    report_item(walk, item, faults)?;
     walk.step()
 }
 
 // The faults at the next places, so many or to the end, and the walk behind them.
-fn tell_part<'a, A: Handle>(
+fn report_part<'a, A: Handle>(
     alloc: A,
     walk: &mut Walk<'a, A>,
     size: usize,
 ) -> Result<Items<Fault, A>, AllocError>
-    ensures told { IfOk result (λ told. told ≡ faults_ahead size walk.old) }
+    ensures reported { IfOk result (λ reported. reported ≡ faults_ahead size walk.old) }
     ensures walked { OnOk result (walk.new ≡ advanced size walk.old) }
 {
     let mut faults = Vec::new(alloc);
     for _ in 0..size {
-        tell_next(walk, &mut faults)?;
+        report_next(walk, &mut faults)?;
     }
     Ok(Items::of(faults))
 }
 
 // The faults at all places that are left, and the walk at its end.
-fn tell_rest<'a, A: Handle>(alloc: A, walk: &mut Walk<'a, A>) -> Result<Items<Fault, A>, AllocError>
-    ensures told { IfOk result (λ told. told ≡ faults_left walk.old) }
+fn report_rest<'a, A: Handle>(
+    alloc: A,
+    walk: &mut Walk<'a, A>,
+) -> Result<Items<Fault, A>, AllocError>
+    ensures reported { IfOk result (λ reported. reported ≡ faults_left walk.old) }
     ensures walked { OnOk result (walk.new ≡ at_end walk.old) }
 {
     let left = walk.ahead().len();
-    tell_part(alloc, walk, left)
+    report_part(alloc, walk, left)
 }
 
 // A walk before each of the next parts of this size, so many, and the walk itself behind them.
@@ -79,57 +82,57 @@ fn cut<'a, A: Handle>(
 }
 
 // The faults at the places of the part that this walk stands before, found on a copy of it.
-fn tell_copy<'a, A: Handle>(
+fn report_copy<'a, A: Handle>(
     alloc: A,
     walk: &Walk<'a, A>,
     size: usize,
 ) -> Result<Items<Fault, A>, AllocError>
-    ensures { IfOk result (λ told. told ≡ faults_ahead size walk.now) }
+    ensures { IfOk result (λ reported. reported ≡ faults_ahead size walk.now) }
 {
     let mut walk = walk.copy()?;
-    tell_part(alloc, &mut walk, size)
+    report_part(alloc, &mut walk, size)
 }
 
 // The faults of each part, found in threads. The walks are lent: to share out a vector of them would take memory, and
 // its want would not be told.
-fn tell_parts<'a, A: Handle + Send + Sync, R: Threads + Sync>(
+fn report_parts<'a, A: Handle + Send + Sync, R: Threads + Sync>(
     rt: &R,
     alloc: A,
     parts: &[Walk<'a, A>],
     size: usize,
 ) -> Result<Vec<Items<Fault, A>, A>, AllocError>
-    ensures { IfOk result (λ told. told.items ≡ map (faults_ahead size) parts.now) }
+    ensures { IfOk result (λ reported. reported.items ≡ map (faults_ahead size) parts.now) }
 {
     match parts
         .par_iter()
         .with_min_len(1)
         .map(
             |walk: &Walk<A>| -> Result<Items<Fault, A>, AllocError>
-                ensures { IfOk result (λ told. told ≡ faults_ahead size walk.now) }
-            { tell_copy(alloc, walk, size) },
+                ensures { IfOk result (λ reported. reported ≡ faults_ahead size walk.now) }
+            { report_copy(alloc, walk, size) },
         )
         .collect::<Result<Vec<Items<Fault, A>, A>, AllocError>>(rt, alloc)
     {
-        Ok(told) => told,
+        Ok(reported) => reported,
         Err(error) => Err(error),
     }
 }
 
 /// The faults at all places ahead, and the walk at its end: in threads, in parts of this size, where there is more than
 /// one, and else on the walk itself.
-pub(crate) fn tell_places<'a, A: Handle + Send + Sync, R: Threads + Sync>(
+pub(crate) fn report_places<'a, A: Handle + Send + Sync, R: Threads + Sync>(
     rt: &R,
     alloc: A,
     walk: &mut Walk<'a, A>,
     size: usize,
 ) -> Result<Vec<Items<Fault, A>, A>, AllocError>
     requires { 1 ≤ size }
-    ensures told { IfOk result (λ told. together told.items ≡ faults_left walk.old) }
+    ensures reported { IfOk result (λ reported. together reported.items ≡ faults_left walk.old) }
     ensures walked { OnOk result (walk.new ≡ at_end walk.old) }
 {
     let count = walk.ahead().len().div_ceil(size);
     let parts = cut(alloc, walk, size, if count > 1 { count } else { 0 })?;
-    let mut told = tell_parts(rt, alloc, parts.as_slice(), size)?;
-    told.push(tell_rest(alloc, walk)?)?;
-    Ok(told)
+    let mut reported = report_parts(rt, alloc, parts.as_slice(), size)?;
+    reported.push(report_rest(alloc, walk)?)?;
+    Ok(reported)
 }

@@ -155,10 +155,10 @@ fn cannot_form<'a, A: Handle>(walk: &Walk<'a, A>, event: &Event<A>) -> bool
 pub(crate) fn not_allowed<'a, A: Handle>(walk: &Walk<'a, A>, event: &Event<A>) -> Option<u32>
     ensures { option_to_list result ≡ not_allowed walk.now.model walk.now.front event.now }
 {
-    let is_barred = lacks_start(walk.model(), event)
+    let is_blocked = lacks_start(walk.model(), event)
         || lacks_its_kind(walk, event)
         || cannot_form(walk, event);
-    when(is_barred, first_named(event))
+    when(is_blocked, first_named(event))
 }
 
 /// The transactions that take part in the event beside ending, and have to be in progress, each once.

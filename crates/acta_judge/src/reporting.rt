@@ -16,7 +16,7 @@ pub(crate) struct Breach {
 
 impl Breach {
     /// The axiom is broken by this number.
-    pub(crate) fn tell<A: Handle>(
+    pub(crate) fn report<A: Handle>(
         self,
         by: u64,
         faults: &mut Vec<Fault, A>,
@@ -32,7 +32,7 @@ impl Breach {
     }
 
     /// The axiom is broken by this number, if there is one.
-    pub(crate) fn tell_any<A: Handle>(
+    pub(crate) fn report_any<A: Handle>(
         self,
         by: Option<u32>,
         faults: &mut Vec<Fault, A>,
@@ -40,13 +40,13 @@ impl Breach {
         ensures { OnOk result (faults.new.items ≡ faults.old.items ++ (faults_of self.broken self.place (option_to_list by))) }
     {
         match by {
-            Some(by) => self.tell(u64::from(by), faults),
+            Some(by) => self.report(u64::from(by), faults),
             None => Ok(()),
         }
     }
 
     /// The axiom is broken by each of these operations.
-    pub(crate) fn tell_each<A: Handle>(
+    pub(crate) fn report_each<A: Handle>(
         self,
         ops: &[OpNo],
         faults: &mut Vec<Fault, A>,
@@ -54,7 +54,7 @@ impl Breach {
         ensures { OnOk result (faults.new.items ≡ faults.old.items ++ (faults_of self.broken self.place (map (λ o. o.0) ops.now))) }
     {
         for op in ops {
-            self.tell(u64::from(op.0), faults)?;
+            self.report(u64::from(op.0), faults)?;
         }
         Ok(())
     }

@@ -15,7 +15,7 @@ use Rattle.acta_lang.specs.Forms.{form_of, name_in}
 use Rattle.acta_lang.specs.Lines.{ClassAt, begun, declares, first_line, last_class, part_line}
 use Rattle.acta_lang.specs.Places.{place_of}
 use Rattle.acta_lang.specs.inside.Noted.{IsNoted, Noted, class_noted, current_at, current_line, diagnosis, earlier_noted, line_of}
-use Rattle.acta_lang.specs.inside.Shown.{current_shown}
+use Rattle.acta_lang.specs.inside.Abstraction.{current_shown}
 use Rattle.acta_lang.proofs.Turns.{fold-push}
 
 pub mapped-some : {X Y Z : Type 0} (t : Z → Y) (f : X → Y) (o : Option X) (z : Z) → option_map t (Some z) ≡ option_map f o → (x : X) × (o ≡ Some x) × (t z ≡ f x)
@@ -74,48 +74,48 @@ module _ {A : Type 0} (before : List (List ℕ)) (d : Draft A) (x : Noted) (is :
   noted-open : x.current ≡ open_class A before
   noted-open = is_open before x.current d.current h.current same ∙ ap (λ (e : Draft A). option_map (λ (c : OpenClass). last_class c.name before) e.current) is
 
-  noted-name : (words : List (List ℕ)) (said : Form) → earlier_noted x words said DuplicateName ≡ earlier_line A before words said DuplicateName
-  noted-name words said = of_test (is_class said)
+  noted-name : (words : List (List ℕ)) (parsed : Form) → earlier_noted x words parsed DuplicateName ≡ earlier_line A before words parsed DuplicateName
+  noted-name words parsed = of_test (is_class parsed)
     where
       of_test : (b : Bool) → cond b (option_or (line_of (name_in words) x.classes) (current_line (name_in words) x.current)) (line_of (name_in words) x.objects)
           ≡ first_line (declares (cond b is_class is_object) (name_in words)) before
       of_test true = h.classes (name_in words)
       of_test false = h.objects (name_in words)
 
-  noted-earlier : (words : List (List ℕ)) (said : Form) (code : Code) → earlier_noted x words said code ≡ earlier_line A before words said code
-  noted-earlier words said DuplicateName = noted-name words said
-  noted-earlier words said WrongPlace = ap (option_and_then (λ (c : ClassAt). part_line said c.parts)) noted-open
-  noted-earlier words said NotAscii = refl
-  noted-earlier words said BadWord = refl
-  noted-earlier words said BadName = refl
-  noted-earlier words said BadNumber = refl
-  noted-earlier words said TooMany = refl
-  noted-earlier words said MissingEnd = refl
-  noted-earlier words said MissingPart = refl
-  noted-earlier words said BeginKindAtStart = refl
-  noted-earlier words said HeirWithoutSpawn = refl
-  noted-earlier words said BadPolicyKind = refl
+  noted-earlier : (words : List (List ℕ)) (parsed : Form) (code : Code) → earlier_noted x words parsed code ≡ earlier_line A before words parsed code
+  noted-earlier words parsed DuplicateName = noted-name words parsed
+  noted-earlier words parsed WrongPlace = ap (option_and_then (λ (c : ClassAt). part_line parsed c.parts)) noted-open
+  noted-earlier words parsed NotAscii = refl
+  noted-earlier words parsed BadWord = refl
+  noted-earlier words parsed BadName = refl
+  noted-earlier words parsed BadNumber = refl
+  noted-earlier words parsed TooMany = refl
+  noted-earlier words parsed MissingEnd = refl
+  noted-earlier words parsed MissingPart = refl
+  noted-earlier words parsed BeginKindAtStart = refl
+  noted-earlier words parsed HeirWithoutSpawn = refl
+  noted-earlier words parsed BadPolicyKind = refl
 
-  noted-begun : (words : List (List ℕ)) (said : Form) (n : ℕ) → n ≡ length before + 1 → class_noted x n words said MissingEnd ≡ class_of A before words said MissingEnd
-  noted-begun words said n counts = of_test (is_class said)
+  noted-begun : (words : List (List ℕ)) (parsed : Form) (n : ℕ) → n ≡ length before + 1 → class_noted x n words parsed MissingEnd ≡ class_of A before words parsed MissingEnd
+  noted-begun words parsed n counts = of_test (is_class parsed)
     where
       of_test : (b : Bool) → cond b (Some (begun (name_in words) n)) x.current ≡ cond b (Some (begun (name_in words) (length before + 1))) (open_class A before)
       of_test true = ap (λ k. Some (begun (name_in words) k)) counts
       of_test false = noted-open
 
-  noted-class : (words : List (List ℕ)) (said : Form) (n : ℕ) (code : Code) → n ≡ length before + 1 → class_noted x n words said code ≡ class_of A before words said code
-  noted-class words said n MissingEnd counts = noted-begun words said n counts
-  noted-class words said n NotAscii counts = noted-open
-  noted-class words said n BadWord counts = noted-open
-  noted-class words said n BadName counts = noted-open
-  noted-class words said n DuplicateName counts = noted-open
-  noted-class words said n WrongPlace counts = noted-open
-  noted-class words said n BadNumber counts = noted-open
-  noted-class words said n TooMany counts = noted-open
-  noted-class words said n MissingPart counts = noted-open
-  noted-class words said n BeginKindAtStart counts = noted-open
-  noted-class words said n HeirWithoutSpawn counts = noted-open
-  noted-class words said n BadPolicyKind counts = noted-open
+  noted-class : (words : List (List ℕ)) (parsed : Form) (n : ℕ) (code : Code) → n ≡ length before + 1 → class_noted x n words parsed code ≡ class_of A before words parsed code
+  noted-class words parsed n MissingEnd counts = noted-begun words parsed n counts
+  noted-class words parsed n NotAscii counts = noted-open
+  noted-class words parsed n BadWord counts = noted-open
+  noted-class words parsed n BadName counts = noted-open
+  noted-class words parsed n DuplicateName counts = noted-open
+  noted-class words parsed n WrongPlace counts = noted-open
+  noted-class words parsed n BadNumber counts = noted-open
+  noted-class words parsed n TooMany counts = noted-open
+  noted-class words parsed n MissingPart counts = noted-open
+  noted-class words parsed n BeginKindAtStart counts = noted-open
+  noted-class words parsed n HeirWithoutSpawn counts = noted-open
+  noted-class words parsed n BadPolicyKind counts = noted-open
 
   diagnosis-is : (n : ℕ) (line : List ℕ) (code : Code) → n ≡ length before + 1 → diagnosis d x n line code ≡ diagnostic_of A before line code
   diagnosis-is n line code counts = λ i. record {
@@ -141,7 +141,7 @@ at_line {A} text n d x line rest code is h same left =
     ∙ ap (λ k. diagnostic_of A (take k (lines_of text)) (unwrap_or (slice_get (lines_of text) k) []) code) back
 
 -- where a line without a fault begins a class, none is open
-pub none_open : {A : Type 0} (d : Draft A) (o : Option (ClassDraft A)) (said : Form) → option_map current_shown o ≡ d.current → wrong_place d said ≡ false → is_class said ≡ true → option_map current_at o ≡ None
+pub none_open : {A : Type 0} (d : Draft A) (o : Option (ClassDraft A)) (parsed : Form) → option_map current_shown o ≡ d.current → wrong_place d parsed ≡ false → is_class parsed ≡ true → option_map current_at o ≡ None
 unfolding wrong_place
 none_open d o form.Class same fits class = of_open o (ap (λ (p : Option OpenClass). is_some p) same ∙ fits)
   where

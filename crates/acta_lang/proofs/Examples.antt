@@ -69,9 +69,9 @@ unfolding meaning_behind extended not_ascii bad_word bad_name duplicate_name wro
 unclosed = refl
 
 -- a class that has said nothing
-said_nothing : meant (text_of (codes "class a" ∷ codes "end" ∷ [])) ≡ fault 2 MissingPart
+parsed_nothing : meant (text_of (codes "class a" ∷ codes "end" ∷ [])) ≡ fault 2 MissingPart
 unfolding meaning_behind extended not_ascii bad_word bad_name duplicate_name wrong_place bad_number too_many missing_end missing_part begin_kind_at_start heir_without_spawn bad_policy_kind
-said_nothing = refl
+parsed_nothing = refl
 
 -- a text without a byte has one line
 without_a_byte : meant ([]) ≡ fault 1 MissingPart
@@ -325,52 +325,52 @@ one_class_more = refl
 -- ---- where a text is wrong
 
 -- the place of the word at fault, what is expected there, the earlier line and the class that is open
-abbrev Told : Type 0
-Told = Option (Option ℕ × (Expected × (Option ℕ × Option ClassAt)))
+abbrev Reported : Type 0
+Reported = Option (Option ℕ × (Expected × (Option ℕ × Option ClassAt)))
 
-abbrev told_of : Option Diagnostic → Told
-told_of None = None
-told_of (Some d) = Some (d.place, (d.expected, (d.earlier, d.class)))
+abbrev reported_of : Option Diagnostic → Reported
+reported_of None = None
+reported_of (Some d) = Some (d.place, (d.expected, (d.earlier, d.class)))
 
-abbrev told : List (List ℕ) → Told
-told lines = told_of (diagnosed (Unit {0}) (text_of lines))
+abbrev reported : List (List ℕ) → Reported
+reported lines = reported_of (diagnosed (Unit {0}) (text_of lines))
 
 -- the kind of an object, a word too many, and a word that lacks
-no_object_kind : told (codes "object x list" ∷ []) ≡ Some (Some 2, (want.ObjectKind, (None, None)))
+no_object_kind : reported (codes "object x list" ∷ []) ≡ Some (Some 2, (want.ObjectKind, (None, None)))
 unfolding meaning_behind extended not_ascii bad_word bad_name duplicate_name wrong_place bad_number too_many missing_end missing_part begin_kind_at_start heir_without_spawn bad_policy_kind
 no_object_kind = refl
 
-too_many_words : told (codes "object x set 1" ∷ []) ≡ Some (Some 3, (want.Object, (None, None)))
+too_many_words : reported (codes "object x set 1" ∷ []) ≡ Some (Some 3, (want.Object, (None, None)))
 unfolding meaning_behind extended not_ascii bad_word bad_name duplicate_name wrong_place bad_number too_many missing_end missing_part begin_kind_at_start heir_without_spawn bad_policy_kind
 too_many_words = refl
 
-lacks_a_word : told (codes "object x register" ∷ []) ≡ Some (None, (want.Object, (None, None)))
+lacks_a_word : reported (codes "object x register" ∷ []) ≡ Some (None, (want.Object, (None, None)))
 unfolding meaning_behind extended not_ascii bad_word bad_name duplicate_name wrong_place bad_number too_many missing_end missing_part begin_kind_at_start heir_without_spawn bad_policy_kind
 lacks_a_word = refl
 
 -- the first line that declares the name
-named_before : told (codes "object y set" ∷ codes "# x" ∷ codes "object x set" ∷ codes "object x counter 0" ∷ []) ≡ Some (Some 1, (want.NewObject, (Some 3, None)))
+named_before : reported (codes "object y set" ∷ codes "# x" ∷ codes "object x set" ∷ codes "object x counter 0" ∷ []) ≡ Some (Some 1, (want.NewObject, (Some 3, None)))
 unfolding meaning_behind extended not_ascii bad_word bad_name duplicate_name wrong_place bad_number too_many missing_end missing_part begin_kind_at_start heir_without_spawn bad_policy_kind
 named_before = refl
 
 -- the line that has said the part, of the class that is open
-said_before : told (codes "class a" ∷ codes "may" ∷ codes "starts begin" ∷ codes "starts" ∷ [])
+parsed_before : reported (codes "class a" ∷ codes "may" ∷ codes "starts begin" ∷ codes "starts" ∷ [])
     ≡ Some (Some 0, (want.Once, (Some 3, Some (record { name = codes "a"; line = 1; parts = record no_lines { starts = Some 3; may = Some 2 } }))))
 unfolding meaning_behind extended not_ascii bad_word bad_name duplicate_name wrong_place bad_number too_many missing_end missing_part begin_kind_at_start heir_without_spawn bad_policy_kind
-said_before = refl
+parsed_before = refl
 
 -- a class that ends without a part, behind a class that is closed
-lacks_a_part : told (codes "class a" ∷ codes "starts begin" ∷ codes "may operate commit" ∷ codes "scope others" ∷ codes "policy refuse" ∷ codes "commit keeps" ∷ codes "delegation whole" ∷ codes "end" ∷ codes "class b" ∷ codes "scope others" ∷ codes "end" ∷ [])
+lacks_a_part : reported (codes "class a" ∷ codes "starts begin" ∷ codes "may operate commit" ∷ codes "scope others" ∷ codes "policy refuse" ∷ codes "commit keeps" ∷ codes "delegation whole" ∷ codes "end" ∷ codes "class b" ∷ codes "scope others" ∷ codes "end" ∷ [])
     ≡ Some (Some 0, (want.AllParts, (None, Some (record { name = codes "b"; line = 9; parts = record no_lines { scope = Some 10 } }))))
 unfolding meaning_behind extended not_ascii bad_word bad_name duplicate_name wrong_place bad_number too_many missing_end missing_part begin_kind_at_start heir_without_spawn bad_policy_kind
 lacks_a_part = refl
 
 -- a class that the last line begins
-begun_last : told (codes "object x set" ∷ codes "class a" ∷ []) ≡ Some (Some 0, (want.ClassEnd, (None, Some (begun (codes "a") 2))))
+begun_last : reported (codes "object x set" ∷ codes "class a" ∷ []) ≡ Some (Some 0, (want.ClassEnd, (None, Some (begun (codes "a") 2))))
 unfolding meaning_behind extended not_ascii bad_word bad_name duplicate_name wrong_place bad_number too_many missing_end missing_part begin_kind_at_start heir_without_spawn bad_policy_kind
 begun_last = refl
 
 -- no text without a fault has a diagnostic
-none_told : told (codes "class a" ∷ codes "starts begin" ∷ codes "may operate commit" ∷ codes "scope others" ∷ codes "policy refuse" ∷ codes "commit keeps" ∷ codes "delegation whole" ∷ codes "end" ∷ []) ≡ None
+none_reported : reported (codes "class a" ∷ codes "starts begin" ∷ codes "may operate commit" ∷ codes "scope others" ∷ codes "policy refuse" ∷ codes "commit keeps" ∷ codes "delegation whole" ∷ codes "end" ∷ []) ≡ None
 unfolding meaning_behind extended not_ascii bad_word bad_name duplicate_name wrong_place bad_number too_many missing_end missing_part begin_kind_at_start heir_without_spawn bad_policy_kind
-none_told = refl
+none_reported = refl

@@ -42,7 +42,7 @@ abbrev is_depend : ℕ → Form → Bool
 is_depend bits (form.Policy (Depend kinds)) = kinds == bits
 is_depend bits _ = false
 
-may_is : (bits : ℕ) (said : Form) → is_may bits said ≡ true → said ≡ form.May bits
+may_is : (bits : ℕ) (parsed : Form) → is_may bits parsed ≡ true → parsed ≡ form.May bits
 may_is bits (form.May kinds) h = ap (λ k. form.May k) (eqb-true kinds bits h)
 may_is bits form.Blank h = absurd (true≢false (sym h))
 may_is bits form.Register h = absurd (true≢false (sym h))
@@ -59,7 +59,7 @@ may_is bits (form.Split s) h = absurd (true≢false (sym h))
 may_is bits form.End h = absurd (true≢false (sym h))
 may_is bits form.Unknown h = absurd (true≢false (sym h))
 
-depend_is : (bits : ℕ) (said : Form) → is_depend bits said ≡ true → said ≡ form.Policy (Depend bits)
+depend_is : (bits : ℕ) (parsed : Form) → is_depend bits parsed ≡ true → parsed ≡ form.Policy (Depend bits)
 depend_is bits (form.Policy (Depend kinds)) h = ap (λ k. form.Policy (Depend k)) (eqb-true kinds bits h)
 depend_is bits (form.Policy Refuse) h = absurd (true≢false (sym h))
 depend_is bits form.Blank h = absurd (true≢false (sym h))

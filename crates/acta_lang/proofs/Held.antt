@@ -12,18 +12,18 @@ use Rattle.acta_lang.specs.declared.form.Form.TheVariants as form
 use Rattle.acta_lang.specs.declared.draft.ClosedDraft.{ClosedDraft}
 use Rattle.acta_lang.specs.declared.draft.ObjectDraft.{ObjectDraft}
 use Rattle.acta_words.specs.Text.{is_word_among}
-use Rattle.acta_lang.specs.Drafts.{Draft, OpenClass, closed, extended, has_said, has_said_all, with_closed}
+use Rattle.acta_lang.specs.Drafts.{Draft, OpenClass, closed, extended, has_part, has_all_parts, with_closed}
 use Rattle.acta_lang.specs.Faults.{is_object, is_class, is_end, missing_part, wrong_place}
-use Rattle.acta_lang.specs.inside.Shown.{object_shown, closed_shown}
+use Rattle.acta_lang.specs.inside.Abstraction.{object_shown, closed_shown}
 
 -- the names of the objects, and of the classes that are closed
-pub object_names-shown : (A : Type 0) (es : List (Bor (List ℕ) × ObjectDraft)) → map (λ o. o.name) (map (object_shown {A = A}) es) ≡ map (λ k. k.now) (keys_of es)
-object_names-shown A [] = refl
-object_names-shown A (e ∷ es) = ap (λ names. e.0.now ∷ names) (object_names-shown A es)
+pub object_names-abstraction : (A : Type 0) (es : List (Bor (List ℕ) × ObjectDraft)) → map (λ o. o.name) (map (object_shown {A = A}) es) ≡ map (λ k. k.now) (keys_of es)
+object_names-abstraction A [] = refl
+object_names-abstraction A (e ∷ es) = ap (λ names. e.0.now ∷ names) (object_names-abstraction A es)
 
-pub closed_names-shown : {A : Type 0} (es : List (Bor (List ℕ) × ClosedDraft A)) → map (λ c. c.name) (map (closed_shown {A = A}) es) ≡ map (λ k. k.now) (keys_of es)
-closed_names-shown [] = refl
-closed_names-shown (e ∷ es) = ap (λ names. e.0.now ∷ names) (closed_names-shown es)
+pub closed_names-abstraction : {A : Type 0} (es : List (Bor (List ℕ) × ClosedDraft A)) → map (λ c. c.name) (map (closed_shown {A = A}) es) ≡ map (λ k. k.now) (keys_of es)
+closed_names-abstraction [] = refl
+closed_names-abstraction (e ∷ es) = ap (λ names. e.0.now ∷ names) (closed_names-abstraction es)
 
 in_one : (name : List ℕ) (o : Option OpenClass) → list_any (bytes_eq name) (option_map_or (λ c. c.name ∷ []) o []) ≡ option_map_or (λ c. bytes_eq name c.name) o false
 in_one name None = refl
@@ -35,33 +35,33 @@ pub among_classes : {A : Type 0} (name : List ℕ) (es : List (Bor (List ℕ) ×
     ≡ (is_word_among (map (λ k. k.now) (keys_of es)) name || option_map_or (λ c. bytes_eq name c.name) o false)
 among_classes {A = A} name es o =
     list_any-append (bytes_eq name) (map (λ c. c.name) (map (closed_shown {A = A}) es)) (option_map_or (λ c. c.name ∷ []) o [])
-    ∙ (λ i. list_any (bytes_eq name) (closed_names-shown es i) || in_one name o i)
+    ∙ (λ i. list_any (bytes_eq name) (closed_names-abstraction es i) || in_one name o i)
 
 -- inside a class, what is no object and no class is in the wrong place where it has been said
-pub said_inside : {A : Type 0} (said : Form) (d : Draft A) (c : OpenClass) → d.current ≡ Some c → is_object said ≡ false → is_class said ≡ false → has_said said c ≡ wrong_place d said
+pub parsed_inside : {A : Type 0} (parsed : Form) (d : Draft A) (c : OpenClass) → d.current ≡ Some c → is_object parsed ≡ false → is_class parsed ≡ false → has_part parsed c ≡ wrong_place d parsed
 unfolding wrong_place
-said_inside form.Blank d c is o k = refl
-said_inside form.Register d c is o k = absurd (true≢false o)
-said_inside form.Counter d c is o k = absurd (true≢false o)
-said_inside form.Elements d c is o k = absurd (true≢false o)
-said_inside form.Class d c is o k = absurd (true≢false k)
-said_inside (form.Starts s) d c is o k = sym (ap (λ cur. option_map_or (has_said (form.Starts s)) cur true) is)
-said_inside (form.May s) d c is o k = sym (ap (λ cur. option_map_or (has_said (form.May s)) cur true) is)
-said_inside (form.Scope s) d c is o k = sym (ap (λ cur. option_map_or (has_said (form.Scope s)) cur true) is)
-said_inside (form.Policy s) d c is o k = sym (ap (λ cur. option_map_or (has_said (form.Policy s)) cur true) is)
-said_inside (form.Commit s) d c is o k = sym (ap (λ cur. option_map_or (has_said (form.Commit s)) cur true) is)
-said_inside (form.Delegation s) d c is o k = sym (ap (λ cur. option_map_or (has_said (form.Delegation s)) cur true) is)
-said_inside (form.Spawn s) d c is o k = sym (ap (λ cur. option_map_or (has_said (form.Spawn s)) cur true) is)
-said_inside (form.Split s) d c is o k = sym (ap (λ cur. option_map_or (has_said (form.Split s)) cur true) is)
-said_inside form.End d c is o k = sym (ap (λ cur. option_map_or (has_said form.End) cur true) is)
-said_inside form.Unknown d c is o k = sym (ap (λ cur. option_map_or (has_said form.Unknown) cur true) is)
+parsed_inside form.Blank d c is o k = refl
+parsed_inside form.Register d c is o k = absurd (true≢false o)
+parsed_inside form.Counter d c is o k = absurd (true≢false o)
+parsed_inside form.Elements d c is o k = absurd (true≢false o)
+parsed_inside form.Class d c is o k = absurd (true≢false k)
+parsed_inside (form.Starts s) d c is o k = sym (ap (λ cur. option_map_or (has_part (form.Starts s)) cur true) is)
+parsed_inside (form.May s) d c is o k = sym (ap (λ cur. option_map_or (has_part (form.May s)) cur true) is)
+parsed_inside (form.Scope s) d c is o k = sym (ap (λ cur. option_map_or (has_part (form.Scope s)) cur true) is)
+parsed_inside (form.Policy s) d c is o k = sym (ap (λ cur. option_map_or (has_part (form.Policy s)) cur true) is)
+parsed_inside (form.Commit s) d c is o k = sym (ap (λ cur. option_map_or (has_part (form.Commit s)) cur true) is)
+parsed_inside (form.Delegation s) d c is o k = sym (ap (λ cur. option_map_or (has_part (form.Delegation s)) cur true) is)
+parsed_inside (form.Spawn s) d c is o k = sym (ap (λ cur. option_map_or (has_part (form.Spawn s)) cur true) is)
+parsed_inside (form.Split s) d c is o k = sym (ap (λ cur. option_map_or (has_part (form.Split s)) cur true) is)
+parsed_inside form.End d c is o k = sym (ap (λ cur. option_map_or (has_part form.End) cur true) is)
+parsed_inside form.Unknown d c is o k = sym (ap (λ cur. option_map_or (has_part form.Unknown) cur true) is)
 
 -- a list with one more is not empty
 pub one_more : {X : Type 0} (xs : List X) (x : X) → (length (xs ++ x ∷ []) == 0) ≡ false
 one_more xs x = ne_eqb (length (xs ++ x ∷ [])) 0 (λ h. omega (arith, h, length-append xs (x ∷ [])))
 
 -- a line that ends a class is the form of an end
-pub end_is : (said : Form) → is_end said ≡ true → said ≡ form.End
+pub end_is : (parsed : Form) → is_end parsed ≡ true → parsed ≡ form.End
 end_is form.End h = refl
 end_is form.Blank h = absurd (true≢false (sym h))
 end_is form.Register h = absurd (true≢false (sym h))
@@ -79,11 +79,11 @@ end_is (form.Split s) h = absurd (true≢false (sym h))
 end_is form.Unknown h = absurd (true≢false (sym h))
 
 -- where a class ends, only it can lack a part
-pub end_inside : {A : Type 0} (is_last : Bool) (words : List (List ℕ)) (said : Form) (d : Draft A) (c : OpenClass) → is_end said ≡ true → d.current ≡ Some c → not (has_said_all c) ≡ missing_part is_last d (extended d words said) said
+pub end_inside : {A : Type 0} (is_last : Bool) (words : List (List ℕ)) (parsed : Form) (d : Draft A) (c : OpenClass) → is_end parsed ≡ true → d.current ≡ Some c → not (has_all_parts c) ≡ missing_part is_last d (extended d words parsed) parsed
 unfolding missing_part extended
-end_inside is_last words said d c ends is =
-    sym (ap (λ said. missing_part is_last d (extended d words said) said) (end_is said ends)
-    ∙ ap (λ o. option_map_or (λ c. not (has_said_all c)) o false || is_last && (length (with_closed d o).classes == 0)) is
-    ∙ ap (λ b. not (has_said_all c) || is_last && b) (one_more d.classes (closed c))
-    ∙ ap (λ b. not (has_said_all c) || b) (and-false is_last)
-    ∙ or-false (not (has_said_all c)))
+end_inside is_last words parsed d c ends is =
+    sym (ap (λ parsed. missing_part is_last d (extended d words parsed) parsed) (end_is parsed ends)
+    ∙ ap (λ o. option_map_or (λ c. not (has_all_parts c)) o false || is_last && (length (with_closed d o).classes == 0)) is
+    ∙ ap (λ b. not (has_all_parts c) || is_last && b) (one_more d.classes (closed c))
+    ∙ ap (λ b. not (has_all_parts c) || b) (and-false is_last)
+    ∙ or-false (not (has_all_parts c)))

@@ -19,34 +19,34 @@ no_code : (b : Bool) (code : Code) → code_if b code ≡ None → b ≡ false
 no_code true code e = cc
 no_code false code e = refl
 
-pub record HasNoCode {A : Type 0} (d : Draft A) (is_last : Bool) (line : List ℕ) (words : List (List ℕ)) (said : Form) : Type 0 where
-  pub known : bad_word said ≡ false
-  pub named : ((is_object said || is_class said) && not (is_name (name_in words))) ≡ false
-  pub new : (is_object said && is_word_among (object_names d) (name_in words) || is_class said && is_word_among (class_names d) (name_in words)) ≡ false
-  pub place : wrong_place d said ≡ false
-  pub room : (is_object said && nat_le MOST_OBJECTS (length d.objects) || is_class said && nat_le MOST_CLASSES (length d.classes)) ≡ false
-  pub ended : missing_end is_last (extended d words said) ≡ false
-  pub whole : missing_part is_last d (extended d words said) said ≡ false
-  pub edge : begin_kind_at_start said ≡ false
-  pub heir : (is_end said && option_map_or (λ c. lacks_parents (closed {A = A} c)) d.current false) ≡ false
-  pub policy : bad_policy_kind said ≡ false
+pub record HasNoCode {A : Type 0} (d : Draft A) (is_last : Bool) (line : List ℕ) (words : List (List ℕ)) (parsed : Form) : Type 0 where
+  pub known : bad_word parsed ≡ false
+  pub named : ((is_object parsed || is_class parsed) && not (is_name (name_in words))) ≡ false
+  pub new : (is_object parsed && is_word_among (object_names d) (name_in words) || is_class parsed && is_word_among (class_names d) (name_in words)) ≡ false
+  pub place : wrong_place d parsed ≡ false
+  pub room : (is_object parsed && nat_le MOST_OBJECTS (length d.objects) || is_class parsed && nat_le MOST_CLASSES (length d.classes)) ≡ false
+  pub ended : missing_end is_last (extended d words parsed) ≡ false
+  pub whole : missing_part is_last d (extended d words parsed) parsed ≡ false
+  pub edge : begin_kind_at_start parsed ≡ false
+  pub heir : (is_end parsed && option_map_or (λ c. lacks_parents (closed {A = A} c)) d.current false) ≡ false
+  pub policy : bad_policy_kind parsed ≡ false
 
 -- where no test of a line passes, it has no code, and the other way round
-pub no_test : {A : Type 0} (d : Draft A) (is_last : Bool) (line : List ℕ) (words : List (List ℕ)) (said : Form) → lowest_of d (extended d words said) is_last line words said ≡ None → HasNoCode d is_last line words said
+pub no_test : {A : Type 0} (d : Draft A) (is_last : Bool) (line : List ℕ) (words : List (List ℕ)) (parsed : Form) → lowest_of d (extended d words parsed) is_last line words parsed ≡ None → HasNoCode d is_last line words parsed
 unfolding bad_name duplicate_name too_many heir_without_spawn
-no_test d is_last line words said none =
-    let behind = extended d words said in
-    let policy = or_none _ (code_if (bad_policy_kind said) BadPolicyKind) none in
-    let heir = or_none _ (code_if (heir_without_spawn d said) HeirWithoutSpawn) policy.0 in
-    let edge = or_none _ (code_if (begin_kind_at_start said) BeginKindAtStart) heir.0 in
-    let whole = or_none _ (code_if (missing_part is_last d behind said) MissingPart) edge.0 in
+no_test d is_last line words parsed none =
+    let behind = extended d words parsed in
+    let policy = or_none _ (code_if (bad_policy_kind parsed) BadPolicyKind) none in
+    let heir = or_none _ (code_if (heir_without_spawn d parsed) HeirWithoutSpawn) policy.0 in
+    let edge = or_none _ (code_if (begin_kind_at_start parsed) BeginKindAtStart) heir.0 in
+    let whole = or_none _ (code_if (missing_part is_last d behind parsed) MissingPart) edge.0 in
     let ended = or_none _ (code_if (missing_end is_last behind) MissingEnd) whole.0 in
-    let room = or_none _ (code_if (too_many d said) TooMany) ended.0 in
-    let number = or_none _ (code_if (bad_number words said) BadNumber) room.0 in
-    let place = or_none _ (code_if (wrong_place d said) WrongPlace) number.0 in
-    let new = or_none _ (code_if (duplicate_name d words said) DuplicateName) place.0 in
-    let named = or_none _ (code_if (bad_name words said) BadName) new.0 in
-    let known = or_none _ (code_if (bad_word said) BadWord) named.0 in
+    let room = or_none _ (code_if (too_many d parsed) TooMany) ended.0 in
+    let number = or_none _ (code_if (bad_number words parsed) BadNumber) room.0 in
+    let place = or_none _ (code_if (wrong_place d parsed) WrongPlace) number.0 in
+    let new = or_none _ (code_if (duplicate_name d words parsed) DuplicateName) place.0 in
+    let named = or_none _ (code_if (bad_name words parsed) BadName) new.0 in
+    let known = or_none _ (code_if (bad_word parsed) BadWord) named.0 in
     record {
       known = no_code _ BadWord known.1;
       named = no_code _ BadName named.1;
@@ -61,11 +61,11 @@ no_test d is_last line words said none =
     }
 
 -- a line at which no test passes has no code
-pub clear : {A : Type 0} (d behind : Draft A) (is_last : Bool) (line : List ℕ) (words : List (List ℕ)) (said : Form) → not_ascii line ≡ false → bad_word said ≡ false → bad_name words said ≡ false
-    → duplicate_name d words said ≡ false → wrong_place d said ≡ false → bad_number words said ≡ false → too_many d said ≡ false → missing_end is_last behind ≡ false
-    → missing_part is_last d behind said ≡ false → begin_kind_at_start said ≡ false → heir_without_spawn d said ≡ false → bad_policy_kind said ≡ false
-    → lowest_of d behind is_last line words said ≡ None
-clear d behind is_last line words said ascii known named new place number room ended whole edge heir policy = λ i. fold option_or None (
+pub clear : {A : Type 0} (d behind : Draft A) (is_last : Bool) (line : List ℕ) (words : List (List ℕ)) (parsed : Form) → not_ascii line ≡ false → bad_word parsed ≡ false → bad_name words parsed ≡ false
+    → duplicate_name d words parsed ≡ false → wrong_place d parsed ≡ false → bad_number words parsed ≡ false → too_many d parsed ≡ false → missing_end is_last behind ≡ false
+    → missing_part is_last d behind parsed ≡ false → begin_kind_at_start parsed ≡ false → heir_without_spawn d parsed ≡ false → bad_policy_kind parsed ≡ false
+    → lowest_of d behind is_last line words parsed ≡ None
+clear d behind is_last line words parsed ascii known named new place number room ended whole edge heir policy = λ i. fold option_or None (
     code_if (ascii i) NotAscii
     ∷ code_if (known i) BadWord
     ∷ code_if (named i) BadName

@@ -11,7 +11,7 @@ use Rattle.acta_lang.specs.declared.form.Form.TheVariants as form
 use Rattle.acta_lang.specs.Faults.{is_class, is_object}
 use Rattle.acta_lang.specs.Forms.{form_of, name_in}
 use Rattle.acta_lang.specs.Lines.{ClassAt, begun, behind, class_since, declares, first_line, is_starts, is_may, is_scope, is_policy, is_commit, is_delegation, last_class, last_line, says, with_line}
-use Rattle.acta_lang.specs.inside.Noted.{IsNoted, Noted, NotedName, closed_noted, current_line, line_of, noted_by, object_noted, said_more, said_noted}
+use Rattle.acta_lang.specs.inside.Noted.{IsNoted, Noted, NotedName, closed_noted, current_line, line_of, noted_by, object_noted, parsed_more, parsed_noted}
 
 some-is : {X : Type 0} (x y : X) → Some x ≡ Some y → x ≡ y
 some-is x y e = cc
@@ -89,25 +89,25 @@ line-push name (y ∷ ys) x = of_test (bytes_eq name y.name) (line-push name ys 
 
 -- ---- one line more, of this form
 
-module _ (before : List (List ℕ)) (line : List ℕ) (said : Form) (is : form_of (words_of line) ≡ said) where
-  declared-next : (test : Form → Bool) (word : List ℕ) → first_line (declares test word) (before ++ line ∷ []) ≡ option_or (first_line (declares test word) before) (cond (test said && bytes_eq word (name_in (words_of line))) (Some (length before + 1)) None)
+module _ (before : List (List ℕ)) (line : List ℕ) (parsed : Form) (is : form_of (words_of line) ≡ parsed) where
+  declared-next : (test : Form → Bool) (word : List ℕ) → first_line (declares test word) (before ++ line ∷ []) ≡ option_or (first_line (declares test word) before) (cond (test parsed && bytes_eq word (name_in (words_of line))) (Some (length before + 1)) None)
   declared-next test word =
       let number : 1 + length before ≡ length before + 1 = omega arith in
       first-push (declares test word) 1 before line
       ∙ (λ i. option_or (first_line (declares test word) before) (cond (test (is i) && bytes_eq word (name_in (words_of line))) (Some (number i)) None))
 
-  names-same : (test : Form → Bool) (word : List ℕ) → test said ≡ false → first_line (declares test word) (before ++ line ∷ []) ≡ first_line (declares test word) before
+  names-same : (test : Form → Bool) (word : List ℕ) → test parsed ≡ false → first_line (declares test word) (before ++ line ∷ []) ≡ first_line (declares test word) before
   names-same test word isnt =
       declared-next test word
       ∙ ap (λ b. option_or (first_line (declares test word) before) (cond (b && bytes_eq word (name_in (words_of line))) (Some (length before + 1)) None)) isnt
       ∙ or-none (first_line (declares test word) before)
 
   -- a line that begins no class
-  part-next : (part : Form → Bool) (k : ℕ) → k ≤ length before → behind k (last_line (says part) (before ++ line ∷ [])) ≡ cond (part said) (Some (length before + 1)) (behind k (last_line (says part) before))
+  part-next : (part : Form → Bool) (k : ℕ) → k ≤ length before → behind k (last_line (says part) (before ++ line ∷ [])) ≡ cond (part parsed) (Some (length before + 1)) (behind k (last_line (says part) before))
   part-next part k le =
       behind-next (says part) k before line le ∙ ap (λ f. cond (part f) (Some (length before + 1)) (behind k (last_line (says part) before))) is
 
-  class-next : (word : List ℕ) → is_class said ≡ false → last_class word (before ++ line ∷ []) ≡ record (last_class word before) { parts = with_line said (length before + 1) (last_class word before).parts }
+  class-next : (word : List ℕ) → is_class parsed ≡ false → last_class word (before ++ line ∷ []) ≡ record (last_class word before) { parts = with_line parsed (length before + 1) (last_class word before).parts }
   class-next word isnt =
       let k = unwrap_or (last_line (says is_class) before) 0 in
       let le = begins-within before in
@@ -128,12 +128,12 @@ module _ (before : List (List ℕ)) (line : List ℕ) (said : Form) (is : form_o
       })
 
   -- a line that begins one
-  part-none : (part : Form → Bool) → part said ≡ false → behind (length before + 1) (last_line (says part) (before ++ line ∷ [])) ≡ None
+  part-none : (part : Form → Bool) → part parsed ≡ false → behind (length before + 1) (last_line (says part) (before ++ line ∷ [])) ≡ None
   part-none part isnt =
       ap (behind (length before + 1)) (last-push (says part) before line ∙ ap (λ f. cond (part f) (Some (suc (length before))) (last_line (says part) before)) is ∙ ap (λ b. cond b (Some (suc (length before))) (last_line (says part) before)) isnt)
       ∙ behind-none (says part) (length before + 1) before (omega arith)
 
-  class-begun : (word : List ℕ) → said ≡ form.Class → last_class word (before ++ line ∷ []) ≡ begun word (length before + 1)
+  class-begun : (word : List ℕ) → parsed ≡ form.Class → last_class word (before ++ line ∷ []) ≡ begun word (length before + 1)
   class-begun word class =
       let same : unwrap_or (last_line (says is_class) (before ++ line ∷ [])) 0 ≡ length before + 1 =
       ap (λ o. unwrap_or o 0) (last-push (says is_class) before line ∙ ap (λ f. cond (is_class f) (Some (suc (length before))) (last_line (says is_class) before)) (is ∙ class)) ∙ omega arith in
@@ -153,15 +153,15 @@ module _ (before : List (List ℕ)) (line : List ℕ) (said : Form) (is : form_o
 
 module _ (before : List (List ℕ)) (line : List ℕ) (x : Noted) (h : IsNoted before x) where
   -- a line of an object, which says nothing of a class
-  object-noted : (said : Form) → form_of (words_of line) ≡ said → is_object said ≡ true → is_class said ≡ false → ((c : ClassAt) → said_more said (length before + 1) c ≡ c)
+  object-noted : (parsed : Form) → form_of (words_of line) ≡ parsed → is_object parsed ≡ true → is_class parsed ≡ false → ((c : ClassAt) → parsed_more parsed (length before + 1) c ≡ c)
       → IsNoted (before ++ line ∷ []) (object_noted x (name_in (words_of line)) (length before + 1))
-  object-noted said is holds isnt same = record {
+  object-noted parsed is holds isnt same = record {
     objects = λ word.
         line-push word x.objects (record { name = name_in (words_of line); line = length before + 1 })
         ∙ ap (λ o. option_or o (cond (bytes_eq word (name_in (words_of line))) (Some (length before + 1)) None)) (h.objects word)
-        ∙ sym (declared-next before line said is is_object word ∙ ap (λ b. option_or (first_line (declares is_object word) before) (cond (b && bytes_eq word (name_in (words_of line))) (Some (length before + 1)) None)) holds);
-    classes = λ word. h.classes word ∙ sym (names-same before line said is is_class word isnt);
-    current = λ c opened. h.current c opened ∙ sym (class-next before line said is c.name isnt ∙ same (last_class c.name before));
+        ∙ sym (declared-next before line parsed is is_object word ∙ ap (λ b. option_or (first_line (declares is_object word) before) (cond (b && bytes_eq word (name_in (words_of line))) (Some (length before + 1)) None)) holds);
+    classes = λ word. h.classes word ∙ sym (names-same before line parsed is is_class word isnt);
+    current = λ c opened. h.current c opened ∙ sym (class-next before line parsed is c.name isnt ∙ same (last_class c.name before));
   }
 
   -- a line that begins a class, where none is open
@@ -194,44 +194,44 @@ module _ (before : List (List ℕ)) (line : List ℕ) (x : Noted) (h : IsNoted b
     current = λ c opened. absurd cc;
   }
 
-  same_line : (word : List ℕ) (said : Form) (n : ℕ) (o : Option ClassAt) → current_line word (option_map (said_more said n) o) ≡ current_line word o
-  same_line word said n None = refl
-  same_line word said n (Some c) = refl
+  same_line : (word : List ℕ) (parsed : Form) (n : ℕ) (o : Option ClassAt) → current_line word (option_map (parsed_more parsed n) o) ≡ current_line word o
+  same_line word parsed n None = refl
+  same_line word parsed n (Some c) = refl
 
   -- any other
-  said-noted : (said : Form) → form_of (words_of line) ≡ said → is_object said ≡ false → is_class said ≡ false → IsNoted (before ++ line ∷ []) (said_noted x (length before + 1) said)
-  said-noted said is no_object no_class = record {
-    objects = λ word. h.objects word ∙ sym (names-same before line said is is_object word no_object);
+  parsed-noted : (parsed : Form) → form_of (words_of line) ≡ parsed → is_object parsed ≡ false → is_class parsed ≡ false → IsNoted (before ++ line ∷ []) (parsed_noted x (length before + 1) parsed)
+  parsed-noted parsed is no_object no_class = record {
+    objects = λ word. h.objects word ∙ sym (names-same before line parsed is is_object word no_object);
     classes = λ word.
-        ap (option_or (line_of word x.classes)) (same_line word said (length before + 1) x.current)
-        ∙ h.classes word ∙ sym (names-same before line said is is_class word no_class);
+        ap (option_or (line_of word x.classes)) (same_line word parsed (length before + 1) x.current)
+        ∙ h.classes word ∙ sym (names-same before line parsed is is_class word no_class);
     current = λ c opened. of_current x.current refl c opened;
   }
     where
-      of_current : (o : Option ClassAt) → x.current ≡ o → (c : ClassAt) → option_map (said_more said (length before + 1)) o ≡ Some c → c ≡ last_class c.name (before ++ line ∷ [])
+      of_current : (o : Option ClassAt) → x.current ≡ o → (c : ClassAt) → option_map (parsed_more parsed (length before + 1)) o ≡ Some c → c ≡ last_class c.name (before ++ line ∷ [])
       of_current None none c opened = absurd cc
       of_current (Some class) some c opened =
-          let same = some-is (said_more said (length before + 1) class) c opened in
-          let known = ap (said_more said (length before + 1)) (h.current class some) ∙ sym (class-next before line said is class.name no_class) in
+          let same = some-is (parsed_more parsed (length before + 1) class) c opened in
+          let known = ap (parsed_more parsed (length before + 1)) (h.current class some) ∙ sym (class-next before line parsed is class.name no_class) in
           subst (λ (c : ClassAt). c ≡ last_class c.name (before ++ line ∷ [])) same known
 
   -- one line more
-  by_form : (said : Form) → form_of (words_of line) ≡ said → (is_class said ≡ true → x.current ≡ None) → IsNoted (before ++ line ∷ []) (noted_by (length before + 1) (words_of line) said x)
+  by_form : (parsed : Form) → form_of (words_of line) ≡ parsed → (is_class parsed ≡ true → x.current ≡ None) → IsNoted (before ++ line ∷ []) (noted_by (length before + 1) (words_of line) parsed x)
   by_form form.Register is none = object-noted form.Register is refl refl (λ c. refl)
   by_form form.Counter is none = object-noted form.Counter is refl refl (λ c. refl)
   by_form form.Elements is none = object-noted form.Elements is refl refl (λ c. refl)
   by_form form.Class is none = class-noted is (none refl)
   by_form form.End is none = end-noted is x.current refl
-  by_form form.Blank is none = said-noted form.Blank is refl refl
-  by_form (form.Starts s) is none = said-noted (form.Starts s) is refl refl
-  by_form (form.May s) is none = said-noted (form.May s) is refl refl
-  by_form (form.Scope s) is none = said-noted (form.Scope s) is refl refl
-  by_form (form.Policy s) is none = said-noted (form.Policy s) is refl refl
-  by_form (form.Commit s) is none = said-noted (form.Commit s) is refl refl
-  by_form (form.Delegation s) is none = said-noted (form.Delegation s) is refl refl
-  by_form (form.Spawn s) is none = said-noted (form.Spawn s) is refl refl
-  by_form (form.Split s) is none = said-noted (form.Split s) is refl refl
-  by_form form.Unknown is none = said-noted form.Unknown is refl refl
+  by_form form.Blank is none = parsed-noted form.Blank is refl refl
+  by_form (form.Starts s) is none = parsed-noted (form.Starts s) is refl refl
+  by_form (form.May s) is none = parsed-noted (form.May s) is refl refl
+  by_form (form.Scope s) is none = parsed-noted (form.Scope s) is refl refl
+  by_form (form.Policy s) is none = parsed-noted (form.Policy s) is refl refl
+  by_form (form.Commit s) is none = parsed-noted (form.Commit s) is refl refl
+  by_form (form.Delegation s) is none = parsed-noted (form.Delegation s) is refl refl
+  by_form (form.Spawn s) is none = parsed-noted (form.Spawn s) is refl refl
+  by_form (form.Split s) is none = parsed-noted (form.Split s) is refl refl
+  by_form form.Unknown is none = parsed-noted form.Unknown is refl refl
 
   pub noted-next : (n : ℕ) → n ≡ length before + 1 → (is_class (form_of (words_of line)) ≡ true → x.current ≡ None)
       → IsNoted (before ++ line ∷ []) (noted_by n (words_of line) (form_of (words_of line)) x)

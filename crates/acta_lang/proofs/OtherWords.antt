@@ -57,8 +57,8 @@ kept word words =
     let rest = filter (λ (word : List ℕ). not (length word == 0)) words in
     ap (λ b. cond (not b) (begun word ∷ rest) rest) (ne_eqb (length (begun word)) 0 (λ h. omega (arith, h)))
 
-skip : (said others : Form) (test : Bool) → test ≡ false → (if test then said else others) ≡ others
-skip said others test is = ap (λ b. cond b said others) is
+skip : (parsed others : Form) (test : Bool) → test ≡ false → (if test then parsed else others) ≡ others
+skip parsed others test is = ap (λ b. cond b parsed others) is
 
 no_form : (line : List ℕ) → form_of (words_of (begun line)) ≡ form.Unknown
 no_form line =

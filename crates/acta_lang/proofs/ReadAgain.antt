@@ -53,15 +53,15 @@ use Rattle.acta_lang.proofs.Tidy.{are_words, is_tidy_word, line_ascii, one_line,
 use Rattle.acta_lang.proofs.Turns.{behind_is_from, meaning_from}
 
 -- one line, without a code: what stands behind it is read
-step : {A : Type 0} (n : ℕ) (d : Draft A) (words : List (List ℕ)) (said : Form) (lines : List (List ℕ)) (is_last : Bool) → (length lines == 0) ≡ is_last → list_all is_tidy_word words ≡ true → form_of words ≡ said
-    → lowest_of d (extended d words said) is_last (line_of words) words said ≡ None
-    → meaning_from n d (line_of words ∷ lines) ≡ meaning_from (n + 1) (extended d words said) lines
+step : {A : Type 0} (n : ℕ) (d : Draft A) (words : List (List ℕ)) (parsed : Form) (lines : List (List ℕ)) (is_last : Bool) → (length lines == 0) ≡ is_last → list_all is_tidy_word words ≡ true → form_of words ≡ parsed
+    → lowest_of d (extended d words parsed) is_last (line_of words) words parsed ≡ None
+    → meaning_from n d (line_of words ∷ lines) ≡ meaning_from (n + 1) (extended d words parsed) lines
 unfolding meaning_from
-step n d words said lines is_last last tidy is none =
+step n d words parsed lines is_last last tidy is none =
     let same = words_again words (are_words words tidy) in
     (λ i. judged n (lowest_of d (extended d (same i) (form_of (same i))) (last i) (line_of words) (same i) (form_of (same i))) (meaning_from (n + 1) (extended d (same i) (form_of (same i))) lines))
     ∙ (λ i. judged n (lowest_of d (extended d words (is i)) is_last (line_of words) words (is i)) (meaning_from (n + 1) (extended d words (is i)) lines))
-    ∙ ap (λ o. judged n o (meaning_from (n + 1) (extended d words said) lines)) none
+    ∙ ap (λ o. judged n o (meaning_from (n + 1) (extended d words parsed) lines)) none
 
 some_behind : {X : Type 0} (xs : List X) (y : X) (ys : List X) → (length (xs ++ y ∷ ys) == 0) ≡ false
 some_behind xs y ys = ne_eqb (length (xs ++ y ∷ ys)) 0 (λ e. omega (arith, e, length-append xs (y ∷ ys)))
@@ -181,8 +181,8 @@ split_tidy k Starter = dep_tidy k
 split_tidy k Started = dep_tidy k
 
 -- the class, open, with all said but its edges, of which it has said these
-abbrev said_but : {A : Type 0} → Class A → List StartEdge → List StartEdge → OpenClass
-said_but c spawns splits = record {
+abbrev parsed_but : {A : Type 0} → Class A → List StartEdge → List StartEdge → OpenClass
+parsed_but c spawns splits = record {
   name = c.name;
   starts = Some c.starts;
   may = Some c.may;
@@ -195,42 +195,42 @@ said_but c spawns splits = record {
 }
 
 spawns_again : {A : Type 0} (n : ℕ) (os : List (Object A)) (cs : List (Class A)) (c : Class A) (es todo : List StartEdge) (lines : List (List ℕ)) (r : Result (Parts A) AsmFault) → (length lines == 0) ≡ false → has_begin_edge todo ≡ false
-    → ((k : ℕ) → meaning_from k (at os cs (Some (said_but c (es ++ todo) []))) lines ≡ r)
-    → meaning_from n (at os cs (Some (said_but c es []))) (map line_of (map (edge_words (codes "spawn")) todo) ++ lines) ≡ r
+    → ((k : ℕ) → meaning_from k (at os cs (Some (parsed_but c (es ++ todo) []))) lines ≡ r)
+    → meaning_from n (at os cs (Some (parsed_but c es []))) (map line_of (map (edge_words (codes "spawn")) todo) ++ lines) ≡ r
 unfolding extended bad_word bad_name duplicate_name wrong_place bad_number too_many missing_end missing_part begin_kind_at_start heir_without_spawn bad_policy_kind
-spawns_again n os cs c es [] lines r more late then = ap (λ (l : List StartEdge). meaning_from n (at os cs (Some (said_but c l []))) lines) (sym (append-nil es)) ∙ then n
+spawns_again n os cs c es [] lines r more late then = ap (λ (l : List StartEdge). meaning_from n (at os cs (Some (parsed_but c l []))) lines) (sym (append-nil es)) ∙ then n
 spawns_again {A = A} n os cs c es (e ∷ todo) lines r more late then =
     let words = edge_words (codes "spawn") e in
     let tidy = spawn_tidy e.kind e.dependent in
     let kinds = or_parts (is_begin_kind e.kind) (has_begin_edge todo) late in
-    let d : Draft A = at os cs (Some (said_but c es [])) in
+    let d : Draft A = at os cs (Some (parsed_but c es [])) in
     let together : (es ++ e ∷ []) ++ todo ≡ es ++ (e ∷ todo) = append_assoc es (e ∷ []) todo in
     step n d words (form.Spawn e) (map line_of (map (edge_words (codes "spawn")) todo) ++ lines) false (more_behind (map line_of (map (edge_words (codes "spawn")) todo)) lines more) tidy (spawn_again e.kind e.dependent)
     (clear d (extended d words (form.Spawn e)) false (line_of words) words (form.Spawn e) (line_ascii words tidy) refl refl refl refl refl refl refl refl kinds.0 refl refl)
-    ∙ spawns_again (n + 1) os cs c (es ++ e ∷ []) todo lines r more kinds.1 (λ k. ap (λ (l : List StartEdge). meaning_from k (at os cs (Some (said_but c l []))) lines) together ∙ then k)
+    ∙ spawns_again (n + 1) os cs c (es ++ e ∷ []) todo lines r more kinds.1 (λ k. ap (λ (l : List StartEdge). meaning_from k (at os cs (Some (parsed_but c l []))) lines) together ∙ then k)
 
 splits_again : {A : Type 0} (n : ℕ) (os : List (Object A)) (cs : List (Class A)) (c : Class A) (spawns es todo : List StartEdge) (lines : List (List ℕ)) (r : Result (Parts A) AsmFault) → (length lines == 0) ≡ false → has_begin_edge todo ≡ false
-    → ((k : ℕ) → meaning_from k (at os cs (Some (said_but c spawns (es ++ todo)))) lines ≡ r)
-    → meaning_from n (at os cs (Some (said_but c spawns es))) (map line_of (map (edge_words (codes "split")) todo) ++ lines) ≡ r
+    → ((k : ℕ) → meaning_from k (at os cs (Some (parsed_but c spawns (es ++ todo)))) lines ≡ r)
+    → meaning_from n (at os cs (Some (parsed_but c spawns es))) (map line_of (map (edge_words (codes "split")) todo) ++ lines) ≡ r
 unfolding extended bad_word bad_name duplicate_name wrong_place bad_number too_many missing_end missing_part begin_kind_at_start heir_without_spawn bad_policy_kind
-splits_again n os cs c spawns es [] lines r more late then = ap (λ (l : List StartEdge). meaning_from n (at os cs (Some (said_but c spawns l))) lines) (sym (append-nil es)) ∙ then n
+splits_again n os cs c spawns es [] lines r more late then = ap (λ (l : List StartEdge). meaning_from n (at os cs (Some (parsed_but c spawns l))) lines) (sym (append-nil es)) ∙ then n
 splits_again {A = A} n os cs c spawns es (e ∷ todo) lines r more late then =
     let words = edge_words (codes "split") e in
     let tidy = split_tidy e.kind e.dependent in
     let kinds = or_parts (is_begin_kind e.kind) (has_begin_edge todo) late in
-    let d : Draft A = at os cs (Some (said_but c spawns es)) in
+    let d : Draft A = at os cs (Some (parsed_but c spawns es)) in
     let together : (es ++ e ∷ []) ++ todo ≡ es ++ (e ∷ todo) = append_assoc es (e ∷ []) todo in
     step n d words (form.Split e) (map line_of (map (edge_words (codes "split")) todo) ++ lines) false (more_behind (map line_of (map (edge_words (codes "split")) todo)) lines more) tidy (split_again e.kind e.dependent)
     (clear d (extended d words (form.Split e)) false (line_of words) words (form.Split e) (line_ascii words tidy) refl refl refl refl refl refl refl refl kinds.0 refl refl)
-    ∙ splits_again (n + 1) os cs c spawns (es ++ e ∷ []) todo lines r more kinds.1 (λ k. ap (λ (l : List StartEdge). meaning_from k (at os cs (Some (said_but c spawns l))) lines) together ∙ then k)
+    ∙ splits_again (n + 1) os cs c spawns (es ++ e ∷ []) todo lines r more kinds.1 (λ k. ap (λ (l : List StartEdge). meaning_from k (at os cs (Some (parsed_but c spawns l))) lines) together ∙ then k)
 
 -- the end of a class, which may be the last line
 end_again : {A : Type 0} (n : ℕ) (os : List (Object A)) (cs : List (Class A)) (c : Class A) (lines : List (List ℕ)) → IsWhole c
-    → meaning_from n (at os cs (Some (said_but c c.spawn_edges c.split_edges))) (line_of (codes "end" ∷ []) ∷ lines) ≡ meaning_from (n + 1) (at os (cs ++ c ∷ []) None) lines
+    → meaning_from n (at os cs (Some (parsed_but c c.spawn_edges c.split_edges))) (line_of (codes "end" ∷ []) ∷ lines) ≡ meaning_from (n + 1) (at os (cs ++ c ∷ []) None) lines
 unfolding extended bad_word bad_name duplicate_name wrong_place bad_number too_many missing_end missing_part begin_kind_at_start heir_without_spawn bad_policy_kind
 end_again {A = A} n os cs c lines whole =
     let words = codes "end" ∷ [] in
-    let open_class = said_but c c.spawn_edges c.split_edges in
+    let open_class = parsed_but c c.spawn_edges c.split_edges in
     let d : Draft A = at os cs (Some open_class) in
     let last = length lines == 0 in
     let spawns = once_again c.spawn_edges whole.sets.spawn_edges in
@@ -287,7 +287,7 @@ class_again {A = A} n os cs c lines r whole new room then =
     ∙ step (n + 1 + 1 + 1 + 1 + 1) (at os cs (Some c5)) commit (form.Commit c.at_commit) l7 false (some_behind [] (line_of extent) tail) (commit_tidy c.at_commit) (commit_again c.at_commit)
     (clear (at os cs (Some c5)) (at os cs (Some c6)) false (line_of commit) commit (form.Commit c.at_commit) (line_ascii commit (commit_tidy c.at_commit)) refl refl refl refl refl refl refl refl refl refl refl)
     ∙ step (n + 1 + 1 + 1 + 1 + 1 + 1) (at os cs (Some c6)) extent (form.Delegation c.extent) tail false (more_behind (map line_of spawns) (map line_of splits ++ end ∷ lines) (some_behind (map line_of splits) end lines)) (extent_tidy c.extent) (extent_again c.extent)
-    (clear (at os cs (Some c6)) (at os cs (Some (said_but c [] []))) false (line_of extent) extent (form.Delegation c.extent) (line_ascii extent (extent_tidy c.extent)) refl refl refl refl refl refl refl refl refl refl refl)
+    (clear (at os cs (Some c6)) (at os cs (Some (parsed_but c [] []))) false (line_of extent) extent (form.Delegation c.extent) (line_ascii extent (extent_tidy c.extent)) refl refl refl refl refl refl refl refl refl refl refl)
     ∙ spawns_again (n + 1 + 1 + 1 + 1 + 1 + 1 + 1) os cs c [] c.spawn_edges (map line_of splits ++ end ∷ lines) r (some_behind (map line_of splits) end lines) whole.spawns
     (λ k. splits_again k os cs c c.spawn_edges [] c.split_edges (end ∷ lines) r (some_behind [] end lines) whole.splits
     (λ k. end_again k os cs c lines whole ∙ then (k + 1)))

@@ -29,7 +29,7 @@ use Rattle.acta_lang.specs.declared.fault.AsmFault.{AsmFault}
 use Rattle.acta_lang.specs.declared.fault.Code.{Code}
 use Rattle.acta_lang.specs.declared.form.Form.{Form}
 use Rattle.acta_lang.specs.declared.form.Form.TheVariants as form
-use Rattle.acta_lang.specs.Drafts.{Draft, OpenClass, closed, extended, first_value, nothing_yet, opened, parts_of, with_closed, with_object, with_said}
+use Rattle.acta_lang.specs.Drafts.{Draft, OpenClass, closed, extended, first_value, nothing_yet, opened, parts_of, with_closed, with_object, with_parsed}
 use Rattle.acta_lang.specs.Faults.{object_names, class_names, wrong_place, begin_kind_at_start, bad_policy_kind, missing_end, missing_part, code_at}
 use Rattle.acta_lang.specs.Forms.{form_of, name_in, value_in}
 use Rattle.acta_lang.specs.Meaning.{judged, meaning}
@@ -200,11 +200,11 @@ end_keeps {A = A} os cs (Some c) heirs h =
     }
 
 -- a class that says something more
-said_keeps : {A : Type 0} (f : OpenClass → OpenClass) → ((c : OpenClass) → (f c).name ≡ c.name) → ((c : OpenClass) → IsFaultlessClass c → IsFaultlessClass (f c))
+parsed_keeps : {A : Type 0} (f : OpenClass → OpenClass) → ((c : OpenClass) → (f c).name ≡ c.name) → ((c : OpenClass) → IsFaultlessClass c → IsFaultlessClass (f c))
     → (os : List (Object A)) (cs : List (Class A)) (o : Option OpenClass)
     → IsFaultless (record { objects = os; classes = cs; current = o }) → IsFaultless (record { objects = os; classes = cs; current = option_map f o })
-said_keeps f named keeps os cs None h = h
-said_keeps {A = A} f named keeps os cs (Some c) h =
+parsed_keeps f named keeps os cs None h = h
+parsed_keeps {A = A} f named keeps os cs (Some c) h =
     let names : map (λ (c : Class A). c.name) cs ++ (f c).name ∷ [] ≡ map (λ (c : Class A). c.name) cs ++ c.name ∷ [] = ap (λ name. map (λ (c : Class A). c.name) cs ++ name ∷ []) (named c) in
     record {
       objects_apart = h.objects_apart;
@@ -220,23 +220,23 @@ said_keeps {A = A} f named keeps os cs (Some c) h =
     }
 
 -- a line without a code keeps it so
-pub keeps : {A : Type 0} (d : Draft A) (is_last : Bool) (line : List ℕ) (words : List (List ℕ)) (said : Form) → HasNoCode d is_last line words said → IsFaultless d → IsFaultless (extended d words said)
+pub keeps : {A : Type 0} (d : Draft A) (is_last : Bool) (line : List ℕ) (words : List (List ℕ)) (parsed : Form) → HasNoCode d is_last line words parsed → IsFaultless d → IsFaultless (extended d words parsed)
 unfolding extended wrong_place begin_kind_at_start bad_policy_kind
-keeps d is_last line words form.Blank clean h = said_keeps (λ c. c) (λ c. refl) (λ c k. k) d.objects d.classes d.current h
+keeps d is_last line words form.Blank clean h = parsed_keeps (λ c. c) (λ c. refl) (λ c k. k) d.objects d.classes d.current h
 keeps d is_last line words form.Register clean h = object_keeps d (name_in words) (kind.Register (first_value (value_in words))) (not-false _ clean.named) (or_parts _ _ clean.new).0 (or_parts _ _ clean.room).0 h
 keeps d is_last line words form.Counter clean h = object_keeps d (name_in words) (kind.Counter (first_value (value_in words))) (not-false _ clean.named) (or_parts _ _ clean.new).0 (or_parts _ _ clean.room).0 h
 keeps d is_last line words form.Elements clean h = object_keeps d (name_in words) kind.Elements (not-false _ clean.named) (or_parts _ _ clean.new).0 (or_parts _ _ clean.room).0 h
 keeps d is_last line words form.Class clean h = class_keeps d.objects d.classes d.current (name_in words) clean.place (not-false _ clean.named) clean.new clean.room h
-keeps d is_last line words (form.Starts s) clean h = said_keeps (with_said (form.Starts s)) (λ c. refl) (λ c k. record { spawns = k.spawns; splits = k.splits; policy = k.policy }) d.objects d.classes d.current h
-keeps d is_last line words (form.May s) clean h = said_keeps (with_said (form.May s)) (λ c. refl) (λ c k. record { spawns = k.spawns; splits = k.splits; policy = k.policy }) d.objects d.classes d.current h
-keeps d is_last line words (form.Scope s) clean h = said_keeps (with_said (form.Scope s)) (λ c. refl) (λ c k. record { spawns = k.spawns; splits = k.splits; policy = k.policy }) d.objects d.classes d.current h
-keeps d is_last line words (form.Policy p) clean h = said_keeps (with_said (form.Policy p)) (λ c. refl) (λ c k. record { spawns = k.spawns; splits = k.splits; policy = clean.policy }) d.objects d.classes d.current h
-keeps d is_last line words (form.Commit s) clean h = said_keeps (with_said (form.Commit s)) (λ c. refl) (λ c k. record { spawns = k.spawns; splits = k.splits; policy = k.policy }) d.objects d.classes d.current h
-keeps d is_last line words (form.Delegation s) clean h = said_keeps (with_said (form.Delegation s)) (λ c. refl) (λ c k. record { spawns = k.spawns; splits = k.splits; policy = k.policy }) d.objects d.classes d.current h
-keeps d is_last line words (form.Spawn e) clean h = said_keeps (with_said (form.Spawn e)) (λ c. refl) (λ c k. record { spawns = none_with (λ e. is_begin_kind e.kind) c.spawn_edges e k.spawns clean.edge; splits = k.splits; policy = k.policy }) d.objects d.classes d.current h
-keeps d is_last line words (form.Split e) clean h = said_keeps (with_said (form.Split e)) (λ c. refl) (λ c k. record { spawns = k.spawns; splits = none_with (λ e. is_begin_kind e.kind) c.split_edges e k.splits clean.edge; policy = k.policy }) d.objects d.classes d.current h
+keeps d is_last line words (form.Starts s) clean h = parsed_keeps (with_parsed (form.Starts s)) (λ c. refl) (λ c k. record { spawns = k.spawns; splits = k.splits; policy = k.policy }) d.objects d.classes d.current h
+keeps d is_last line words (form.May s) clean h = parsed_keeps (with_parsed (form.May s)) (λ c. refl) (λ c k. record { spawns = k.spawns; splits = k.splits; policy = k.policy }) d.objects d.classes d.current h
+keeps d is_last line words (form.Scope s) clean h = parsed_keeps (with_parsed (form.Scope s)) (λ c. refl) (λ c k. record { spawns = k.spawns; splits = k.splits; policy = k.policy }) d.objects d.classes d.current h
+keeps d is_last line words (form.Policy p) clean h = parsed_keeps (with_parsed (form.Policy p)) (λ c. refl) (λ c k. record { spawns = k.spawns; splits = k.splits; policy = clean.policy }) d.objects d.classes d.current h
+keeps d is_last line words (form.Commit s) clean h = parsed_keeps (with_parsed (form.Commit s)) (λ c. refl) (λ c k. record { spawns = k.spawns; splits = k.splits; policy = k.policy }) d.objects d.classes d.current h
+keeps d is_last line words (form.Delegation s) clean h = parsed_keeps (with_parsed (form.Delegation s)) (λ c. refl) (λ c k. record { spawns = k.spawns; splits = k.splits; policy = k.policy }) d.objects d.classes d.current h
+keeps d is_last line words (form.Spawn e) clean h = parsed_keeps (with_parsed (form.Spawn e)) (λ c. refl) (λ c k. record { spawns = none_with (λ e. is_begin_kind e.kind) c.spawn_edges e k.spawns clean.edge; splits = k.splits; policy = k.policy }) d.objects d.classes d.current h
+keeps d is_last line words (form.Split e) clean h = parsed_keeps (with_parsed (form.Split e)) (λ c. refl) (λ c k. record { spawns = k.spawns; splits = none_with (λ e. is_begin_kind e.kind) c.split_edges e k.splits clean.edge; policy = k.policy }) d.objects d.classes d.current h
 keeps d is_last line words form.End clean h = end_keeps d.objects d.classes d.current clean.heir h
-keeps d is_last line words form.Unknown clean h = said_keeps (λ c. c) (λ c. refl) (λ c k. k) d.objects d.classes d.current h
+keeps d is_last line words form.Unknown clean h = parsed_keeps (λ c. c) (λ c. refl) (λ c k. k) d.objects d.classes d.current h
 
 -- before any line
 pub nothing_faultless : {A : Type 0} → IsFaultless {A = A} nothing_yet
@@ -299,18 +299,18 @@ pub sound_from : {A : Type 0} (n : ℕ) (d : Draft A) (line : List ℕ) (lines :
 unfolding meaning_from missing_end missing_part
 sound_from n d line [] m h means =
     let words = words_of line in
-    let said = form_of words in
-    let behind = extended d words said in
+    let parsed = form_of words in
+    let behind = extended d words parsed in
     let parts = judged_ok n (code_at d true line) (Ok (parts_of behind)) m means in
-    let none = no_test d true line words said parts.0 in
+    let none = no_test d true line words parsed parts.0 in
     ap lowest_fault (sym (ok_same (parts_of behind) m (Ok (parts_of behind)) refl parts.1))
-    ∙ sound_end behind (keeps d true line words said none h) none.ended (some_class _ _ none.whole)
+    ∙ sound_end behind (keeps d true line words parsed none h) none.ended (some_class _ _ none.whole)
 sound_from n d line (next ∷ lines) m h means =
     let words = words_of line in
-    let said = form_of words in
-    let behind = extended d words said in
+    let parsed = form_of words in
+    let behind = extended d words parsed in
     let parts = judged_ok n (code_at d (length (next ∷ lines) == 0) line) (meaning_from (n + 1) behind (next ∷ lines)) m means in
-    sound_from (n + 1) behind next lines m (keeps d (length (next ∷ lines) == 0) line words said (no_test d (length (next ∷ lines) == 0) line words said parts.0) h) parts.1
+    sound_from (n + 1) behind next lines m (keeps d (length (next ∷ lines) == 0) line words parsed (no_test d (length (next ∷ lines) == 0) line words parsed parts.0) h) parts.1
 
 -- so is what a text means
 pub is_sound : {A : Type 0} (text : List ℕ) (m : Parts A) → meaning text ≡ Ok m → lowest_fault m ≡ None

@@ -24,8 +24,8 @@ line_written old first words =
 
 -- the same, with what stands between the pieces under names
 pub line_pieces : (old first : List ℕ) (words : List (List ℕ)) (a b c : List ℕ) → a ≡ old ++ first → b ≡ a ++ spaced words → c ≡ b ++ 10 ∷ [] → c ≡ old ++ written ((first ∷ words) ∷ [])
-line_pieces old first words a b c begun said ended =
-    ended ∙ ap (λ t. t ++ 10 ∷ []) (said ∙ ap (λ t. t ++ spaced words) begun) ∙ line_written old first words
+line_pieces old first words a b c begun parsed ended =
+    ended ∙ ap (λ t. t ++ 10 ∷ []) (parsed ∙ ap (λ t. t ++ spaced words) begun) ∙ line_written old first words
 
 -- a word more before others
 pub word_more : (old text new word : List ℕ) (words : List (List ℕ)) → text ≡ old ++ 32 ∷ word → new ≡ text ++ spaced words → new ≡ old ++ spaced (word ∷ words)

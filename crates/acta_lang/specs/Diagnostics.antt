@@ -31,17 +31,17 @@ pub record Diagnostic : Type 0 where
   pub earlier : Option ℕ
   pub class : Option ClassAt
 
-abbrev pub class_told : ClassLines → ClassAt
-class_told c = record { name = c.name.now; line = c.line; parts = c.parts }
+abbrev pub class_reported : ClassLines → ClassAt
+class_reported c = record { name = c.name.now; line = c.line; parts = c.parts }
 
-abbrev pub told : TextDiagnostic → Diagnostic
-told d = record {
+abbrev pub reported : TextDiagnostic → Diagnostic
+reported d = record {
   line = d.line;
   code = d.code;
   place = d.place;
   expected = d.expected;
   earlier = d.earlier;
-  class = option_map class_told d.class;
+  class = option_map class_reported d.class;
 }
 
 -- the fault that a diagnostic is of
@@ -54,30 +54,30 @@ open_class A before = option_map (λ c. last_class c.name before) (declared {A =
 
 -- the earlier line that the fault has to do with: the first that declares the name, or the line that has said the part
 abbrev pub earlier_line : Type 0 → List (List ℕ) → List (List ℕ) → Form → Code → Option ℕ
-earlier_line A before words said DuplicateName =
-    first_line (declares (if is_class said then is_class else is_object) (name_in words)) before
-earlier_line A before words said WrongPlace = option_and_then (λ c. part_line said c.parts) (open_class A before)
-earlier_line A before words said _ = None
+earlier_line A before words parsed DuplicateName =
+    first_line (declares (if is_class parsed then is_class else is_object) (name_in words)) before
+earlier_line A before words parsed WrongPlace = option_and_then (λ c. part_line parsed c.parts) (open_class A before)
+earlier_line A before words parsed _ = None
 
 -- the class that is open before the line; and where its end is missing, behind the line
 abbrev pub class_of : Type 0 → List (List ℕ) → List (List ℕ) → Form → Code → Option ClassAt
-class_of A before words said MissingEnd =
-    if is_class said then Some (begun (name_in words) (length before + 1)) else open_class A before
-class_of A before words said _ = open_class A before
+class_of A before words parsed MissingEnd =
+    if is_class parsed then Some (begun (name_in words) (length before + 1)) else open_class A before
+class_of A before words parsed _ = open_class A before
 
 -- the diagnostic of a line that has this code, behind these lines
 abbrev pub diagnostic_of : Type 0 → List (List ℕ) → List ℕ → Code → Diagnostic
 diagnostic_of A before line code =
     let words = words_of line in
-    let said = form_of words in
-    let at = place_of (declared {A = A} before) line words said code in
+    let parsed = form_of words in
+    let at = place_of (declared {A = A} before) line words parsed code in
     record {
       line = length before + 1;
       code = code;
       place = at.0;
       expected = at.1;
-      earlier = earlier_line A before words said code;
-      class = class_of A before words said code;
+      earlier = earlier_line A before words parsed code;
+      class = class_of A before words parsed code;
     }
 
 -- the diagnostic has the lines that it tells of: a name that is declared again has the earlier line; a part that is said
@@ -106,4 +106,4 @@ diagnosed A text = option_map (diagnostic_in A text) (result_err (meaning {A = A
 -- the error of a text, without the diagnostic
 abbrev pub asm_error_of : ReadError → AsmError
 asm_error_of read.Memory = error.Memory
-asm_error_of (read.Fault d) = error.Fault (fault_of (told d))
+asm_error_of (read.Fault d) = error.Fault (fault_of (reported d))

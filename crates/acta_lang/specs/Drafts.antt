@@ -60,18 +60,18 @@ opened name = record {
 }
 
 -- whether the class has said already what a line of this form says; an edge may be said again
-abbrev pub has_said : Form → OpenClass → Bool
-has_said (form.Starts s) c = is_some c.starts
-has_said (form.May kinds) c = is_some c.may
-has_said (form.Scope s) c = is_some c.scope
-has_said (form.Policy p) c = is_some c.policy
-has_said (form.Commit a) c = is_some c.at_commit
-has_said (form.Delegation e) c = is_some c.extent
-has_said _ c = false
+abbrev pub has_part : Form → OpenClass → Bool
+has_part (form.Starts s) c = is_some c.starts
+has_part (form.May kinds) c = is_some c.may
+has_part (form.Scope s) c = is_some c.scope
+has_part (form.Policy p) c = is_some c.policy
+has_part (form.Commit a) c = is_some c.at_commit
+has_part (form.Delegation e) c = is_some c.extent
+has_part _ c = false
 
 -- whether the class has said all six
-abbrev pub has_said_all : OpenClass → Bool
-has_said_all c =
+abbrev pub has_all_parts : OpenClass → Bool
+has_all_parts c =
     is_some c.starts && is_some c.may && is_some c.scope && is_some c.policy && is_some c.at_commit && is_some c.extent
 
 -- the class, where it has said all six; what stands in for one that it hasn't said never counts
@@ -89,16 +89,16 @@ closed c = record {
 }
 
 -- the class with what a line of this form says
-abbrev pub with_said : Form → OpenClass → OpenClass
-with_said (form.Starts s) c = record c { starts = Some s }
-with_said (form.May kinds) c = record c { may = Some kinds }
-with_said (form.Scope s) c = record c { scope = Some s }
-with_said (form.Policy p) c = record c { policy = Some p }
-with_said (form.Commit a) c = record c { at_commit = Some a }
-with_said (form.Delegation e) c = record c { extent = Some e }
-with_said (form.Spawn e) c = record c { spawn_edges = c.spawn_edges ++ e ∷ [] }
-with_said (form.Split e) c = record c { split_edges = c.split_edges ++ e ∷ [] }
-with_said _ c = c
+abbrev pub with_parsed : Form → OpenClass → OpenClass
+with_parsed (form.Starts s) c = record c { starts = Some s }
+with_parsed (form.May kinds) c = record c { may = Some kinds }
+with_parsed (form.Scope s) c = record c { scope = Some s }
+with_parsed (form.Policy p) c = record c { policy = Some p }
+with_parsed (form.Commit a) c = record c { at_commit = Some a }
+with_parsed (form.Delegation e) c = record c { extent = Some e }
+with_parsed (form.Spawn e) c = record c { spawn_edges = c.spawn_edges ++ e ∷ [] }
+with_parsed (form.Split e) c = record c { split_edges = c.split_edges ++ e ∷ [] }
+with_parsed _ c = c
 
 -- the draft with one object more
 abbrev pub with_object : {A : Type 0} → Draft A → List ℕ → Kind → Draft A
@@ -120,7 +120,7 @@ extended d words form.Counter = with_object d (name_in words) (Counter (first_va
 extended d words form.Elements = with_object d (name_in words) Elements
 extended d words form.Class = record d { current = Some (opened (name_in words)) }
 extended d words form.End = with_closed d d.current
-extended d words said = record d { current = option_map (with_said said) d.current }
+extended d words parsed = record d { current = option_map (with_parsed parsed) d.current }
 
 -- the draft with what a line declares
 abbrev pub extended_by : {A : Type 0} → Draft A → List ℕ → Draft A

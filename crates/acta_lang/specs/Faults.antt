@@ -14,7 +14,7 @@ use Rattle.acta_lang.specs.declared.fault.Code.TheVariants.{NotAscii, BadWord, B
 use Rattle.acta_lang.specs.declared.form.Form.{Form}
 use Rattle.acta_lang.specs.declared.form.Form.TheVariants as form
 use Rattle.acta_lang.specs.Forms.{form_of, name_in, value_in}
-use Rattle.acta_lang.specs.Drafts.{Draft, has_said, has_said_all, closed, extended}
+use Rattle.acta_lang.specs.Drafts.{Draft, has_part, has_all_parts, closed, extended}
 
 -- whether a line of the form declares an object, or a class
 abbrev pub is_object : Form → Bool
@@ -54,19 +54,19 @@ bad_word _ = false
 
 -- the name of an object or a class is no name
 unfoldable pub bad_name : List (List ℕ) → Form → Bool
-bad_name words said = (is_object said || is_class said) && not (is_name (name_in words))
+bad_name words parsed = (is_object parsed || is_class parsed) && not (is_name (name_in words))
 
 -- an earlier line names such an object, or such a class
 unfoldable pub duplicate_name : {A : Type 0} → Draft A → List (List ℕ) → Form → Bool
-duplicate_name d words said =
-    is_object said && is_word_among (object_names d) (name_in words)
-    || is_class said && is_word_among (class_names d) (name_in words)
+duplicate_name d words parsed =
+    is_object parsed && is_word_among (object_names d) (name_in words)
+    || is_class parsed && is_word_among (class_names d) (name_in words)
 
 -- an object or a class inside a class, any other words outside one, or what the class has said already
 unfoldable pub wrong_place : {A : Type 0} → Draft A → Form → Bool
 wrong_place d form.Blank = false
-wrong_place d said =
-    if is_object said || is_class said then is_some d.current else option_map_or (has_said said) d.current true
+wrong_place d parsed =
+    if is_object parsed || is_class parsed then is_some d.current else option_map_or (has_part parsed) d.current true
 
 -- a first value that is no number of 32 bits
 unfoldable pub bad_number : List (List ℕ) → Form → Bool
@@ -76,8 +76,8 @@ bad_number words _ = false
 
 -- the 257th object, the 17th class
 unfoldable pub too_many : {A : Type 0} → Draft A → Form → Bool
-too_many d said =
-    is_object said && nat_le MOST_OBJECTS (length d.objects) || is_class said && nat_le MOST_CLASSES (length d.classes)
+too_many d parsed =
+    is_object parsed && nat_le MOST_OBJECTS (length d.objects) || is_class parsed && nat_le MOST_CLASSES (length d.classes)
 
 -- the last line, and a class is still open behind it
 unfoldable pub missing_end : {A : Type 0} → Bool → Draft A → Bool
@@ -85,8 +85,8 @@ missing_end is_last behind = is_last && is_some behind.current
 
 -- an `end` of a class that hasn't said all six; the last line of a text without a class
 unfoldable pub missing_part : {A : Type 0} → Bool → Draft A → Draft A → Form → Bool
-missing_part is_last d behind said =
-    is_end said && option_map_or (λ c. not (has_said_all c)) d.current false
+missing_part is_last d behind parsed =
+    is_end parsed && option_map_or (λ c. not (has_all_parts c)) d.current false
     || is_last && (length behind.classes == 0)
 
 -- an edge at a start that is of a begin kind
@@ -97,7 +97,7 @@ begin_kind_at_start _ = false
 
 -- an `end` of a class that commits to parents, and of whose transactions some have none
 unfoldable pub heir_without_spawn : {A : Type 0} → Draft A → Form → Bool
-heir_without_spawn {A = A} d said = is_end said && option_map_or (λ c. lacks_parents (closed {A = A} c)) d.current false
+heir_without_spawn {A = A} d parsed = is_end parsed && option_map_or (λ c. lacks_parents (closed {A = A} c)) d.current false
 
 -- a policy that depends by no kind, or by one other than CD, AD, WD and TD
 unfoldable pub bad_policy_kind : Form → Bool
@@ -110,24 +110,24 @@ code_if test code = if test then Some code else None
 
 -- the lowest code of a line of these words, of this form; behind is the draft with what the line declares
 abbrev pub lowest_of : {A : Type 0} → Draft A → Draft A → Bool → List ℕ → List (List ℕ) → Form → Option Code
-lowest_of d behind is_last line words said = fold option_or None (
+lowest_of d behind is_last line words parsed = fold option_or None (
     code_if (not_ascii line) NotAscii
-    ∷ code_if (bad_word said) BadWord
-    ∷ code_if (bad_name words said) BadName
-    ∷ code_if (duplicate_name d words said) DuplicateName
-    ∷ code_if (wrong_place d said) WrongPlace
-    ∷ code_if (bad_number words said) BadNumber
-    ∷ code_if (too_many d said) TooMany
+    ∷ code_if (bad_word parsed) BadWord
+    ∷ code_if (bad_name words parsed) BadName
+    ∷ code_if (duplicate_name d words parsed) DuplicateName
+    ∷ code_if (wrong_place d parsed) WrongPlace
+    ∷ code_if (bad_number words parsed) BadNumber
+    ∷ code_if (too_many d parsed) TooMany
     ∷ code_if (missing_end is_last behind) MissingEnd
-    ∷ code_if (missing_part is_last d behind said) MissingPart
-    ∷ code_if (begin_kind_at_start said) BeginKindAtStart
-    ∷ code_if (heir_without_spawn d said) HeirWithoutSpawn
-    ∷ code_if (bad_policy_kind said) BadPolicyKind
+    ∷ code_if (missing_part is_last d behind parsed) MissingPart
+    ∷ code_if (begin_kind_at_start parsed) BeginKindAtStart
+    ∷ code_if (heir_without_spawn d parsed) HeirWithoutSpawn
+    ∷ code_if (bad_policy_kind parsed) BadPolicyKind
     ∷ [])
 
 -- the lowest code at a line, by what the lines before it declare and whether it is the last
 abbrev pub code_at : {A : Type 0} → Draft A → Bool → List ℕ → Option Code
 code_at d is_last line =
     let words = words_of line in
-    let said = form_of words in
-    lowest_of d (extended d words said) is_last line words said
+    let parsed = form_of words in
+    lowest_of d (extended d words parsed) is_last line words parsed

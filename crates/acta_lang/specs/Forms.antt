@@ -83,16 +83,16 @@ dependent_named j i =
     else None
 
 -- starter KIND started, started KIND starter
-abbrev pub edge_said : List (List ℕ) → Option StartEdge
-edge_said (j ∷ word ∷ i ∷ []) =
+abbrev pub parse_edge : List (List ℕ) → Option StartEdge
+parse_edge (j ∷ word ∷ i ∷ []) =
     option_and_then (λ kind. option_map (λ d. record { kind = kind; dependent = d }) (dependent_named j i)) (dep_named word)
-edge_said _ = None
+parse_edge _ = None
 
 abbrev pub spawn_form : List (List ℕ) → Form
-spawn_form words = known (option_map (λ e. form.Spawn e) (edge_said words))
+spawn_form words = known (option_map (λ e. form.Spawn e) (parse_edge words))
 
 abbrev pub split_form : List (List ℕ) → Form
-split_form words = known (option_map (λ e. form.Split e) (edge_said words))
+split_form words = known (option_map (λ e. form.Split e) (parse_edge words))
 
 -- nothing
 abbrev pub end_form : List (List ℕ) → Form

@@ -102,11 +102,11 @@ part_line _ lines = None
 
 -- this line for the part that a line of the form says
 abbrev pub with_line : Form → ℕ → PartLines → PartLines
-with_line said number lines = record {
-  starts = if is_starts said then Some number else lines.starts;
-  may = if is_may said then Some number else lines.may;
-  scope = if is_scope said then Some number else lines.scope;
-  policy = if is_policy said then Some number else lines.policy;
-  commit = if is_commit said then Some number else lines.commit;
-  delegation = if is_delegation said then Some number else lines.delegation;
+with_line parsed number lines = record {
+  starts = if is_starts parsed then Some number else lines.starts;
+  may = if is_may parsed then Some number else lines.may;
+  scope = if is_scope parsed then Some number else lines.scope;
+  policy = if is_policy parsed then Some number else lines.policy;
+  commit = if is_commit parsed then Some number else lines.commit;
+  delegation = if is_delegation parsed then Some number else lines.delegation;
 }

@@ -14,7 +14,7 @@ use Rattle.acta_lang.specs.declared.diagnostic.Expected.TheVariants as want
 use Rattle.acta_lang.specs.declared.fault.Code.{Code}
 use Rattle.acta_lang.specs.declared.fault.Code.TheVariants.{NotAscii, BadWord, BadName, DuplicateName, WrongPlace, BadNumber, TooMany, MissingEnd, MissingPart, BeginKindAtStart, HeirWithoutSpawn, BadPolicyKind}
 use Rattle.acta_lang.specs.declared.form.Form.{Form}
-use Rattle.acta_lang.specs.Drafts.{Draft, OpenClass, has_said}
+use Rattle.acta_lang.specs.Drafts.{Draft, OpenClass, has_part}
 use Rattle.acta_lang.specs.Faults.{is_class, is_printable}
 use Rattle.acta_lang.specs.Words.{start_words, may_kinds, may_word, may_named, dep_named, scope_word, scope_named, commit_word, commit_named, extent_word, extent_named}
 
@@ -107,8 +107,8 @@ stray_byte line = unwrap_or (position_from (λ b. not (is_printable b)) 0 line) 
 
 -- what is expected of a line in the wrong place: that its class is open, hasn't said it, or is ended
 abbrev pub wrongly_placed : Option OpenClass → Form → Expected
-wrongly_placed None said = want.Outside
-wrongly_placed (Some c) said = if has_said said c then want.Once else want.Ended
+wrongly_placed None parsed = want.Outside
+wrongly_placed (Some c) parsed = if has_part parsed c then want.Once else want.Ended
 
 -- what a text lacks: parts of the class that is open, or a class
 abbrev pub lacking : Option OpenClass → Expected
@@ -140,22 +140,22 @@ meant_words _ = []
 
 -- the place by the code, before it is known whether the line has a word there
 abbrev pub wanted : {A : Type 0} → Draft A → List (List ℕ) → Form → Code → ℕ × Expected
-wanted d words said NotAscii = (0, want.FirstWord)
-wanted d words said BadWord = bad_word_place words
-wanted d words said BadName = (1, want.Name)
-wanted d words said DuplicateName = (1, if is_class said then want.NewClass else want.NewObject)
-wanted d words said WrongPlace = (0, wrongly_placed d.current said)
-wanted d words said BadNumber = (3, want.Number)
-wanted d words said TooMany = (0, want.Fewer)
-wanted d words said MissingEnd = (0, want.ClassEnd)
-wanted d words said MissingPart = (0, lacking d.current)
-wanted d words said BeginKindAtStart = (2, want.StartKind)
-wanted d words said HeirWithoutSpawn = (0, want.Parents)
-wanted d words said BadPolicyKind = (policy_place words, want.PolicyKinds)
+wanted d words parsed NotAscii = (0, want.FirstWord)
+wanted d words parsed BadWord = bad_word_place words
+wanted d words parsed BadName = (1, want.Name)
+wanted d words parsed DuplicateName = (1, if is_class parsed then want.NewClass else want.NewObject)
+wanted d words parsed WrongPlace = (0, wrongly_placed d.current parsed)
+wanted d words parsed BadNumber = (3, want.Number)
+wanted d words parsed TooMany = (0, want.Fewer)
+wanted d words parsed MissingEnd = (0, want.ClassEnd)
+wanted d words parsed MissingPart = (0, lacking d.current)
+wanted d words parsed BeginKindAtStart = (2, want.StartKind)
+wanted d words parsed HeirWithoutSpawn = (0, want.Parents)
+wanted d words parsed BadPolicyKind = (policy_place words, want.PolicyKinds)
 
 -- the place of the word at fault, and what is expected there, of a line with this code, behind lines that declare this
 abbrev pub place_of : {A : Type 0} → Draft A → List ℕ → List (List ℕ) → Form → Code → Option ℕ × Expected
-place_of d line words said NotAscii = (None, want.Printable (stray_byte line))
-place_of d line words said code =
-    let at = wanted d words said code in
+place_of d line words parsed NotAscii = (None, want.Printable (stray_byte line))
+place_of d line words parsed code =
+    let at = wanted d words parsed code in
     (place_if words at.0, at.1)

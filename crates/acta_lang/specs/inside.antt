@@ -2,5 +2,5 @@
 pub mod Named
 pub mod Noted
 pub mod Read
-pub mod Shown
+pub mod Abstraction
 pub mod Written

@@ -2,7 +2,7 @@
 
 ghost use Rattle.std.specs.Prelude.{◌≡◌, Ok, IfOk, IfErr, IfSome, option_map};
 ghost use Rattle.std.specs.Result.{result_err};
-ghost use Rattle.acta_lang.specs.Diagnostics.{IsWhole, diagnosed, fault_of, told};
+ghost use Rattle.acta_lang.specs.Diagnostics.{IsWhole, diagnosed, fault_of, reported};
 ghost use Rattle.acta_lang.specs.Meaning.{IsWhy, meaning};
 
 use crate::declare::declare_all;
@@ -33,9 +33,9 @@ pub fn diagnose<A: Allocator + Copy>(
     alloc: A,
     text: &[u8],
 ) -> Result<Option<TextDiagnostic<'_>>, AllocError>
-    ensures diagnostic { IfOk result (λ found. option_map told found ≡ diagnosed A text.now) }
-    ensures whole { IfOk result (λ found. IfSome found (λ d. IsWhole (told d))) }
-    ensures fault { IfOk result (λ found. option_map (λ d. fault_of (told d)) found ≡ result_err (meaning {A = A} text.now)) }
+    ensures diagnostic { IfOk result (λ found. option_map reported found ≡ diagnosed A text.now) }
+    ensures whole { IfOk result (λ found. IfSome found (λ d. IsWhole (reported d))) }
+    ensures fault { IfOk result (λ found. option_map (λ d. fault_of (reported d)) found ≡ result_err (meaning {A = A} text.now)) }
 {
     match declare_all(alloc, text) {
         Ok(_) => Ok(None),

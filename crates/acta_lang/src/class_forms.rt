@@ -4,7 +4,7 @@
 ghost use Rattle.std.specs.Prelude.{◌≡◌, map};
 ghost use Rattle.std.specs.List.{list_all};
 ghost use Rattle.acta_words.specs.Text.{is_word_among};
-ghost use Rattle.acta_lang.specs.Forms.{starts_form, may_form, scope_form, commit_form, delegation_form, dependent_named, edge_said};
+ghost use Rattle.acta_lang.specs.Forms.{starts_form, may_form, scope_form, commit_form, delegation_form, dependent_named, parse_edge};
 ghost use Rattle.acta_lang.specs.Words.{start_words};
 
 use crate::form::Form;
@@ -101,8 +101,8 @@ fn dependent_named(j: &[u8], i: &[u8]) -> Option<Dependent>
 }
 
 /// `starter KIND started`, `started KIND starter`, behind `spawn` or `split`
-pub(crate) fn edge_said(words: &[&[u8]]) -> Option<StartEdge>
-    ensures { result ≡ edge_said (map (λ word. word.now) words.now) }
+pub(crate) fn parse_edge(words: &[&[u8]]) -> Option<StartEdge>
+    ensures { result ≡ parse_edge (map (λ word. word.now) words.now) }
 {
     let [j, word, i] = words else {
         return None;

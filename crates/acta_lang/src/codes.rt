@@ -4,7 +4,7 @@ ghost use Rattle.std.specs.Prelude.{◌≡◌, map};
 ghost use Rattle.std.specs.List.{list_all};
 ghost use Rattle.acta_lang.specs.Drafts.{extended};
 ghost use Rattle.acta_lang.specs.Faults.{bad_name, bad_number, bad_policy_kind, bad_word, begin_kind_at_start, code_if, is_printable, lowest_of, not_ascii};
-ghost use Rattle.acta_lang.specs.inside.Shown.{shown};
+ghost use Rattle.acta_lang.specs.inside.Abstraction.{abstraction};
 
 use crate::draft::{Draft, name_in, value_in};
 use crate::fault::Code;
@@ -34,44 +34,44 @@ fn not_ascii(line: &[u8]) -> bool
 }
 
 #[tactic(auto, unfolding(crate::specs::Faults::bad_word))]
-fn bad_word(said: &Form) -> bool
-    ensures { result ≡ bad_word said.now }
+fn bad_word(parsed: &Form) -> bool
+    ensures { result ≡ bad_word parsed.now }
 {
-    matches!(said, Form::Unknown)
+    matches!(parsed, Form::Unknown)
 }
 
 #[tactic(auto, unfolding(crate::specs::Faults::bad_name))]
-fn bad_name(words: &[&[u8]], said: &Form) -> bool
-    ensures { result ≡ bad_name (map (λ word. word.now) words.now) said.now }
+fn bad_name(words: &[&[u8]], parsed: &Form) -> bool
+    ensures { result ≡ bad_name (map (λ word. word.now) words.now) parsed.now }
 {
-    (said.is_object() || said.is_class()) && !is_named_well(name_in(words))
+    (parsed.is_object() || parsed.is_class()) && !is_named_well(name_in(words))
 }
 
 #[tactic(auto, unfolding(crate::specs::Faults::bad_number))]
-fn bad_number(words: &[&[u8]], said: &Form) -> bool
-    ensures { result ≡ bad_number (map (λ word. word.now) words.now) said.now }
+fn bad_number(words: &[&[u8]], parsed: &Form) -> bool
+    ensures { result ≡ bad_number (map (λ word. word.now) words.now) parsed.now }
 {
-    match said {
+    match parsed {
         Form::Register | Form::Counter => read_i32(value_in(words)).is_none(),
         _ => false,
     }
 }
 
 #[tactic(auto, unfolding(crate::specs::Faults::begin_kind_at_start))]
-fn begin_kind_at_start(said: &Form) -> bool
-    ensures { result ≡ begin_kind_at_start said.now }
+fn begin_kind_at_start(parsed: &Form) -> bool
+    ensures { result ≡ begin_kind_at_start parsed.now }
 {
-    match said {
+    match parsed {
         Form::Spawn(edge) | Form::Split(edge) => edge.kind.is_begin_kind(),
         _ => false,
     }
 }
 
 #[tactic(auto, unfolding(crate::specs::Faults::bad_policy_kind))]
-fn bad_policy_kind(said: &Form) -> bool
-    ensures { result ≡ bad_policy_kind said.now }
+fn bad_policy_kind(parsed: &Form) -> bool
+    ensures { result ≡ bad_policy_kind parsed.now }
 {
-    match said {
+    match parsed {
         Form::Policy(policy) => policy.is_bad(),
         _ => false,
     }
@@ -89,20 +89,23 @@ pub(crate) fn lowest_code<'a, A: Allocator + Copy>(
     is_last: bool,
     line: &[u8],
     words: &[&'a [u8]],
-    said: &Form,
+    parsed: &Form,
 ) -> Option<Code>
-    ensures { result ≡ lowest_of (shown draft.now) (extended (shown draft.now) (map (λ word. word.now) words.now) said.now) is_last line.now (map (λ word. word.now) words.now) said.now }
+    ensures { result ≡ lowest_of (abstraction draft.now) (extended (abstraction draft.now) (map (λ word. word.now) words.now) parsed.now) is_last line.now (map (λ word. word.now) words.now) parsed.now }
 {
     code_where(not_ascii(line), Code::NotAscii)
-        .or(code_where(bad_word(said), Code::BadWord))
-        .or(code_where(bad_name(words, said), Code::BadName))
-        .or(code_where(draft.duplicate_name(words, said), Code::DuplicateName))
-        .or(code_where(draft.wrong_place(said), Code::WrongPlace))
-        .or(code_where(bad_number(words, said), Code::BadNumber))
-        .or(code_where(draft.too_many(said), Code::TooMany))
-        .or(code_where(draft.missing_end(is_last, words, said), Code::MissingEnd))
-        .or(code_where(draft.missing_part(is_last, words, said), Code::MissingPart))
-        .or(code_where(begin_kind_at_start(said), Code::BeginKindAtStart))
-        .or(code_where(draft.heir_without_spawn(said), Code::HeirWithoutSpawn))
-        .or(code_where(bad_policy_kind(said), Code::BadPolicyKind))
+        .or(code_where(bad_word(parsed), Code::BadWord))
+        .or(code_where(bad_name(words, parsed), Code::BadName))
+        .or(code_where(draft.duplicate_name(words, parsed), Code::DuplicateName))
+        .or(code_where(draft.wrong_place(parsed), Code::WrongPlace))
+        .or(code_where(bad_number(words, parsed), Code::BadNumber))
+        .or(code_where(draft.too_many(parsed), Code::TooMany))
+        .or(code_where(draft.missing_end(is_last, words, parsed), Code::MissingEnd))
+        .or(code_where(
+            draft.missing_part(is_last, words, parsed),
+            Code::MissingPart,
+        ))
+        .or(code_where(begin_kind_at_start(parsed), Code::BeginKindAtStart))
+        .or(code_where(draft.heir_without_spawn(parsed), Code::HeirWithoutSpawn))
+        .or(code_where(bad_policy_kind(parsed), Code::BadPolicyKind))
 }

@@ -1,7 +1,7 @@
 //! From one line to the next: the first line at which something is wrong ends it, with the lowest code there.
 
 ghost use Rattle.std.specs.Prelude.{◌≡◌, false, None, Ok, IfOk, IfErr, option_map};
-ghost use Rattle.acta_lang.specs.Diagnostics.{told};
+ghost use Rattle.acta_lang.specs.Diagnostics.{reported};
 ghost use Rattle.acta_lang.specs.Forms.{form_of};
 ghost use Rattle.acta_words.specs.Text.{words_of};
 ghost use Rattle.acta_lang.specs.inside.Noted.{diagnosis, noted, noted_by};
@@ -9,7 +9,7 @@ ghost use Rattle.acta_lang.specs.Drafts.{extended_by, parts_of};
 ghost use Rattle.acta_lang.specs.Faults.{code_at};
 ghost use Rattle.acta_lang.specs.Meaning.{meaning};
 ghost use Rattle.acta_lang.specs.inside.Read.{IsWhyRead};
-ghost use Rattle.acta_lang.specs.inside.Shown.{is_current_taken, shown};
+ghost use Rattle.acta_lang.specs.inside.Abstraction.{is_current_taken, abstraction};
 
 use crate::codes::lowest_code;
 use crate::diagnostic::{ReadError, TextDiagnostic};
@@ -27,27 +27,27 @@ fn read_line<'a, A: Allocator + Copy>(
     is_last: bool,
     line: &'a [u8],
 ) -> Result<Option<TextDiagnostic<'a>>, AllocError>
-    requires { is_current_taken (shown draft.old) ≡ false }
-    ensures code { IfOk result (λ found. option_map told found ≡ option_map (diagnosis (shown draft.old) (noted draft.old) number line.now) (code_at (shown draft.old) is_last line.now)) }
-    ensures added { result ≡ Ok None → shown draft.new ≡ extended_by (shown draft.old) line.now }
+    requires { is_current_taken (abstraction draft.old) ≡ false }
+    ensures code { IfOk result (λ found. option_map reported found ≡ option_map (diagnosis (abstraction draft.old) (noted draft.old) number line.now) (code_at (abstraction draft.old) is_last line.now)) }
+    ensures added { result ≡ Ok None → abstraction draft.new ≡ extended_by (abstraction draft.old) line.now }
     ensures noted { result ≡ Ok None → noted draft.new ≡ noted_by number (words_of line.now) (form_of (words_of line.now)) (noted draft.old) }
 {
     let words = words_of(alloc, line)?;
-    let said = form_of(&words);
-    match lowest_code(draft, is_last, line, &words, &said) {
+    let parsed = form_of(&words);
+    match lowest_code(draft, is_last, line, &words, &parsed) {
         Some(code) => {
-            let (place, expected) = place_of(draft, line, &words, &said, code);
+            let (place, expected) = place_of(draft, line, &words, &parsed, code);
             Ok(Some(TextDiagnostic {
                 line: number,
                 code,
                 place,
                 expected,
-                earlier: draft.earlier(&words, &said, code),
-                class: draft.class_at(number, &words, &said, code),
+                earlier: draft.earlier(&words, &parsed, code),
+                class: draft.class_at(number, &words, &parsed, code),
             }))
         }
         None => {
-            draft.extend(alloc, number, &words, &said)?;
+            draft.extend(alloc, number, &words, &parsed)?;
             Ok(None)
         }
     }
@@ -58,7 +58,7 @@ pub(crate) fn declare_all<'a, A: Allocator + Copy>(
     alloc: A,
     text: &'a [u8],
 ) -> Result<Draft<'a, A>, ReadError<'a>>
-    ensures ok { IfOk result (λ all. meaning text.now ≡ Ok (parts_of (shown all))) }
+    ensures ok { IfOk result (λ all. meaning text.now ≡ Ok (parts_of (abstraction all))) }
     ensures fault { IfErr result (IsWhyRead A text.now) }
 {
     let mut draft = Draft::nothing(alloc);

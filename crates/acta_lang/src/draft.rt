@@ -5,21 +5,21 @@ ghost use Rattle.std.specs.Prelude.{◌≡◌, map, option_and_then, option_map,
 ghost use Rattle.std.specs.Option.{option_map_or, option_or};
 ghost use Rattle.std.specs.Str.{bytes_eq};
 ghost use Rattle.acta_words.specs.Text.{is_word_among};
-ghost use Rattle.acta_lang.specs.Drafts.{extended, nothing_yet, parts_of, first_value, with_object, with_closed, with_said};
+ghost use Rattle.acta_lang.specs.Drafts.{extended, nothing_yet, parts_of, first_value, with_object, with_closed, with_parsed};
 ghost use Rattle.acta_lang.specs.Faults.{class_names, duplicate_name, heir_without_spawn, missing_end, missing_part, object_names, too_many, wrong_place};
 ghost use Rattle.acta_lang.specs.Forms.{name_in, value_in};
-ghost use Rattle.acta_lang.specs.Diagnostics.{class_told};
+ghost use Rattle.acta_lang.specs.Diagnostics.{class_reported};
 ghost use Rattle.acta_lang.specs.Lines.{part_line};
 ghost use Rattle.acta_lang.specs.Places.{lacking, wrongly_placed};
-ghost use Rattle.acta_lang.specs.inside.Noted.{class_noted, closed_noted, current_line, earlier_noted, line_of, noted, noted_by, nothing_noted, object_noted, said_noted};
-ghost use Rattle.acta_lang.specs.inside.Shown.{is_current_taken, shown};
+ghost use Rattle.acta_lang.specs.inside.Noted.{class_noted, closed_noted, current_line, earlier_noted, line_of, noted, noted_by, nothing_noted, object_noted, parsed_noted};
+ghost use Rattle.acta_lang.specs.inside.Abstraction.{is_current_taken, abstraction};
 
 use crate::diagnostic::{ClassLines, Expected};
 use crate::fault::Code;
 use crate::form::Form;
 use crate::names::{Named, add_name, found, is_declared};
+use crate::parsed::Said;
 use crate::parts::PartLines;
-use crate::said::Said;
 use acta_table::{Class, Items, Kind, MOST_CLASSES, MOST_OBJECTS, Object, Parts};
 use acta_words::read_i32;
 use std::alloc::{AllocError, Allocator};
@@ -44,7 +44,7 @@ impl ObjectDraft {
 /// A class that is closed, and the line that begins it.
 #[derive(Drop)]
 pub(crate) struct ClosedDraft<A: Allocator> {
-    said: Said<A>,
+    parsed: Said<A>,
     line: usize,
 }
 
@@ -61,7 +61,7 @@ impl<A: Allocator> ClosedDraft<A> {
 #[derive(Drop)]
 pub(crate) struct ClassDraft<'a, A: Allocator> {
     name: &'a [u8],
-    said: Said<A>,
+    parsed: Said<A>,
     line: usize,
     parts: PartLines,
 }
@@ -104,7 +104,7 @@ fn first_value(words: &[&[u8]]) -> i32
 impl<'a, A: Allocator + Copy> Draft<'a, A> {
     /// Before any line. Takes no memory.
     pub(crate) fn nothing(alloc: A) -> Draft<'a, A>
-        ensures shown { shown result ≡ nothing_yet }
+        ensures abstraction { abstraction result ≡ nothing_yet }
         ensures noted { noted result ≡ nothing_noted }
     {
         Draft {
@@ -116,21 +116,21 @@ impl<'a, A: Allocator + Copy> Draft<'a, A> {
 
     // Whether an object has this name.
     fn has_object(&self, name: &'a [u8]) -> bool
-        ensures { result ≡ is_word_among (object_names (shown self.now)) name.now }
+        ensures { result ≡ is_word_among (object_names (abstraction self.now)) name.now }
     {
         is_declared(&self.objects, name)
     }
 
     // Whether a class has this name, the open one too.
     fn has_class(&self, name: &'a [u8]) -> bool
-        ensures { result ≡ is_word_among (class_names (shown self.now)) name.now }
+        ensures { result ≡ is_word_among (class_names (abstraction self.now)) name.now }
     {
         is_declared(&self.classes, name) || self.is_current(name)
     }
 
     // Whether the class that is open has this name.
     fn is_current(&self, name: &[u8]) -> bool
-        ensures { result ≡ option_map_or (λ class. bytes_eq name.now class.name) (shown self.now).current false }
+        ensures { result ≡ option_map_or (λ class. bytes_eq name.now class.name) (abstraction self.now).current false }
     {
         match &self.current {
             Some(class) => name == class.name,
@@ -140,35 +140,35 @@ impl<'a, A: Allocator + Copy> Draft<'a, A> {
 
     /// Whether an earlier line names such an object, or such a class.
     #[tactic(auto, unfolding(crate::specs::Faults::duplicate_name))]
-    pub(crate) fn duplicate_name(&self, words: &[&'a [u8]], said: &Form) -> bool
-        ensures { result ≡ duplicate_name (shown self.now) (map (λ word. word.now) words.now) said.now }
+    pub(crate) fn duplicate_name(&self, words: &[&'a [u8]], parsed: &Form) -> bool
+        ensures { result ≡ duplicate_name (abstraction self.now) (map (λ word. word.now) words.now) parsed.now }
     {
         let name = name_in(words);
-        said.is_object() && self.has_object(name) || said.is_class() && self.has_class(name)
+        parsed.is_object() && self.has_object(name) || parsed.is_class() && self.has_class(name)
     }
 
     /// Whether the line stands inside a class and should not, or outside one and should not, or says what its class
     /// has said already.
     #[tactic(auto, unfolding(crate::specs::Faults::wrong_place))]
-    pub(crate) fn wrong_place(&self, said: &Form) -> bool
-        ensures { result ≡ wrong_place (shown self.now) said.now }
+    pub(crate) fn wrong_place(&self, parsed: &Form) -> bool
+        ensures { result ≡ wrong_place (abstraction self.now) parsed.now }
     {
-        if matches!(said, Form::Blank) {
+        if matches!(parsed, Form::Blank) {
             return false;
         }
         match &self.current {
-            Some(class) => said.is_object() || said.is_class() || class.said.has(said),
-            None => !(said.is_object() || said.is_class()),
+            Some(class) => parsed.is_object() || parsed.is_class() || class.parsed.has(parsed),
+            None => !(parsed.is_object() || parsed.is_class()),
         }
     }
 
     /// What is expected of a line in the wrong place.
-    pub(crate) fn wrongly_placed(&self, said: &Form) -> Expected
-        ensures { result ≡ wrongly_placed (shown self.now).current said.now }
+    pub(crate) fn wrongly_placed(&self, parsed: &Form) -> Expected
+        ensures { result ≡ wrongly_placed (abstraction self.now).current parsed.now }
     {
         match &self.current {
             Some(class) => {
-                if class.said.has(said) {
+                if class.parsed.has(parsed) {
                     Expected::Once
                 } else {
                     Expected::Ended
@@ -180,7 +180,7 @@ impl<'a, A: Allocator + Copy> Draft<'a, A> {
 
     /// What a text lacks whose last line is this: parts of the class that is open, or a class.
     pub(crate) fn lacking(&self) -> Expected
-        ensures { result ≡ lacking (shown self.now).current }
+        ensures { result ≡ lacking (abstraction self.now).current }
     {
         match &self.current {
             Some(_) => Expected::AllParts,
@@ -190,19 +190,19 @@ impl<'a, A: Allocator + Copy> Draft<'a, A> {
 
     /// Whether there is one object or one class too many.
     #[tactic(auto, unfolding(crate::specs::Faults::too_many))]
-    pub(crate) fn too_many(&self, said: &Form) -> bool
-        ensures { result ≡ too_many (shown self.now) said.now }
+    pub(crate) fn too_many(&self, parsed: &Form) -> bool
+        ensures { result ≡ too_many (abstraction self.now) parsed.now }
     {
-        said.is_object() && self.objects.len() >= MOST_OBJECTS
-            || said.is_class() && self.classes.len() >= MOST_CLASSES
+        parsed.is_object() && self.objects.len() >= MOST_OBJECTS
+            || parsed.is_class() && self.classes.len() >= MOST_CLASSES
     }
 
     /// Whether a class is open behind the line, and it is the last.
     #[tactic(auto, unfolding(crate::specs::Faults::missing_end, crate::specs::Drafts::extended))]
-    pub(crate) fn missing_end(&self, is_last: bool, words: &[&[u8]], said: &Form) -> bool
-        ensures { result ≡ missing_end is_last (extended (shown self.now) (map (λ word. word.now) words.now) said.now) }
+    pub(crate) fn missing_end(&self, is_last: bool, words: &[&[u8]], parsed: &Form) -> bool
+        ensures { result ≡ missing_end is_last (extended (abstraction self.now) (map (λ word. word.now) words.now) parsed.now) }
     {
-        let is_open = match said {
+        let is_open = match parsed {
             Form::Class => true,
             Form::End => false,
             _ => self.current.is_some(),
@@ -212,12 +212,12 @@ impl<'a, A: Allocator + Copy> Draft<'a, A> {
 
     /// Whether the line ends a class that hasn't said all, or is the last and there is no class.
     #[tactic(auto, unfolding(crate::specs::Faults::missing_part, crate::specs::Drafts::extended))]
-    pub(crate) fn missing_part(&self, is_last: bool, words: &[&[u8]], said: &Form) -> bool
-        ensures { result ≡ missing_part is_last (shown self.now) (extended (shown self.now) (map (λ word. word.now) words.now) said.now) said.now }
+    pub(crate) fn missing_part(&self, is_last: bool, words: &[&[u8]], parsed: &Form) -> bool
+        ensures { result ≡ missing_part is_last (abstraction self.now) (extended (abstraction self.now) (map (λ word. word.now) words.now) parsed.now) parsed.now }
     {
-        if said.is_end() {
+        if parsed.is_end() {
             match &self.current {
-                Some(class) => !class.said.is_all(),
+                Some(class) => !class.parsed.is_all(),
                 None => is_last && self.classes.len() == 0,
             }
         } else {
@@ -227,11 +227,11 @@ impl<'a, A: Allocator + Copy> Draft<'a, A> {
 
     /// Whether the line ends a class that commits to parents, and some of whose transactions have none.
     #[tactic(auto, unfolding(crate::specs::Faults::heir_without_spawn))]
-    pub(crate) fn heir_without_spawn(&self, said: &Form) -> bool
-        ensures { result ≡ heir_without_spawn (shown self.now) said.now }
+    pub(crate) fn heir_without_spawn(&self, parsed: &Form) -> bool
+        ensures { result ≡ heir_without_spawn (abstraction self.now) parsed.now }
     {
         match &self.current {
-            Some(class) => said.is_end() && class.said.lacks_parents(),
+            Some(class) => parsed.is_end() && class.parsed.lacks_parents(),
             None => false,
         }
     }
@@ -273,36 +273,36 @@ impl<'a, A: Allocator + Copy> Draft<'a, A> {
     }
 
     // The line of the class that is open which has said what a line of this form says.
-    fn said_line(&self, said: &Form) -> Option<usize>
-        ensures { result ≡ option_and_then (λ class. part_line said.now class.parts) (noted self.now).current }
+    fn parsed_line(&self, parsed: &Form) -> Option<usize>
+        ensures { result ≡ option_and_then (λ class. part_line parsed.now class.parts) (noted self.now).current }
     {
         match &self.current {
-            Some(class) => class.parts.line_of(said),
+            Some(class) => class.parts.line_of(parsed),
             None => None,
         }
     }
 
     /// The earlier line that a fault of this code has to do with, at a line of these words, of this form: the line that
     /// declares the name, or the line that has said the part.
-    pub(crate) fn earlier(&self, words: &[&'a [u8]], said: &Form, code: Code) -> Option<usize>
-        ensures { result ≡ earlier_noted (noted self.now) (map (λ word. word.now) words.now) said.now code }
+    pub(crate) fn earlier(&self, words: &[&'a [u8]], parsed: &Form, code: Code) -> Option<usize>
+        ensures { result ≡ earlier_noted (noted self.now) (map (λ word. word.now) words.now) parsed.now code }
     {
         match code {
             Code::DuplicateName => {
-                if said.is_class() {
+                if parsed.is_class() {
                     self.class_line(name_in(words))
                 } else {
                     self.object_line(name_in(words))
                 }
             }
-            Code::WrongPlace => self.said_line(said),
+            Code::WrongPlace => self.parsed_line(parsed),
             _ => None,
         }
     }
 
     // The class that is open.
     fn open(&self) -> Option<ClassLines<'a>>
-        ensures { option_map class_told result ≡ (noted self.now).current }
+        ensures { option_map class_reported result ≡ (noted self.now).current }
     {
         match &self.current {
             Some(class) => Some(ClassLines {
@@ -320,12 +320,12 @@ impl<'a, A: Allocator + Copy> Draft<'a, A> {
         &self,
         number: usize,
         words: &[&'a [u8]],
-        said: &Form,
+        parsed: &Form,
         code: Code,
     ) -> Option<ClassLines<'a>>
-        ensures { option_map class_told result ≡ class_noted (noted self.now) number (map (λ word. word.now) words.now) said.now code }
+        ensures { option_map class_reported result ≡ class_noted (noted self.now) number (map (λ word. word.now) words.now) parsed.now code }
     {
-        if matches!(code, Code::MissingEnd) && said.is_class() {
+        if matches!(code, Code::MissingEnd) && parsed.is_class() {
             Some(ClassLines {
                 name: name_in(words),
                 line: number,
@@ -337,8 +337,8 @@ impl<'a, A: Allocator + Copy> Draft<'a, A> {
     }
 
     fn add_object(&mut self, name: &'a [u8], kind: Kind, line: usize) -> Result<(), AllocError>
-        requires { is_word_among (map (λ o. o.name) (shown self.old).objects) name.now ≡ false }
-        ensures shown { OnOk result (shown self.new ≡ with_object (shown self.old) name.now kind) }
+        requires { is_word_among (map (λ o. o.name) (abstraction self.old).objects) name.now ≡ false }
+        ensures abstraction { OnOk result (abstraction self.new ≡ with_object (abstraction self.old) name.now kind) }
         ensures noted { OnOk result (noted self.new ≡ object_noted (noted self.old) name.now line) }
     {
         add_name(&mut self.objects, name, ObjectDraft { kind, line })
@@ -346,33 +346,33 @@ impl<'a, A: Allocator + Copy> Draft<'a, A> {
 
     // Closes the class that is open, if one is.
     fn close(&mut self) -> Result<(), AllocError>
-        requires { is_current_taken (shown self.old) ≡ false }
-        ensures shown { OnOk result (shown self.new ≡ with_closed (shown self.old) (shown self.old).current) }
+        requires { is_current_taken (abstraction self.old) ≡ false }
+        ensures abstraction { OnOk result (abstraction self.new ≡ with_closed (abstraction self.old) (abstraction self.old).current) }
         ensures noted { OnOk result (noted self.new ≡ closed_noted (noted self.old) (noted self.old).current) }
     {
         match self.current.take() {
             Some(class) => {
                 let ClassDraft {
                     name,
-                    said,
+                    parsed,
                     line,
                     ..
                 } = class;
-                add_name(&mut self.classes, name, ClosedDraft { said, line })
+                add_name(&mut self.classes, name, ClosedDraft { parsed, line })
             }
             None => Ok(()),
         }
     }
 
     // Adds what the line of this number says, inside a class, if one is open.
-    fn say(&mut self, number: usize, said: &Form) -> Result<(), AllocError>
-        ensures shown { OnOk result (shown self.new ≡ record (shown self.old) { current = option_map (with_said said.now) (shown self.old).current }) }
-        ensures noted { OnOk result (noted self.new ≡ said_noted (noted self.old) number said.now) }
+    fn say(&mut self, number: usize, parsed: &Form) -> Result<(), AllocError>
+        ensures abstraction { OnOk result (abstraction self.new ≡ record (abstraction self.old) { current = option_map (with_parsed parsed.now) (abstraction self.old).current }) }
+        ensures noted { OnOk result (noted self.new ≡ parsed_noted (noted self.old) number parsed.now) }
     {
         match &mut self.current {
             Some(class) => {
-                class.parts.add(said, number);
-                class.said.add(said)
+                class.parts.add(parsed, number);
+                class.parsed.add(parsed)
             }
             None => Ok(()),
         }
@@ -385,14 +385,14 @@ impl<'a, A: Allocator + Copy> Draft<'a, A> {
         alloc: A,
         number: usize,
         words: &[&'a [u8]],
-        said: &Form,
+        parsed: &Form,
     ) -> Result<(), AllocError>
-        requires new { duplicate_name (shown self.old) (map (λ word. word.now) words.now) said.now ≡ false }
-        requires current_is_new { is_current_taken (shown self.old) ≡ false }
-        ensures shown { OnOk result (shown self.new ≡ extended (shown self.old) (map (λ word. word.now) words.now) said.now) }
-        ensures noted { OnOk result (noted self.new ≡ noted_by number (map (λ word. word.now) words.now) said.now (noted self.old)) }
+        requires new { duplicate_name (abstraction self.old) (map (λ word. word.now) words.now) parsed.now ≡ false }
+        requires current_is_new { is_current_taken (abstraction self.old) ≡ false }
+        ensures abstraction { OnOk result (abstraction self.new ≡ extended (abstraction self.old) (map (λ word. word.now) words.now) parsed.now) }
+        ensures noted { OnOk result (noted self.new ≡ noted_by number (map (λ word. word.now) words.now) parsed.now (noted self.old)) }
     {
-        match said {
+        match parsed {
             Form::Register => {
                 self.add_object(name_in(words), Kind::Register(first_value(words)), number)
             }
@@ -403,20 +403,20 @@ impl<'a, A: Allocator + Copy> Draft<'a, A> {
             Form::Class => {
                 self.current = Some(ClassDraft {
                     name: name_in(words),
-                    said: Said::nothing(alloc),
+                    parsed: Said::nothing(alloc),
                     line: number,
                     parts: PartLines::none(),
                 });
                 Ok(())
             }
             Form::End => self.close(),
-            _ => self.say(number, said),
+            _ => self.say(number, parsed),
         }
     }
 
     // The objects, with names of their own.
     fn objects(&self, alloc: A) -> Result<Items<Object<A>, A>, AllocError>
-        ensures { IfOk result (λ objects. objects ≡ (shown self.now).objects) }
+        ensures { IfOk result (λ objects. objects ≡ (abstraction self.now).objects) }
     {
         let mut objects = Vec::with_capacity(alloc, self.objects.len())?;
         for (name, object) in self.objects.iter() {
@@ -430,18 +430,18 @@ impl<'a, A: Allocator + Copy> Draft<'a, A> {
 
     // The classes that are closed, with names of their own.
     fn classes(&self, alloc: A) -> Result<Items<Class<A>, A>, AllocError>
-        ensures { IfOk result (λ classes. classes ≡ (shown self.now).classes) }
+        ensures { IfOk result (λ classes. classes ≡ (abstraction self.now).classes) }
     {
         let mut classes = Vec::with_capacity(alloc, self.classes.len())?;
         for (name, class) in self.classes.iter() {
-            classes.push(class.said.class(alloc, name)?)?;
+            classes.push(class.parsed.class(alloc, name)?)?;
         }
         Ok(Items::of(classes))
     }
 
     /// The parts of the model that the lines declare.
     pub(crate) fn parts(&self, alloc: A) -> Result<Parts<A>, AllocError>
-        ensures { IfOk result (λ parts. parts ≡ parts_of (shown self.now)) }
+        ensures { IfOk result (λ parts. parts ≡ parts_of (abstraction self.now)) }
     {
         Ok(Parts {
             objects: self.objects(alloc)?,

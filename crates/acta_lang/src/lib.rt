@@ -17,11 +17,11 @@ mod form;
 mod line_forms;
 mod names;
 mod object_lines;
+mod parsed;
 mod parts;
 mod places;
 mod policy_forms;
 mod printing;
-mod said;
 mod sentences;
 mod words;
 

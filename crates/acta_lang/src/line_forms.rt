@@ -4,7 +4,7 @@ ghost use Rattle.std.specs.Prelude.{◌≡◌, map};
 ghost use Rattle.acta_lang.specs.Forms.{form_in_class, form_of, object_form, class_form, spawn_form, split_form, end_form};
 
 use crate::class_forms::{
-    commit_form, delegation_form, edge_said, may_form, scope_form, starts_form,
+    commit_form, delegation_form, may_form, parse_edge, scope_form, starts_form,
 };
 use crate::form::Form;
 use crate::policy_forms::policy_form;
@@ -52,7 +52,7 @@ fn class_form(words: &[&[u8]]) -> Form
 fn spawn_form(words: &[&[u8]]) -> Form
     ensures { result ≡ spawn_form (map (λ word. word.now) words.now) }
 {
-    match edge_said(words) {
+    match parse_edge(words) {
         Some(edge) => Form::Spawn(edge),
         None => Form::Unknown,
     }
@@ -62,7 +62,7 @@ fn spawn_form(words: &[&[u8]]) -> Form
 fn split_form(words: &[&[u8]]) -> Form
     ensures { result ≡ split_form (map (λ word. word.now) words.now) }
 {
-    match edge_said(words) {
+    match parse_edge(words) {
         Some(edge) => Form::Split(edge),
         None => Form::Unknown,
     }

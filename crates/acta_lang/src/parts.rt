@@ -38,10 +38,10 @@ impl PartLines {
     }
 
     /// Notes that the line of this number, of this form, says its part, if it says one.
-    pub(crate) fn add(&mut self, said: &Form, number: usize)
-        ensures { self.new ≡ with_line said.now number self.old }
+    pub(crate) fn add(&mut self, parsed: &Form, number: usize)
+        ensures { self.new ≡ with_line parsed.now number self.old }
     {
-        match said {
+        match parsed {
             Form::Starts(_) => self.starts = Some(number),
             Form::May(_) => self.may = Some(number),
             Form::Scope(_) => self.scope = Some(number),
@@ -53,10 +53,10 @@ impl PartLines {
     }
 
     /// The line that has said the part which a line of this form says.
-    pub(crate) fn line_of(&self, said: &Form) -> Option<usize>
-        ensures { result ≡ part_line said.now self.now }
+    pub(crate) fn line_of(&self, parsed: &Form) -> Option<usize>
+        ensures { result ≡ part_line parsed.now self.now }
     {
-        match said {
+        match parsed {
             Form::Starts(_) => self.starts,
             Form::May(_) => self.may,
             Form::Scope(_) => self.scope,

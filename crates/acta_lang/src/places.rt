@@ -5,7 +5,7 @@ ghost use Rattle.std.specs.List.{position_from};
 ghost use Rattle.acta_lang.specs.Faults.{is_printable};
 ghost use Rattle.acta_lang.specs.declared.diagnostic.Expected.TheVariants.{PolicyKinds};
 ghost use Rattle.acta_lang.specs.Places.{bad_class_line, bad_edge, bad_object, bad_policy, bad_word_place, is_edge_end, is_object_kind, may_stand, place_if, place_of, policy_place, stray, stray_byte, word_at};
-ghost use Rattle.acta_lang.specs.inside.Shown.{shown};
+ghost use Rattle.acta_lang.specs.inside.Abstraction.{abstraction};
 
 use crate::codes::is_plain;
 use crate::diagnostic::Expected;
@@ -235,10 +235,10 @@ pub(crate) fn place_of<'a, A: Allocator + Copy>(
     draft: &Draft<'a, A>,
     line: &[u8],
     words: &[&[u8]],
-    said: &Form,
+    parsed: &Form,
     code: Code,
 ) -> (Option<usize>, Expected)
-    ensures { result ≡ place_of (shown draft.now) line.now (map (λ word. word.now) words.now) said.now code }
+    ensures { result ≡ place_of (abstraction draft.now) line.now (map (λ word. word.now) words.now) parsed.now code }
 {
     let (place, expected) = match code {
         Code::NotAscii => return (None, Expected::Printable(stray_byte(line))),
@@ -246,13 +246,13 @@ pub(crate) fn place_of<'a, A: Allocator + Copy>(
         Code::BadName => (1, Expected::Name),
         Code::DuplicateName => (
             1,
-            if said.is_class() {
+            if parsed.is_class() {
                 Expected::NewClass
             } else {
                 Expected::NewObject
             },
         ),
-        Code::WrongPlace => (0, draft.wrongly_placed(said)),
+        Code::WrongPlace => (0, draft.wrongly_placed(parsed)),
         Code::BadNumber => (3, Expected::Number),
         Code::TooMany => (0, Expected::Fewer),
         Code::MissingEnd => (0, Expected::ClassEnd),

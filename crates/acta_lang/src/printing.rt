@@ -36,7 +36,7 @@ fn push_classes<A: Allocator>(text: &mut Vec<u8, A>, classes: &[Class<A>]) -> Re
 fn means_again<A: Allocator>(model: &Model<A>)
     ensures { meaning (canonical model.now) ≡ Ok model.now }
 {
-    model.known();
+    model.lemma_invariant();
 }
 
 /// The canonical text of the model: its objects, then its classes, in order, with one space between words and a line

@@ -1,4 +1,4 @@
--- What a driven run of scripts leaves, and what bars one.
+-- What a driven run of scripts leaves, and what blocks one.
 use Rattle.std.specs.Prelude.{◌≡◌, ◌==◌, ◌-◌, ◌≤◌, ℕ, suc, Bool, true, false, List, [], ◌∷◌, length, get_or, sum_by}
 use Rattle.std.specs.Prelude.{Option, Some, None, ⊤, nat_lt, if◌then◌else◌}
 use Rattle.std.specs.List.{AllByRecursion}

@@ -115,7 +115,7 @@ impl<A: Handle> Book<A> {
         ensures err { OnErr result (self.new ≡ self.old) }
         ensures full { result ≡ Err TakeError.BookFull → length self.old.entries ≡ MOST_EVENTS }
         ensures run { IsRun self.new }
-        ensures barred { length self.old.entries ≡ MOST_EVENTS → result ≡ Err TakeError.BookFull }
+        ensures blocked { length self.old.entries ≡ MOST_EVENTS → result ≡ Err TakeError.BookFull }
     {
         if self.is_full() {
             return Err(TakeError::BookFull);
@@ -257,7 +257,7 @@ impl<A: Handle> Desk<Event<A>, Entry<A>> for PlainDesk<A> {
         ensures none { OnErr result (self.new.book ≡ with_entries self.old.book []) }
         ensures gave { Gives self.old.book (result ∷ []) self.new.book }
         ensures full { result ≡ Err TakeError.BookFull → length self.old.book.entries ≡ MOST_EVENTS }
-        ensures barred { length self.old.book.entries ≡ MOST_EVENTS → result ≡ Err TakeError.BookFull }
+        ensures blocked { length self.old.book.entries ≡ MOST_EVENTS → result ≡ Err TakeError.BookFull }
     {
         self.book.take(self.seat, event)
     }

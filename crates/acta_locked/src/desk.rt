@@ -89,23 +89,23 @@ impl<A> Job<A> for Brand {
 
 /// What lies under the lock: a book of the run's model, and a ledger, whose total is the number of its entries.
 #[derive(Drop)]
-pub struct Vault<A: Handle, J: Job<A>> {
+pub struct SharedLog<A: Handle, J: Job<A>> {
     book: Book<A>,
     calls: ledger::Book<J>,
     ghost counted: { length book.entries ≡ calls.total },
     ghost of_model: { book.model ≡ J.model },
 }
 
-impl<A: Handle, J: Job<A>> Vault<A, J> {
+impl<A: Handle, J: Job<A>> SharedLog<A, J> {
     /// A book with no entry, and a ledger that has counted none.
-    pub fn new(book: Book<A>, calls: ledger::Book<J>) -> Vault<A, J>
+    pub fn new(book: Book<A>, calls: ledger::Book<J>) -> SharedLog<A, J>
         requires empty { book.entries ≡ [] }
         requires none { calls.total ≡ 0 }
         requires of_model { book.model ≡ J.model }
         ensures book { result.book ≡ book }
         ensures calls { result.calls ≡ calls }
     {
-        Vault { book, calls }
+        SharedLog { book, calls }
     }
 
     /// Takes one event as `Book::take` does; where it makes an entry, the share counts one more, and else it stays.
@@ -124,9 +124,9 @@ impl<A: Handle, J: Job<A>> Vault<A, J> {
         ensures parts { mine.new.parts ≡ mine.old.parts }
         ensures full { result ≡ Err TakeError.BookFull → length self.old.book.entries ≡ MOST_EVENTS }
         ensures run { IsRun self.new.book }
-        ensures barred { length self.old.book.entries ≡ MOST_EVENTS → result ≡ Err TakeError.BookFull }
+        ensures blocked { length self.old.book.entries ≡ MOST_EVENTS → result ≡ Err TakeError.BookFull }
     {
-        let Vault { book, calls } = self;
+        let SharedLog { book, calls } = self;
         let entry = book.take(seat, event)?;
         calls.add(mine, 1);
         Ok(entry)
@@ -150,7 +150,7 @@ impl<A: Handle, J: Job<A>> Vault<A, J> {
         ensures same { all.new.amount ≡ all.old.amount }
         ensures parts { all.new.parts ≡ all.old.parts }
     {
-        let Vault { book, mut calls } = self;
+        let SharedLog { book, mut calls } = self;
         calls.audit(all);
         book
     }
@@ -161,7 +161,7 @@ impl<A: Handle, J: Job<A>> Vault<A, J> {
 pub struct LockedDesk<'a, A: Handle, J: Job<A>, R: Wait> {
     pub seat: u8,
     pub share: Share<J>,
-    pub vault: &'a Mutex<Vault<A, J>>,
+    pub shared_log: &'a Mutex<SharedLog<A, J>>,
     pub rt: &'a R,
     pub ghost some: { 0 < share.parts },
 }
@@ -185,7 +185,7 @@ impl<'a, A: Handle, J: Job<A>, R: Wait> Desk<Event<A>, Entry<A>> for LockedDesk<
         self.seat
     }
 
-    /// Takes the lock, and the event as `Vault::take` does: the desk's share grows by one with one more entry in the
+    /// Takes the lock, and the event as `SharedLog::take` does: the desk's share grows by one with one more entry in the
     /// locked book, and stays where there is none.
     fn hand(&mut self, event: Event<A>) -> Result<Entry<A>, TakeError>
         ensures same_seat { self.new.seat ≡ self.old.seat }
@@ -198,8 +198,8 @@ impl<'a, A: Handle, J: Job<A>, R: Wait> Desk<Event<A>, Entry<A>> for LockedDesk<
             (Counts {A = A} self.old.share.parts self.old.share.amount [] self.new.share.parts self.new.share.amount) }
         ensures gave { Counts self.old.share.parts self.old.share.amount (entries_in (result ∷ [])) self.new.share.parts self.new.share.amount }
     {
-        let mut vault = self.vault.lock(self.rt);
-        vault.take(self.seat, event, &mut self.share)
+        let mut shared_log = self.shared_log.lock(self.rt);
+        shared_log.take(self.seat, event, &mut self.share)
     }
 
     ghost nothing = { λ d. count-nothing d.share.parts d.share.amount };

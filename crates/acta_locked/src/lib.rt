@@ -12,7 +12,7 @@ mod watch;
 mod worker;
 
 pub use book::{Book, Entry, PlainDesk, TakeError, runs_are_faultless};
-pub use desk::{Desk, Job, LockedDesk, Vault};
+pub use desk::{Desk, Job, LockedDesk, SharedLog};
 pub use limits::MOST_WORKERS;
 pub use run::{DriveError, Driven};
 pub use watch::{Front, Watched, drive, drive_watched};

@@ -9,7 +9,7 @@ ghost use Rattle.acta_locked.specs.inside.Outcomes.{AreSeen, IsOfGate, IsOutcome
 ghost use Rattle.acta_locked.specs.declared.run.DriveError.TheVariants.{Memory, Unsettled};
 
 use crate::book::{Book, Entry};
-use crate::desk::{Job, LockedDesk, Vault};
+use crate::desk::{Job, LockedDesk, SharedLog};
 use crate::limits::MOST_WORKERS;
 use crate::watch::{Front, Watch, begins};
 use crate::worker::{Gate, Report, Script, WorkError, work};
@@ -175,7 +175,7 @@ pub struct Run<'s, A: Handle, J: Job<A>, R: Wait, G: Gate<Entry<A>>> {
     pub rt: &'s R,
     pub alloc: A,
     pub model: &'s Model<A>,
-    pub vault: &'s Mutex<Vault<A, J>>,
+    pub shared_log: &'s Mutex<SharedLog<A, J>>,
     pub scripts: &'s [Script<A>],
     pub gate: &'s G,
     pub turns: u8,
@@ -201,7 +201,7 @@ impl<
         let mut desk = LockedDesk {
             seat,
             share,
-            vault: self.vault,
+            shared_log: self.shared_log,
             rt: self.rt,
         };
         let outcome = work(self.alloc, &mut desk, script, self.gate);
@@ -244,7 +244,7 @@ impl<
         let mut history = Vec::new(self.alloc);
         let mut fronts = Vec::with_capacity(self.alloc, self.turns as usize)?;
         for turn in 0..self.turns {
-            let copy = self.vault.lock(self.rt).history(self.alloc)?;
+            let copy = self.shared_log.lock(self.rt).history(self.alloc)?;
             // (the history of a book is never too long for a verdict)
             let Ok(verdict) = judge(self.rt, self.alloc, self.model, copy.as_slice()) else {
                 return Err(DriveError::Memory);
@@ -354,18 +354,18 @@ fn are_settled<A: Handle>(book: &Book<A>, scripts: &[Script<A>], reports: &[Repo
 
 /// The book and the reports, where these are its parts and answer the scripts, and else `Unsettled`.
 pub(crate) fn settled<A: Handle, J: Job<A>>(
-    vault: Vault<A, J>,
+    shared_log: SharedLog<A, J>,
     gathered: Gathered<A, J>,
     scripts: &[Script<A>],
 ) -> Result<Driven<A>, DriveError>
     requires few { length scripts.now ≤ MOST_WORKERS }
     requires parts { gathered.all.parts ≡ J.parts }
     ensures same { IfOk result (λ d. d.reports ≡ gathered.reports.items) }
-    ensures why { IfErr result (λ e. (e ≡ Unsettled) × (AreParts vault.book 1 scripts.now gathered.reports.items → ⊥)) }
+    ensures why { IfErr result (λ e. (e ≡ Unsettled) × (AreParts shared_log.book 1 scripts.now gathered.reports.items → ⊥)) }
     ensures driven { IfOk result (IsDriven J.model scripts.now) }
 {
     let Gathered { mut all, reports } = gathered;
-    let book = vault.close(&mut all);
+    let book = shared_log.close(&mut all);
     if !are_settled(&book, scripts, reports.as_slice()) {
         return Err(DriveError::Unsettled);
     }

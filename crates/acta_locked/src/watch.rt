@@ -9,7 +9,7 @@ ghost use Rattle.acta_locked.specs.inside.Watches.{IsWatched};
 ghost use Rattle.acta_locked.specs.declared.run.DriveError.{DriveError};
 
 use crate::book::{Book, Entry};
-use crate::desk::{Job, Vault};
+use crate::desk::{Job, SharedLog};
 use crate::limits::MOST_WORKERS;
 use crate::run::{DriveError, Driven, Run, fault_of, settled};
 use crate::worker::{Gate, Script};
@@ -59,7 +59,7 @@ pub struct Watched<A: Handle> {
     pub fronts: Items<Front<A>, A>,
 }
 
-// The watched run of scripts that nothing bars, with a ledger of one part for each worker and one more.
+// The watched run of scripts that nothing blocks, with a ledger of one part for each worker and one more.
 fn watch_run<
     A: Handle + Send + Sync,
     J: Job<A> + Send + Sync,
@@ -85,18 +85,18 @@ fn watch_run<
 {
     let (calls, rest) = blank.open::<J>();
     let copy = model.copy()?;
-    let vault = Mutex::new(Vault::new(Book::new(alloc, model)?, calls));
+    let shared_log = Mutex::new(SharedLog::new(Book::new(alloc, model)?, calls));
     let run = Run {
         rt,
         alloc,
         model: &copy,
-        vault: &vault,
+        shared_log: &shared_log,
         scripts,
         gate,
         turns,
     };
     let (gathered, watch) = run.run(rest)?;
-    let driven = settled(vault.into_inner(), gathered, scripts)?;
+    let driven = settled(shared_log.into_inner(), gathered, scripts)?;
     if !begins(watch.history.as_slice(), driven.book.machine().history()) {
         drop(driven);
         return Err(DriveError::Unsettled);
@@ -121,7 +121,7 @@ pub fn drive_watched<A: Handle + Send + Sync, R: Threads + Wait + Sync, G: Gate<
     ensures driven { IfOk result (λ w. IsDriven model scripts.now w.driven) }
     ensures turns { IfOk result (λ w. length w.fronts ≡ turns) }
     ensures fronts { IfOk result (λ w. AreFronts model (state_of w.driven.book).kept w.fronts) }
-    ensures barred { (e : DriveError) → scripts_fault scripts.now ≡ Some e → result ≡ Err e }
+    ensures blocked { (e : DriveError) → scripts_fault scripts.now ≡ Some e → result ≡ Err e }
     ensures only { IfErr result (λ e. is_of_scripts e ≡ true → scripts_fault scripts.now ≡ Some e) }
     ensures let_on { IfOk result (λ w. EachLetOn (G.may_pass gate.now) (G.may_go_on gate.now) w.driven.reports) }
     ensures why { IfErr result (MayFail (G.may_stop gate.now) scripts.now) }
@@ -147,7 +147,7 @@ pub fn drive<A: Handle + Send + Sync, R: Threads + Wait + Sync, G: Gate<Entry<A>
     gate: &G,
 ) -> Result<Driven<A>, DriveError>
     ensures driven { IfOk result (IsDriven model scripts.now) }
-    ensures barred { (e : DriveError) → scripts_fault scripts.now ≡ Some e → result ≡ Err e }
+    ensures blocked { (e : DriveError) → scripts_fault scripts.now ≡ Some e → result ≡ Err e }
     ensures only { IfErr result (λ e. is_of_scripts e ≡ true → scripts_fault scripts.now ≡ Some e) }
     ensures let_on { IfOk result (λ d. EachLetOn (G.may_pass gate.now) (G.may_go_on gate.now) d.reports) }
     ensures why { IfErr result (MayFail (G.may_stop gate.now) scripts.now) }

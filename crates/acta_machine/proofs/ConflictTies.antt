@@ -28,7 +28,7 @@ use Rattle.acta_axioms.specs.History.{end}
 use Rattle.acta_axioms.specs.Operations.{Operation, operations, standing}
 use Rattle.acta_axioms.specs.Values.{do_conflict}
 use Rattle.acta_axioms.specs.Edges.{holders_against, formed_by}
-use Rattle.acta_axioms.proofs.ByOperations.{holders-shown}
+use Rattle.acta_axioms.proofs.ByOperations.{holders-abstraction}
 use Rattle.acta_axioms.proofs.Conflicts.{do_conflict-on}
 use Rattle.acta_axioms.proofs.Holders.{all-ascending, all-upon}
 use Rattle.acta_deps.specs.Statuses.{is_in_progress}
@@ -36,8 +36,8 @@ use Rattle.acta_sets.specs.declared.held_op.HeldOp.{HeldOp}
 use Rattle.acta_sets.specs.Operations.{is_among, is_of_others}
 use Rattle.acta_machine.specs.Summary.{Summary}
 use Rattle.acta_machine.specs.Changes.{summary_of}
-use Rattle.acta_machine.specs.Conflicts.{stands_against, opponents, conflict_edges}
-use Rattle.acta_machine.specs.Families.{class_of, spared}
+use Rattle.acta_machine.specs.Conflicts.{stands_against, conflicting_holders, conflict_edges}
+use Rattle.acta_machine.specs.Families.{class_of, exempt}
 use Rattle.acta_machine.specs.Places.{ShowsPlaces, held_op, is_held_well, AreHeldWell}
 use Rattle.acta_machine.proofs.Broken.{or_none}
 use Rattle.acta_machine.proofs.EdgeSteps.{formed-other}
@@ -57,15 +57,15 @@ against-places m h shows t ob op o =
     ∙ and_assoc (Rattle.acta_axioms.specs.Operations.is_of_others m h t o.object (standing m h o)) (o.object == ob.0) (do_conflict m ob.0 o.op op)
 
 -- those who hold it are the same
-pub opponents-places : {A : Type 0} (m : Parts A) (h : List (Kept A)) → ShowsPlaces m h (summary_of m h) → (t : ℕ) (ob : ObjId) (op : Op) → opponents m (summary_of m h) t ob op ≡ holders_against m h t ob.0 op
-opponents-places m h shows t ob op =
+pub conflicting_holders-places : {A : Type 0} (m : Parts A) (h : List (Kept A)) → ShowsPlaces m h (summary_of m h) → (t : ℕ) (ob : ObjId) (op : Op) → conflicting_holders m (summary_of m h) t ob op ≡ holders_against m h t ob.0 op
+conflicting_holders-places m h shows t ob op =
     ap (λ items. ascending (map (λ (i : HeldOp). i.holder.0) (filter (stands_against m (summary_of m h) t ob op) items))) shows.operations
-    ∙ sym (ap ascending (holders-shown m h t ob.0 op (λ o. held_op o (standing m h o)) (stands_against m (summary_of m h) t ob op) (λ i. i.holder.0) (against-places m h shows t ob op) (λ o. refl)))
+    ∙ sym (ap ascending (holders-abstraction m h t ob.0 op (λ o. held_op o (standing m h o)) (stands_against m (summary_of m h) t ob op) (λ i. i.holder.0) (against-places m h shows t ob op) (λ o. refl)))
 
 -- and so are the edges
 pub conflict_edges-places : {A : Type 0} (m : Parts A) (h : List (Kept A)) → ShowsPlaces m h (summary_of m h) → (t : TxnId) (ob : ObjId) (op : Op) → conflict_edges m (summary_of m h) t ob op ≡ formed_by m h (Operate t ob op)
 conflict_edges-places {A} m h shows t ob op =
-    λ i. option_map_or (λ (k : Class A). edges_upon k.policy t (opponents-places m h shows t.0 ob op i)) (class_of-places m h (summary_of m h) shows t.0 i) []
+    λ i. option_map_or (λ (k : Class A). edges_upon k.policy t (conflicting_holders-places m h shows t.0 ob op i)) (class_of-places m h (summary_of m h) shows t.0 i) []
 
 -- each kind that a checked policy forms is one that it may
 any-kind : (test : Dep → Bool) (kind : Dep) → list_any test all_kinds ≡ false → test kind ≡ false
@@ -112,11 +112,11 @@ through-class test f each None = refl
 through-class test f each (Some x) = each x
 
 -- those who hold the operations that stand against another are in progress
-all-opponents : (status : ℕ → Status) (test : HeldOp → Bool) → ((i : HeldOp) → test i ≡ true → is_open i.fate ≡ true) → (items : List HeldOp) → list_all (is_held_well status) items ≡ true → list_all (λ u. is_in_progress (status u)) (map (λ (i : HeldOp). i.holder.0) (filter test items)) ≡ true
-all-opponents status test opens [] all = refl
-all-opponents status test opens (i ∷ items) all =
+all-conflicting_holders : (status : ℕ → Status) (test : HeldOp → Bool) → ((i : HeldOp) → test i ≡ true → is_open i.fate ≡ true) → (items : List HeldOp) → list_all (is_held_well status) items ≡ true → list_all (λ u. is_in_progress (status u)) (map (λ (i : HeldOp). i.holder.0) (filter test items)) ≡ true
+all-conflicting_holders status test opens [] all = refl
+all-conflicting_holders status test opens (i ∷ items) all =
     let parts = both (is_held_well status i) (list_all (is_held_well status) items) all in
-    of (test i) refl parts.0 (all-opponents status test opens items parts.1)
+    of (test i) refl parts.0 (all-conflicting_holders status test opens items parts.1)
   where
     both : (a b : Bool) → (a && b) ≡ true → (a ≡ true) × (b ≡ true)
     both true b e = (refl, e)
@@ -135,10 +135,10 @@ first_true : (a b : Bool) → (a && b) ≡ true → a ≡ true
 first_true true b e = refl
 first_true false b e = cc
 
-pub opponents-on : {A : Type 0} (m : Parts A) (s : Summary) → AreHeldWell s → (t : ℕ) (ob : ObjId) (op : Op) → list_all (λ u. is_in_progress (s.status u)) (opponents m s t ob op) ≡ true
-opponents-on m s well t ob op =
+pub conflicting_holders-on : {A : Type 0} (m : Parts A) (s : Summary) → AreHeldWell s → (t : ℕ) (ob : ObjId) (op : Op) → list_all (λ u. is_in_progress (s.status u)) (conflicting_holders m s t ob op) ≡ true
+conflicting_holders-on m s well t ob op =
     all-ascending (λ u. is_in_progress (s.status u)) (map (λ (i : HeldOp). i.holder.0) (filter (stands_against m s t ob op) s.operations))
-    (all-opponents s.status (stands_against m s t ob op) (λ i against. first_true (is_open i.fate) _ (first_true (is_open i.fate && not (i.holder.0 == t)) _ (first_true (is_open i.fate && not (i.holder.0 == t) && not (is_among (spared m s t) i.holder)) _ (first_true (is_of_others t (spared m s t) s.permits i) _ (first_true (is_of_others t (spared m s t) s.permits i && (i.ob.0 == ob.0)) _ against))))) s.operations well)
+    (all-conflicting_holders s.status (stands_against m s t ob op) (λ i against. first_true (is_open i.fate) _ (first_true (is_open i.fate && not (i.holder.0 == t)) _ (first_true (is_open i.fate && not (i.holder.0 == t) && not (is_among (exempt m s t) i.holder)) _ (first_true (is_of_others t (exempt m s t) s.permits i) _ (first_true (is_of_others t (exempt m s t) s.permits i && (i.ob.0 == ob.0)) _ against))))) s.operations well)
 
 -- the formulas of the edges hold where their transactions have not ended
 pub holding-conflicts : {A : Type 0} (m : Parts A) (s : Summary) (courses : ℕ → Course) → lowest_fault m ≡ None → AreHeldWell s → (t : TxnId) (ob : ObjId) (op : Op) → is_some (end (courses t.0)) ≡ false
@@ -146,9 +146,9 @@ pub holding-conflicts : {A : Type 0} (m : Parts A) (s : Summary) (courses : ℕ 
 holding-conflicts {A} m s courses faultless well t ob op t_open opens =
     of_class (class_of m s t.0) (through-class (λ k. is_bad_policy k.policy) (λ c. class_at m c.0) (λ c. good-class m faultless c.0) (s.class t.0))
   where
-    of_class : (k : Option (Class A)) → option_map_or (λ c. is_bad_policy c.policy) k false ≡ false → list_all (holds_in courses) (option_map_or (λ c. edges_upon c.policy t (opponents m s t.0 ob op)) k []) ≡ true
+    of_class : (k : Option (Class A)) → option_map_or (λ c. is_bad_policy c.policy) k false ≡ false → list_all (holds_in courses) (option_map_or (λ c. edges_upon c.policy t (conflicting_holders m s t.0 ob op)) k []) ≡ true
     of_class None good = refl
     of_class (Some k) good =
-        all-upon (holds_in courses) (λ u. is_in_progress (s.status u)) k.policy t (opponents m s t.0 ob op)
+        all-upon (holds_in courses) (λ u. is_in_progress (s.status u)) k.policy t (conflicting_holders m s t.0 ob op)
         (λ kind u formed on. ap not (formed-other kind (courses t.0) (courses u) (good-kind k.policy good kind formed) t_open (opens u on)))
-        (opponents-on m s well t.0 ob op)
+        (conflicting_holders-on m s well t.0 ob op)

@@ -78,7 +78,7 @@ some_clash : (status : ℕ → Status) (es : List Edge) (t : ℕ) (s : Status) �
 unfolding clash
 some_clash status es t s = some_smallest Clash (clashes_in (with_status status t s) es) es
 
--- an event is refused where an edge bars it or debts would clash
+-- an event is refused where an edge blocks it or debts would clash
 start_tests : (status : ℕ → Status) (es : List Edge) (t : ℕ) → is_some (start_refusal status es t) ≡ (list_any (refuses_start status t) es || meet_then status es t InProgress)
 unfolding start_refusal begin_dep serial_dep begin_on_commit begin_on_abort
 start_tests status es t =
@@ -117,31 +117,31 @@ unfolding join_refusal owing_abort owing_commit
 join_tests status es t = or_tests _ _ _ _ es (some_rule _ _ es) (some_rule _ _ es)
 
 -- two tests that agree at each edge that is apart and unbroken agree on a list of such edges
-alike : (f g broken : Edge → Bool) → ((e : Edge) → is_apart e ≡ true → broken e ≡ false → f e ≡ g e) → (es : List Edge) → list_all is_apart es ≡ true → list_any broken es ≡ false → map f es ≡ map g es
-alike f g broken same [] apart whole = refl
-alike f g broken same (e ∷ es) apart whole =
+equivalent : (f g broken : Edge → Bool) → ((e : Edge) → is_apart e ≡ true → broken e ≡ false → f e ≡ g e) → (es : List Edge) → list_all is_apart es ≡ true → list_any broken es ≡ false → map f es ≡ map g es
+equivalent f g broken same [] apart whole = refl
+equivalent f g broken same (e ∷ es) apart whole =
     let a = and_parts (is_apart e) (list_all is_apart es) apart in
     let w = or_parts (broken e) (list_any broken es) whole in
-    λ i. same e a.0 w.0 i ∷ alike f g broken same es a.1 w.1 i
+    λ i. same e a.0 w.0 i ∷ equivalent f g broken same es a.1 w.1 i
 
--- and so pass some edge alike
+-- and so pass some edge equivalent
 any-map : (f : Edge → Bool) (es : List Edge) → list_any f es ≡ list_any (λ b. b) (map f es)
 any-map f [] = refl
 any-map f (e ∷ es) = ap (λ b. f e || b) (any-map f es)
 
-any_alike : (f g : Edge → Bool) (es : List Edge) → map f es ≡ map g es → list_any f es ≡ list_any g es
-any_alike f g es same = any-map f es ∙ ap (list_any (λ b. b)) same ∙ sym (any-map g es)
+any_equivalent : (f g : Edge → Bool) (es : List Edge) → map f es ≡ map g es → list_any f es ≡ list_any g es
+any_equivalent f g es same = any-map f es ∙ ap (list_any (λ b. b)) same ∙ sym (any-map g es)
 
 -- what is owed by an edge is the same by the statuses and by the courses
-owes_alike : (status : ℕ → Status) (courses : ℕ → Course) → ((u : ℕ) → status u ≡ course_status (courses u)) → ((u : ℕ) → is_orderly (courses u) ≡ true) → (e : Edge) → debt_of status e ≡ debt_by courses e
-owes_alike status courses shows orderly e =
+owes_equivalent : (status : ℕ → Status) (courses : ℕ → Course) → ((u : ℕ) → status u ≡ course_status (courses u)) → ((u : ℕ) → is_orderly (courses u) ≡ true) → (e : Edge) → debt_of status e ≡ debt_by courses e
+owes_equivalent status courses shows orderly e =
     (λ x. debt_in e.kind (shows e.i.0 x) (shows e.j.0 x))
     ∙ debts-tie e.kind (courses e.j.0) (courses e.i.0) (orderly e.j.0) (orderly e.i.0)
 
-clashes_alike : (status : ℕ → Status) (courses : ℕ → Course) → ((u : ℕ) → status u ≡ course_status (courses u)) → ((u : ℕ) → is_orderly (courses u) ≡ true) → (es : List Edge)
+clashes_equivalent : (status : ℕ → Status) (courses : ℕ → Course) → ((u : ℕ) → status u ≡ course_status (courses u)) → ((u : ℕ) → is_orderly (courses u) ≡ true) → (es : List Edge)
     → list_any (clashes_in status es) es ≡ list_any (clashes_by courses es) es
-clashes_alike status courses shows orderly es =
-    let same = owes_alike status courses shows orderly in
+clashes_equivalent status courses shows orderly es =
+    let same = owes_equivalent status courses shows orderly in
     λ x. list_any (λ e. is_commit (same e x) && list_any (λ f. (f.j.0 == e.j.0) && is_abort (same f x)) es) es
 
 -- the edge joins two, so that only one of them is t
@@ -152,7 +152,7 @@ or-false : (b : Bool) → (b || false) ≡ b
 or-false true = refl
 or-false false = refl
 
--- one edge that is unbroken: it is barred exactly where the event, of its j or its i or of neither, breaks its formula
+-- one edge that is unbroken: it is blocked exactly where the event, of its j or its i or of neither, breaks its formula
 module _ (kind : Dep) (n : ℕ) (cj ci : Course) (orderly_j : is_orderly cj ≡ true) (orderly_i : is_orderly ci ≡ true) (within_j : IsWithin n cj) (within_i : IsWithin n ci) (whole : is_broken kind cj ci ≡ false) where
   start_edge : (of_j of_i : Bool) → (of_j && of_i) ≡ false → (of_j ≡ true → course_status cj ≡ NotBegun) → (of_i ≡ true → course_status ci ≡ NotBegun)
       → ((of_j && awaits_begin kind (course_status ci)) || (of_j && awaits_end kind (course_status ci)) || (of_j && awaits_commit kind (course_status ci)) || (of_j && awaits_abort kind (course_status ci)))
@@ -264,7 +264,7 @@ neither false false = refl
 -- an event is refused exactly where it is not legal, by each edge that it breaks, and by debts that meet
 pub record IsExactBy (later : ℕ → Course) (es : List Edge) (refused clash : Bool) (test : Edge → Bool) : Type 0 where
   pub refuses : refused ≡ not (is_legal_by later es)
-  pub alike : map test es ≡ map (is_broken_by later) es
+  pub equivalent : map test es ≡ map (is_broken_by later) es
   pub clashes : clash ≡ list_any (clashes_by later es) es
 
 -- an event of t, which lengthens t's course alone, is refused exactly where it would leave a formula broken or debts that clash
@@ -285,20 +285,20 @@ module _ (status : ℕ → Status) (courses later : ℕ → Course) (es : List E
   stands s at u same = sym (shows u) ∙ ap status (eqb-true u t same) ∙ at
 
   -- the tests of edges, and then of debts, are those of legality
-  exact : (bars : ℕ → Edge → Bool) (s : Status) (refused clash : Bool) → refused ≡ (list_any (bars t) es || clash) → clash ≡ meet_then status es t s
-      → ((e : Edge) → is_apart e ≡ true → is_broken_by courses e ≡ false → bars t e ≡ is_broken_by later e)
+  exact : (blocks : ℕ → Edge → Bool) (s : Status) (refused clash : Bool) → refused ≡ (list_any (blocks t) es || clash) → clash ≡ meet_then status es t s
+      → ((e : Edge) → is_apart e ≡ true → is_broken_by courses e ≡ false → blocks t e ≡ is_broken_by later e)
       → ((u : ℕ) → with_status status t s u ≡ course_status (later u))
-      → IsExactBy later es refused clash (bars t)
-  exact bars s refused clash tests meets each shows_later =
-      let edges_alike = alike (bars t) (is_broken_by later) (is_broken_by courses) each es apart unbroken in
-      let debts_alike = meets ∙ clashes_alike (with_status status t s) later shows_later orderly_later es in
+      → IsExactBy later es refused clash (blocks t)
+  exact blocks s refused clash tests meets each shows_later =
+      let edges_equivalent = equivalent (blocks t) (is_broken_by later) (is_broken_by courses) each es apart unbroken in
+      let debts_equivalent = meets ∙ clashes_equivalent (with_status status t s) later shows_later orderly_later es in
       record {
         refuses =
             tests
-            ∙ (λ x. any_alike (bars t) (is_broken_by later) es edges_alike x || debts_alike x)
+            ∙ (λ x. any_equivalent (blocks t) (is_broken_by later) es edges_equivalent x || debts_equivalent x)
             ∙ neither (list_any (is_broken_by later) es) (list_any (clashes_by later es) es);
-        alike = edges_alike;
-        clashes = debts_alike;
+        equivalent = edges_equivalent;
+        clashes = debts_equivalent;
       }
 
   pub starts-exact : status t ≡ NotBegun → later t ≡ begun (n + 1) (courses t) → ((u : ℕ) → with_status status t InProgress u ≡ course_status (later u))
@@ -345,7 +345,7 @@ module _ (status : ℕ → Status) (courses later : ℕ → Course) (es : List E
   joins-exact at here shows_later calm = exact (refuses_join status) Joined (is_some (join_refusal status es t)) false tests (sym calm_then) each shows_later
     where
       calm_then : meet_then status es t Joined ≡ false
-      calm_then = calm_joined status es t at (clashes_alike status courses shows orderly es ∙ calm)
+      calm_then = calm_joined status es t at (clashes_equivalent status courses shows orderly es ∙ calm)
 
       tests : is_some (join_refusal status es t) ≡ (list_any (refuses_join status t) es || false)
       tests = join_tests status es t ∙ sym (or-false (list_any (refuses_join status t) es))
@@ -363,7 +363,7 @@ owed_from-tie : (status : ℕ → Status) (courses : ℕ → Course) → ((u : �
     → owed_from status n es ≡ filter_map (λ e. option_map (owed_on e) (debt_by courses e.1)) (enumerate_from n es)
 owed_from-tie status courses shows orderly n [] = refl
 owed_from-tie status courses shows orderly n (e ∷ es) =
-    λ x. cons_option ((ap (owed_at n e) (owes_alike status courses shows orderly e) ∙ mapped (debt_by courses e)) x) (owed_from-tie status courses shows orderly (n + 1) es x)
+    λ x. cons_option ((ap (owed_at n e) (owes_equivalent status courses shows orderly e) ∙ mapped (debt_by courses e)) x) (owed_from-tie status courses shows orderly (n + 1) es x)
   where
     mapped : (o : Option Missing) → owed_at n e o ≡ option_map (owed_on (n, e)) o
     mapped None = refl
@@ -432,7 +432,7 @@ all-weaker p q weaker (f ∷ more) all =
 clash-formed : (status : ℕ → Status) (es more : List Edge) → list_all (λ f. not (is_commit (debt_of status f)) && not (is_abort (debt_of status f))) more ≡ true
     → list_any (clashes_in status (formed es more)) (formed es more) ≡ list_any (clashes_in status es) es
 clash-formed status es more calm =
-    (λ x. list_any (λ e. is_commit (debt_of status e) && aborts_alike e.j.0 x) (formed es more))
+    (λ x. list_any (λ e. is_commit (debt_of status e) && aborts_equivalent e.j.0 x) (formed es more))
     ∙ any-formed (clashes_in status es) es more (all-weaker _ _ no_commit more calm)
   where
     no_abort : (u : ℕ) (f : Edge) → (not (is_commit (debt_of status f)) && not (is_abort (debt_of status f))) ≡ true → not (owes_abort status u f) ≡ true
@@ -442,8 +442,8 @@ clash-formed status es more calm =
         of true b e = e
         of false b e = refl
 
-    aborts_alike : (u : ℕ) → list_any (owes_abort status u) (formed es more) ≡ list_any (owes_abort status u) es
-    aborts_alike u = any-formed (owes_abort status u) es more (all-weaker _ _ (no_abort u) more calm)
+    aborts_equivalent : (u : ℕ) → list_any (owes_abort status u) (formed es more) ≡ list_any (owes_abort status u) es
+    aborts_equivalent u = any-formed (owes_abort status u) es more (all-weaker _ _ (no_abort u) more calm)
 
     no_commit : (f : Edge) → (not (is_commit (debt_of status f)) && not (is_abort (debt_of status f))) ≡ true → not (clashes_in status es f) ≡ true
     no_commit f e = of (is_commit (debt_of status f)) (list_any (owes_abort status f.j.0) es) (and_parts (not (is_commit (debt_of status f))) (not (is_abort (debt_of status f))) e).0

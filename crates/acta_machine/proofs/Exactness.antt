@@ -131,18 +131,18 @@ IsChecked m s = (t : ℕ) → s.status t ≡ InProgress → lowest_fault m ≡ N
 -- and by debts that meet
 pub record IsExactAs {A : Type 0} (m : Parts A) (later : List (Kept A)) (refused clash : Bool) (test : Edge → Bool) : Type 0 where
   pub refuses : refused ≡ not (is_legal m later)
-  pub alike : map test (edges m later) ≡ map (is_broken_in later) (edges m later)
+  pub equivalent : map test (edges m later) ≡ map (is_broken_in later) (edges m later)
   pub clashes : clash ≡ has_clash m later
 
 abbrev pub IsExact : {A : Type 0} → Parts A → List (Kept A) → Summary → Event A → Type 0
 IsExact m later s e = IsExactAs m later (is_some (dependency s e)) (debts_meet s e) (edge_refuses s e)
 
 -- where no test passes, tests that never pass are the same
-none-alike : (test : Edge → Bool) (es : List Edge) → list_any test es ≡ false → map (λ _. false) es ≡ map test es
-none-alike test [] none = refl
-none-alike test (e ∷ es) none =
+none-equivalent : (test : Edge → Bool) (es : List Edge) → list_any test es ≡ false → map (λ _. false) es ≡ map test es
+none-equivalent test [] none = refl
+none-equivalent test (e ∷ es) none =
     let parts = or_parts (test e) (list_any test es) none in
-    λ x. sym parts.0 x ∷ none-alike test es parts.1 x
+    λ x. sym parts.0 x ∷ none-equivalent test es parts.1 x
 
 -- an event by which nothing is refused leaves the history legal
 legal-exact : {A : Type 0} (m : Parts A) (later : List (Kept A)) → is_legal m later ≡ true → IsExactAs m later false false (λ _. false)
@@ -150,7 +150,7 @@ legal-exact m later legal =
     let by_courses = sym (legal-by m later) ∙ legal in
     record {
       refuses = ap not (sym legal);
-      alike = none-alike (is_broken_by (course later)) (edges m later) (legal-unbroken (course later) (edges m later) by_courses);
+      equivalent = none-equivalent (is_broken_by (course later)) (edges m later) (legal-unbroken (course later) (edges m later) by_courses);
       clashes = sym (legal-calm (course later) (edges m later) by_courses);
     }
 
@@ -159,7 +159,7 @@ exact-in : {A : Type 0} (m : Parts A) (later : List (Kept A)) (es : List Edge) (
     → IsExactBy (course later) es refused_by clash_by test → IsExactAs m later refused clash test
 exact-in m later es refused refused_by clash clash_by test grown refuses clashes by = record {
   refuses = refuses ∙ by.refuses ∙ ap (λ x. not (is_legal_by (course later) x)) (sym grown) ∙ ap not (sym (legal-by m later));
-  alike = subst (λ x. map test x ≡ map (is_broken_in later) x) (sym grown) by.alike;
+  equivalent = subst (λ x. map test x ≡ map (is_broken_in later) x) (sym grown) by.equivalent;
   clashes = clashes ∙ by.clashes ∙ ap (λ x. list_any (clashes_by (course later) x) x) (sym grown);
 }
 

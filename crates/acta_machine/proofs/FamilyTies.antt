@@ -11,14 +11,14 @@ use Rattle.acta_table.specs.declared.answer.Status.TheVariants.{Committed}
 use Rattle.acta_table.specs.declared.model.Class.{Class}
 use Rattle.acta_table.specs.declared.model.Parts.{Parts}
 use Rattle.acta_table.specs.Ancestors.{ancestors_from}
-use Rattle.acta_table.specs.Classes.{class_at, spares, has_heir}
+use Rattle.acta_table.specs.Classes.{class_at, exempts, has_heir}
 use Rattle.acta_axioms.specs.History.{ancestors}
 use Rattle.acta_axioms.specs.History as by_places
-use Rattle.acta_axioms.specs.Operations.{heir, is_spared}
+use Rattle.acta_axioms.specs.Operations.{heir, is_exempt}
 use Rattle.acta_sets.specs.Operations.{is_among}
 use Rattle.acta_machine.specs.Summary.{Summary, nothing_yet, stood, terminated, permit_given, entered, linked, given, inherited, operated, fated, counted}
 use Rattle.acta_machine.specs.Changes.{settled, effect, summary_from, summary_of}
-use Rattle.acta_machine.specs.Families.{class_of, has_class, ancestors_of, spared, heir_of}
+use Rattle.acta_machine.specs.Families.{class_of, has_class, ancestors_of, exempt, heir_of}
 use Rattle.acta_machine.specs.Places.{ShowsPlaces}
 
 through : {X Y Z : Type 0} (f : Y → Option Z) (g : X → Y) (o : Option X) → option_and_then f (option_map g o) ≡ option_and_then (λ x. f (g x)) o
@@ -77,8 +77,8 @@ among_if true line u = refl
 among_if false line u = refl
 
 -- those whose operations on an object are left out of a conflict set
-pub spared-places : {A : Type 0} (m : Parts A) (h : List (Kept A)) → ShowsPlaces m h (summary_of m h) → (t object : ℕ) (u : TxnId) → is_spared m h t object u.0 ≡ (is_among (spared m (summary_of m h) t) u || (summary_of m h).permits u.0 t object)
-spared-places m h shows t object u =
-    λ n. ((λ i. has_class-places (λ k. spares k.scope) m h (summary_of m h) shows t i && list_any (λ a. a.0 == u.0) (sym (ancestors-places m h shows t) i))
-    ∙ among_if (has_class (λ k. spares k.scope) m (summary_of m h) t) (ancestors_of (summary_of m h) t) u) n
+pub exempt-places : {A : Type 0} (m : Parts A) (h : List (Kept A)) → ShowsPlaces m h (summary_of m h) → (t object : ℕ) (u : TxnId) → is_exempt m h t object u.0 ≡ (is_among (exempt m (summary_of m h) t) u || (summary_of m h).permits u.0 t object)
+exempt-places m h shows t object u =
+    λ n. ((λ i. has_class-places (λ k. exempts k.scope) m h (summary_of m h) shows t i && list_any (λ a. a.0 == u.0) (sym (ancestors-places m h shows t) i))
+    ∙ among_if (has_class (λ k. exempts k.scope) m (summary_of m h) t) (ancestors_of (summary_of m h) t) u) n
     || sym (shows.permits u.0 t object) n

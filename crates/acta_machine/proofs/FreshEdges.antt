@@ -29,14 +29,14 @@ use Rattle.acta_axioms.proofs.Holders.{all-upon}
 use Rattle.acta_deps.specs.Statuses.{is_new, is_in_progress, has_ended}
 use Rattle.acta_deps.proofs.Clear.{undecided, not_ended, of_begin}
 use Rattle.acta_machine.specs.Changes.{edges_due}
-use Rattle.acta_machine.specs.Conflicts.{opponents, conflict_edges}
+use Rattle.acta_machine.specs.Conflicts.{conflicting_holders, conflict_edges}
 use Rattle.acta_machine.specs.Families.{class_of}
 use Rattle.acta_machine.specs.Places.{AreHeldWell}
 use Rattle.acta_machine.specs.Rules.{fails, not_in_progress, already_begun, too_late, form_too_late}
 use Rattle.acta_machine.specs.Summary.{Summary}
 use Rattle.acta_machine.specs.inside.FreshEdges.{is_fresh_edge}
 use Rattle.acta_machine.proofs.Broken.{by_none, in_progress, not_begun, is_begun}
-use Rattle.acta_machine.proofs.ConflictTies.{opponents-on}
+use Rattle.acta_machine.proofs.ConflictTies.{conflicting_holders-on}
 use Rattle.acta_machine.proofs.Starting.{each-spawned, each-split}
 use Rattle.acta_machine.proofs.Unbroken.{Unbroken}
 
@@ -95,13 +95,13 @@ fresh-formed s kind j i good_j good_i none nobody = of (is_begin_kind kind) refl
 fresh-conflicts : {A : Type 0} (m : Parts A) (s : Summary) → AreHeldWell s → ((t : ℕ) → is_bad_number t ≡ true → s.status t ≡ NotBegun) → (t : TxnId) (ob : ObjId) (op : Op) → s.status t.0 ≡ InProgress → list_all (is_fresh_edge s.status) (conflict_edges m s t ob op) ≡ true
 fresh-conflicts {A} m s well nobody t ob op on = of_class (class_of m s t.0)
   where
-    of_class : (k : Option (Class A)) → list_all (is_fresh_edge s.status) (option_map_or (λ c. edges_upon c.policy t (opponents m s t.0 ob op)) k []) ≡ true
+    of_class : (k : Option (Class A)) → list_all (is_fresh_edge s.status) (option_map_or (λ c. edges_upon c.policy t (conflicting_holders m s t.0 ob op)) k []) ≡ true
     of_class None = refl
     of_class (Some k) =
-        all-upon (is_fresh_edge s.status) (λ u. is_in_progress (s.status u)) k.policy t (opponents m s t.0 ob op)
+        all-upon (is_fresh_edge s.status) (λ u. is_in_progress (s.status u)) k.policy t (conflicting_holders m s t.0 ob op)
         (λ kind u formed running. let open_u : s.status u ≡ InProgress = is_begun (s.status u) running in
         fresh-open s.status nobody (record { kind = kind; j = t; i = record { 0 = u } }) (good_running s.status nobody t.0 on) (good_running s.status nobody u open_u) (ap has_ended open_u))
-        (opponents-on m s well t.0 ob op)
+        (conflicting_holders-on m s well t.0 ob op)
 
 pub fresh-due : {A : Type 0} (m : Parts A) (s : Summary) (e : Event A) → lowest_fault m ≡ None → AreHeldWell s → ((t : ℕ) → is_bad_number t ≡ true → s.status t ≡ NotBegun) → Unbroken m s e → list_all (is_fresh_edge s.status) (edges_due m s e) ≡ true
 unfolding not_in_progress already_begun form_too_late

@@ -1,7 +1,7 @@
 -- The summary of a history that is one event longer, and of none.
 use Rattle.std.proofs.Common.{◌≡◌, ℕ, suc, ◌+◌, ◌≤◌, List, [], ◌∷◌, ◌++◌, length, refl, arith, ◌∙◌, ap, sym, Option, Some, None, length-append}
 use Rattle.std.proofs.lemmas.List.{length-map}
-use Rattle.acta_machine.specs.declared.board.Origin.{Origin}
+use Rattle.acta_machine.specs.declared.machine_state.TxnRecord.{TxnRecord}
 use Rattle.acta_table.specs.declared.event.OpNo.{OpNo}
 use Rattle.acta_table.specs.declared.event.TxnId.{TxnId}
 use Rattle.acta_sets.specs.Operations.{moved_from}
@@ -15,7 +15,7 @@ use Rattle.acta_sets.specs.Permits.{Permitted, none_permitted}
 use Rattle.acta_machine.specs.Summary.{Summary, nothing_yet, stood, terminated, permit_given, entered, linked, given, inherited, operated, fated, counted}
 use Rattle.acta_machine.specs.Changes.{edges_due, settled, effect, summary_from, summary_of}
 use Rattle.acta_machine.specs.Families.{heir_of}
-use Rattle.acta_machine.specs.inside.Shown.{origin_in, summary_in}
+use Rattle.acta_machine.specs.inside.Abstraction.{record_in, summary_in}
 
 summary_from_more : {A : Type 0} (m : Parts A) (s : Summary) (history : List (Kept A)) (k : Kept A) → summary_from m s (history ++ k ∷ []) ≡ effect m (summary_from m s history) k.event
 summary_from_more m s [] k = refl
@@ -27,15 +27,15 @@ unfolding summary_of
 summary_more m history k = summary_from_more m nothing_yet history k
 
 -- fresh tables with nothing kept show the summary before any event
-pub fresh_summary : {A : Type 0} (m : Parts A) (deps : DepState) (origins : List Origin) (operations : List HeldOp) (permits : Permitted) (kept : List (Kept A)) → deps ≡ record { statuses = []; edges = [] } → origins ≡ [] → operations ≡ [] → permits ≡ none_permitted → kept ≡ [] → summary_in deps origins operations permits kept ≡ summary_of m kept
+pub fresh_summary : {A : Type 0} (m : Parts A) (deps : DepState) (records : List TxnRecord) (operations : List HeldOp) (permits : Permitted) (kept : List (Kept A)) → deps ≡ record { statuses = []; edges = [] } → records ≡ [] → operations ≡ [] → permits ≡ none_permitted → kept ≡ [] → summary_in deps records operations permits kept ≡ summary_of m kept
 unfolding summary_of
-fresh_summary m deps origins operations permits kept new none no_operation no_permit empty =
-    let shows : summary_in deps origins operations permits kept ≡ nothing_yet =
+fresh_summary m deps records operations permits kept new none no_operation no_permit empty =
+    let shows : summary_in deps records operations permits kept ≡ nothing_yet =
     λ i. record {
       kept = length (empty i);
       status = status_of (new i);
-      class = λ u. (origin_in (none i) u).class;
-      parent = λ u. (origin_in (none i) u).parent;
+      class = λ u. (record_in (none i) u).class;
+      parent = λ u. (record_in (none i) u).parent;
       operations = no_operation i;
       edges = (new i).edges;
       permits = no_permit i;

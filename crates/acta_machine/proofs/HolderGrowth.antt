@@ -15,7 +15,7 @@ use Rattle.acta_table.specs.Sets.{is_named}
 use Rattle.acta_table.specs.Fates.{is_open}
 use Rattle.acta_deps.specs.Statuses.{is_in_progress, with_status}
 use Rattle.acta_sets.specs.declared.held_op.HeldOp.{HeldOp}
-use Rattle.acta_sets.specs.Operations.{handed_op, handed, ended_op, ended, moved_from, moved, added}
+use Rattle.acta_sets.specs.Operations.{transferred_op, transferred, ended_op, ended, moved_from, moved, added}
 use Rattle.acta_machine.specs.Places.{is_held_well}
 
 both : (a b : Bool) → (a && b) ≡ true → (a ≡ true) × (b ≡ true)
@@ -73,15 +73,15 @@ pub well-given : (status : ℕ → Status) (ops : List OpNo) (u : TxnId) → is_
 well-given status ops u on items all = well-moved status 1 ops u on items all
 
 -- where t ends, and u, in progress, holds all that it held
-one-handed : (status : ℕ → Status) (t : ℕ) (x : Status) (u : TxnId) → is_in_progress (with_status status t x u.0) ≡ true → (ob : ObjId) (op : Op) (v : TxnId) (fate : Fate) →
-    is_held_well status (record { ob = ob; op = op; holder = v; fate = fate }) ≡ true → is_held_well (with_status status t x) (handed_op t u (record { ob = ob; op = op; holder = v; fate = fate })) ≡ true
-one-handed status t x u on ob op v InProgress e = elim (cases_eq v.0 t) [ inl same ↦ rw (eq-eqb v.0 t same) on | inr ne ↦ rw (ne_eqb v.0 t ne, ne_eqb v.0 t ne) e ]
-one-handed status t x u on ob op v Committed e = elim (cases_eq v.0 t) [ inl same ↦ rw (eq-eqb v.0 t same) refl | inr ne ↦ rw (ne_eqb v.0 t ne) refl ]
-one-handed status t x u on ob op v Aborted e = elim (cases_eq v.0 t) [ inl same ↦ rw (eq-eqb v.0 t same) refl | inr ne ↦ rw (ne_eqb v.0 t ne) refl ]
+one-transferred : (status : ℕ → Status) (t : ℕ) (x : Status) (u : TxnId) → is_in_progress (with_status status t x u.0) ≡ true → (ob : ObjId) (op : Op) (v : TxnId) (fate : Fate) →
+    is_held_well status (record { ob = ob; op = op; holder = v; fate = fate }) ≡ true → is_held_well (with_status status t x) (transferred_op t u (record { ob = ob; op = op; holder = v; fate = fate })) ≡ true
+one-transferred status t x u on ob op v InProgress e = elim (cases_eq v.0 t) [ inl same ↦ rw (eq-eqb v.0 t same) on | inr ne ↦ rw (ne_eqb v.0 t ne, ne_eqb v.0 t ne) e ]
+one-transferred status t x u on ob op v Committed e = elim (cases_eq v.0 t) [ inl same ↦ rw (eq-eqb v.0 t same) refl | inr ne ↦ rw (ne_eqb v.0 t ne) refl ]
+one-transferred status t x u on ob op v Aborted e = elim (cases_eq v.0 t) [ inl same ↦ rw (eq-eqb v.0 t same) refl | inr ne ↦ rw (ne_eqb v.0 t ne) refl ]
 
-pub well-handed : (status : ℕ → Status) (t : ℕ) (x : Status) (u : TxnId) → is_in_progress (with_status status t x u.0) ≡ true → (items : List HeldOp) → list_all (is_held_well status) items ≡ true → list_all (is_held_well (with_status status t x)) (handed t u items) ≡ true
-well-handed status t x u on items all =
-    all-map (is_held_well status) (is_held_well (with_status status t x)) (handed_op t u) (λ i. one-handed status t x u on i.ob i.op i.holder i.fate) items all
+pub well-transferred : (status : ℕ → Status) (t : ℕ) (x : Status) (u : TxnId) → is_in_progress (with_status status t x u.0) ≡ true → (items : List HeldOp) → list_all (is_held_well status) items ≡ true → list_all (is_held_well (with_status status t x)) (transferred t u items) ≡ true
+well-transferred status t x u on items all =
+    all-map (is_held_well status) (is_held_well (with_status status t x)) (transferred_op t u) (λ i. one-transferred status t x u on i.ob i.op i.holder i.fate) items all
 
 -- where t ends, and all that it held ends with it
 one-ended : (status : ℕ → Status) (t : ℕ) (x : Status) (end : Fate) → is_open end ≡ false → (ob : ObjId) (op : Op) (v : TxnId) (fate : Fate) →

@@ -7,14 +7,14 @@ pub mod Exactness
 pub mod FreshEdges
 pub mod FamilyTies
 pub mod Idle
-pub mod Handing
+pub mod Transferring
 pub mod Histories
 pub mod HolderGrowth
 pub mod OperationGrowth
 pub mod SetTies
-pub mod Opponents
+pub mod ConflictingHolders
 pub mod NamedOperations
-pub mod Origins
+pub mod Records
 pub mod Refusals
 pub mod Runs
 pub mod Starting

@@ -54,14 +54,14 @@ use Rattle.acta_axioms.proofs.Statuses.{is_under_way, is_ended_status, in_progre
 use Rattle.acta_axioms.proofs.Faultless.{IsFaultless, meets-none, meets-push, well_formed, faultless-begin, faultless-spawn, faultless-split, faultless-join, faultless-delegate, faultless-form, faultless-commit, faultless-abort, faultless-permit}
 use Rattle.acta_table.specs.declared.answer.Fate.TheVariants.{Committed, Aborted}
 use Rattle.acta_deps.specs.Statuses as by_status
-use Rattle.acta_sets.specs.Operations.{added, moved, handed, ended}
+use Rattle.acta_sets.specs.Operations.{added, moved, transferred, ended}
 use Rattle.acta_machine.specs.Summary.{Summary, stood, terminated, permit_given, entered, linked, given, inherited, operated, fated, counted}
 use Rattle.acta_machine.specs.Changes.{settled, effect, summary_of}
 use Rattle.acta_machine.specs.Conflicts.{stands_against}
 use Rattle.acta_machine.specs.Families.{heir_of}
 use Rattle.acta_machine.specs.Families as families
 use Rattle.acta_machine.specs.Values.{return_due}
-use Rattle.acta_machine.specs.Rules.{not_in_progress, already_begun, not_in_model, partner_not_in_progress, not_responsible, wants_whole, partial_delegation, bad_set, refuses_conflicts, first_against, conflict, form_too_late, fails, too_late, lost_heir, no_heir, lowest_broken, earlier_broken, dependency, txn_may, class_may, forms_none}
+use Rattle.acta_machine.specs.Rules.{not_in_progress, already_begun, not_in_model, partner_not_in_progress, not_responsible, wants_whole, partial_delegation, bad_set, refuses_conflicts, first_conflict, conflict, form_too_late, fails, too_late, lost_heir, no_heir, lowest_broken, earlier_broken, dependency, txn_may, class_may, forms_none}
 use Rattle.acta_machine.specs.Table.{State, kept_as, answered, answer_to}
 use Rattle.acta_machine.specs.Exactness.{RefusesIllegal, is_dependency_rule, is_refused_by_dependency}
 use Rattle.acta_machine.specs.Places.{held_ops, HasParent, is_held_well, AreHeldWell, ArePermitsBegun, ShowsPlaces, FollowsPlaces}
@@ -74,9 +74,9 @@ use Rattle.acta_machine.proofs.Histories.{summary_more}
 use Rattle.acta_machine.proofs.StatusGrowth.{statuses-begin, statuses-spawn, statuses-split, statuses-commit, statuses-abort, statuses-join, ended-places, begun-places, no_class, class-stays, classes-begin, classes-spawn, classes-split, parent-stays, parents-start}
 use Rattle.acta_machine.proofs.OperationGrowth.{operations-begin, operations-spawn, operations-split, operations-join, operations-delegate, operations-form, operations-operate, operations-commit, operations-inherited, operations-abort, operations-permit}
 use Rattle.acta_machine.proofs.Starting.{spawn_due, split_due, rooted-class}
-use Rattle.acta_machine.proofs.HolderGrowth.{well-started, well-given, well-handed, well-ended, well-added}
+use Rattle.acta_machine.proofs.HolderGrowth.{well-started, well-given, well-transferred, well-ended, well-added}
 use Rattle.acta_axioms.proofs.Numbers.{holds}
-use Rattle.acta_machine.proofs.Handing.{named-held, held-named, none-unheld, none-left}
+use Rattle.acta_machine.proofs.Transferring.{named-held, held-named, none-unheld, none-left}
 use Rattle.acta_machine.proofs.SetTies.{held-places}
 use Rattle.acta_machine.proofs.ValueTies.{return-places, conflicting-none}
 
@@ -220,7 +220,7 @@ module _ {A : Type 0} (m : Parts A) (h : List (Kept A)) (shows : ShowsPlaces m h
       of_class true (Some p) has e = ap (λ b. when (not b) p.0) (on_places_test p.0 (in_progress s NoHeir p.0 (ap (broken_by NoHeir) e)))
 
   -- an operation of one whose class refuses conflicts with none
-  refused-calm : (t : TxnId) (ob : ObjId) (op : Op) → first_against {A = A} m s (Operate t ob op) ≡ None → in_conflict m h (Operate t ob op) ≡ []
+  refused-calm : (t : TxnId) (ob : ObjId) (op : Op) → first_conflict {A = A} m s (Operate t ob op) ≡ None → in_conflict m h (Operate t ob op) ≡ []
   refused-calm t ob op none =
       ap (λ b. if b then map (λ o. o.number) (by_places.conflicting m h t.0 ob.0 op) else []) (has_class-places (λ k. refuses k.policy) m h s shows t.0)
       ∙ of_class (refuses_conflicts m s t.0) none
@@ -288,7 +288,7 @@ module _ {A : Type 0} (m : Parts A) (h : List (Kept A)) (shows : ShowsPlaces m h
         allowed = may_do operate_kind t (not_broken (txn_may m s t.0 operate_kind) NotInModel u.model);
         parties_in_progress = refl;
         responsible = refl;
-        hands_whole = refl;
+        transfers_whole = refl;
         conflict = calm;
         return = ap (λ r. wrong_return m h r (Operate t ob op)) due ∙ due_return m h ob.0 _ op;
         heir = refl;
@@ -393,7 +393,7 @@ module _ {A : Type 0} (m : Parts A) (h : List (Kept A)) (shows : ShowsPlaces m h
         status = statuses-join s.status h ret t v shows.status (in_progress s NotInProgress t.0 u.progress);
         class = λ w. shows.class w ∙ sym (class-stays h k w refl);
         parent = λ w. shows.parent w ∙ sym (parent-stays h k w refl);
-        operations = ap (handed t.0 v) shows.operations ∙ sym (operations-join m h ret t v);
+        operations = ap (transferred t.0 v) shows.operations ∙ sym (operations-join m h ret t v);
         edges = shows.edges ∙ sym (edges-push m h k);
         permits = permits-on (Join t v) ret u;
       }
@@ -442,7 +442,7 @@ module _ {A : Type 0} (m : Parts A) (h : List (Kept A)) (shows : ShowsPlaces m h
   settled-operations : (t : TxnId) (ret : Option Ret) (o : Option TxnId) → heir m h t.0 ≡ o → (settled s t o).operations ≡ held_ops m (h ++ (record { event = Commit t; ret = ret }) ∷ [])
   unfolding inherited fated
   settled-operations t ret None none = ap (ended t.0 Committed) shows.operations ∙ sym (operations-commit m h ret t none)
-  settled-operations t ret (Some v) is = ap (handed t.0 v) shows.operations ∙ sym (operations-inherited m h ret t v is)
+  settled-operations t ret (Some v) is = ap (transferred t.0 v) shows.operations ∙ sym (operations-inherited m h ret t v is)
 
   -- all else that a commit leaves
   shows-settled : (t : TxnId) (ret : Option Ret) (o : Option TxnId) → heir m h t.0 ≡ o → Unbroken m s (Commit t) → ShowsPlaces m (h ++ (record { event = Commit t; ret = ret }) ∷ []) (counted (settled (terminated s t has_committed) t o))
@@ -568,7 +568,7 @@ module _ {A : Type 0} (m : Parts A) (h : List (Kept A)) (shows : ShowsPlaces m h
   unfolding terminated inherited fated counted
   well-settled t None on at none well = well-ended s.status t.0 has_committed Committed refl s.operations well
   well-settled t (Some p) on at none well =
-      well-handed s.status t.0 has_committed p (still_on t.0 has_committed p.0 (other-parent t.0 p on (at p refl)) (in_progress s NoHeir p.0 (ap (broken_by NoHeir) none))) s.operations well
+      well-transferred s.status t.0 has_committed p (still_on t.0 has_committed p.0 (other-parent t.0 p on (at p refl)) (in_progress s NoHeir p.0 (ap (broken_by NoHeir) none))) s.operations well
 
   well-after : (e : Event A) → Unbroken m s e → no_heir m s e ≡ None → AreHeldWell s → AreHeldWell (effect m s e)
   unfolding not_in_progress partner_not_in_progress same_transaction no_heir stood terminated permit_given entered linked given inherited operated fated counted
@@ -579,7 +579,7 @@ module _ {A : Type 0} (m : Parts A) (h : List (Kept A)) (shows : ShowsPlaces m h
       (ap (λ b. by_status.is_in_progress (if b then InProgress else s.status v.0)) (eq-eqb v.0 v.0 refl))
       s.operations (well-started s.status v.0 s.operations well)
   well-after (Join t v) u ready well =
-      well-handed s.status t.0 has_joined v (still_on t.0 has_joined v.0 (two t.0 v.0 (by_none SameTransaction _ u.same)) (in_progress s PartnerNotInProgress v.0 u.partner)) s.operations well
+      well-transferred s.status t.0 has_joined v (still_on t.0 has_joined v.0 (two t.0 v.0 (by_none SameTransaction _ u.same)) (in_progress s PartnerNotInProgress v.0 u.partner)) s.operations well
   well-after (Delegate t v ops) u ready well =
       well-given s.status ops v (ap by_status.is_in_progress (in_progress s PartnerNotInProgress v.0 u.partner)) s.operations well
   well-after (Form kind j i) u ready well = well
@@ -653,7 +653,7 @@ follows-of m h checked well shows meets orderly parents begun =
       holders = well;
       permits = begun;
       exact = refuses-illegal m h checked well shows meets orderly;
-      edges_exact = λ e none. (exact-push m h (kept_as (record { model = m; kept = h }) e) checked well shows meets orderly none).alike;
+      edges_exact = λ e none. (exact-push m h (kept_as (record { model = m; kept = h }) e) checked well shows meets orderly none).equivalent;
       clashes_exact = λ e none. (exact-push m h (kept_as (record { model = m; kept = h }) e) checked well shows meets orderly none).clashes;
     }
 

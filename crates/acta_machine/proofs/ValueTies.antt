@@ -23,9 +23,9 @@ use Rattle.acta_sets.specs.Operations.{is_of_others, is_among}
 use Rattle.acta_machine.specs.Values.{live_ops}
 use Rattle.acta_machine.specs.Conflicts.{stands_against}
 use Rattle.acta_machine.specs.Changes.{summary_of}
-use Rattle.acta_machine.specs.Families.{spared}
+use Rattle.acta_machine.specs.Families.{exempt}
 use Rattle.acta_machine.specs.Places.{held_op, held_ops, ShowsPlaces}
-use Rattle.acta_machine.proofs.FamilyTies.{spared-places}
+use Rattle.acta_machine.proofs.FamilyTies.{exempt-places}
 
 -- the return that is due
 pub return-places : {A : Type 0} (m : Parts A) (h : List (Kept A)) (items : List HeldOp) (object : ℕ) (op : Op) → items ≡ held_ops m h →
@@ -67,11 +67,11 @@ apart true false c = refl
 apart false false c = refl
 
 pub others-places : {A : Type 0} (m : Parts A) (h : List (Kept A)) → ShowsPlaces m h (summary_of m h) → (t : ℕ) (o : Operation) →
-    is_of_others t (spared m (summary_of m h) t) (summary_of m h).permits (held_op o (standing m h o)) ≡ by_places.is_of_others m h t o.object (standing m h o)
+    is_of_others t (exempt m (summary_of m h) t) (summary_of m h).permits (held_op o (standing m h o)) ≡ by_places.is_of_others m h t o.object (standing m h o)
 others-places m h shows t o =
     let s = standing m h o in
-    apart (is_open s.fate && not (s.holder == t)) (is_among (spared m (summary_of m h) t) (record { 0 = s.holder })) ((summary_of m h).permits s.holder t o.object)
-    ∙ ap (λ b. is_open s.fate && not (s.holder == t) && not b) (sym (spared-places m h shows t o.object (record { 0 = s.holder })))
+    apart (is_open s.fate && not (s.holder == t)) (is_among (exempt m (summary_of m h) t) (record { 0 = s.holder })) ((summary_of m h).permits s.holder t o.object)
+    ∙ ap (λ b. is_open s.fate && not (s.holder == t) && not b) (sym (exempt-places m h shows t o.object (record { 0 = s.holder })))
 
 -- where nothing in the table stands against an operation, nothing conflicts by places
 pub conflicting-none : {A : Type 0} (m : Parts A) (h : List (Kept A)) (t : ℕ) (ob : ObjId) (op : Op) → ShowsPlaces m h (summary_of m h) → first_number (stands_against m (summary_of m h) t ob op) (summary_of m h).operations ≡ None → conflicting m h t ob.0 op ≡ []

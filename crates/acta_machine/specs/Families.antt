@@ -6,7 +6,7 @@ use Rattle.acta_table.specs.declared.event.OpNo.{OpNo}
 use Rattle.acta_table.specs.declared.model.Class.{Class}
 use Rattle.acta_table.specs.declared.model.Parts.{Parts}
 use Rattle.acta_table.specs.Ancestors.{ancestors_from}
-use Rattle.acta_table.specs.Classes.{class_at, spares, has_heir}
+use Rattle.acta_table.specs.Classes.{class_at, exempts, has_heir}
 use Rattle.acta_sets.specs.Operations.{conflict_set}
 use Rattle.acta_machine.specs.Summary.{Summary}
 
@@ -23,12 +23,12 @@ abbrev pub ancestors_of : Summary → ℕ → List TxnId
 ancestors_of s t = ancestors_from s.kept s.parent (s.parent t)
 
 -- the ancestors of t, where its class leaves them out of the conflict set
-abbrev pub spared : {A : Type 0} → Parts A → Summary → ℕ → List TxnId
-spared m s t = if has_class (λ k. spares k.scope) m s t then ancestors_of s t else []
+abbrev pub exempt : {A : Type 0} → Parts A → Summary → ℕ → List TxnId
+exempt m s t = if has_class (λ k. exempts k.scope) m s t then ancestors_of s t else []
 
--- the operations in progress that others hold, but for ancestors whom the class spares, and for those who permit it
+-- the operations in progress that others hold, but for ancestors whom the class exempts, and for those who permit it
 abbrev pub conflict_set_of : {A : Type 0} → Parts A → Summary → ℕ → List OpNo
-conflict_set_of m s t = conflict_set t (spared m s t) s.permits s.operations
+conflict_set_of m s t = conflict_set t (exempt m s t) s.permits s.operations
 
 -- to whom what t holds goes when it commits: its parent, where its class says so
 abbrev pub heir_of : {A : Type 0} → Parts A → Summary → ℕ → Option TxnId

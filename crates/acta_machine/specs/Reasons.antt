@@ -12,8 +12,8 @@ use Rattle.acta_table.specs.declared.event.EventKind.TheVariants.{Form as form_k
 use Rattle.acta_table.specs.declared.model.Parts.{Parts}
 use Rattle.acta_table.specs.Classes.{can_do}
 use Rattle.acta_table.specs.Events.{acting, class_named, kind_of}
-use Rattle.acta_deps.specs.declared.obstacle.Obstacle.TheVariants.{Edge as by_edge, Clash as by_clash}
-use Rattle.acta_deps.specs.Obstacles.{refusal_of as refusal_by, IsBarring, IsClash}
+use Rattle.acta_deps.specs.declared.block.Block.TheVariants.{Edge as by_edge, Clash as by_clash}
+use Rattle.acta_deps.specs.Blocks.{refusal_of as refusal_by, IsBlockingEdge, IsClash}
 use Rattle.acta_deps.specs.Statuses.{with_status, has_begun}
 use Rattle.acta_objects.specs.FormFaults.{refusal_of as refusal_for, IsNamed}
 use Rattle.acta_sets.specs.Operations.{operation_at}
@@ -23,7 +23,7 @@ use Rattle.acta_machine.specs.declared.reason.Lack.{Lack}
 use Rattle.acta_machine.specs.declared.reason.Lack.TheVariants.{Start, Doing, Forming}
 use Rattle.acta_machine.specs.declared.reason.NumberedOp.{NumberedOp}
 use Rattle.acta_machine.specs.declared.reason.Reason.{Reason}
-use Rattle.acta_machine.specs.declared.reason.Reason.TheVariants.{Full, Form, NotInProgress, AlreadyBegun, NotInModel, PartnerNotInProgress, NotResponsible, PartialDelegation, BadSet, Conflict, FormTooLate, EdgesFull, Barred, Clash, NoHeir}
+use Rattle.acta_machine.specs.declared.reason.Reason.TheVariants.{Full, Form, NotInProgress, AlreadyBegun, NotInModel, PartnerNotInProgress, NotResponsible, PartialDelegation, BadSet, Conflict, FormTooLate, EdgesFull, Blocked, Clash, NoHeir}
 
 -- the rule that is broken, with the number that the rule names
 abbrev pub refusal_of : Reason → Refusal
@@ -39,7 +39,7 @@ refusal_of (BadSet n count) = record { rule = rule.BadSet; by = Some n.0 }
 refusal_of (Conflict op) = record { rule = rule.Conflict; by = Some op.number.0 }
 refusal_of (FormTooLate t status) = record { rule = rule.FormTooLate; by = Some t.0 }
 refusal_of EdgesFull = record { rule = rule.EdgesFull; by = None }
-refusal_of (Barred barring) = refusal_by (by_edge barring)
+refusal_of (Blocked blocking_edge) = refusal_by (by_edge blocking_edge)
 refusal_of (Clash clash) = refusal_by (by_clash clash)
 refusal_of (NoHeir p status) = record { rule = rule.NoHeir; by = Some p.0 }
 
@@ -84,6 +84,6 @@ IsSo m s e (BadSet n count) = count ≡ length s.operations
 IsSo m s e (Conflict op) = IsOperation s op
 IsSo m s e (FormTooLate t status) = status ≡ s.status t.0
 IsSo m s e EdgesFull = ⊤
-IsSo m s e (Barred barring) = IsBarring s.status s.edges barring
+IsSo m s e (Blocked blocking_edge) = IsBlockingEdge s.status s.edges blocking_edge
 IsSo m s e (Clash clash) = IsClash (statuses_after s.status e) s.edges clash
 IsSo m s e (NoHeir p status) = status ≡ s.status p.0

@@ -15,7 +15,7 @@ use Rattle.acta_table.specs.declared.model.Parts.{Parts}
 use Rattle.acta_table.specs.Classes.{class_at, can_start, can_do, is_whole}
 use Rattle.acta_table.specs.Dependencies.{is_begin_kind}
 use Rattle.acta_table.specs.Edges.{formed}
-use Rattle.acta_table.specs.Events.{acting, started, partner, operations_named, hands_over}
+use Rattle.acta_table.specs.Events.{acting, started, partner, operations_named, transfers_over}
 use Rattle.acta_table.specs.Numbered.{first_number, numbers_where, smallest}
 use Rattle.acta_table.specs.Sets.{numbers_of, is_named}
 use Rattle.acta_table.specs.Policies.{refuses}
@@ -106,7 +106,7 @@ wants_whole m s t = has_class (λ class. is_whole class.extent) m s t
 -- the same, where the event hands over, and the class wants all
 abbrev pub left_out_by : {A : Type 0} → Parts A → Summary → Event A → ℕ → Option ℕ
 left_out_by m s e t =
-    if hands_over e && wants_whole m s t then left_out s (operations_named e) t else None
+    if transfers_over e && wants_whole m s t then left_out s (operations_named e) t else None
 
 -- an operation that has to be handed over is left out
 unfoldable pub partial_delegation : {A : Type 0} → Parts A → Summary → Event A → Option Refusal
@@ -126,14 +126,14 @@ abbrev pub refuses_conflicts : {A : Type 0} → Parts A → Summary → ℕ → 
 refuses_conflicts m s t = has_class (λ k. refuses k.policy) m s t
 
 -- the smallest operation that stands against the event's, where the class refuses
-abbrev pub first_against : {A : Type 0} → Parts A → Summary → Event A → Option ℕ
-first_against m s (Operate t ob op) =
+abbrev pub first_conflict : {A : Type 0} → Parts A → Summary → Event A → Option ℕ
+first_conflict m s (Operate t ob op) =
     if refuses_conflicts m s t.0 then first_number (stands_against m s t.0 ob op) s.operations else None
-first_against m s _ = None
+first_conflict m s _ = None
 
 -- an operation stands against the event's, and the class refuses
 unfoldable pub conflict : {A : Type 0} → Parts A → Summary → Event A → Option Refusal
-conflict m s e = broken_by Conflict (first_against m s e)
+conflict m s e = broken_by Conflict (first_conflict m s e)
 
 -- the smaller of j and i that has begun or ended too early for an edge of this kind to be formed
 abbrev pub too_late : Summary → Dep → ℕ → ℕ → Option ℕ

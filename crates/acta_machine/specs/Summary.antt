@@ -12,7 +12,7 @@ use Rattle.acta_table.specs.declared.dep.Edge.{Edge}
 use Rattle.acta_table.specs.Edges.{formed}
 use Rattle.acta_deps.specs.Statuses.{with_status}
 use Rattle.acta_sets.specs.declared.held_op.HeldOp.{HeldOp}
-use Rattle.acta_sets.specs.Operations.{added, moved, handed, ended}
+use Rattle.acta_sets.specs.Operations.{added, moved, transferred, ended}
 use Rattle.acta_sets.specs.Permits.{Permitted, none_permitted, with_permit, without_permits}
 
 -- kept: how many events; status, class and parent: of each transaction; operations and edges: by number; permits: those
@@ -74,7 +74,7 @@ given s ops u = record s { operations = moved ops u s.operations }
 
 -- u holds all that t holds in progress
 unfoldable pub inherited : Summary → TxnId → TxnId → Summary
-inherited s t u = record s { operations = handed t.0 u s.operations }
+inherited s t u = record s { operations = transferred t.0 u s.operations }
 
 -- all that t holds in progress has this fate
 unfoldable pub fated : Summary → TxnId → Fate → Summary

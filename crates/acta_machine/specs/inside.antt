@@ -1,5 +1,5 @@
 -- Words of the code's own contracts, and what is proved of words: nothing here is needed to read a promise.
 pub mod FreshEdges
 pub mod Refused
-pub mod Shown
+pub mod Abstraction
 pub mod Spared

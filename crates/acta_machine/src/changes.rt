@@ -17,9 +17,9 @@ ghost use Rattle.acta_machine.specs.Summary.{stood, terminated, permit_given, en
 ghost use Rattle.acta_machine.specs.Changes.{begun, settled, changed};
 ghost use Rattle.acta_machine.specs.Rules.{not_in_progress, already_begun, dependency};
 ghost use Rattle.acta_machine.specs.inside.FreshEdges.{is_fresh_edge};
-ghost use Rattle.acta_machine.specs.inside.Shown.{shown};
+ghost use Rattle.acta_machine.specs.inside.Abstraction.{abstraction};
 
-use crate::board::{Board, Origin};
+use crate::machine_state::{MachineState, TxnRecord};
 use acta_sets::Handle;
 use acta_table::{
     ClassId, Edge, Event, Fate, Kept, LAST_TXN, MOST_EDGES, MOST_EVENTS, ObjId, Op, OpSet,
@@ -27,11 +27,11 @@ use acta_table::{
 };
 use std::alloc::AllocError;
 
-impl<A: Handle> Board<A> {
+impl<A: Handle> MachineState<A> {
     // The last edges, so many of them, are in force no longer.
     fn unlink(&mut self, count: usize)
-        requires { count ≤ length (shown self.old).edges }
-        ensures shows { shown self.new ≡ record (shown self.old) { edges = take (length (shown self.old).edges - count) (shown self.old).edges } }
+        requires { count ≤ length (abstraction self.old).edges }
+        ensures shows { abstraction self.new ≡ record (abstraction self.old) { edges = take (length (abstraction self.old).edges - count) (abstraction self.old).edges } }
         ensures others { self.new ≡ record self.old { deps = self.new.deps } }
     {
         self.deps.take_back(count);
@@ -39,37 +39,37 @@ impl<A: Handle> Board<A> {
 
     #[tactic(auto, unfolding(crate::specs::Summary::entered))]
     fn enter(&mut self, t: TxnId, class: Option<ClassId>, parent: Option<TxnId>)
-        requires { t.0 < length self.old.origins.items }
-        ensures shows { shown self.new ≡ entered (shown self.old) t class parent }
-        ensures table { length self.new.origins.items ≡ length self.old.origins.items }
-        ensures others { self.new ≡ record self.old { origins = self.new.origins } }
+        requires { t.0 < length self.old.records.items }
+        ensures shows { abstraction self.new ≡ entered (abstraction self.old) t class parent }
+        ensures table { length self.new.records.items ≡ length self.old.records.items }
+        ensures others { self.new ≡ record self.old { records = self.new.records } }
     {
-        self.origins[t.0 as usize] = Origin { class, parent };
+        self.records[t.0 as usize] = TxnRecord { class, parent };
     }
 
     #[tactic(auto, unfolding(crate::specs::Summary::given))]
     fn give(&mut self, from: TxnId, ops: &OpSet<A>, u: TxnId) -> Result<(), AllocError>
         requires { are_held from.0 ops.now self.old.store.items ≡ true }
-        ensures shows { OnOk result (shown self.new ≡ given (shown self.old) ops.now u) }
-        ensures err { OnErr result (shown self.new ≡ shown self.old) }
+        ensures shows { OnOk result (abstraction self.new ≡ given (abstraction self.old) ops.now u) }
+        ensures err { OnErr result (abstraction self.new ≡ abstraction self.old) }
         ensures others { self.new ≡ record self.old { store = record self.old.store { items = self.new.store.items } } }
     {
         self.store.move_to(from, ops, u)
     }
 
     #[tactic(auto, unfolding(crate::specs::Summary::inherited))]
-    fn hand_all(&mut self, t: TxnId, u: TxnId) -> Result<(), AllocError>
-        ensures shows { OnOk result (shown self.new ≡ inherited (shown self.old) t u) }
-        ensures err { OnErr result (shown self.new ≡ shown self.old) }
+    fn transfer_all(&mut self, t: TxnId, u: TxnId) -> Result<(), AllocError>
+        ensures shows { OnOk result (abstraction self.new ≡ inherited (abstraction self.old) t u) }
+        ensures err { OnErr result (abstraction self.new ≡ abstraction self.old) }
         ensures others { self.new ≡ record self.old { store = record self.old.store { items = self.new.store.items } } }
     {
-        self.store.hand_all(t, u)
+        self.store.transfer_all(t, u)
     }
 
     #[tactic(auto, unfolding(crate::specs::Summary::fated))]
     fn end(&mut self, t: TxnId, fate: Fate)
         requires { is_open fate ≡ false }
-        ensures shows { shown self.new ≡ fated (shown self.old) t fate }
+        ensures shows { abstraction self.new ≡ fated (abstraction self.old) t fate }
         ensures others { self.new ≡ record self.old { store = record self.old.store { items = self.new.store.items } } }
     {
         self.store.end_all(t, fate);
@@ -78,7 +78,7 @@ impl<A: Handle> Board<A> {
     #[tactic(auto, unfolding(crate::specs::Summary::counted))]
     fn keep(&mut self, kept: Kept<A>)
         requires { length self.old.kept.items < vec_capacity self.old.kept }
-        ensures shows { shown self.new ≡ counted (shown self.old) }
+        ensures shows { abstraction self.new ≡ counted (abstraction self.old) }
         ensures kept { self.new.kept.items ≡ self.old.kept.items ++ kept ∷ [] }
         ensures others { self.new ≡ record self.old { kept = self.new.kept } }
     {
@@ -88,28 +88,28 @@ impl<A: Handle> Board<A> {
     // Makes room for the transaction in the tables by number. Nothing is changed.
     fn make_entry(&mut self, t: TxnId) -> Result<(), AllocError>
         requires high { t.0 ≤ LAST_TXN }
-        requires origins { length self.old.origins.items ≤ TABLE_SIZE }
+        requires records { length self.old.records.items ≤ TABLE_SIZE }
         ensures status { OnOk result (t.0 < length self.new.deps.statuses) }
-        ensures origin { OnOk result (t.0 < length self.new.origins.items) }
-        ensures origins { length self.new.origins.items ≤ TABLE_SIZE }
-        ensures shows { shown self.new ≡ shown self.old }
-        ensures others { self.new ≡ record self.old { deps = self.new.deps; origins = self.new.origins } }
+        ensures record_of { OnOk result (t.0 < length self.new.records.items) }
+        ensures records { length self.new.records.items ≤ TABLE_SIZE }
+        ensures shows { abstraction self.new ≡ abstraction self.old }
+        ensures others { self.new ≡ record self.old { deps = self.new.deps; records = self.new.records } }
     {
         self.deps.make_room(t)?;
-        lengthen(&mut self.origins, t.0 as usize + 1, Origin::UNBEGUN)
+        lengthen(&mut self.records, t.0 as usize + 1, TxnRecord::UNBEGUN)
     }
 
     #[tactic(auto, unfolding(crate::specs::Summary::stood))]
     fn begin(&mut self, t: TxnId, class: ClassId, parent: Option<TxnId>)
         requires low { 0 < t.0 }
-        requires stands { (shown self.old).status t.0 ≡ Status.NotBegun }
-        requires allowed { start_refusal (shown self.old).status (shown self.old).edges t.0 ≡ None }
+        requires stands { (abstraction self.old).status t.0 ≡ Status.NotBegun }
+        requires allowed { start_refusal (abstraction self.old).status (abstraction self.old).edges t.0 ≡ None }
         requires status { t.0 < length self.old.deps.statuses }
-        requires origin { t.0 < length self.old.origins.items }
-        requires origins { length self.old.origins.items ≤ TABLE_SIZE }
-        ensures shows { shown self.new ≡ begun (shown self.old) t class parent }
-        ensures origins { length self.new.origins.items ≤ TABLE_SIZE }
-        ensures others { self.new ≡ record self.old { deps = self.new.deps; origins = self.new.origins } }
+        requires record_of { t.0 < length self.old.records.items }
+        requires records { length self.old.records.items ≤ TABLE_SIZE }
+        ensures shows { abstraction self.new ≡ begun (abstraction self.old) t class parent }
+        ensures records { length self.new.records.items ≤ TABLE_SIZE }
+        ensures others { self.new ≡ record self.old { deps = self.new.deps; records = self.new.records } }
     {
         self.deps.started(t);
         self.enter(t, Some(class), parent);
@@ -117,7 +117,7 @@ impl<A: Handle> Board<A> {
 
     // No permit that names the transaction is left.
     fn drop_permits(&mut self, t: TxnId)
-        ensures shows { shown self.new ≡ record (shown self.old) { permits = without_permits (shown self.old).permits t.0 } }
+        ensures shows { abstraction self.new ≡ record (abstraction self.old) { permits = without_permits (abstraction self.old).permits t.0 } }
         ensures others { self.new ≡ record self.old { permits = self.new.permits } }
     {
         self.permits.ended(t);
@@ -126,8 +126,8 @@ impl<A: Handle> Board<A> {
     // `t` permits `u` to work on the object. On `Err` nothing has changed.
     #[tactic(auto, unfolding(crate::specs::Summary::permit_given))]
     fn permit(&mut self, t: TxnId, u: TxnId, ob: ObjId) -> Result<(), AllocError>
-        ensures shows { OnOk result (shown self.new ≡ permit_given (shown self.old) t u ob) }
-        ensures err { OnErr result (shown self.new ≡ shown self.old) }
+        ensures shows { OnOk result (abstraction self.new ≡ permit_given (abstraction self.old) t u ob) }
+        ensures err { OnErr result (abstraction self.new ≡ abstraction self.old) }
         ensures others { self.new ≡ record self.old { permits = self.new.permits } }
     {
         self.permits.give(t, u, ob)
@@ -137,13 +137,13 @@ impl<A: Handle> Board<A> {
     fn join(&mut self, t: TxnId, u: TxnId) -> Result<(), AllocError>
         requires low { 0 < t.0 }
         requires high { t.0 ≤ LAST_TXN }
-        requires stands { (shown self.old).status t.0 ≡ Status.InProgress }
-        requires allowed { join_refusal (shown self.old).status (shown self.old).edges t.0 ≡ None }
-        ensures shows { OnOk result (shown self.new ≡ inherited (terminated (shown self.old) t Status.Joined) t u) }
-        ensures err { OnErr result (shown self.new ≡ shown self.old) }
+        requires stands { (abstraction self.old).status t.0 ≡ Status.InProgress }
+        requires allowed { join_refusal (abstraction self.old).status (abstraction self.old).edges t.0 ≡ None }
+        ensures shows { OnOk result (abstraction self.new ≡ inherited (terminated (abstraction self.old) t Status.Joined) t u) }
+        ensures err { OnErr result (abstraction self.new ≡ abstraction self.old) }
         ensures others { self.new ≡ record self.old { deps = self.new.deps; permits = self.new.permits; store = record self.old.store { items = self.new.store.items } } }
     {
-        self.hand_all(t, u)?;
+        self.transfer_all(t, u)?;
         self.deps.joined(t);
         self.drop_permits(t);
         Ok(())
@@ -152,12 +152,12 @@ impl<A: Handle> Board<A> {
     // What the transaction holds in progress goes to its heir, or is committed where it has none. On `Err` nothing has
     // changed.
     fn settle(&mut self, t: TxnId) -> Result<(), AllocError>
-        ensures shows { OnOk result (shown self.new ≡ settled (shown self.old) t (heir_of self.old.model (shown self.old) t.0)) }
-        ensures err { OnErr result (shown self.new ≡ shown self.old) }
+        ensures shows { OnOk result (abstraction self.new ≡ settled (abstraction self.old) t (heir_of self.old.model (abstraction self.old) t.0)) }
+        ensures err { OnErr result (abstraction self.new ≡ abstraction self.old) }
         ensures others { self.new ≡ record self.old { store = record self.old.store { items = self.new.store.items } } }
     {
         match self.heir(t) {
-            Some(heir) => self.hand_all(t, heir)?,
+            Some(heir) => self.transfer_all(t, heir)?,
             None => self.end(t, Fate::Committed),
         }
         Ok(())
@@ -166,10 +166,10 @@ impl<A: Handle> Board<A> {
     #[tactic(auto, unfolding(crate::specs::Summary::terminated))]
     fn commit(&mut self, t: TxnId) -> Result<(), AllocError>
         requires number { bad_number {A = A} (Event.Commit t) ≡ None }
-        requires stands { not_in_progress {A = A} (shown self.old) (Event.Commit t) ≡ None }
-        requires allowed { dependency {A = A} (shown self.old) (Event.Commit t) ≡ None }
-        ensures shows { OnOk result (shown self.new ≡ settled (terminated (shown self.old) t Status.Committed) t (heir_of self.old.model (shown self.old) t.0)) }
-        ensures err { OnErr result (shown self.new ≡ shown self.old) }
+        requires stands { not_in_progress {A = A} (abstraction self.old) (Event.Commit t) ≡ None }
+        requires allowed { dependency {A = A} (abstraction self.old) (Event.Commit t) ≡ None }
+        ensures shows { OnOk result (abstraction self.new ≡ settled (terminated (abstraction self.old) t Status.Committed) t (heir_of self.old.model (abstraction self.old) t.0)) }
+        ensures err { OnErr result (abstraction self.new ≡ abstraction self.old) }
         ensures others { self.new ≡ record self.old { deps = self.new.deps; permits = self.new.permits; store = record self.old.store { items = self.new.store.items } } }
     {
         self.settle(t)?;
@@ -181,9 +181,9 @@ impl<A: Handle> Board<A> {
     #[tactic(auto, unfolding(crate::specs::Summary::terminated))]
     fn abort(&mut self, t: TxnId)
         requires number { bad_number {A = A} (Event.Abort t) ≡ None }
-        requires stands { not_in_progress {A = A} (shown self.old) (Event.Abort t) ≡ None }
-        requires allowed { dependency {A = A} (shown self.old) (Event.Abort t) ≡ None }
-        ensures shows { shown self.new ≡ fated (terminated (shown self.old) t Status.Aborted) t Fate.Aborted }
+        requires stands { not_in_progress {A = A} (abstraction self.old) (Event.Abort t) ≡ None }
+        requires allowed { dependency {A = A} (abstraction self.old) (Event.Abort t) ≡ None }
+        ensures shows { abstraction self.new ≡ fated (terminated (abstraction self.old) t Status.Aborted) t Fate.Aborted }
         ensures others { self.new ≡ record self.old { deps = self.new.deps; permits = self.new.permits; store = record self.old.store { items = self.new.store.items } } }
     {
         self.deps.aborted(t);
@@ -194,8 +194,8 @@ impl<A: Handle> Board<A> {
     #[tactic(auto, unfolding(crate::specs::Summary::operated))]
     fn operate(&mut self, t: TxnId, ob: ObjId, op: Op) -> Result<(), AllocError>
         requires { length self.old.store.items < MOST_EVENTS }
-        ensures shows { OnOk result (shown self.new ≡ operated (shown self.old) t ob op) }
-        ensures err { OnErr result (shown self.new ≡ shown self.old) }
+        ensures shows { OnOk result (abstraction self.new ≡ operated (abstraction self.old) t ob op) }
+        ensures err { OnErr result (abstraction self.new ≡ abstraction self.old) }
         ensures others { self.new ≡ record self.old { store = record self.old.store { items = self.new.store.items } } }
     {
         self.store.add(t, ob, op)
@@ -204,17 +204,17 @@ impl<A: Handle> Board<A> {
     // Changes how transactions, permits and operations stand. On `Err` nothing has changed.
     #[tactic(auto, unfolding(acta_table::specs::WellFormed::bad_number))]
     fn change(&mut self, event: &Event<A>) -> Result<(), AllocError>
-        requires origins { length self.old.origins.items ≤ TABLE_SIZE }
+        requires records { length self.old.records.items ≤ TABLE_SIZE }
         requires few { length self.old.store.items < MOST_EVENTS }
         requires number { bad_number event.now ≡ None }
-        requires progress { not_in_progress (shown self.old) event.now ≡ None }
-        requires new { already_begun (shown self.old) event.now ≡ None }
-        requires allowed { dependency (shown self.old) event.now ≡ None }
+        requires progress { not_in_progress (abstraction self.old) event.now ≡ None }
+        requires new { already_begun (abstraction self.old) event.now ≡ None }
+        requires allowed { dependency (abstraction self.old) event.now ≡ None }
         requires named { option_map_or (λ t. are_held t (operations_named event.now) self.old.store.items) (acting event.now) true ≡ true }
-        ensures shows { OnOk result (shown self.new ≡ changed self.old.model (shown self.old) event.now) }
-        ensures err { OnErr result (shown self.new ≡ shown self.old) }
-        ensures origins { length self.new.origins.items ≤ TABLE_SIZE }
-        ensures others { self.new ≡ record self.old { deps = self.new.deps; origins = self.new.origins; permits = self.new.permits; store = record self.old.store { items = self.new.store.items } } }
+        ensures shows { OnOk result (abstraction self.new ≡ changed self.old.model (abstraction self.old) event.now) }
+        ensures err { OnErr result (abstraction self.new ≡ abstraction self.old) }
+        ensures records { length self.new.records.items ≤ TABLE_SIZE }
+        ensures others { self.new ≡ record self.old { deps = self.new.deps; records = self.new.records; permits = self.new.permits; store = record self.old.store { items = self.new.store.items } } }
     {
         match event {
             Event::Begin(t, class) => {
@@ -242,10 +242,10 @@ impl<A: Handle> Board<A> {
     }
 }
 
-impl<A: Handle> Board<A> {
+impl<A: Handle> MachineState<A> {
     /// Room for one more event.
     pub(crate) fn make_room(&mut self) -> Result<(), AllocError>
-        ensures shows { shown self.new ≡ shown self.old }
+        ensures shows { abstraction self.new ≡ abstraction self.old }
         ensures others { self.new ≡ record self.old { kept = self.new.kept } }
         ensures kept { self.new.kept.items ≡ self.old.kept.items }
         ensures room { OnOk result (length self.new.kept.items < vec_capacity self.new.kept) }
@@ -257,11 +257,11 @@ impl<A: Handle> Board<A> {
     #[tactic(auto, unfolding(crate::specs::Summary::linked))]
     fn link(&mut self, due: &[Edge]) -> Result<usize, AllocError>
         requires fits { length (formed self.old.deps.edges due.now) ≤ MOST_EDGES }
-        requires fresh { list_all (is_fresh_edge (shown self.old).status) due.now ≡ true }
-        ensures shows { OnOk result (shown self.new ≡ linked (shown self.old) due.now) }
-        ensures count { IfOk result (λ count. length (shown self.new).edges ≡ length (shown self.old).edges + count) }
-        ensures kept { OnOk result (take (length (shown self.old).edges) (shown self.new).edges ≡ (shown self.old).edges) }
-        ensures err { OnErr result (shown self.new ≡ shown self.old) }
+        requires fresh { list_all (is_fresh_edge (abstraction self.old).status) due.now ≡ true }
+        ensures shows { OnOk result (abstraction self.new ≡ linked (abstraction self.old) due.now) }
+        ensures count { IfOk result (λ count. length (abstraction self.new).edges ≡ length (abstraction self.old).edges + count) }
+        ensures kept { OnOk result (take (length (abstraction self.old).edges) (abstraction self.new).edges ≡ (abstraction self.old).edges) }
+        ensures err { OnErr result (abstraction self.new ≡ abstraction self.old) }
         ensures others { self.new ≡ record self.old { deps = self.new.deps } }
     {
         let count = self.deps.form(due)?;
@@ -277,21 +277,21 @@ impl<A: Handle> Board<A> {
         due: &[Edge],
     ) -> Result<(), AllocError>
         requires room { length self.old.kept.items < vec_capacity self.old.kept }
-        requires origins { length self.old.origins.items ≤ TABLE_SIZE }
+        requires records { length self.old.records.items ≤ TABLE_SIZE }
         requires few { length self.old.store.items < MOST_EVENTS }
         requires fits { length (formed self.old.deps.edges due.now) ≤ MOST_EDGES }
-        requires fresh { list_all (is_fresh_edge (shown self.old).status) due.now ≡ true }
+        requires fresh { list_all (is_fresh_edge (abstraction self.old).status) due.now ≡ true }
         requires number { bad_number event.now ≡ None }
-        requires progress { not_in_progress (linked (shown self.old) due.now) event.now ≡ None }
-        requires new { already_begun (linked (shown self.old) due.now) event.now ≡ None }
-        requires allowed { dependency (linked (shown self.old) due.now) event.now ≡ None }
+        requires progress { not_in_progress (linked (abstraction self.old) due.now) event.now ≡ None }
+        requires new { already_begun (linked (abstraction self.old) due.now) event.now ≡ None }
+        requires allowed { dependency (linked (abstraction self.old) due.now) event.now ≡ None }
         requires named { option_map_or (λ t. are_held t (operations_named event.now) self.old.store.items) (acting event.now) true ≡ true }
-        ensures shows { OnOk result (shown self.new ≡ counted (changed self.old.model (linked (shown self.old) due.now) event.now)) }
+        ensures shows { OnOk result (abstraction self.new ≡ counted (changed self.old.model (linked (abstraction self.old) due.now) event.now)) }
         ensures kept { OnOk result (self.new.kept.items ≡ self.old.kept.items ++ kept ∷ []) }
         ensures model { self.new.model ≡ self.old.model }
         ensures kinds { self.new.store.kinds ≡ self.old.store.kinds }
-        ensures origins { length self.new.origins.items ≤ TABLE_SIZE }
-        ensures err { OnErr result (shown self.new ≡ shown self.old) }
+        ensures records { length self.new.records.items ≤ TABLE_SIZE }
+        ensures err { OnErr result (abstraction self.new ≡ abstraction self.old) }
         ensures as_it_was { OnErr result (self.new.kept.items ≡ self.old.kept.items) }
     {
         let formed = self.link(due)?;

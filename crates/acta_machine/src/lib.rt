@@ -5,16 +5,16 @@
 //! A call that allocates returns `Err` if memory runs out.
 #![tactic(auto)]
 
-mod board;
 mod changes;
 mod conflicts;
 mod machine;
+mod machine_state;
 mod reason;
 mod refused;
 mod rules;
 mod serial;
 
-pub use acta_deps::{Barring, Clash, NumberedEdge};
+pub use acta_deps::{BlockingEdge, Clash, NumberedEdge};
 pub use acta_objects::FormFault;
 pub use acta_sets::{Handle, HeldOp, Permit};
 pub use machine::{Formed, Machine, Run};

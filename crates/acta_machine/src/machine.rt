@@ -18,7 +18,7 @@ ghost use Rattle.acta_machine.specs.Table.{fresh, answer_to, answers_to, after, 
 ghost use Rattle.acta_machine.specs.Reasons.{refusal_of, IsSo};
 ghost use Rattle.acta_deps.specs.Waiting.{IsChain, IsClosed, StartsWith};
 
-use crate::board::Board;
+use crate::machine_state::MachineState;
 use crate::reason::Reason;
 use crate::refused::{Refused, keep_refused, refusal_among};
 use crate::serial::SerialError;
@@ -37,7 +37,7 @@ use std::alloc::{AllocError, Allocator};
 /// the history that was kept.
 #[derive(Drop)]
 pub struct Machine<A: Handle> {
-    board: Board<A>,
+    machine_state: MachineState<A>,
     // Operations that were refused since the last event that was admitted.
     refused: Vec<Refused<A>, A>,
 }
@@ -50,20 +50,20 @@ impl<A: Handle> std::marker::Model for Machine<A> {
 
     ghost use Rattle.acta_machine.specs.Changes.{summary_of};
     ghost use Rattle.acta_machine.specs.inside.Refused.{AreRefused};
-    ghost use Rattle.acta_machine.specs.inside.Shown.{shown};
+    ghost use Rattle.acta_machine.specs.inside.Abstraction.{abstraction};
     ghost use Rattle.acta_machine.specs.Places.{FollowsPlaces};
     ghost use Rattle.acta_values.specs.KeptValues.{kinds_of};
     ghost use Rattle.acta_table.specs.declared.limits.TheConstants.{MOST_EVENTS, TABLE_SIZE};
 
-    ghost view = { λ m. record { model = m.board.model; kept = m.board.kept.items } };
+    ghost view = { λ m. record { model = m.machine_state.model; kept = m.machine_state.kept.items } };
 
     ghost invariant = { λ m. record {
-      agrees : shown m.board ≡ summary_of m.board.model m.board.kept.items;
-      origins : length m.board.origins.items ≤ TABLE_SIZE;
-      kinds : m.board.store.kinds ≡ kinds_of m.board.model.objects;
-      within : length m.board.kept.items ≤ MOST_EVENTS;
-      follows : FollowsPlaces (record { model = m.board.model; kept = m.board.kept.items });
-      refused : AreRefused m.board.model (shown m.board) m.refused.items;
+      agrees : abstraction m.machine_state ≡ summary_of m.machine_state.model m.machine_state.kept.items;
+      records : length m.machine_state.records.items ≤ TABLE_SIZE;
+      kinds : m.machine_state.store.kinds ≡ kinds_of m.machine_state.model.objects;
+      within : length m.machine_state.kept.items ≤ MOST_EVENTS;
+      follows : FollowsPlaces (record { model = m.machine_state.model; kept = m.machine_state.kept.items });
+      refused : AreRefused m.machine_state.model (abstraction m.machine_state) m.refused.items;
     } };
 }
 
@@ -74,16 +74,16 @@ impl<A: Handle> Machine<A> {
         ensures follows { IfOk result FollowsPlaces }
     {
         let store = Store::new(alloc, model.objects())?;
-        let board = Board {
+        let machine_state = MachineState {
             model,
             deps: Deps::new(alloc),
-            origins: Vec::new(alloc),
+            records: Vec::new(alloc),
             store,
             permits: Permits::new(alloc),
             kept: Vec::new(alloc),
         };
         Ok(Machine {
-            board,
+            machine_state,
             refused: Vec::new(alloc),
         })
     }
@@ -102,7 +102,7 @@ impl<A: Handle> Machine<A> {
         if let Some(Refusal { rule, by }) = self.known_refusal(event) {
             return Ok(Answer::Refused { rule, by });
         }
-        match self.board.judged(event)? {
+        match self.machine_state.admission(event)? {
             Ok(due) => self.keep(event, &due),
             Err(refusal) => Ok(self.refuse(event, refusal)),
         }
@@ -140,18 +140,18 @@ impl<A: Handle> Machine<A> {
         ensures refusal { IfOk result (λ reason. option_map refusal_of reason ≡ refusal_in self.now event.now) }
         ensures so { IfOk result (λ reason. IfSome reason (IsSo self.now.model (summary_of self.now.model self.now.kept) event.now)) }
     {
-        self.board.why(event)
+        self.machine_state.why(event)
     }
 
     /// A chain of transactions from `t` on, each of which waits for the next to commit or abort, by a termination
     /// dependency in force between the two, both in progress; it ends with one that it met before. None of those from
     /// there on can commit or abort, unless another event ends one of them. `None` where no such chain was found.
-    pub fn closed_wait(&self, t: TxnId) -> Result<Option<Items<TxnId, A>>, AllocError>
+    pub fn waits_for_cycle(&self, t: TxnId) -> Result<Option<Items<TxnId, A>>, AllocError>
         ensures chain { IfOk result (λ found. IfSome found (IsChain (status_in self.now) (edges_in self.now))) }
         ensures closed { IfOk result (λ found. IfSome found IsClosed) }
         ensures start { IfOk result (λ found. IfSome found (StartsWith t)) }
     {
-        self.board.deps.closed_wait(t)
+        self.machine_state.deps.waits_for_cycle(t)
     }
 
     // The lowest rule that the event breaks, where it is known.
@@ -184,15 +184,15 @@ impl<A: Handle> Machine<A> {
         ensures err { OnErr result (self.new ≡ self.old) }
         ensures follows { FollowsPlaces self.new }
     {
-        self.board.deps.known();
-        let place = self.board.next_place(event);
-        let ret = self.board.return_of(event);
+        self.machine_state.deps.lemma_invariant();
+        let place = self.machine_state.next_place(event);
+        let ret = self.machine_state.return_of(event);
         let kept = Kept {
             event: event.copy()?,
             ret,
         };
-        self.board.make_room()?;
-        self.board.admit(event, kept, due)?;
+        self.machine_state.make_room()?;
+        self.machine_state.admit(event, kept, due)?;
         self.refused.clear();
         Ok(Answer::Admitted { place, ret })
     }
@@ -228,7 +228,7 @@ impl<A: Handle> Machine<A> {
         ensures value { IfOk result (λ value. value ≡ value_in self.now ob.0) }
         ensures places { IfOk result (λ value. value ≡ value_at self.now ob.0) }
     {
-        self.board.value(ob)
+        self.machine_state.value(ob)
     }
 
     /// The operations in progress that the transaction holds, ascending; none for a number that no transaction can
@@ -238,7 +238,7 @@ impl<A: Handle> Machine<A> {
         ensures places { IfOk result (λ numbers. numbers.items ≡ op_numbers (by_places.access_set self.now.model self.now.kept t.0)) }
         ensures nobody { IfOk result (λ numbers. is_bad_number t.0 ≡ true → numbers.items ≡ []) }
     {
-        self.board.access_set(t)
+        self.machine_state.access_set(t)
     }
 
     /// The operations in progress that others hold, ascending; a class can leave out what its ancestors hold, also once
@@ -247,7 +247,7 @@ impl<A: Handle> Machine<A> {
         ensures set { IfOk result (λ numbers. numbers.items ≡ conflict_set_in self.now t.0) }
         ensures places { IfOk result (λ numbers. numbers.items ≡ op_numbers (by_places.conflict_set self.now.model self.now.kept t.0)) }
     {
-        self.board.conflict_set(t)
+        self.machine_state.conflict_set(t)
     }
 
     /// The operations that are not aborted, ascending.
@@ -255,7 +255,7 @@ impl<A: Handle> Machine<A> {
         ensures set { IfOk result (λ numbers. numbers.items ≡ view_set_in self.now) }
         ensures places { IfOk result (λ numbers. numbers.items ≡ op_numbers (by_places.view_set self.now.model self.now.kept)) }
     {
-        self.board.operations().view_set()
+        self.machine_state.operations().view_set()
     }
 
     /// What transactions owe, by edge number: an event that one of them has yet to do, since another has committed or
@@ -264,7 +264,7 @@ impl<A: Handle> Machine<A> {
         ensures debts { IfOk result (λ owed. owed.items ≡ debts_in self.now) }
         ensures places { IfOk result (λ owed. owed.items ≡ debts_by_places.owed self.now.model self.now.kept) }
     {
-        self.board.owed()
+        self.machine_state.owed()
     }
 
     /// The serial order of the history: its committed operations, in groups by who held them, the groups in the order
@@ -278,11 +278,15 @@ impl<A: Handle> Machine<A> {
         ensures refused { is_strict self.now.model ≡ false → result ≡ Err SerialError.NotStrict }
         ensures strict { result ≡ Err SerialError.NotStrict → is_strict self.now.model ≡ false }
     {
-        if !is_strict(&self.board.model) {
+        if !is_strict(&self.machine_state.model) {
             return Err(SerialError::NotStrict);
         }
         let kept = self.history();
-        Ok(serial_items(self.board.allocator(), &self.board.model, kept)?)
+        Ok(serial_items(
+            self.machine_state.allocator(),
+            &self.machine_state.model,
+            kept,
+        )?)
     }
 
     /// The same machine, in memory of its own.
@@ -290,8 +294,8 @@ impl<A: Handle> Machine<A> {
         ensures { IfOk result (λ machine. machine ≡ self.now) }
     {
         Ok(Machine {
-            board: self.board.copy()?,
-            refused: Vec::new(self.board.allocator()),
+            machine_state: self.machine_state.copy()?,
+            refused: Vec::new(self.machine_state.allocator()),
         })
     }
 }
@@ -301,7 +305,7 @@ impl<A: Handle> Machine<A> {
     pub fn model(&self) -> &Model<A>
         ensures { result.now ≡ self.now.model }
     {
-        &self.board.model
+        &self.machine_state.model
     }
 
     /// How the transaction stands. A number that no transaction can have has not begun.
@@ -310,7 +314,7 @@ impl<A: Handle> Machine<A> {
         ensures places { result ≡ status_at self.now.kept t.0 }
         ensures nobody { is_bad_number t.0 ≡ true → result ≡ Status.NotBegun }
     {
-        self.board.status(t)
+        self.machine_state.status(t)
     }
 
     /// The class that the transaction began with. `None` where it has not begun.
@@ -318,7 +322,7 @@ impl<A: Handle> Machine<A> {
         ensures class { result ≡ class_in self.now t.0 }
         ensures places { option_map (λ class. class.0) result ≡ class_number self.now.kept t.0 }
     {
-        self.board.class_number(t)
+        self.machine_state.class_number(t)
     }
 
     /// The transaction that spawned this one. `None` where it began in another way, or has not begun.
@@ -326,7 +330,7 @@ impl<A: Handle> Machine<A> {
         ensures parent { result ≡ parent_in self.now t.0 }
         ensures places { result ≡ parent_of self.now.kept t.0 }
     {
-        self.board.parent(t)
+        self.machine_state.parent(t)
     }
 
     /// The permits in force, each once: ascending by who was permitted, then by object, then by who has permitted it.
@@ -335,7 +339,7 @@ impl<A: Handle> Machine<A> {
         ensures places { IfOk result (λ list. (h t object : ℕ) → is_listed list.items h t object ≡ is_permitted self.now.kept h t object) }
         ensures ascending { IfOk result (λ list. IsStrictlySortedBy permit_cmp list.items) }
     {
-        self.board.permits.listed()
+        self.machine_state.permits.listed()
     }
 
     /// How far to look for transactions: none of this number or above has begun, so it has no class and no parent.
@@ -345,7 +349,7 @@ impl<A: Handle> Machine<A> {
         ensures parent { (t : ℕ) → result ≤ t → parent_in self.now t ≡ None }
         ensures few { result ≤ TABLE_SIZE }
     {
-        self.board.known_txns()
+        self.machine_state.known_txns()
     }
 
     /// The edges in force, in order of forming, each once: at most 16,384. The first has the number 1.
@@ -354,7 +358,7 @@ impl<A: Handle> Machine<A> {
         ensures places { result.now ≡ edges_by_places.edges self.now.model self.now.kept }
         ensures few { length (edges_in self.now) ≤ MOST_EDGES }
     {
-        self.board.deps.edges()
+        self.machine_state.deps.edges()
     }
 
     /// The operations, in order, each with who holds it and what became of it: at most 65,536. The first has the
@@ -363,7 +367,7 @@ impl<A: Handle> Machine<A> {
         ensures operations { result.now ≡ operations_in self.now }
         ensures few { length (operations_in self.now) ≤ MOST_EVENTS }
     {
-        self.board.operations().operations()
+        self.machine_state.operations().operations()
     }
 
     /// The history: the events that were admitted, in order, with what they returned; at
@@ -374,7 +378,7 @@ impl<A: Handle> Machine<A> {
         // The axioms, the legality and all else that `take` says of it.
         ensures follows { FollowsPlaces self.now }
     {
-        self.board.kept.as_slice()
+        self.machine_state.kept.as_slice()
     }
 }
 

@@ -3,7 +3,7 @@
 ghost use Rattle.std.specs.Prelude.{◌≡◌};
 ghost use Rattle.acta_machine.specs.Reasons.{refusal_of};
 
-use acta_deps::{Barring, Clash, Obstacle};
+use acta_deps::{Block, BlockingEdge, Clash};
 use acta_objects::FormFault;
 use acta_sets::HeldOp;
 use acta_table::{ClassId, EventKind, OpNo, Refusal, Rule, Status, TxnId};
@@ -61,7 +61,7 @@ pub enum Reason {
     /// More edges would be in force than there may be.
     EdgesFull,
     /// An edge in force blocks the event: one of the rules from `BeginDep` to `Unpayable`.
-    Barred(Barring),
+    Blocked(BlockingEdge),
     /// A transaction would owe both a commit and an abort, by these edges.
     Clash(Clash),
     /// The parent, which would inherit the operations, is not in progress; its status.
@@ -90,8 +90,8 @@ impl Reason {
             Reason::Conflict(op) => Refusal::by(Rule::Conflict, op.number.0),
             Reason::FormTooLate { txn, .. } => Refusal::by(Rule::FormTooLate, u32::from(txn.0)),
             Reason::EdgesFull => Refusal::of(Rule::EdgesFull),
-            Reason::Barred(barring) => Obstacle::Edge(barring).refusal(),
-            Reason::Clash(clash) => Obstacle::Clash(clash).refusal(),
+            Reason::Blocked(blocking_edge) => Block::Edge(blocking_edge).refusal(),
+            Reason::Clash(clash) => Block::Clash(clash).refusal(),
             Reason::NoHeir { parent, .. } => Refusal::by(Rule::NoHeir, u32::from(parent.0)),
         }
     }

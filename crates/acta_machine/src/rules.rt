@@ -8,18 +8,18 @@ ghost use Rattle.acta_table.specs.Faults.{lowest_fault};
 ghost use Rattle.acta_table.specs.Numbered.{smallest};
 ghost use Rattle.acta_table.specs.Refusals.{first_of};
 ghost use Rattle.acta_table.specs.Sets.{is_named};
-ghost use Rattle.acta_deps.specs.Obstacles.{refusal_of as refusal_by, IsObstacle};
+ghost use Rattle.acta_deps.specs.Blocks.{refusal_of as refusal_by, IsBlock};
 ghost use Rattle.acta_deps.specs.Statuses.{has_ended, is_in_progress};
 ghost use Rattle.acta_objects.specs.WellFormed.{form_refusal};
 ghost use Rattle.acta_sets.specs.Operations.{operation_at};
 ghost use Rattle.acta_machine.specs.Changes.{edges_due};
 ghost use Rattle.acta_machine.specs.Reasons.{refusal_of, statuses_after, IsLack, IsSo};
 ghost use Rattle.acta_machine.specs.Rules.{full, not_in_progress, already_begun, class_may, txn_may, forms_none, is_allowed, not_in_model, partner_not_in_progress, is_of_another, not_held, not_responsible, wants_whole, left_out, partial_delegation, unknown_in, bad_set, refuses_conflicts, conflict, too_late, form_too_late, edges_full, broken_before_conflict, broken_before_edges, dependency, no_heir, lowest_broken};
-ghost use Rattle.acta_machine.specs.inside.Shown.{shown};
+ghost use Rattle.acta_machine.specs.inside.Abstraction.{abstraction};
 
-use crate::board::Board;
+use crate::machine_state::MachineState;
 use crate::reason::{Lack, NumberedOp, Reason};
-use acta_deps::Obstacle;
+use acta_deps::Block;
 use acta_objects::form_fault;
 use acta_sets::Handle;
 use acta_table::{
@@ -44,10 +44,10 @@ fn has_ended(status: Status) -> bool
     !matches!(status, Status::NotBegun | Status::InProgress)
 }
 
-impl<A: Handle> Board<A> {
+impl<A: Handle> MachineState<A> {
     #[tactic(auto, unfolding(crate::specs::Rules::full))]
     fn full(&self) -> Option<Reason>
-        ensures refusal { option_map refusal_of result ≡ full (shown self.now) }
+        ensures refusal { option_map refusal_of result ≡ full (abstraction self.now) }
         ensures so { IfSome result (λ reason. reason ≡ Reason.Full) }
     {
         if self.kept.len() >= MOST_EVENTS {
@@ -59,8 +59,8 @@ impl<A: Handle> Board<A> {
 
     #[tactic(auto, unfolding(crate::specs::Rules::not_in_progress))]
     fn not_in_progress(&self, event: &Event<A>) -> Option<Reason>
-        ensures refusal { option_map refusal_of result ≡ not_in_progress (shown self.now) event.now }
-        ensures so { IfSome result (IsSo self.now.model (shown self.now) event.now) }
+        ensures refusal { option_map refusal_of result ≡ not_in_progress (abstraction self.now) event.now }
+        ensures so { IfSome result (IsSo self.now.model (abstraction self.now) event.now) }
     {
         let txn = event.acting()?;
         match self.status(txn) {
@@ -71,8 +71,8 @@ impl<A: Handle> Board<A> {
 
     #[tactic(auto, unfolding(crate::specs::Rules::already_begun))]
     fn already_begun(&self, event: &Event<A>) -> Option<Reason>
-        ensures refusal { option_map refusal_of result ≡ already_begun (shown self.now) event.now }
-        ensures so { IfSome result (IsSo self.now.model (shown self.now) event.now) }
+        ensures refusal { option_map refusal_of result ≡ already_begun (abstraction self.now) event.now }
+        ensures so { IfSome result (IsSo self.now.model (abstraction self.now) event.now) }
     {
         let txn = event.started()?;
         match self.status(txn) {
@@ -113,7 +113,7 @@ impl<A: Handle> Board<A> {
 
     // Whether the transaction's class may do events of this kind.
     fn may(&self, t: TxnId, kind: EventKind) -> bool
-        ensures { result ≡ txn_may self.now.model (shown self.now) t.0 kind }
+        ensures { result ≡ txn_may self.now.model (abstraction self.now) t.0 kind }
     {
         match self.class_of(t) {
             Some(class) => class.may.has(kind),
@@ -123,7 +123,7 @@ impl<A: Handle> Board<A> {
 
     // Whether the transaction has begun with a class that may form no edges.
     fn forms_none(&self, t: TxnId) -> bool
-        ensures { result ≡ forms_none self.now.model (shown self.now) t.0 }
+        ensures { result ≡ forms_none self.now.model (abstraction self.now) t.0 }
     {
         self.status(t) != Status::NotBegun && !self.may(t, EventKind::Form)
     }
@@ -143,8 +143,8 @@ impl<A: Handle> Board<A> {
 
     // What the transaction's class lacks, if it may not do events of this kind.
     fn lacks_doing(&self, txn: TxnId, kind: EventKind) -> Option<Lack>
-        ensures none { is_none result ≡ txn_may self.now.model (shown self.now) txn.0 kind }
-        ensures some { IfSome result (λ lack. lack ≡ Lack.Doing txn ((shown self.now).class txn.0) kind) }
+        ensures none { is_none result ≡ txn_may self.now.model (abstraction self.now) txn.0 kind }
+        ensures some { IfSome result (λ lack. lack ≡ Lack.Doing txn ((abstraction self.now).class txn.0) kind) }
     {
         if self.may(txn, kind) {
             None
@@ -156,8 +156,8 @@ impl<A: Handle> Board<A> {
 
     // What the transaction's class lacks, if it has begun with one that may form no edges.
     fn lacks_forming(&self, txn: TxnId) -> Option<Lack>
-        ensures none { is_some result ≡ forms_none self.now.model (shown self.now) txn.0 }
-        ensures some { IfSome result (λ lack. lack ≡ Lack.Doing txn ((shown self.now).class txn.0) EventKind.Form) }
+        ensures none { is_some result ≡ forms_none self.now.model (abstraction self.now) txn.0 }
+        ensures some { IfSome result (λ lack. lack ≡ Lack.Doing txn ((abstraction self.now).class txn.0) EventKind.Form) }
     {
         if self.forms_none(txn) {
             self.lacks_doing(txn, EventKind::Form)
@@ -180,8 +180,8 @@ impl<A: Handle> Board<A> {
 
     // What the classes lack that the event needs.
     fn lack(&self, event: &Event<A>) -> Option<Lack>
-        ensures none { is_none result ≡ is_allowed self.now.model (shown self.now) event.now }
-        ensures so { IfSome result (IsLack self.now.model (shown self.now) event.now) }
+        ensures none { is_none result ≡ is_allowed self.now.model (abstraction self.now) event.now }
+        ensures so { IfSome result (IsLack self.now.model (abstraction self.now) event.now) }
     {
         let kind = event.kind();
         match event {
@@ -210,8 +210,8 @@ impl<A: Handle> Board<A> {
 
     #[tactic(auto, unfolding(crate::specs::Rules::not_in_model))]
     fn not_in_model(&self, event: &Event<A>) -> Option<Reason>
-        ensures refusal { option_map refusal_of result ≡ not_in_model self.now.model (shown self.now) event.now }
-        ensures so { IfSome result (IsSo self.now.model (shown self.now) event.now) }
+        ensures refusal { option_map refusal_of result ≡ not_in_model self.now.model (abstraction self.now) event.now }
+        ensures so { IfSome result (IsSo self.now.model (abstraction self.now) event.now) }
     {
         let lack = self.lack(event)?;
         Some(Reason::NotInModel(lack))
@@ -219,8 +219,8 @@ impl<A: Handle> Board<A> {
 
     #[tactic(auto, unfolding(crate::specs::Rules::partner_not_in_progress))]
     fn partner_not_in_progress(&self, event: &Event<A>) -> Option<Reason>
-        ensures refusal { option_map refusal_of result ≡ partner_not_in_progress (shown self.now) event.now }
-        ensures so { IfSome result (IsSo self.now.model (shown self.now) event.now) }
+        ensures refusal { option_map refusal_of result ≡ partner_not_in_progress (abstraction self.now) event.now }
+        ensures so { IfSome result (IsSo self.now.model (abstraction self.now) event.now) }
     {
         let txn = partner_of(event)?;
         match self.status(txn) {
@@ -231,7 +231,7 @@ impl<A: Handle> Board<A> {
 
     // The operation of this number, where there is one.
     fn numbered(&self, number: u32) -> Option<NumberedOp>
-        ensures held { option_map (λ op. op.held) result ≡ operation_at (shown self.now).operations number }
+        ensures held { option_map (λ op. op.held) result ≡ operation_at (abstraction self.now).operations number }
         ensures number { IfSome result (λ op. op.number.0 ≡ number) }
     {
         let number = OpNo(number);
@@ -241,7 +241,7 @@ impl<A: Handle> Board<A> {
 
     // Whether the operation is there, and the transaction does not hold it in progress.
     fn is_of_another(&self, t: TxnId, op: OpNo) -> bool
-        ensures { result ≡ is_of_another (shown self.now) t.0 op.0 }
+        ensures { result ≡ is_of_another (abstraction self.now) t.0 op.0 }
     {
         match self.operations().operation(op) {
             Some(item) => !item.is_held(t),
@@ -252,7 +252,7 @@ impl<A: Handle> Board<A> {
     // The smallest of the operations that is there, and that the transaction does not hold in progress.
     #[tactic(auto, using(acta_table::proofs::Smallest::least_is_smallest))]
     fn not_held(&self, ops: &[OpNo], t: TxnId) -> Option<u32>
-        ensures { result ≡ not_held (shown self.now) ops.now t.0 }
+        ensures { result ≡ not_held (abstraction self.now) ops.now t.0 }
     {
         let mut least = None;
         for op in ops {
@@ -265,8 +265,8 @@ impl<A: Handle> Board<A> {
 
     #[tactic(auto, unfolding(crate::specs::Rules::not_responsible))]
     fn not_responsible(&self, event: &Event<A>) -> Option<Reason>
-        ensures refusal { option_map refusal_of result ≡ not_responsible (shown self.now) event.now }
-        ensures so { IfSome result (IsSo self.now.model (shown self.now) event.now) }
+        ensures refusal { option_map refusal_of result ≡ not_responsible (abstraction self.now) event.now }
+        ensures so { IfSome result (IsSo self.now.model (abstraction self.now) event.now) }
     {
         let (Event::Split(t, _, _, ops) | Event::Delegate(t, _, ops)) = event else {
             return None;
@@ -278,7 +278,7 @@ impl<A: Handle> Board<A> {
 
     // Whether the transaction's class wants all that it holds handed over.
     fn wants_whole(&self, t: TxnId) -> bool
-        ensures { result ≡ wants_whole self.now.model (shown self.now) t.0 }
+        ensures { result ≡ wants_whole self.now.model (abstraction self.now) t.0 }
     {
         match self.class_of(t) {
             Some(class) => matches!(class.extent, Extent::Whole),
@@ -288,15 +288,15 @@ impl<A: Handle> Board<A> {
 
     // The smallest operation that the transaction holds in progress, and that is not named.
     fn left_out(&self, ops: &OpSet<A>, t: TxnId) -> Option<u32>
-        ensures { result ≡ left_out (shown self.now) ops.now t.0 }
+        ensures { result ≡ left_out (abstraction self.now) ops.now t.0 }
     {
         self.operations().first_left_out(t, ops)
     }
 
     #[tactic(auto, unfolding(crate::specs::Rules::partial_delegation))]
     fn partial_delegation(&self, event: &Event<A>) -> Option<Reason>
-        ensures refusal { option_map refusal_of result ≡ partial_delegation self.now.model (shown self.now) event.now }
-        ensures so { IfSome result (IsSo self.now.model (shown self.now) event.now) }
+        ensures refusal { option_map refusal_of result ≡ partial_delegation self.now.model (abstraction self.now) event.now }
+        ensures so { IfSome result (IsSo self.now.model (abstraction self.now) event.now) }
     {
         let (Event::Split(t, _, _, ops) | Event::Delegate(t, _, ops)) = event else {
             return None;
@@ -312,7 +312,7 @@ impl<A: Handle> Board<A> {
     // The smallest of the operations that is not there.
     #[tactic(auto, using(acta_table::proofs::Smallest::least_is_smallest))]
     fn unknown_in(&self, ops: &[OpNo]) -> Option<u32>
-        ensures { result ≡ unknown_in (shown self.now) ops.now }
+        ensures { result ≡ unknown_in (abstraction self.now) ops.now }
     {
         let mut least = None;
         for op in ops {
@@ -325,8 +325,8 @@ impl<A: Handle> Board<A> {
 
     #[tactic(auto, unfolding(crate::specs::Rules::bad_set))]
     fn bad_set(&self, event: &Event<A>) -> Option<Reason>
-        ensures refusal { option_map refusal_of result ≡ bad_set (shown self.now) event.now }
-        ensures so { IfSome result (IsSo self.now.model (shown self.now) event.now) }
+        ensures refusal { option_map refusal_of result ≡ bad_set (abstraction self.now) event.now }
+        ensures so { IfSome result (IsSo self.now.model (abstraction self.now) event.now) }
     {
         let (Event::Split(_, _, _, ops) | Event::Delegate(_, _, ops)) = event else {
             return None;
@@ -338,7 +338,7 @@ impl<A: Handle> Board<A> {
 
     // Whether the transaction's class refuses operations that conflict.
     fn refuses_conflicts(&self, t: TxnId) -> bool
-        ensures { result ≡ refuses_conflicts self.now.model (shown self.now) t.0 }
+        ensures { result ≡ refuses_conflicts self.now.model (abstraction self.now) t.0 }
     {
         match self.class_of(t) {
             Some(class) => class.policy.refuses(),
@@ -348,8 +348,8 @@ impl<A: Handle> Board<A> {
 
     #[tactic(auto, unfolding(crate::specs::Rules::conflict))]
     fn conflict(&self, event: &Event<A>) -> Result<Option<Reason>, AllocError>
-        ensures refusal { IfOk result (λ reason. option_map refusal_of reason ≡ conflict self.now.model (shown self.now) event.now) }
-        ensures so { IfOk result (λ reason. IfSome reason (IsSo self.now.model (shown self.now) event.now)) }
+        ensures refusal { IfOk result (λ reason. option_map refusal_of reason ≡ conflict self.now.model (abstraction self.now) event.now) }
+        ensures so { IfOk result (λ reason. IfSome reason (IsSo self.now.model (abstraction self.now) event.now)) }
     {
         let Event::Operate(t, ob, op) = event else {
             return Ok(None);
@@ -357,7 +357,7 @@ impl<A: Handle> Board<A> {
         if !self.refuses_conflicts(*t) {
             return Ok(None);
         }
-        let Some(number) = self.first_against(*t, *ob, op)? else {
+        let Some(number) = self.first_conflict(*t, *ob, op)? else {
             return Ok(None);
         };
         match self.numbered(number) {
@@ -368,7 +368,7 @@ impl<A: Handle> Board<A> {
 
     // The smaller of j and i that has ended.
     fn smaller_ended(&self, j: TxnId, i: TxnId) -> Option<TxnId>
-        ensures { option_map (λ t. t.0) result ≡ smallest (filter (λ t. has_ended ((shown self.now).status t)) (j.0 ∷ i.0 ∷ [])) }
+        ensures { option_map (λ t. t.0) result ≡ smallest (filter (λ t. has_ended ((abstraction self.now).status t)) (j.0 ∷ i.0 ∷ [])) }
     {
         match (has_ended(self.status(j)), has_ended(self.status(i))) {
             (true, true) => Some(if j.0 <= i.0 { j } else { i }),
@@ -380,7 +380,7 @@ impl<A: Handle> Board<A> {
 
     // The smaller of j and i that has begun or ended too early for an edge of this kind to be formed.
     fn too_late(&self, kind: Dep, j: TxnId, i: TxnId) -> Option<TxnId>
-        ensures { option_map (λ t. t.0) result ≡ too_late (shown self.now) kind j.0 i.0 }
+        ensures { option_map (λ t. t.0) result ≡ too_late (abstraction self.now) kind j.0 i.0 }
     {
         if !kind.is_begin_kind() {
             return self.smaller_ended(j, i);
@@ -394,8 +394,8 @@ impl<A: Handle> Board<A> {
 
     #[tactic(auto, unfolding(crate::specs::Rules::form_too_late))]
     fn form_too_late(&self, event: &Event<A>) -> Option<Reason>
-        ensures refusal { option_map refusal_of result ≡ form_too_late (shown self.now) event.now }
-        ensures so { IfSome result (IsSo self.now.model (shown self.now) event.now) }
+        ensures refusal { option_map refusal_of result ≡ form_too_late (abstraction self.now) event.now }
+        ensures so { IfSome result (IsSo self.now.model (abstraction self.now) event.now) }
     {
         let Event::Form(kind, j, i) = event else {
             return None;
@@ -408,8 +408,8 @@ impl<A: Handle> Board<A> {
     // More edges would be in force than there may be, where the event forms these.
     #[tactic(auto, unfolding(crate::specs::Rules::edges_full))]
     fn edges_full(&self, event: &Event<A>, due: &[Edge]) -> Option<Reason>
-        requires { due.now ≡ edges_due self.now.model (shown self.now) event.now }
-        ensures refusal { option_map refusal_of result ≡ edges_full self.now.model (shown self.now) event.now }
+        requires { due.now ≡ edges_due self.now.model (abstraction self.now) event.now }
+        ensures refusal { option_map refusal_of result ≡ edges_full self.now.model (abstraction self.now) event.now }
         ensures so { IfSome result (λ it. it ≡ Reason.EdgesFull) }
     {
         let room = MOST_EDGES - self.deps.edges().len();
@@ -424,7 +424,7 @@ impl<A: Handle> Board<A> {
     // What is wrong with the event's form.
     fn bad_form(&self, event: &Event<A>) -> Option<Reason>
         ensures refusal { option_map refusal_of result ≡ form_refusal self.now.model event.now }
-        ensures so { IfSome result (IsSo self.now.model (shown self.now) event.now) }
+        ensures so { IfSome result (IsSo self.now.model (abstraction self.now) event.now) }
     {
         let fault = form_fault(&self.model, event)?;
         Some(Reason::Form(fault))
@@ -432,8 +432,8 @@ impl<A: Handle> Board<A> {
 
     // The reason for the lowest broken rule among Full, the form rules, NotInProgress and AlreadyBegun.
     fn ill_timed(&self, event: &Event<A>) -> Option<Reason>
-        ensures refusal { option_map refusal_of result ≡ first_of (full (shown self.now) ∷ form_refusal self.now.model event.now ∷ not_in_progress (shown self.now) event.now ∷ already_begun (shown self.now) event.now ∷ []) }
-        ensures so { IfSome result (IsSo self.now.model (shown self.now) event.now) }
+        ensures refusal { option_map refusal_of result ≡ first_of (full (abstraction self.now) ∷ form_refusal self.now.model event.now ∷ not_in_progress (abstraction self.now) event.now ∷ already_begun (abstraction self.now) event.now ∷ []) }
+        ensures so { IfSome result (IsSo self.now.model (abstraction self.now) event.now) }
     {
         self.full()
             .or_else(|| self.bad_form(event))
@@ -442,9 +442,9 @@ impl<A: Handle> Board<A> {
     }
 
     // Why it is refused by the lowest of the rules on what is handed over.
-    fn ill_handed(&self, event: &Event<A>) -> Option<Reason>
-        ensures refusal { option_map refusal_of result ≡ first_of (not_responsible (shown self.now) event.now ∷ partial_delegation self.now.model (shown self.now) event.now ∷ bad_set (shown self.now) event.now ∷ []) }
-        ensures so { IfSome result (IsSo self.now.model (shown self.now) event.now) }
+    fn ill_transferred(&self, event: &Event<A>) -> Option<Reason>
+        ensures refusal { option_map refusal_of result ≡ first_of (not_responsible (abstraction self.now) event.now ∷ partial_delegation self.now.model (abstraction self.now) event.now ∷ bad_set (abstraction self.now) event.now ∷ []) }
+        ensures so { IfSome result (IsSo self.now.model (abstraction self.now) event.now) }
     {
         self.not_responsible(event)
             .or_else(|| self.partial_delegation(event))
@@ -453,19 +453,19 @@ impl<A: Handle> Board<A> {
 
     // Why it is refused by the lowest of the rules before that on conflicts.
     fn before_conflict(&self, event: &Event<A>) -> Option<Reason>
-        ensures refusal { option_map refusal_of result ≡ broken_before_conflict self.now.model (shown self.now) event.now }
-        ensures so { IfSome result (IsSo self.now.model (shown self.now) event.now) }
+        ensures refusal { option_map refusal_of result ≡ broken_before_conflict self.now.model (abstraction self.now) event.now }
+        ensures so { IfSome result (IsSo self.now.model (abstraction self.now) event.now) }
     {
         self.ill_timed(event)
             .or_else(|| self.not_in_model(event))
             .or_else(|| self.partner_not_in_progress(event))
-            .or_else(|| self.ill_handed(event))
+            .or_else(|| self.ill_transferred(event))
     }
 
     /// Why it is refused by the lowest of the rules before that on too many edges.
     pub(crate) fn broken_before_edges(&self, event: &Event<A>) -> Result<Option<Reason>, AllocError>
-        ensures refusal { IfOk result (λ reason. option_map refusal_of reason ≡ broken_before_edges self.now.model (shown self.now) event.now) }
-        ensures so { IfOk result (λ reason. IfSome reason (IsSo self.now.model (shown self.now) event.now)) }
+        ensures refusal { IfOk result (λ reason. option_map refusal_of reason ≡ broken_before_edges self.now.model (abstraction self.now) event.now) }
+        ensures so { IfOk result (λ reason. IfSome reason (IsSo self.now.model (abstraction self.now) event.now)) }
     {
         if let Some(reason) = self.before_conflict(event) {
             return Ok(Some(reason));
@@ -478,7 +478,7 @@ impl<A: Handle> Board<A> {
 
     // The lowest rule on dependencies that the event breaks.
     fn dependency(&mut self, event: &Event<A>) -> Option<Refusal>
-        ensures refusal { result ≡ dependency (shown self.old) event.now }
+        ensures refusal { result ≡ dependency (abstraction self.old) event.now }
         ensures same { self.new ≡ self.old }
     {
         match event {
@@ -497,8 +497,8 @@ impl<A: Handle> Board<A> {
 
     #[tactic(auto, unfolding(crate::specs::Rules::no_heir))]
     fn no_heir(&self, event: &Event<A>) -> Option<Reason>
-        ensures refusal { option_map refusal_of result ≡ no_heir self.now.model (shown self.now) event.now }
-        ensures so { IfSome result (IsSo self.now.model (shown self.now) event.now) }
+        ensures refusal { option_map refusal_of result ≡ no_heir self.now.model (abstraction self.now) event.now }
+        ensures so { IfSome result (IsSo self.now.model (abstraction self.now) event.now) }
     {
         let Event::Commit(t) = event else {
             return None;
@@ -513,9 +513,9 @@ impl<A: Handle> Board<A> {
     /// The lowest rule that the event breaks, where it breaks none before that on too many edges, and forms these
     /// edges.
     pub(crate) fn broken_from_edges(&mut self, event: &Event<A>, due: &[Edge]) -> Option<Refusal>
-        requires due { due.now ≡ edges_due self.old.model (shown self.old) event.now }
-        requires none_before { broken_before_edges self.old.model (shown self.old) event.now ≡ None }
-        ensures refusal { result ≡ lowest_broken self.old.model (shown self.old) event.now }
+        requires due { due.now ≡ edges_due self.old.model (abstraction self.old) event.now }
+        requires none_before { broken_before_edges self.old.model (abstraction self.old) event.now ≡ None }
+        ensures refusal { result ≡ lowest_broken self.old.model (abstraction self.old) event.now }
         ensures same { self.new ≡ self.old }
     {
         if let Some(reason) = self.edges_full(event, due) {
@@ -531,14 +531,14 @@ impl<A: Handle> Board<A> {
     }
 
     /// The edges that the event forms, where it breaks no rule, or else the lowest that it breaks.
-    pub(crate) fn judged(
+    pub(crate) fn admission(
         &mut self,
         event: &Event<A>,
     ) -> Result<Result<Vec<Edge, A>, Refusal>, AllocError>
-        ensures broken { IfOk result (λ said. IfErr said (λ refusal. lowest_broken self.old.model (shown self.old) event.now ≡ Some refusal)) }
-        ensures none { IfOk result (λ said. IfOk said (λ _. lowest_broken self.old.model (shown self.old) event.now ≡ None)) }
-        ensures due { IfOk result (λ said. IfOk said (λ due. due.items ≡ edges_due self.old.model (shown self.old) event.now)) }
-        ensures faultless { IfOk result (λ said. IfOk said (λ _. lowest_fault self.old.model ≡ None)) }
+        ensures broken { IfOk result (λ parsed. IfErr parsed (λ refusal. lowest_broken self.old.model (abstraction self.old) event.now ≡ Some refusal)) }
+        ensures none { IfOk result (λ parsed. IfOk parsed (λ _. lowest_broken self.old.model (abstraction self.old) event.now ≡ None)) }
+        ensures due { IfOk result (λ parsed. IfOk parsed (λ due. due.items ≡ edges_due self.old.model (abstraction self.old) event.now)) }
+        ensures faultless { IfOk result (λ parsed. IfOk parsed (λ _. lowest_fault self.old.model ≡ None)) }
         ensures same { self.new ≡ self.old }
     {
         if let Some(reason) = self.broken_before_edges(event)? {
@@ -552,17 +552,17 @@ impl<A: Handle> Board<A> {
     }
 
     // What stands in the way of the event by the edges in force.
-    fn obstacle(&self, event: &Event<A>) -> Option<Obstacle>
-        ensures refusal { option_map refusal_by result ≡ dependency (shown self.now) event.now }
-        ensures so { IfSome result (IsObstacle (shown self.now).status (statuses_after (shown self.now).status event.now) (shown self.now).edges) }
+    fn block(&self, event: &Event<A>) -> Option<Block>
+        ensures refusal { option_map refusal_by result ≡ dependency (abstraction self.now) event.now }
+        ensures so { IfSome result (IsBlock (abstraction self.now).status (statuses_after (abstraction self.now).status event.now) (abstraction self.now).edges) }
     {
         match event {
-            Event::Begin(t, _) => self.deps.obstacle(*t, Status::InProgress),
-            Event::Spawn(_, c, _) => self.deps.obstacle(*c, Status::InProgress),
-            Event::Split(_, u, _, _) => self.deps.obstacle(*u, Status::InProgress),
-            Event::Join(t, _) => self.deps.obstacle(*t, Status::Joined),
-            Event::Commit(t) => self.deps.obstacle(*t, Status::Committed),
-            Event::Abort(t) => self.deps.obstacle(*t, Status::Aborted),
+            Event::Begin(t, _) => self.deps.block(*t, Status::InProgress),
+            Event::Spawn(_, c, _) => self.deps.block(*c, Status::InProgress),
+            Event::Split(_, u, _, _) => self.deps.block(*u, Status::InProgress),
+            Event::Join(t, _) => self.deps.block(*t, Status::Joined),
+            Event::Commit(t) => self.deps.block(*t, Status::Committed),
+            Event::Abort(t) => self.deps.block(*t, Status::Aborted),
             Event::Delegate(_, _, _)
             | Event::Form(_, _, _)
             | Event::Operate(_, _, _)
@@ -572,19 +572,19 @@ impl<A: Handle> Board<A> {
 
     // The same, as a reason.
     fn why_by_edges(&self, event: &Event<A>) -> Option<Reason>
-        ensures refusal { option_map refusal_of result ≡ dependency (shown self.now) event.now }
-        ensures so { IfSome result (IsSo self.now.model (shown self.now) event.now) }
+        ensures refusal { option_map refusal_of result ≡ dependency (abstraction self.now) event.now }
+        ensures so { IfSome result (IsSo self.now.model (abstraction self.now) event.now) }
     {
-        match self.obstacle(event)? {
-            Obstacle::Edge(barring) => Some(Reason::Barred(barring)),
-            Obstacle::Clash(clash) => Some(Reason::Clash(clash)),
+        match self.block(event)? {
+            Block::Edge(blocking_edge) => Some(Reason::Blocked(blocking_edge)),
+            Block::Clash(clash) => Some(Reason::Clash(clash)),
         }
     }
 
     /// Why the event is refused; `None` where it breaks no rule.
     pub(crate) fn why(&self, event: &Event<A>) -> Result<Option<Reason>, AllocError>
-        ensures refusal { IfOk result (λ reason. option_map refusal_of reason ≡ lowest_broken self.now.model (shown self.now) event.now) }
-        ensures so { IfOk result (λ reason. IfSome reason (IsSo self.now.model (shown self.now) event.now)) }
+        ensures refusal { IfOk result (λ reason. option_map refusal_of reason ≡ lowest_broken self.now.model (abstraction self.now) event.now) }
+        ensures so { IfOk result (λ reason. IfSome reason (IsSo self.now.model (abstraction self.now) event.now)) }
     {
         if let Some(reason) = self.broken_before_edges(event)? {
             return Ok(Some(reason));

@@ -11,7 +11,7 @@ use Rattle.acta_table.specs.declared.event.Op.TheVariants.{Read, Write, Get, Add
 use Rattle.acta_table.specs.Classes.{kind_at}
 use Rattle.acta_objects.specs.Objects.{register_step, register_return, counter_step, counter_return, set_step, set_return}
 
--- from this state both orders end alike, and give each operation the same return
+-- from this state both orders end equivalent, and give each operation the same return
 pub record Commutes {S O R : Type 0} (step : S → O → S) (returned : S → O → R)
     (s : S) (p q : O) : Type 0 where
   pub state : step (step s p) q ≡ step (step s q) p

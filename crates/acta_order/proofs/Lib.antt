@@ -1,4 +1,4 @@
-pub mod Alike
+pub mod Equivalence
 pub mod Answering
 pub mod Blocking
 pub mod Changing

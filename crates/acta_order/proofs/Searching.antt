@@ -13,7 +13,7 @@ use Rattle.acta_order.specs.Orders.{is_in, AreDistinct}
 use Rattle.acta_order.specs.Remembered.{Remembered}
 use Rattle.acta_order.specs.Search.{Replaying, at, placed, held, values_at, values_of, after, Plays, IsPassed, IsNext, IsNone, IsRefuted, IsTried, AreSound, AreInTurn, IsFound, IsFoundNext}
 use Rattle.acta_order.specs.Memos.{values_in, IsGrown, IsKept, IsOver, IsFoundOrOver, AreFree, IsDead, AreDead}
-use Rattle.acta_order.proofs.Alike.{refuted-alike}
+use Rattle.acta_order.proofs.Equivalence.{refuted-equivalent}
 use Rattle.acta_order.proofs.Placed.{AreWithin, distinct-push, not-placed, is-placed, placed-same, distinct-placed}
 use Rattle.acta_order.proofs.Remembering.{same-packed, words-enough}
 use Rattle.acta_order.proofs.Timely.{free-timely, placed-order}
@@ -132,7 +132,7 @@ search-over A kinds g lim ts stack replay new memo low next open_at from s o sou
       | inr r ↦
           let d = dead r.entry r.there in
           let v : Values A = values_at kinds [] in
-          refuted-alike v g lim ts (placed ts d.stack) (placed ts stack) d.distinct d.timely d.plays
+          refuted-equivalent v g lim ts (placed ts d.stack) (placed ts stack) d.distinct d.timely d.plays
           (placed-same ts d.stack stack (λ j. sym (d.is_of.are j) ∙ ap (λ (ms : List Bool). get_or ms j false) (same-packed (length ts / 64 + 1) d.is_of.marks r.is_of.marks (d.is_of.long ∙ sym r.is_of.long) (words-enough d.is_of.marks (length ts) d.is_of.long) (sym d.is_of.words ∙ r.is_of.words)) ∙ r.is_of.are j))
           (λ i k. (sym (d.is_of.states k) ∙ ap (λ (ks : List Kind). values_in (values_at {A = A} ks []) r.entry.changes k) (sym s.kinds_are) ∙ r.is_of.states k ∙ sym (ap (λ (f : Values A). f k) (replay-values A kinds g lim ts stack replay low next s sound o.within))) i)
           d.refuted

@@ -11,7 +11,7 @@ use Rattle.acta_io.specs.declared.input.BadLine.{BadLine}
 use Rattle.acta_io.specs.declared.models.NoModel.{NoModel}
 use Rattle.acta_io.specs.Models.{of_either}
 use Rattle.acta_io.specs.Reports.{Output, refused_by, refused_model, stop_line}
-use Rattle.acta_io.specs.Input.{Said, line_numbers, said_in}
+use Rattle.acta_io.specs.Input.{Said, line_numbers, parsed_in}
 use Rattle.acta_explore.specs.Ends.{AreAllEnds}
 use Rattle.acta_explore.specs.Points.{Point}
 use Rattle.acta_explore.specs.Programs.{Programs}
@@ -93,12 +93,12 @@ IsAnswerUnless None form given most m programs numbers out = IsOfPrograms form g
 
 -- the output on a model, for what the lines of the input say
 abbrev pub IsAnswerTo : {A : Type 0} → Form → Bool → ℕ → Parts A → Said (ProgramLine A) → List ℕ → Output → Type 0
-IsAnswerTo form given most m s numbers out = IsAnswerUnless s.stop form given most m s.said numbers out
+IsAnswerTo form given most m s numbers out = IsAnswerUnless s.stop form given most m s.parsed numbers out
 
 -- the output on a model for an input, whose seats are numbered from 1 to 16
 abbrev pub IsAnswerOn : {A : Type 0} → Form → Bool → ℕ → Parts A → List ℕ → Output → Type 0
 IsAnswerOn form given most m input out =
-    IsAnswerTo form given most m (said_in (program_line_of m 16) input) (line_numbers input) out
+    IsAnswerTo form given most m (parsed_in (program_line_of m 16) input) (line_numbers input) out
 
 -- the output where this is what the model's bytes mean
 abbrev pub IsAnswerBy : {A : Type 0} → Form → Bool → ℕ → Result (Parts A) NoModel → List ℕ → Output → Type 0

@@ -197,7 +197,7 @@ fn explore_on<A: Handle, W: Watch>(
     let read = read_lines(alloc, &reader, input)?;
     match read.stop {
         Some(stop) => refuse_line(alloc, stop),
-        None => explore_lines(alloc, asked, model, input, read.said.as_slice(), watch),
+        None => explore_lines(alloc, asked, model, input, read.parsed.as_slice(), watch),
     }
 }
 

@@ -34,14 +34,14 @@ use Rattle.acta_script.specs.declared.fault.LineFault.TheVariants.{Number, Name}
 use Rattle.acta_script.specs.Laws.{IsInModel}
 use Rattle.acta_script.specs.inside.Again.{IsReadAgain, IsKeptAgain}
 use Rattle.acta_script.specs.inside.Ranges.{IsWithin, HasRanges, HasRange, integer_of}
-use Rattle.acta_script.specs.Reading.{◌>>=◌, txn_said, integer_said, class_said, object_said, kind_said, begin_said, spawn_said, split_said, join_said, delegate_said, form_said, do_said, commit_said, abort_said, permit_said, event_said, return_named, return_said, is_equals, both, with_return, plain, kept_said, kept_of}
+use Rattle.acta_script.specs.Reading.{◌>>=◌, parse_txn, parse_integer, parse_class, parse_object, parse_kind, parse_begin, parse_spawn, parse_split, parse_join, parse_delegate, parse_form, parse_do, parse_commit, parse_abort, parse_permit, parse_event, return_named, parse_return, is_equals, both, with_return, plain, parse_kept, kept_of}
 use Rattle.acta_script.specs.Writing.{txn_word, class_word, object_word, operation_words, event_words, event_line, return_word, kept_line}
 use Rattle.acta_script.proofs.Checked.{IsChecked, checked}
 use Rattle.acta_script.proofs.Named.{place, at-name}
 use Rattle.acta_script.proofs.OperationsAgain.{each_small, operations_again, operations-spelled}
 use Rattle.acta_script.proofs.Spelled.{is_spelled, is_word, are_words, no_sign, decimal-spelled, negative-spelled, name-spelled}
 
-txn_again : (t : TxnId) → t.0 ≤ 0xffff → txn_said (txn_word t) ≡ Ok t
+txn_again : (t : TxnId) → t.0 ≤ 0xffff → parse_txn (txn_word t) ≡ Ok t
 txn_again t small = ap (λ (o : Option ℕ). ok_or (option_map (λ n. record { 0 = n }) o) Number) (natural_again 0xffff t.0 small (omega (arith, small)))
 
 txn-spelled : (t : TxnId) → t.0 ≤ 0xffff → is_spelled (txn_word t) ≡ true
@@ -55,10 +55,10 @@ integer-spelled : (bound : ℕ) (z : ℤ) → bound ≤ 2 ^ 63 → IsWithin boun
 integer-spelled bound (pos n) small within = decimal-spelled n (omega (arith, ints, within.1))
 integer-spelled bound (negsuc n) small within = negative-spelled n (omega (arith, ints, within.0))
 
-integer_again : (z : ℤ) → IsWithin 0x8000_0000 z → integer_said (signed_decimal z) ≡ Ok z
+integer_again : (z : ℤ) → IsWithin 0x8000_0000 z → parse_integer (signed_decimal z) ≡ Ok z
 integer_again z within = ap (λ (o : Option ℤ). ok_or o Number) (read_again 0x8000_0000 z (lit≤ tt) within)
 
-kind_again : (kind : Dep) → kind_said (word_of kind) ≡ Ok kind
+kind_again : (kind : Dep) → parse_kind (word_of kind) ≡ Ok kind
 kind_again Cd = refl
 kind_again Scd = refl
 kind_again Ad = refl
@@ -87,17 +87,17 @@ kind-spelled Bad = refl
 kind-spelled Wcd = refl
 
 -- an operation with a number
-with_number : (op : ℤ → Op) (z : ℤ) → IsWithin 0x8000_0000 z → (integer_said (signed_decimal z) >>= (λ v. Ok (op v))) ≡ Ok (op z)
+with_number : (op : ℤ → Op) (z : ℤ) → IsWithin 0x8000_0000 z → (parse_integer (signed_decimal z) >>= (λ v. Ok (op v))) ≡ Ok (op z)
 with_number op z within = ap (λ (r : Result ℤ LineFault). r >>= (λ v. Ok (op v))) (integer_again z within)
 
 module _ {A : Type 0} (m : Parts A) (good : IsChecked m) where
-  class_again : (class : ClassId) → class.0 < length m.classes → class_said m (class_word m class) ≡ Ok class
+  class_again : (class : ClassId) → class.0 < length m.classes → parse_class m (class_word m class) ≡ Ok class
   class_again class within = ap (λ (o : Option ℕ). ok_or (option_map (λ n. record { 0 = n }) o) Name) (place (λ c. c.name) m.classes class.0 good.class_once within)
 
   class-spelled : (class : ClassId) → class.0 < length m.classes → is_spelled (class_word m class) ≡ true
   class-spelled class within = name-spelled (class_word m class) (at-name (λ c. c.name) is_name m.classes class.0 good.class_names_are within)
 
-  object_again : (ob : ObjId) → ob.0 < length m.objects → object_said m (object_word m ob) ≡ Ok ob
+  object_again : (ob : ObjId) → ob.0 < length m.objects → parse_object m (object_word m ob) ≡ Ok ob
   object_again ob within = ap (λ (o : Option ℕ). ok_or (option_map (λ n. record { 0 = n }) o) Name) (place (λ o. o.name) m.objects ob.0 good.object_once within)
 
   object-spelled : (ob : ObjId) → ob.0 < length m.objects → is_spelled (object_word m ob) ≡ true
@@ -106,13 +106,13 @@ module _ {A : Type 0} (m : Parts A) (good : IsChecked m) where
   abbrev done : TxnId → ObjId → Op → Result (Event A) LineFault
   done t ob op = Ok (Operate t ob op)
 
-  operated : (t : TxnId) (ob : ObjId) (op : Op) (said : Result Op LineFault) → said ≡ Ok op → t.0 ≤ 0xffff → ob.0 < length m.objects
-      → (said >>= (λ op. txn_said (txn_word t) >>= (λ t. object_said m (object_word m ob) >>= (λ object. done t object op)))) ≡ done t ob op
-  operated t ob op said again small within =
+  operated : (t : TxnId) (ob : ObjId) (op : Op) (parsed : Result Op LineFault) → parsed ≡ Ok op → t.0 ≤ 0xffff → ob.0 < length m.objects
+      → (parsed >>= (λ op. parse_txn (txn_word t) >>= (λ t. parse_object m (object_word m ob) >>= (λ object. done t object op)))) ≡ done t ob op
+  operated t ob op parsed again small within =
       λ i. (again i) >>= (λ op. (txn_again t small i) >>= (λ t. (object_again ob within i) >>= (λ object. done t object op)))
 
-  do_again : (t : TxnId) (ob : ObjId) (op : Op) → t.0 ≤ 0xffff → ob.0 < length m.objects → IfSome (integer_of op) (IsWithin 0x8000_0000) → event_said m (event_words m (Operate t ob op)) ≡ Ok (Operate t ob op)
-  unfolding event_said do_said
+  do_again : (t : TxnId) (ob : ObjId) (op : Op) → t.0 ≤ 0xffff → ob.0 < length m.objects → IfSome (integer_of op) (IsWithin 0x8000_0000) → parse_event m (event_words m (Operate t ob op)) ≡ Ok (Operate t ob op)
+  unfolding parse_event parse_do
   do_again t ob Read small within number = operated t ob Read (Ok Read) refl small within
   do_again t ob Get small within number = operated t ob Get (Ok Get) refl small within
   do_again t ob Size small within number = operated t ob Size (Ok Size) refl small within
@@ -122,8 +122,8 @@ module _ {A : Type 0} (m : Parts A) (good : IsChecked m) where
   do_again t ob (Remove v) small within number = operated t ob (Remove v) _ (with_number (λ v. Remove v) v number) small within
   do_again t ob (Has v) small within number = operated t ob (Has v) _ (with_number (λ v. Has v) v number) small within
 
-  event_again : (e : Event A) → IsInModel m e → HasRanges e → event_said m (event_words m e) ≡ Ok e
-  unfolding event_said begin_said spawn_said split_said join_said delegate_said form_said commit_said abort_said permit_said
+  event_again : (e : Event A) → IsInModel m e → HasRanges e → parse_event m (event_words m e) ≡ Ok e
+  unfolding parse_event parse_begin parse_spawn parse_split parse_join parse_delegate parse_form parse_commit parse_abort parse_permit
   event_again (Begin t class) inside ranges =
       λ i. (txn_again t ranges.txns.0 i) >>= (λ t. (class_again class inside.class i) >>= (λ class. Ok (Begin t class)))
   event_again (Spawn t c class) inside ranges =
@@ -169,7 +169,7 @@ pub event_line_again : {A : Type 0} (m : Parts A) (e : Event A) → lowest_fault
 unfolding event_line
 event_line_again m e faultless inside ranges =
     let good = checked m faultless in
-    ap (event_said m) (words_again (event_words m e) (are_words (event_words m e) (event-spelled m good e inside ranges)))
+    ap (parse_event m) (words_again (event_words m e) (are_words (event_words m e) (event-spelled m good e inside ranges)))
     ∙ event_again m good e inside ranges
 
 not_digit : (c d : ℕ) → c ≤ 57 → 57 < d → (c == d) ≡ false
@@ -191,8 +191,8 @@ number_named z within =
     (cond (not_word z 110 (codes "o") within (lit< tt) i) (Some (Flag false))
     (option_map (λ v. Value v) (read_again 0x8000_0000_0000_0000 z (lit≤ tt) within i))))
 
-return_again : (ret : Ret) → HasRange ret → return_said (return_word ret ∷ []) ≡ Ok ret
-unfolding return_said
+return_again : (ret : Ret) → HasRange ret → parse_return (return_word ret ∷ []) ≡ Ok ret
+unfolding parse_return
 return_again Done range = refl
 return_again (Flag true) range = refl
 return_again (Flag false) range = refl
@@ -244,30 +244,30 @@ module _ {A : Type 0} (m : Parts A) (e : Event A) (faultless : lowest_fault m �
   abbrev words : List (List ℕ)
   words = event_words m e
 
-  said_again : event_said m words ≡ Ok e
-  said_again = event_again m (checked m faultless) e inside ranges
+  parsed_again : parse_event m words ≡ Ok e
+  parsed_again = event_again m (checked m faultless) e inside ranges
 
   spelled : list_all is_spelled words ≡ true
   spelled = event-spelled m (checked m faultless) e inside ranges
 
   plain_again : kept_of m (kept_line m (record { event = e; ret = None })) ≡ Ok (record { event = e; ret = None })
-  unfolding kept_line kept_said
+  unfolding kept_line parse_kept
   plain_again =
-      ap (λ (ws : List (List ℕ)). kept_said m (words_of (line_of ws))) (append-nil words)
-      ∙ ap (kept_said m) (words_again words (are_words words spelled))
-      ∙ ap (λ (t : Bool). cond t (both with_return (event_said m (before_first is_equals words)) (return_said (after_first is_equals words))) (event_said m words >>= plain)) (lacks_sign words spelled)
-      ∙ ap (λ (r : Result (Event A) LineFault). r >>= plain) said_again
+      ap (λ (ws : List (List ℕ)). parse_kept m (words_of (line_of ws))) (append-nil words)
+      ∙ ap (parse_kept m) (words_again words (are_words words spelled))
+      ∙ ap (λ (t : Bool). cond t (both with_return (parse_event m (before_first is_equals words)) (parse_return (after_first is_equals words))) (parse_event m words >>= plain)) (lacks_sign words spelled)
+      ∙ ap (λ (r : Result (Event A) LineFault). r >>= plain) parsed_again
 
   with_return_again : (ret : Ret) → HasRange ret → kept_of m (kept_line m (record { event = e; ret = Some ret })) ≡ Ok (record { event = e; ret = Some ret })
-  unfolding kept_line kept_said
+  unfolding kept_line parse_kept
   with_return_again ret range =
       let behind = return_word ret ∷ [] in
       let all = words ++ codes "=" ∷ behind in
-      ap (kept_said m) (words_again all (words_and words (codes "=" ∷ behind) (are_words words spelled) (sign_is_word, (is_word (return_word ret) (return-spelled ret range), tt))))
-      ∙ ap (λ (t : Bool). cond t (both with_return (event_said m (before_first is_equals all)) (return_said (after_first is_equals all))) (event_said m all >>= plain)) (has_sign words behind)
-      ∙ ap (λ (n : ℕ). both with_return (event_said m (take n all)) (return_said (drop (n + 1) all))) (sign_at words behind spelled)
-      ∙ (λ i. both with_return (event_said m (take_at words (codes "=" ∷ behind) _ refl i)) (return_said (behind_sign words behind i)))
-      ∙ (λ i. both with_return (said_again i) (return_again ret range i))
+      ap (parse_kept m) (words_again all (words_and words (codes "=" ∷ behind) (are_words words spelled) (sign_is_word, (is_word (return_word ret) (return-spelled ret range), tt))))
+      ∙ ap (λ (t : Bool). cond t (both with_return (parse_event m (before_first is_equals all)) (parse_return (after_first is_equals all))) (parse_event m all >>= plain)) (has_sign words behind)
+      ∙ ap (λ (n : ℕ). both with_return (parse_event m (take n all)) (parse_return (drop (n + 1) all))) (sign_at words behind spelled)
+      ∙ (λ i. both with_return (parse_event m (take_at words (codes "=" ∷ behind) _ refl i)) (parse_return (behind_sign words behind i)))
+      ∙ (λ i. both with_return (parsed_again i) (return_again ret range i))
 
 kept_again : {A : Type 0} (m : Parts A) (e : Event A) (ret : Option Ret) → lowest_fault m ≡ None → IsInModel m e → HasRanges e → IfSome ret HasRange → IsKeptAgain m (record { event = e; ret = ret })
 kept_again m e None faultless inside ranges range = plain_again m e faultless inside ranges

@@ -36,9 +36,9 @@ use Rattle.acta_script.specs.declared.fault.LineFault.TheVariants.{Empty, Word, 
 use Rattle.acta_script.specs.declared.op_kind.OpKind.{OpKind}
 use Rattle.acta_script.specs.declared.op_kind.OpKind.TheVariants as op_kind
 use Rattle.acta_script.specs.Diagnosis.{fault_of_word, is_fault, wrong_word, wrong_count, wrong_in, op_kind_in, operation_parts, wrong_behind, wrong_event, wrong_return, lower_of, wrong_kept, wrong_seat, wrong_after_seat, wrong_seated, wrong_break_of, wrong_break, wrong_command_of, wrong_command}
-use Rattle.acta_script.specs.Commands.{count_said, one_word, kind_break_said, break_kind_said, break_of_kind, break_said, command_kind_said, command_of_kind, command_said}
+use Rattle.acta_script.specs.Commands.{parse_count, one_word, parse_kind_break, parse_break_kind, break_of_kind, parse_break, parse_command_kind, command_of_kind, parse_command}
 use Rattle.acta_words.specs.Numerals.{read_natural}
-use Rattle.acta_script.specs.Reading.{◌>>=◌, fault_number, txn_said, integer_said, class_said, object_said, kind_said, numbers_said, operations_said, op_kind_said, alone, with_integer, operation_of_kind, begin_said, spawn_said, split_said, join_said, delegate_said, form_of_kind, form_said, do_said, commit_said, abort_said, permit_said, event_kind_said, event_of_kind, event_said, both, return_named, return_said, is_equals, with_return, plain, kept_said, lower, seat_said, event_behind, at_seat, seated_said}
+use Rattle.acta_script.specs.Reading.{◌>>=◌, fault_number, parse_txn, parse_integer, parse_class, parse_object, parse_kind, parse_numbers, parse_operations, parse_op_kind, alone, with_integer, operation_of_kind, parse_begin, parse_spawn, parse_split, parse_join, parse_delegate, form_of_kind, parse_form, parse_do, parse_commit, parse_abort, parse_permit, parse_event_kind, event_of_kind, parse_event, both, return_named, parse_return, is_equals, with_return, plain, parse_kept, lower, parse_seat, event_behind, at_seat, parse_seated}
 use Rattle.acta_script.specs.Words.{event_word, op_word}
 
 -- the fault of a diagnosis
@@ -122,13 +122,13 @@ only_else : {X : Type 0} (f : LineFault) (b : Bool) (x : X) (r : Result X LineFa
 only_else f true x r only = tt
 only_else f false x r only = only
 
-only_txn : (word : List ℕ) → Only Number (txn_said word)
+only_txn : (word : List ℕ) → Only Number (parse_txn word)
 only_txn word = only_or _ Number
 
-only_integer : (word : List ℕ) → Only Number (integer_said word)
+only_integer : (word : List ℕ) → Only Number (parse_integer word)
 only_integer word = only_or _ Number
 
-only_count : (word : List ℕ) → Only Number (count_said word)
+only_count : (word : List ℕ) → Only Number (parse_count word)
 only_count word = only_or _ Number
 
 only_both : {X : Type 0} (f : LineFault) (b : Bool) (x : X) → Only f (cond b (Ok x) (Err f))
@@ -139,13 +139,13 @@ only_next : {X Y : Type 0} (f : LineFault) (r : Result X LineFault) (k : X → R
 only_next f (Ok x) k only then = then x
 only_next f (Err g) k only then = only
 
-only_seat : (seats : ℕ) (word : List ℕ) → Only Number (seat_said seats word)
+only_seat : (seats : ℕ) (word : List ℕ) → Only Number (parse_seat seats word)
 only_seat seats word = only_next Number (ok_or (read_natural seats word) Number) _ (only_or _ Number) (λ seat. only_both Number (nat_le 1 seat) seat)
 
-only_operations : (word : List ℕ) → Only Number (operations_said word)
-only_operations word = only_else Number _ [] _ (only_then Number (numbers_said word) (λ ops. each_once ops) (only_or _ Number))
+only_operations : (word : List ℕ) → Only Number (parse_operations word)
+only_operations word = only_else Number _ [] _ (only_then Number (parse_numbers word) (λ ops. each_once ops) (only_or _ Number))
 
-only_kind : (word : List ℕ) → Only Word (kind_said word)
+only_kind : (word : List ℕ) → Only Word (parse_kind word)
 only_kind word = only_or _ Word
 
 known_or : (a b c d e f g h : Bool) → Only {X = OpKind} Word (cond a (Ok op_kind.Read) (cond b (Ok op_kind.Get) (cond c (Ok op_kind.Size) (cond d (Ok op_kind.Write) (cond e (Ok op_kind.Add) (cond f (Ok op_kind.Insert) (cond g (Ok op_kind.Remove) (cond h (Ok op_kind.Has) (Err Word)))))))))
@@ -159,7 +159,7 @@ known_or false false false false false false true h = tt
 known_or false false false false false false false true = tt
 known_or false false false false false false false false = refl
 
-only_op_kind : (word : List ℕ) → Only Word (op_kind_said word)
+only_op_kind : (word : List ℕ) → Only Word (parse_op_kind word)
 only_op_kind word =
     known_or (bytes_eq word (op_word op_kind.Read)) (bytes_eq word (op_word op_kind.Get)) (bytes_eq word (op_word op_kind.Size)) (bytes_eq word (op_word op_kind.Write)) (bytes_eq word (op_word op_kind.Add)) (bytes_eq word (op_word op_kind.Insert)) (bytes_eq word (op_word op_kind.Remove)) (bytes_eq word (op_word op_kind.Has))
 
@@ -181,21 +181,21 @@ is_plain part.Count = true
 is_plain _ = false
 
 module _ {A : Type 0} (m : Parts A) where
-  only_class : (word : List ℕ) → Only Name (class_said m word)
+  only_class : (word : List ℕ) → Only Name (parse_class m word)
   only_class word = only_or _ Name
 
-  only_object : (word : List ℕ) → Only Name (object_said m word)
+  only_object : (word : List ℕ) → Only Name (parse_object m word)
   only_object word = only_or _ Name
 
   no_unknown : (part : LinePart) (word : List ℕ) → is_plain part ≡ true → is_fault Word (fault_of_word m part word) ≡ false
-  no_unknown part.Transaction word is = other Word Number (txn_said word) (only_txn word) refl
-  no_unknown part.Integer word is = other Word Number (integer_said word) (only_integer word) refl
-  no_unknown part.Operations word is = other Word Number (operations_said word) (only_operations word) refl
-  no_unknown part.Class word is = other Word Name (class_said m word) (only_class word) refl
-  no_unknown part.Object word is = other Word Name (object_said m word) (only_object word) refl
+  no_unknown part.Transaction word is = other Word Number (parse_txn word) (only_txn word) refl
+  no_unknown part.Integer word is = other Word Number (parse_integer word) (only_integer word) refl
+  no_unknown part.Operations word is = other Word Number (parse_operations word) (only_operations word) refl
+  no_unknown part.Class word is = other Word Name (parse_class m word) (only_class word) refl
+  no_unknown part.Object word is = other Word Name (parse_object m word) (only_object word) refl
   no_unknown part.Return word is = other Word Number (ok_or (return_named word) Number) (only_or _ Number) refl
-  no_unknown (part.Seat seats) word is = other Word Number (seat_said seats word) (only_seat seats word) refl
-  no_unknown part.Count word is = other Word Number (count_said word) (only_count word) refl
+  no_unknown (part.Seat seats) word is = other Word Number (parse_seat seats word) (only_seat seats word) refl
+  no_unknown part.Count word is = other Word Number (parse_count word) (only_count word) refl
   no_unknown part.Command word is = absurd (cc)
   no_unknown part.Break word is = absurd (cc)
   no_unknown part.Event word is = absurd (cc)
@@ -315,77 +315,77 @@ joined (Ok x) k h = refl
 joined (Err f) k h = refl
 
 module _ {A : Type 0} (m : Parts A) (e : Expected) (n : ℕ) where
-  diagnosed_begin : (words : List (List ℕ)) → diagnosed_fault (wrong_in m (part.Transaction ∷ part.Class ∷ []) e n words) ≡ result_err (begin_said m words)
-  unfolding begin_said
+  diagnosed_begin : (words : List (List ℕ)) → diagnosed_fault (wrong_in m (part.Transaction ∷ part.Class ∷ []) e n words) ≡ result_err (parse_begin m words)
+  unfolding parse_begin
   diagnosed_begin [] = short m (part.Transaction ∷ part.Class ∷ []) e n [] refl refl
   diagnosed_begin (t ∷ []) = short_plain m (part.Transaction ∷ part.Class ∷ []) e n (t ∷ []) refl refl
   diagnosed_begin (t ∷ class ∷ []) =
       exact_plain m (part.Transaction ∷ part.Class ∷ []) e n (t ∷ class ∷ []) refl refl
-      ∙ number_first (txn_said t) _ _ (only_txn t) (λ t. name_last (class_said m class) _ (only_class m class))
+      ∙ number_first (parse_txn t) _ _ (only_txn t) (λ t. name_last (parse_class m class) _ (only_class m class))
   diagnosed_begin (t ∷ class ∷ x ∷ ws) = short_plain m (part.Transaction ∷ part.Class ∷ []) e n (t ∷ class ∷ x ∷ ws) refl (many 2 (suc (suc (suc (length ws)))) (omega arith))
 
-  diagnosed_spawn : (words : List (List ℕ)) → diagnosed_fault (wrong_in m (part.Transaction ∷ part.Transaction ∷ part.Class ∷ []) e n words) ≡ result_err (spawn_said m words)
-  unfolding spawn_said
+  diagnosed_spawn : (words : List (List ℕ)) → diagnosed_fault (wrong_in m (part.Transaction ∷ part.Transaction ∷ part.Class ∷ []) e n words) ≡ result_err (parse_spawn m words)
+  unfolding parse_spawn
   diagnosed_spawn [] = short m (part.Transaction ∷ part.Transaction ∷ part.Class ∷ []) e n [] refl refl
   diagnosed_spawn (t ∷ []) = short_plain m (part.Transaction ∷ part.Transaction ∷ part.Class ∷ []) e n (t ∷ []) refl refl
   diagnosed_spawn (t ∷ c ∷ []) = short_plain m (part.Transaction ∷ part.Transaction ∷ part.Class ∷ []) e n (t ∷ c ∷ []) refl refl
   diagnosed_spawn (t ∷ c ∷ class ∷ []) =
       exact_plain m (part.Transaction ∷ part.Transaction ∷ part.Class ∷ []) e n (t ∷ c ∷ class ∷ []) refl refl
-      ∙ number_first (txn_said t) _ _ (only_txn t) (λ t. number_first (txn_said c) _ _ (only_txn c) (λ c. name_last (class_said m class) _ (only_class m class)))
+      ∙ number_first (parse_txn t) _ _ (only_txn t) (λ t. number_first (parse_txn c) _ _ (only_txn c) (λ c. name_last (parse_class m class) _ (only_class m class)))
   diagnosed_spawn (t ∷ c ∷ class ∷ x ∷ ws) = short_plain m (part.Transaction ∷ part.Transaction ∷ part.Class ∷ []) e n (t ∷ c ∷ class ∷ x ∷ ws) refl (many 3 (suc (suc (suc (suc (length ws))))) (omega arith))
 
-  diagnosed_split : (words : List (List ℕ)) → diagnosed_fault (wrong_in m (part.Transaction ∷ part.Transaction ∷ part.Class ∷ part.Operations ∷ []) e n words) ≡ result_err (split_said m words)
-  unfolding split_said
+  diagnosed_split : (words : List (List ℕ)) → diagnosed_fault (wrong_in m (part.Transaction ∷ part.Transaction ∷ part.Class ∷ part.Operations ∷ []) e n words) ≡ result_err (parse_split m words)
+  unfolding parse_split
   diagnosed_split [] = short m (part.Transaction ∷ part.Transaction ∷ part.Class ∷ part.Operations ∷ []) e n [] refl refl
   diagnosed_split (t ∷ []) = short_plain m (part.Transaction ∷ part.Transaction ∷ part.Class ∷ part.Operations ∷ []) e n (t ∷ []) refl refl
   diagnosed_split (t ∷ u ∷ []) = short_plain m (part.Transaction ∷ part.Transaction ∷ part.Class ∷ part.Operations ∷ []) e n (t ∷ u ∷ []) refl refl
   diagnosed_split (t ∷ u ∷ class ∷ []) = short_plain m (part.Transaction ∷ part.Transaction ∷ part.Class ∷ part.Operations ∷ []) e n (t ∷ u ∷ class ∷ []) refl refl
   diagnosed_split (t ∷ u ∷ class ∷ ops ∷ []) =
       exact_plain m (part.Transaction ∷ part.Transaction ∷ part.Class ∷ part.Operations ∷ []) e n (t ∷ u ∷ class ∷ ops ∷ []) refl refl
-      ∙ number_first (txn_said t) _ _ (only_txn t) (λ t. number_first (txn_said u) _ _ (only_txn u) (λ u. exchanged (result_err (class_said m class)) (result_err (operations_said ops)) ∙ number_first (operations_said ops) _ _ (only_operations ops) (λ ops. name_last (class_said m class) _ (only_class m class))))
+      ∙ number_first (parse_txn t) _ _ (only_txn t) (λ t. number_first (parse_txn u) _ _ (only_txn u) (λ u. exchanged (result_err (parse_class m class)) (result_err (parse_operations ops)) ∙ number_first (parse_operations ops) _ _ (only_operations ops) (λ ops. name_last (parse_class m class) _ (only_class m class))))
   diagnosed_split (t ∷ u ∷ class ∷ ops ∷ x ∷ ws) = short_plain m (part.Transaction ∷ part.Transaction ∷ part.Class ∷ part.Operations ∷ []) e n (t ∷ u ∷ class ∷ ops ∷ x ∷ ws) refl (many 4 (suc (suc (suc (suc (suc (length ws)))))) (omega arith))
 
-  diagnosed_join : (words : List (List ℕ)) → diagnosed_fault (wrong_in m (part.Transaction ∷ part.Transaction ∷ []) e n words) ≡ result_err (join_said {A = A} words)
-  unfolding join_said
+  diagnosed_join : (words : List (List ℕ)) → diagnosed_fault (wrong_in m (part.Transaction ∷ part.Transaction ∷ []) e n words) ≡ result_err (parse_join {A = A} words)
+  unfolding parse_join
   diagnosed_join [] = short m (part.Transaction ∷ part.Transaction ∷ []) e n [] refl refl
   diagnosed_join (t ∷ []) = short_plain m (part.Transaction ∷ part.Transaction ∷ []) e n (t ∷ []) refl refl
   diagnosed_join (t ∷ u ∷ []) =
       exact_plain m (part.Transaction ∷ part.Transaction ∷ []) e n (t ∷ u ∷ []) refl refl
-      ∙ number_first (txn_said t) _ _ (only_txn t) (λ t. number_last (txn_said u) _ (only_txn u))
+      ∙ number_first (parse_txn t) _ _ (only_txn t) (λ t. number_last (parse_txn u) _ (only_txn u))
   diagnosed_join (t ∷ u ∷ x ∷ ws) = short_plain m (part.Transaction ∷ part.Transaction ∷ []) e n (t ∷ u ∷ x ∷ ws) refl (many 2 (suc (suc (suc (length ws)))) (omega arith))
 
-  diagnosed_delegate : (words : List (List ℕ)) → diagnosed_fault (wrong_in m (part.Transaction ∷ part.Transaction ∷ part.Operations ∷ []) e n words) ≡ result_err (delegate_said {A = A} words)
-  unfolding delegate_said
+  diagnosed_delegate : (words : List (List ℕ)) → diagnosed_fault (wrong_in m (part.Transaction ∷ part.Transaction ∷ part.Operations ∷ []) e n words) ≡ result_err (parse_delegate {A = A} words)
+  unfolding parse_delegate
   diagnosed_delegate [] = short m (part.Transaction ∷ part.Transaction ∷ part.Operations ∷ []) e n [] refl refl
   diagnosed_delegate (t ∷ []) = short_plain m (part.Transaction ∷ part.Transaction ∷ part.Operations ∷ []) e n (t ∷ []) refl refl
   diagnosed_delegate (t ∷ u ∷ []) = short_plain m (part.Transaction ∷ part.Transaction ∷ part.Operations ∷ []) e n (t ∷ u ∷ []) refl refl
   diagnosed_delegate (t ∷ u ∷ ops ∷ []) =
       exact_plain m (part.Transaction ∷ part.Transaction ∷ part.Operations ∷ []) e n (t ∷ u ∷ ops ∷ []) refl refl
-      ∙ number_first (txn_said t) _ _ (only_txn t) (λ t. number_first (txn_said u) _ _ (only_txn u) (λ u. number_last (operations_said ops) _ (only_operations ops)))
+      ∙ number_first (parse_txn t) _ _ (only_txn t) (λ t. number_first (parse_txn u) _ _ (only_txn u) (λ u. number_last (parse_operations ops) _ (only_operations ops)))
   diagnosed_delegate (t ∷ u ∷ ops ∷ x ∷ ws) = short_plain m (part.Transaction ∷ part.Transaction ∷ part.Operations ∷ []) e n (t ∷ u ∷ ops ∷ x ∷ ws) refl (many 3 (suc (suc (suc (suc (length ws))))) (omega arith))
 
-  diagnosed_commit : (words : List (List ℕ)) → diagnosed_fault (wrong_in m (part.Transaction ∷ []) e n words) ≡ result_err (commit_said {A = A} words)
-  unfolding commit_said
+  diagnosed_commit : (words : List (List ℕ)) → diagnosed_fault (wrong_in m (part.Transaction ∷ []) e n words) ≡ result_err (parse_commit {A = A} words)
+  unfolding parse_commit
   diagnosed_commit [] = short m (part.Transaction ∷ []) e n [] refl refl
   diagnosed_commit (t ∷ []) =
-      exact_plain m (part.Transaction ∷ []) e n (t ∷ []) refl refl ∙ number_last (txn_said t) _ (only_txn t)
+      exact_plain m (part.Transaction ∷ []) e n (t ∷ []) refl refl ∙ number_last (parse_txn t) _ (only_txn t)
   diagnosed_commit (t ∷ x ∷ ws) = short_plain m (part.Transaction ∷ []) e n (t ∷ x ∷ ws) refl (many 1 (suc (suc (length ws))) (omega arith))
 
-  diagnosed_abort : (words : List (List ℕ)) → diagnosed_fault (wrong_in m (part.Transaction ∷ []) e n words) ≡ result_err (abort_said {A = A} words)
-  unfolding abort_said
+  diagnosed_abort : (words : List (List ℕ)) → diagnosed_fault (wrong_in m (part.Transaction ∷ []) e n words) ≡ result_err (parse_abort {A = A} words)
+  unfolding parse_abort
   diagnosed_abort [] = short m (part.Transaction ∷ []) e n [] refl refl
   diagnosed_abort (t ∷ []) =
-      exact_plain m (part.Transaction ∷ []) e n (t ∷ []) refl refl ∙ number_last (txn_said t) _ (only_txn t)
+      exact_plain m (part.Transaction ∷ []) e n (t ∷ []) refl refl ∙ number_last (parse_txn t) _ (only_txn t)
   diagnosed_abort (t ∷ x ∷ ws) = short_plain m (part.Transaction ∷ []) e n (t ∷ x ∷ ws) refl (many 1 (suc (suc (length ws))) (omega arith))
 
-  diagnosed_permit : (words : List (List ℕ)) → diagnosed_fault (wrong_in m (part.Transaction ∷ part.Transaction ∷ part.Object ∷ []) e n words) ≡ result_err (permit_said m words)
-  unfolding permit_said
+  diagnosed_permit : (words : List (List ℕ)) → diagnosed_fault (wrong_in m (part.Transaction ∷ part.Transaction ∷ part.Object ∷ []) e n words) ≡ result_err (parse_permit m words)
+  unfolding parse_permit
   diagnosed_permit [] = short m (part.Transaction ∷ part.Transaction ∷ part.Object ∷ []) e n [] refl refl
   diagnosed_permit (t ∷ []) = short_plain m (part.Transaction ∷ part.Transaction ∷ part.Object ∷ []) e n (t ∷ []) refl refl
   diagnosed_permit (t ∷ u ∷ []) = short_plain m (part.Transaction ∷ part.Transaction ∷ part.Object ∷ []) e n (t ∷ u ∷ []) refl refl
   diagnosed_permit (t ∷ u ∷ object ∷ []) =
       exact_plain m (part.Transaction ∷ part.Transaction ∷ part.Object ∷ []) e n (t ∷ u ∷ object ∷ []) refl refl
-      ∙ number_first (txn_said t) _ _ (only_txn t) (λ t. number_first (txn_said u) _ _ (only_txn u) (λ u. name_last (object_said m object) _ (only_object m object)))
+      ∙ number_first (parse_txn t) _ _ (only_txn t) (λ t. number_first (parse_txn u) _ _ (only_txn u) (λ u. name_last (parse_object m object) _ (only_object m object)))
   diagnosed_permit (t ∷ u ∷ object ∷ x ∷ ws) = short_plain m (part.Transaction ∷ part.Transaction ∷ part.Object ∷ []) e n (t ∷ u ∷ object ∷ x ∷ ws) refl (many 3 (suc (suc (suc (suc (length ws))))) (omega arith))
 
 -- an unknown word
@@ -394,7 +394,7 @@ unknown os a b is = ap (λ t. option_or (when t Word) (option_or (when (differ a
 
 module _ {A : Type 0} (m : Parts A) (e : Expected) (n : ℕ) where
   -- a kind of dependency at the front, known or not
-  diagnosed_kind : (word : List ℕ) (words : List (List ℕ)) (r : Result Dep LineFault) → Only Word r → kind_said word ≡ r → diagnosed_fault (wrong_in m (part.Kind ∷ part.Transaction ∷ part.Transaction ∷ []) e n (word ∷ words)) ≡ result_err (r >>= (λ kind. form_of_kind {A = A} kind words))
+  diagnosed_kind : (word : List ℕ) (words : List (List ℕ)) (r : Result Dep LineFault) → Only Word r → parse_kind word ≡ r → diagnosed_fault (wrong_in m (part.Kind ∷ part.Transaction ∷ part.Transaction ∷ []) e n (word ∷ words)) ≡ result_err (r >>= (λ kind. form_of_kind {A = A} kind words))
   diagnosed_kind word words (Err f) only is =
       diagnosed_in m (part.Kind ∷ part.Transaction ∷ part.Transaction ∷ []) e n (word ∷ words)
       ∙ unknown (faults m (part.Kind ∷ part.Transaction ∷ part.Transaction ∷ []) (word ∷ words)) 3 (length (word ∷ words)) (ap (λ r. is_fault Word (result_err r) || has Word (faults m (part.Transaction ∷ part.Transaction ∷ []) words)) (is ∙ ap Err only))
@@ -405,53 +405,53 @@ module _ {A : Type 0} (m : Parts A) (e : Expected) (n : ℕ) where
       short m (part.Kind ∷ part.Transaction ∷ part.Transaction ∷ []) e n (word ∷ j ∷ []) (ap (λ r. is_fault Word (result_err r) || has Word (faults m (part.Transaction ∷ part.Transaction ∷ []) (j ∷ []))) is ∙ all_known m (part.Transaction ∷ part.Transaction ∷ []) (j ∷ []) refl) refl
   diagnosed_kind word (j ∷ i ∷ []) (Ok kind) only is =
       exact m (part.Kind ∷ part.Transaction ∷ part.Transaction ∷ []) e n (word ∷ j ∷ i ∷ []) (ap (λ r. is_fault Word (result_err r) || has Word (faults m (part.Transaction ∷ part.Transaction ∷ []) (j ∷ i ∷ []))) is ∙ all_known m (part.Transaction ∷ part.Transaction ∷ []) (j ∷ i ∷ []) refl) refl
-      ∙ ap (λ r. number_or_name (result_err r ∷ result_err (txn_said j) ∷ result_err (txn_said i) ∷ [])) is
-      ∙ known_first (result_err (txn_said j) ∷ result_err (txn_said i) ∷ [])
-      ∙ number_first (txn_said j) _ _ (only_txn j) (λ j. number_last (txn_said i) _ (only_txn i))
+      ∙ ap (λ r. number_or_name (result_err r ∷ result_err (parse_txn j) ∷ result_err (parse_txn i) ∷ [])) is
+      ∙ known_first (result_err (parse_txn j) ∷ result_err (parse_txn i) ∷ [])
+      ∙ number_first (parse_txn j) _ _ (only_txn j) (λ j. number_last (parse_txn i) _ (only_txn i))
   diagnosed_kind word (j ∷ i ∷ x ∷ ws) (Ok kind) only is =
       short m (part.Kind ∷ part.Transaction ∷ part.Transaction ∷ []) e n (word ∷ j ∷ i ∷ x ∷ ws) (ap (λ r. is_fault Word (result_err r) || has Word (faults m (part.Transaction ∷ part.Transaction ∷ []) (j ∷ i ∷ x ∷ ws))) is ∙ all_known m (part.Transaction ∷ part.Transaction ∷ []) (j ∷ i ∷ x ∷ ws) refl)
       (many 3 (suc (suc (suc (suc (length ws))))) (omega arith))
 
-  diagnosed_form : (words : List (List ℕ)) → diagnosed_fault (wrong_in m (part.Kind ∷ part.Transaction ∷ part.Transaction ∷ []) e n words) ≡ result_err (form_said {A = A} words)
-  unfolding form_said
+  diagnosed_form : (words : List (List ℕ)) → diagnosed_fault (wrong_in m (part.Kind ∷ part.Transaction ∷ part.Transaction ∷ []) e n words) ≡ result_err (parse_form {A = A} words)
+  unfolding parse_form
   diagnosed_form [] = short m (part.Kind ∷ part.Transaction ∷ part.Transaction ∷ []) e n [] refl refl
-  diagnosed_form (word ∷ words) = diagnosed_kind word words (kind_said word) (only_kind word) refl
+  diagnosed_form (word ∷ words) = diagnosed_kind word words (parse_kind word) (only_kind word) refl
 
   -- the first three words behind a `do`
   abbrev asked : List LinePart → List LinePart
   asked parts = part.Transaction ∷ part.Object ∷ part.Operation ∷ parts
 
   abbrev doing : List ℕ → List ℕ → Result Op LineFault → Result (Event A) LineFault
-  doing t ob r = r >>= (λ op. txn_said t >>= (λ t. object_said m ob >>= (λ object. Ok (Operate t object op))))
+  doing t ob r = r >>= (λ op. parse_txn t >>= (λ t. parse_object m ob >>= (λ object. Ok (Operate t object op))))
 
   -- no word of these is unknown, where the operation is known
-  known : (t ob op : List ℕ) (parts : List LinePart) (ws : List (List ℕ)) (kind : OpKind) → op_kind_said op ≡ Ok kind → list_all is_plain parts ≡ true → has Word (faults m (asked parts) (t ∷ ob ∷ op ∷ ws)) ≡ false
+  known : (t ob op : List ℕ) (parts : List LinePart) (ws : List (List ℕ)) (kind : OpKind) → parse_op_kind op ≡ Ok kind → list_all is_plain parts ≡ true → has Word (faults m (asked parts) (t ∷ ob ∷ op ∷ ws)) ≡ false
   known t ob op parts ws kind is plain =
       λ i. no_unknown m part.Transaction t refl i || (no_unknown m part.Object ob refl i || (ap (λ r. is_fault Word (result_err r)) is i || all_known m parts ws plain i))
 
   -- an operation with no number
-  diagnosed_alone : (t ob op : List ℕ) (x : Op) (kind : OpKind) → op_kind_said op ≡ Ok kind → (ws : List (List ℕ)) → diagnosed_fault (wrong_in m (asked []) e n (t ∷ ob ∷ op ∷ ws)) ≡ result_err (doing t ob (alone x ws))
+  diagnosed_alone : (t ob op : List ℕ) (x : Op) (kind : OpKind) → parse_op_kind op ≡ Ok kind → (ws : List (List ℕ)) → diagnosed_fault (wrong_in m (asked []) e n (t ∷ ob ∷ op ∷ ws)) ≡ result_err (doing t ob (alone x ws))
   diagnosed_alone t ob op x kind is [] =
       exact m (asked []) e n (t ∷ ob ∷ op ∷ []) (known t ob op [] [] kind is refl) refl
-      ∙ ap (λ r. number_or_name (result_err (txn_said t) ∷ result_err (object_said m ob) ∷ result_err r ∷ [])) is
-      ∙ number_first (txn_said t) _ _ (only_txn t) (λ t. name_before (object_said m ob) _ (only_object m ob))
+      ∙ ap (λ r. number_or_name (result_err (parse_txn t) ∷ result_err (parse_object m ob) ∷ result_err r ∷ [])) is
+      ∙ number_first (parse_txn t) _ _ (only_txn t) (λ t. name_before (parse_object m ob) _ (only_object m ob))
   diagnosed_alone t ob op x kind is (w ∷ ws) =
       short m (asked []) e n (t ∷ ob ∷ op ∷ w ∷ ws) (known t ob op [] (w ∷ ws) kind is refl) (many 3 (suc (suc (suc (suc (length ws))))) (omega arith))
 
   -- an operation with a number
-  diagnosed_number : (t ob op : List ℕ) (x : ℤ → Op) (kind : OpKind) → op_kind_said op ≡ Ok kind → (ws : List (List ℕ)) → diagnosed_fault (wrong_in m (asked (part.Integer ∷ [])) e n (t ∷ ob ∷ op ∷ ws)) ≡ result_err (doing t ob (with_integer x ws))
+  diagnosed_number : (t ob op : List ℕ) (x : ℤ → Op) (kind : OpKind) → parse_op_kind op ≡ Ok kind → (ws : List (List ℕ)) → diagnosed_fault (wrong_in m (asked (part.Integer ∷ [])) e n (t ∷ ob ∷ op ∷ ws)) ≡ result_err (doing t ob (with_integer x ws))
   diagnosed_number t ob op x kind is [] =
       short m (asked (part.Integer ∷ [])) e n (t ∷ ob ∷ op ∷ []) (known t ob op (part.Integer ∷ []) [] kind is refl) refl
   diagnosed_number t ob op x kind is (w ∷ []) =
       exact m (asked (part.Integer ∷ [])) e n (t ∷ ob ∷ op ∷ w ∷ []) (known t ob op (part.Integer ∷ []) (w ∷ []) kind is refl) refl
-      ∙ ap (λ r. number_or_name (result_err (txn_said t) ∷ result_err (object_said m ob) ∷ result_err r ∷ result_err (integer_said w) ∷ [])) is
-      ∙ moved (result_err (txn_said t)) (result_err (object_said m ob)) (result_err (integer_said w))
-      ∙ number_first (integer_said w) (λ v. doing t ob (Ok (x v))) _ (only_integer w) (λ v. number_first (txn_said t) _ _ (only_txn t) (λ t. name_last (object_said m ob) _ (only_object m ob)))
-      ∙ ap result_err (sym (joined (integer_said w) (λ v. Ok (x v)) _))
+      ∙ ap (λ r. number_or_name (result_err (parse_txn t) ∷ result_err (parse_object m ob) ∷ result_err r ∷ result_err (parse_integer w) ∷ [])) is
+      ∙ moved (result_err (parse_txn t)) (result_err (parse_object m ob)) (result_err (parse_integer w))
+      ∙ number_first (parse_integer w) (λ v. doing t ob (Ok (x v))) _ (only_integer w) (λ v. number_first (parse_txn t) _ _ (only_txn t) (λ t. name_last (parse_object m ob) _ (only_object m ob)))
+      ∙ ap result_err (sym (joined (parse_integer w) (λ v. Ok (x v)) _))
   diagnosed_number t ob op x kind is (w ∷ y ∷ ws) =
       short m (asked (part.Integer ∷ [])) e n (t ∷ ob ∷ op ∷ w ∷ y ∷ ws) (known t ob op (part.Integer ∷ []) (w ∷ y ∷ ws) kind is refl) (many 4 (suc (suc (suc (suc (suc (length ws)))))) (omega arith))
 
-  diagnosed_operation : (t ob op : List ℕ) (r : Result OpKind LineFault) → Only Word r → op_kind_said op ≡ r → (ws : List (List ℕ)) → diagnosed_fault (wrong_in m (operation_parts (result_ok r)) e n (t ∷ ob ∷ op ∷ ws)) ≡ result_err (doing t ob (r >>= (λ kind. operation_of_kind kind ws)))
+  diagnosed_operation : (t ob op : List ℕ) (r : Result OpKind LineFault) → Only Word r → parse_op_kind op ≡ r → (ws : List (List ℕ)) → diagnosed_fault (wrong_in m (operation_parts (result_ok r)) e n (t ∷ ob ∷ op ∷ ws)) ≡ result_err (doing t ob (r >>= (λ kind. operation_of_kind kind ws)))
   diagnosed_operation t ob op (Err f) only is ws =
       diagnosed_in m (asked []) e n (t ∷ ob ∷ op ∷ ws)
       ∙ unknown (faults m (asked []) (t ∷ ob ∷ op ∷ ws)) 3 (length (t ∷ ob ∷ op ∷ ws)) (λ i. no_unknown m part.Transaction t refl i || (no_unknown m part.Object ob refl i || (ap (λ r. is_fault Word (result_err r)) (is ∙ ap Err only) i || has Word (faults m [] ws))))
@@ -466,12 +466,12 @@ module _ {A : Type 0} (m : Parts A) (e : Expected) (n : ℕ) where
   diagnosed_operation t ob op (Ok op_kind.Size) only is ws = diagnosed_alone t ob op Size op_kind.Size is ws
 
 module _ {A : Type 0} (m : Parts A) where
-  diagnosed_do : (e : Expected) (n : ℕ) (words : List (List ℕ)) → diagnosed_fault (wrong_in m (operation_parts (op_kind_in words)) e n words) ≡ result_err (do_said m words)
-  unfolding do_said
+  diagnosed_do : (e : Expected) (n : ℕ) (words : List (List ℕ)) → diagnosed_fault (wrong_in m (operation_parts (op_kind_in words)) e n words) ≡ result_err (parse_do m words)
+  unfolding parse_do
   diagnosed_do e n [] = short m (operation_parts None) e n [] refl refl
   diagnosed_do e n (t ∷ []) = short m (operation_parts None) e n (t ∷ []) (all_known m (part.Transaction ∷ []) (t ∷ []) refl) refl
   diagnosed_do e n (t ∷ ob ∷ []) = short m (operation_parts None) e n (t ∷ ob ∷ []) (all_known m (part.Transaction ∷ part.Object ∷ []) (t ∷ ob ∷ []) refl) refl
-  diagnosed_do e n (t ∷ ob ∷ op ∷ ws) = diagnosed_operation m e n t ob op (op_kind_said op) (only_op_kind op) refl ws
+  diagnosed_do e n (t ∷ ob ∷ op ∷ ws) = diagnosed_operation m e n t ob op (parse_op_kind op) (only_op_kind op) refl ws
 
   diagnosed_behind : (n : ℕ) (r : Result EventKind LineFault) (words : List (List ℕ)) → diagnosed_fault (wrong_behind m n r words) ≡ result_err (r >>= (λ kind. event_of_kind m kind words))
   diagnosed_behind n (Err f) words = refl
@@ -487,13 +487,13 @@ module _ {A : Type 0} (m : Parts A) where
   diagnosed_behind n (Ok event_kind.Permit) words = diagnosed_permit m _ (n + 1) words
 
   -- the fault of a diagnosis of words of an event
-  pub diagnosed_event : (n : ℕ) (words : List (List ℕ)) → diagnosed_fault (wrong_event m n words) ≡ result_err (event_said m words)
-  unfolding event_said
+  pub diagnosed_event : (n : ℕ) (words : List (List ℕ)) → diagnosed_fault (wrong_event m n words) ≡ result_err (parse_event m words)
+  unfolding parse_event
   diagnosed_event n [] = refl
-  diagnosed_event n (word ∷ words) = diagnosed_behind n (event_kind_said word) words
+  diagnosed_event n (word ∷ words) = diagnosed_behind n (parse_event_kind word) words
 
-  diagnosed_return : (n : ℕ) (words : List (List ℕ)) → diagnosed_fault (wrong_return m n words) ≡ result_err (return_said words)
-  unfolding return_said
+  diagnosed_return : (n : ℕ) (words : List (List ℕ)) → diagnosed_fault (wrong_return m n words) ≡ result_err (parse_return words)
+  unfolding parse_return
   diagnosed_return n [] = short m (part.Return ∷ []) (Part part.Return) n [] refl refl
   diagnosed_return n (word ∷ []) =
       exact m (part.Return ∷ []) (Part part.Return) n (word ∷ []) (all_known m (part.Return ∷ []) (word ∷ []) refl) refl
@@ -501,8 +501,8 @@ module _ {A : Type 0} (m : Parts A) where
   diagnosed_return n (word ∷ x ∷ ws) = short m (part.Return ∷ []) (Part part.Return) n (word ∷ x ∷ ws) (all_known m (part.Return ∷ []) (word ∷ x ∷ ws) refl) (many 1 (suc (suc (length ws))) (omega arith))
 
   -- the fault of a diagnosis of words of a kept item
-  pub diagnosed_kept : (words : List (List ℕ)) → diagnosed_fault (wrong_kept m words) ≡ result_err (kept_said m words)
-  unfolding kept_said
+  pub diagnosed_kept : (words : List (List ℕ)) → diagnosed_fault (wrong_kept m words) ≡ result_err (parse_kept m words)
+  unfolding parse_kept
   diagnosed_kept words =
       kept_or_plain (list_any is_equals words) _ _ _ _ _ _
       (diagnosed_event 0 (before_first is_equals words))
@@ -524,28 +524,28 @@ turned make (Err f) (Ok y) only = refl
 turned make (Err f) (Err g) only = ap Some (ap (λ h. lower h f) only ∙ with_number f ∙ ap (λ h. lower f h) (sym only))
 
 module _ {A : Type 0} (m : Parts A) (seats : ℕ) where
-  diagnosed_seat : (word : List ℕ) → diagnosed_fault (wrong_seat m seats word) ≡ result_err (seat_said seats word)
+  diagnosed_seat : (word : List ℕ) → diagnosed_fault (wrong_seat m seats word) ≡ result_err (parse_seat seats word)
   diagnosed_seat word =
       exact_plain m (part.Seat seats ∷ []) (Part (part.Seat seats)) 0 (word ∷ []) refl refl
-      ∙ number_alone (seat_said seats word) (only_seat seats word)
+      ∙ number_alone (parse_seat seats word) (only_seat seats word)
 
   diagnosed_after_seat : (words : List (List ℕ)) → diagnosed_fault (wrong_after_seat m words) ≡ result_err (event_behind m words)
   diagnosed_after_seat [] = refl
   diagnosed_after_seat (word ∷ words) = diagnosed_event m 1 (word ∷ words)
 
   -- the fault of a diagnosis of words of a seated event
-  pub diagnosed_seated : (words : List (List ℕ)) → diagnosed_fault (wrong_seated m seats words) ≡ result_err (seated_said m seats words)
-  unfolding seated_said
+  pub diagnosed_seated : (words : List (List ℕ)) → diagnosed_fault (wrong_seated m seats words) ≡ result_err (parse_seated m seats words)
+  unfolding parse_seated
   diagnosed_seated [] = refl
   diagnosed_seated (seat ∷ words) =
-      diagnosed_lower (λ n event. at_seat event n) (wrong_seat m seats seat) (wrong_after_seat m words) (seat_said seats seat) (event_behind m words) (diagnosed_seat seat) (diagnosed_after_seat words)
-      ∙ turned at_seat (event_behind m words) (seat_said seats seat) (only_seat seats seat)
+      diagnosed_lower (λ n event. at_seat event n) (wrong_seat m seats seat) (wrong_after_seat m words) (parse_seat seats seat) (event_behind m words) (diagnosed_seat seat) (diagnosed_after_seat words)
+      ∙ turned at_seat (event_behind m words) (parse_seat seats seat) (only_seat seats seat)
 
 known_event : (a b c d e f g h i j : Bool) → Only {X = EventKind} Word (cond a (Ok event_kind.Begin) (cond b (Ok event_kind.Spawn) (cond c (Ok event_kind.Split) (cond d (Ok event_kind.Join) (cond e (Ok event_kind.Delegate) (cond f (Ok event_kind.Form) (cond g (Ok event_kind.Operate) (cond h (Ok event_kind.Commit) (cond i (Ok event_kind.Abort) (cond j (Ok event_kind.Permit) (Err Word)))))))))))
 known_event a b c d e f g h i j =
     only_else Word a event_kind.Begin _ (only_else Word b event_kind.Spawn _ (only_else Word c event_kind.Split _ (only_else Word d event_kind.Join _ (only_else Word e event_kind.Delegate _ (only_else Word f event_kind.Form _ (only_else Word g event_kind.Operate _ (only_else Word h event_kind.Commit _ (only_else Word i event_kind.Abort _ (only_both Word j event_kind.Permit)))))))))
 
-only_event : (word : List ℕ) → Only Word (event_kind_said word)
+only_event : (word : List ℕ) → Only Word (parse_event_kind word)
 only_event word =
     known_event (bytes_eq word (event_word event_kind.Begin)) (bytes_eq word (event_word event_kind.Spawn)) (bytes_eq word (event_word event_kind.Split)) (bytes_eq word (event_word event_kind.Join)) (bytes_eq word (event_word event_kind.Delegate)) (bytes_eq word (event_word event_kind.Form)) (bytes_eq word (event_word event_kind.Operate)) (bytes_eq word (event_word event_kind.Commit)) (bytes_eq word (event_word event_kind.Abort)) (bytes_eq word (event_word event_kind.Permit))
 
@@ -572,21 +572,21 @@ module _ {A : Type 0} (m : Parts A) (e : Expected) (n : ℕ) where
       short_plain m (p ∷ []) e n (w ∷ x ∷ ws) (ap (λ b. b && true) plain) (many 1 (suc (suc (length ws))) (omega arith))
 
   -- the one word left, an object
-  diagnosed_one_object : {Y : Type 0} (make : ObjId → Y) (words : List (List ℕ)) → diagnosed_fault (wrong_in m (part.Object ∷ []) e n words) ≡ result_err (one_word words >>= (λ word. object_said m word >>= (λ x. Ok (make x))))
+  diagnosed_one_object : {Y : Type 0} (make : ObjId → Y) (words : List (List ℕ)) → diagnosed_fault (wrong_in m (part.Object ∷ []) e n words) ≡ result_err (one_word words >>= (λ word. parse_object m word >>= (λ x. Ok (make x))))
   diagnosed_one_object make [] = short m (part.Object ∷ []) e n [] refl refl
   diagnosed_one_object make (w ∷ []) =
-      exact_plain m (part.Object ∷ []) e n (w ∷ []) refl refl ∙ name_last (object_said m w) make (only_object m w)
+      exact_plain m (part.Object ∷ []) e n (w ∷ []) refl refl ∙ name_last (parse_object m w) make (only_object m w)
   diagnosed_one_object make (w ∷ x ∷ ws) =
       short_plain m (part.Object ∷ []) e n (w ∷ x ∷ ws) refl (many 1 (suc (suc (length ws))) (omega arith))
 
-  diagnosed_one_count : {Y : Type 0} (make : ℕ → Y) (words : List (List ℕ)) → diagnosed_fault (wrong_in m (part.Count ∷ []) e n words) ≡ result_err (one_word words >>= (λ word. count_said word >>= (λ x. Ok (make x))))
-  diagnosed_one_count make words = diagnosed_one_number part.Count count_said make refl (λ word. refl) only_count words
+  diagnosed_one_count : {Y : Type 0} (make : ℕ → Y) (words : List (List ℕ)) → diagnosed_fault (wrong_in m (part.Count ∷ []) e n words) ≡ result_err (one_word words >>= (λ word. parse_count word >>= (λ x. Ok (make x))))
+  diagnosed_one_count make words = diagnosed_one_number part.Count parse_count make refl (λ word. refl) only_count words
 
-  diagnosed_one_txn : {Y : Type 0} (make : TxnId → Y) (words : List (List ℕ)) → diagnosed_fault (wrong_in m (part.Transaction ∷ []) e n words) ≡ result_err (one_word words >>= (λ word. txn_said word >>= (λ x. Ok (make x))))
-  diagnosed_one_txn make words = diagnosed_one_number part.Transaction txn_said make refl (λ word. refl) only_txn words
+  diagnosed_one_txn : {Y : Type 0} (make : TxnId → Y) (words : List (List ℕ)) → diagnosed_fault (wrong_in m (part.Transaction ∷ []) e n words) ≡ result_err (one_word words >>= (λ word. parse_txn word >>= (λ x. Ok (make x))))
+  diagnosed_one_txn make words = diagnosed_one_number part.Transaction parse_txn make refl (λ word. refl) only_txn words
 
   -- a kind of event, known or not
-  diagnosed_one_event : (word : List ℕ) (words : List (List ℕ)) (r : Result EventKind LineFault) → Only Word r → event_kind_said word ≡ r → diagnosed_fault (wrong_in m (part.Event ∷ []) e n (word ∷ words)) ≡ result_err (r >>= (λ kind. alone (break_on.Kind kind) words))
+  diagnosed_one_event : (word : List ℕ) (words : List (List ℕ)) (r : Result EventKind LineFault) → Only Word r → parse_event_kind word ≡ r → diagnosed_fault (wrong_in m (part.Event ∷ []) e n (word ∷ words)) ≡ result_err (r >>= (λ kind. alone (break_on.Kind kind) words))
   unfolding number_or_name
   diagnosed_one_event word words (Err f) only is =
       diagnosed_in m (part.Event ∷ []) e n (word ∷ words)
@@ -598,9 +598,9 @@ module _ {A : Type 0} (m : Parts A) (e : Expected) (n : ℕ) where
   diagnosed_one_event word (x ∷ ws) (Ok kind) only is =
       short m (part.Event ∷ []) e n (word ∷ x ∷ ws) (ap (λ r. is_fault Word (result_err r) || false) is) (many 1 (suc (suc (length ws))) (omega arith))
 
-  diagnosed_kind_break : (words : List (List ℕ)) → diagnosed_fault (wrong_in m (part.Event ∷ []) e n words) ≡ result_err (kind_break_said words)
+  diagnosed_kind_break : (words : List (List ℕ)) → diagnosed_fault (wrong_in m (part.Event ∷ []) e n words) ≡ result_err (parse_kind_break words)
   diagnosed_kind_break [] = short m (part.Event ∷ []) e n [] refl refl
-  diagnosed_kind_break (word ∷ words) = diagnosed_one_event word words (event_kind_said word) (only_event word) refl
+  diagnosed_kind_break (word ∷ words) = diagnosed_one_event word words (parse_event_kind word) (only_event word) refl
 
 module _ {A : Type 0} (m : Parts A) where
   diagnosed_break_of : (r : Result BreakKind LineFault) (words : List (List ℕ)) → diagnosed_fault (wrong_break_of m r words) ≡ result_err (r >>= (λ kind. break_of_kind m kind words))
@@ -611,10 +611,10 @@ module _ {A : Type 0} (m : Parts A) where
   diagnosed_break_of (Ok break_kind.Owed) words = diagnosed_one_count m _ 2 (λ k. break_on.Owed k) words
   diagnosed_break_of (Ok break_kind.Ended) words = diagnosed_one_txn m _ 2 (λ t. break_on.Ended t) words
 
-  diagnosed_break : (words : List (List ℕ)) → diagnosed_fault (wrong_break m words) ≡ result_err (break_said m words)
-  unfolding break_said
+  diagnosed_break : (words : List (List ℕ)) → diagnosed_fault (wrong_break m words) ≡ result_err (parse_break m words)
+  unfolding parse_break
   diagnosed_break [] = refl
-  diagnosed_break (word ∷ words) = diagnosed_break_of (break_kind_said word) words
+  diagnosed_break (word ∷ words) = diagnosed_break_of (parse_break_kind word) words
 
   diagnosed_command_of : (r : Result CommandKind LineFault) (words : List (List ℕ)) → diagnosed_fault (wrong_command_of m r words) ≡ result_err (r >>= (λ kind. command_of_kind m kind words))
   diagnosed_command_of (Err f) words = refl
@@ -622,19 +622,19 @@ module _ {A : Type 0} (m : Parts A) where
   diagnosed_command_of (Ok command_kind.Back) words = diagnosed_none m _ 1 command.Back words
   diagnosed_command_of (Ok command_kind.Goto) words = diagnosed_one_count m _ 1 (λ k. command.Goto k) words
   diagnosed_command_of (Ok command_kind.Run) words = diagnosed_none m _ 1 command.Run words
-  diagnosed_command_of (Ok command_kind.Break) words = diagnosed_break words ∙ kept_fault (break_said m words) (λ on. command.Break on)
+  diagnosed_command_of (Ok command_kind.Break) words = diagnosed_break words ∙ kept_fault (parse_break m words) (λ on. command.Break on)
   diagnosed_command_of (Ok command_kind.Clear) words = diagnosed_none m _ 1 command.Clear words
   diagnosed_command_of (Ok command_kind.Value) words = diagnosed_one_object m _ 1 (λ object. command.Value object) words
   diagnosed_command_of (Ok command_kind.Status) words = diagnosed_one_txn m _ 1 (λ t. command.Status t) words
   diagnosed_command_of (Ok command_kind.Owed) words = diagnosed_none m _ 1 command.Owed words
 
   -- the fault of a diagnosis of words of a command
-  pub diagnosed_command : (words : List (List ℕ)) → diagnosed_fault (wrong_command m words) ≡ result_err (command_said m words)
-  unfolding command_said
+  pub diagnosed_command : (words : List (List ℕ)) → diagnosed_fault (wrong_command m words) ≡ result_err (parse_command m words)
+  unfolding parse_command
   diagnosed_command [] = refl
-  diagnosed_command (word ∷ words) = diagnosed_command_of (command_kind_said word) words
+  diagnosed_command (word ∷ words) = diagnosed_command_of (parse_command_kind word) words
 
 -- the fault of a diagnosis, where memory suffices for it
 pub diagnosed_if : {E : Type 0} (r : Result (Option Diagnostic) E) (d : Option Diagnostic) (fault : Option LineFault) → IfOk r (λ found. found ≡ d) → diagnosed_fault d ≡ fault → IfOk r (λ found. diagnosed_fault found ≡ fault)
-diagnosed_if (Ok found) d fault same told = ap diagnosed_fault same ∙ told
-diagnosed_if (Err e) d fault same told = tt
+diagnosed_if (Ok found) d fault same reported = ap diagnosed_fault same ∙ reported
+diagnosed_if (Err e) d fault same reported = tt

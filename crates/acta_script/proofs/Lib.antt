@@ -13,6 +13,6 @@ pub mod OperationsAgain
 pub mod Signs
 pub mod Spelled
 pub mod SplitSaid
-pub mod Told
+pub mod Reported
 pub mod WordsLeft
 pub mod WrongPlaces

@@ -20,7 +20,7 @@ use Rattle.acta_table.specs.Sets.{numbers_of, numbered, each_once}
 use Rattle.acta_table.proofs.OpSets.{numbers-numbered}
 use Rattle.acta_script.specs.declared.fault.LineFault.{LineFault}
 use Rattle.acta_script.specs.declared.fault.LineFault.TheVariants.{Number}
-use Rattle.acta_script.specs.Reading.{◌>>=◌, numbers_said, operations_said}
+use Rattle.acta_script.specs.Reading.{◌>>=◌, parse_numbers, parse_operations}
 use Rattle.acta_script.specs.Writing.{operations_word}
 use Rattle.acta_script.proofs.Ascending.{ascending-sorted}
 use Rattle.acta_script.proofs.Joined.{behind_commas, word-joined}
@@ -93,18 +93,18 @@ once ops sorted =
     ∙ ap numbered (ascending-sorted (numbers_of ops) sorted)
     ∙ numbered-numbers ops
 
-numbers_again : (op : OpNo) (ops : List OpNo) → AreSmall (op ∷ ops) → numbers_said (decimal op.0 ++ behind_commas ops) ≡ Ok (numbered (numbers_of (op ∷ ops)))
+numbers_again : (op : OpNo) (ops : List OpNo) → AreSmall (op ∷ ops) → parse_numbers (decimal op.0 ++ behind_commas ops) ≡ Ok (numbered (numbers_of (op ∷ ops)))
 numbers_again op ops small =
     ap (λ (parts : List (List ℕ)). ok_or (option_map numbered (each_read (read_natural 0xffff_ffff) parts)) Number) (parts_again (decimal op.0) ops (no_commas (decimal op.0) (digits_of op.0 small.0)) small.1)
     ∙ ap (λ (read : Option (List ℕ)). ok_or (option_map numbered read) Number) (each_again (op ∷ ops) small)
 
-pub operations_again : (ops : List OpNo) → AreSmall ops → IsStrictlySortedBy nat_cmp (numbers_of ops) → operations_said (operations_word ops) ≡ Ok ops
+pub operations_again : (ops : List OpNo) → AreSmall ops → IsStrictlySortedBy nat_cmp (numbers_of ops) → parse_operations (operations_word ops) ≡ Ok ops
 operations_again [] small sorted = refl
 operations_again (op ∷ ops) small sorted =
     let word = decimal op.0 ++ behind_commas ops in
     let numeral = decimal_is_IsNumeral op.0 (omega (arith, small.0)) in
-    ap operations_said (word-joined op ops)
-    ∙ ap (λ (b : Bool). cond b (Ok []) (numbers_said word >>= (λ os. Ok (each_once os)))) (not_minus (decimal op.0) (behind_commas ops) numeral.0.1 numeral.0.0)
+    ap parse_operations (word-joined op ops)
+    ∙ ap (λ (b : Bool). cond b (Ok []) (parse_numbers word >>= (λ os. Ok (each_once os)))) (not_minus (decimal op.0) (behind_commas ops) numeral.0.1 numeral.0.0)
     ∙ ap (λ (r : Result (List OpNo) LineFault). r >>= (λ os. Ok (each_once os))) (numbers_again op ops small)
     ∙ ap Ok (once (op ∷ ops) sorted)
 

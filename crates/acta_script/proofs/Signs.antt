@@ -5,7 +5,7 @@ use Rattle.std.proofs.lemmas.Bool.Decides.{nat_tests}
 use Rattle.std.proofs.lemmas.List.{length-map, length-drop, take-map, take_all, drop-map}
 use Rattle.acta_table.specs.declared.model.Parts.{Parts}
 use Rattle.acta_script.specs.Diagnosis.{wrong_event, wrong_return, lower_of, wrong_kept}
-use Rattle.acta_script.specs.Reading.{◌>>=◌, is_equals, event_said, return_said, both, with_return, plain, kept_said}
+use Rattle.acta_script.specs.Reading.{◌>>=◌, is_equals, parse_event, parse_return, both, with_return, plain, parse_kept}
 
 pub position_or_len-map : {X Y : Type 0} (p : Y → Bool) (f : X → Y) (xs : List X) → position_or_len p (map f xs) ≡ position_or_len (λ x. p (f x)) xs
 position_or_len-map p f [] = refl
@@ -33,22 +33,22 @@ module _ {A X : Type 0} (m : Parts A) (f : X → List ℕ) (xs : List X) where
   any-sign = any-first is_equals (map f xs) ∙ (λ i. nat_lt (position_or_len-map is_equals f xs i) (length-map xs f i))
 
   -- words with a sign are the words of an event, and those of its return
-  pub kept-with_sign : (at : ℕ) → position (λ x. is_equals (f x)) xs ≡ Some at → kept_said m (map f xs) ≡ both with_return (event_said m (map f (take at xs))) (return_said (map f (take (length xs - (at + 1)) (drop (at + 1) xs))))
-  unfolding kept_said
+  pub kept-with_sign : (at : ℕ) → position (λ x. is_equals (f x)) xs ≡ Some at → parse_kept m (map f xs) ≡ both with_return (parse_event m (map f (take at xs))) (parse_return (map f (take (length xs - (at + 1)) (drop (at + 1) xs))))
+  unfolding parse_kept
   kept-with_sign at is =
       let cut = found (nat_lt (position_or_len (λ x. is_equals (f x)) xs) (length xs)) (position_or_len (λ x. is_equals (f x)) xs) at is in
       let place = position_or_len-map is_equals f xs ∙ cut.1 in
       let few : length (drop (at + 1) xs) ≤ length xs - (at + 1) = omega (arith, length-drop (at + 1) xs) in
-      ap (λ (b : Bool). cond b (both with_return (event_said m (before_first is_equals (map f xs))) (return_said (after_first is_equals (map f xs)))) (event_said m (map f xs) >>= plain)) (any-sign ∙ cut.0)
-      ∙ ap (λ (n : ℕ). both with_return (event_said m (take n (map f xs))) (return_said (drop (n + 1) (map f xs)))) place
-      ∙ (λ i. both with_return (event_said m (take-map f at xs i)) (return_said (drop-map f (at + 1) xs i)))
-      ∙ ap (λ (ys : List X). both with_return (event_said m (map f (take at xs))) (return_said (map f ys))) (sym (take_all (length xs - (at + 1)) (drop (at + 1) xs) few))
+      ap (λ (b : Bool). cond b (both with_return (parse_event m (before_first is_equals (map f xs))) (parse_return (after_first is_equals (map f xs)))) (parse_event m (map f xs) >>= plain)) (any-sign ∙ cut.0)
+      ∙ ap (λ (n : ℕ). both with_return (parse_event m (take n (map f xs))) (parse_return (drop (n + 1) (map f xs)))) place
+      ∙ (λ i. both with_return (parse_event m (take-map f at xs i)) (parse_return (drop-map f (at + 1) xs i)))
+      ∙ ap (λ (ys : List X). both with_return (parse_event m (map f (take at xs))) (parse_return (map f ys))) (sym (take_all (length xs - (at + 1)) (drop (at + 1) xs) few))
 
   -- words without one are those of an event alone
-  pub kept-without_sign : position (λ x. is_equals (f x)) xs ≡ None → kept_said m (map f xs) ≡ (event_said m (map f xs) >>= plain)
-  unfolding kept_said
+  pub kept-without_sign : position (λ x. is_equals (f x)) xs ≡ None → parse_kept m (map f xs) ≡ (parse_event m (map f xs) >>= plain)
+  unfolding parse_kept
   kept-without_sign is =
-      ap (λ (b : Bool). cond b (both with_return (event_said m (before_first is_equals (map f xs))) (return_said (after_first is_equals (map f xs)))) (event_said m (map f xs) >>= plain))
+      ap (λ (b : Bool). cond b (both with_return (parse_event m (before_first is_equals (map f xs))) (parse_return (after_first is_equals (map f xs)))) (parse_event m (map f xs) >>= plain))
       (any-sign ∙ lacking (nat_lt (position_or_len (λ x. is_equals (f x)) xs) (length xs)) (position_or_len (λ x. is_equals (f x)) xs) is)
 
   -- what is wrong with words with a sign is wrong with the event, or with its return

@@ -22,8 +22,8 @@ use Rattle.acta_script.specs.declared.diagnosis.WordPlace.TheVariants.{Wrong, Mi
 use Rattle.acta_script.specs.declared.fault.LineFault.{LineFault}
 use Rattle.acta_script.specs.declared.fault.LineFault.TheVariants.{Empty, Word, Arity, Number, Name}
 use Rattle.acta_script.specs.Diagnosis.{fault_of_word, is_fault, wrong_word, wrong_count, wrong_in, IsWrong, op_kind_in, parts_of, form_of, wrong_behind, wrong_event, wrong_return, lower_of, wrong_kept, wrong_after_seat, wrong_seated, break_parts, wrong_break_of, wrong_break, command_parts, is_break, wrong_command_of, wrong_command}
-use Rattle.acta_script.specs.Commands.{break_kind_said, command_kind_said}
-use Rattle.acta_script.specs.Reading.{fault_number, event_kind_said, is_equals}
+use Rattle.acta_script.specs.Commands.{parse_break_kind, parse_command_kind}
+use Rattle.acta_script.specs.Reading.{fault_number, parse_event_kind, is_equals}
 use Rattle.acta_script.specs.Words.{break_word, command_word, event_word}
 use Rattle.acta_script.proofs.Signs.{any-first}
 
@@ -70,13 +70,13 @@ past word word_of kind r fault = unless (bytes_eq word (word_of kind)) kind r fa
 unknown : {A : Type 0} (r : Result A LineFault) (fault : LineFault) → r ≡ Err Word → r ≡ Err fault → fault ≡ Word
 unknown r fault none is = cc
 
-no_event_kind : (word : List ℕ) (fault : LineFault) → event_kind_said word ≡ Err fault → fault ≡ Word
+no_event_kind : (word : List ℕ) (fault : LineFault) → parse_event_kind word ≡ Err fault → fault ≡ Word
 no_event_kind word fault is = unknown _ fault refl (past word event_word event_kind.Permit _ fault (past word event_word event_kind.Abort _ fault (past word event_word event_kind.Commit _ fault (past word event_word event_kind.Operate _ fault (past word event_word event_kind.Form _ fault (past word event_word event_kind.Delegate _ fault (past word event_word event_kind.Join _ fault (past word event_word event_kind.Split _ fault (past word event_word event_kind.Spawn _ fault (past word event_word event_kind.Begin _ fault is))))))))))
 
-no_command_kind : (word : List ℕ) (fault : LineFault) → command_kind_said word ≡ Err fault → fault ≡ Word
+no_command_kind : (word : List ℕ) (fault : LineFault) → parse_command_kind word ≡ Err fault → fault ≡ Word
 no_command_kind word fault is = unknown _ fault refl (past word command_word command_kind.Owed _ fault (past word command_word command_kind.Status _ fault (past word command_word command_kind.Value _ fault (past word command_word command_kind.Clear _ fault (past word command_word command_kind.Break _ fault (past word command_word command_kind.Run _ fault (past word command_word command_kind.Goto _ fault (past word command_word command_kind.Back _ fault (past word command_word command_kind.Step _ fault is)))))))))
 
-no_break_kind : (word : List ℕ) (fault : LineFault) → break_kind_said word ≡ Err fault → fault ≡ Word
+no_break_kind : (word : List ℕ) (fault : LineFault) → parse_break_kind word ≡ Err fault → fault ≡ Word
 no_break_kind word fault is = unknown _ fault refl (past word break_word break_kind.Ended _ fault (past word break_word break_kind.Owed _ fault (past word break_word break_kind.Object _ fault (past word break_word break_kind.Txn _ fault (past word break_word break_kind.Kind _ fault is)))))
 
 -- the words are words of the line, of which the first has number n
@@ -147,13 +147,13 @@ module _ {A : Type 0} (m : Parts A) (all : List (List ℕ)) where
       subst (λ (f : LineFault). IsWrong m all (record { fault = f; place = Wrong n; expected = Part part })) (sym none)
       (ap (option_and_then (λ word. fault_of_word m part word)) here ∙ is ∙ ap Some none)
 
-  behind_wrong : (n : ℕ) (word : List ℕ) (words : List (List ℕ)) → AreAt n (word ∷ words) all → (r : Result EventKind LineFault) → event_kind_said word ≡ r → IfSome (wrong_behind m n r words) (IsWrong m all)
+  behind_wrong : (n : ℕ) (word : List ℕ) (words : List (List ℕ)) → AreAt n (word ∷ words) all → (r : Result EventKind LineFault) → parse_event_kind word ≡ r → IfSome (wrong_behind m n r words) (IsWrong m all)
   behind_wrong n word words at (Ok kind) is = wrong_there (parts_of kind (op_kind_in words)) (form_of kind (op_kind_in words)) (n + 1) words (next_at n word words all at)
   behind_wrong n word words at (Err fault) is = first_wrong part.Event n word words at fault (no_event_kind word fault is) (ap result_err is)
 
   pub event_wrong : (words : List (List ℕ)) → AreAt 0 words all → IfSome (wrong_event m 0 words) (IsWrong m all)
   event_wrong [] at = refl
-  event_wrong (word ∷ words) at = behind_wrong 0 word words at (event_kind_said word) refl
+  event_wrong (word ∷ words) at = behind_wrong 0 word words at (parse_event_kind word) refl
 
   lower_wrong : (p q : Option Diagnostic) → IfSome p (IsWrong m all) → IfSome q (IsWrong m all) → IfSome (lower_of p q) (IsWrong m all)
   lower_wrong None q first second = second
@@ -203,7 +203,7 @@ after_seat_wrong : {A : Type 0} (m : Parts A) (seat : List ℕ) (words : List (L
 after_seat_wrong m seat [] = omega arith
 after_seat_wrong m seat (word ∷ words) =
     let all : List (List ℕ) = seat ∷ (word ∷ words) in
-    behind_wrong m all 1 word words (next_at 0 seat (word ∷ words) all (all_at all)) (event_kind_said word) refl
+    behind_wrong m all 1 word words (next_at 0 seat (word ∷ words) all (all_at all)) (parse_event_kind word) refl
 
 pub seated_wrong : {A : Type 0} (m : Parts A) (seats : ℕ) (all : List (List ℕ)) → IfSome (wrong_seated m seats all) (IsWrong m all)
 seated_wrong m seats [] = refl
@@ -212,19 +212,19 @@ seated_wrong m seats (seat ∷ words) =
     lower_wrong m all _ _ (wrong_there m all (part.Seat seats ∷ []) (Part (part.Seat seats)) 0 (seat ∷ []) (front_at 1 all)) (after_seat_wrong m seat words)
 
 -- of a command
-break_wrong : {A : Type 0} (m : Parts A) (all : List (List ℕ)) (word : List ℕ) (words : List (List ℕ)) → AreAt 1 (word ∷ words) all → (r : Result BreakKind LineFault) → break_kind_said word ≡ r → IfSome (wrong_break_of m r words) (IsWrong m all)
+break_wrong : {A : Type 0} (m : Parts A) (all : List (List ℕ)) (word : List ℕ) (words : List (List ℕ)) → AreAt 1 (word ∷ words) all → (r : Result BreakKind LineFault) → parse_break_kind word ≡ r → IfSome (wrong_break_of m r words) (IsWrong m all)
 break_wrong m all word words at (Ok kind) is = wrong_there m all (break_parts kind) (BreakForm kind) 2 words (next_at 1 word words all at)
 break_wrong m all word words at (Err fault) is = first_wrong m all part.Break 1 word words at fault (no_break_kind word fault is) (ap result_err is)
 
 break_words_wrong : {A : Type 0} (m : Parts A) (all words : List (List ℕ)) → AreAt 1 words all → IfSome (wrong_break m words) (IsWrong m all)
 break_words_wrong m all [] at = omega (arith, at.within)
-break_words_wrong m all (word ∷ words) at = break_wrong m all word words at (break_kind_said word) refl
+break_words_wrong m all (word ∷ words) at = break_wrong m all word words at (parse_break_kind word) refl
 
 argument_wrong : {A : Type 0} (m : Parts A) (all words : List (List ℕ)) → AreAt 1 words all → (kind : CommandKind) (b : Bool) → IfSome (cond b (wrong_break m words) (wrong_in m (command_parts kind) (CommandForm kind) 1 words)) (IsWrong m all)
 argument_wrong m all words at kind true = break_words_wrong m all words at
 argument_wrong m all words at kind false = wrong_there m all (command_parts kind) (CommandForm kind) 1 words at
 
-kind_wrong : {A : Type 0} (m : Parts A) (word : List ℕ) (words : List (List ℕ)) (r : Result CommandKind LineFault) → command_kind_said word ≡ r → IfSome (wrong_command_of m r words) (IsWrong m (word ∷ words))
+kind_wrong : {A : Type 0} (m : Parts A) (word : List ℕ) (words : List (List ℕ)) (r : Result CommandKind LineFault) → parse_command_kind word ≡ r → IfSome (wrong_command_of m r words) (IsWrong m (word ∷ words))
 kind_wrong m word words (Ok kind) is =
     let all : List (List ℕ) = word ∷ words in
     argument_wrong m all words (next_at 0 word words all (all_at all)) kind (is_break kind)
@@ -234,7 +234,7 @@ kind_wrong m word words (Err fault) is =
 
 pub command_wrong : {A : Type 0} (m : Parts A) (all : List (List ℕ)) → IfSome (wrong_command m all) (IsWrong m all)
 command_wrong m [] = refl
-command_wrong m (word ∷ words) = kind_wrong m word words (command_kind_said word) refl
+command_wrong m (word ∷ words) = kind_wrong m word words (parse_command_kind word) refl
 
 -- a diagnosis, where memory suffices for it
 pub wrong_if : {E : Type 0} {A : Type 0} (m : Parts A) (all : List (List ℕ)) (r : Result (Option Diagnostic) E) (d : Option Diagnostic) → IfOk r (λ found. found ≡ d) → IfSome d (IsWrong m all) → IfOk r (λ found. IfSome found (IsWrong m all))

@@ -22,25 +22,25 @@ use Rattle.acta_script.specs.declared.diagnosis.WordPlace.TheVariants.{Wrong, Mi
 use Rattle.acta_script.specs.declared.fault.LineFault.{LineFault}
 use Rattle.acta_script.specs.declared.fault.LineFault.TheVariants.{Empty, Word, Arity, Number, Name}
 use Rattle.acta_script.specs.declared.op_kind.OpKind.{OpKind}
-use Rattle.acta_script.specs.Commands.{break_kind_said, command_kind_said, count_said}
-use Rattle.acta_script.specs.Reading.{fault_number, txn_said, integer_said, class_said, object_said, kind_said, operations_said, op_kind_said, event_kind_said, return_named, is_equals, seat_said}
+use Rattle.acta_script.specs.Commands.{parse_break_kind, parse_command_kind, parse_count}
+use Rattle.acta_script.specs.Reading.{fault_number, parse_txn, parse_integer, parse_class, parse_object, parse_kind, parse_operations, parse_op_kind, parse_event_kind, return_named, is_equals, parse_seat}
 use Rattle.acta_script.specs.Words.{takes_integer}
 
 -- the fault of a word that stands for this, if it has one
 abbrev pub fault_of_word : {A : Type 0} → Parts A → LinePart → List ℕ → Option LineFault
-fault_of_word m Event word = result_err (event_kind_said word)
-fault_of_word m Kind word = result_err (kind_said word)
-fault_of_word m Operation word = result_err (op_kind_said word)
-fault_of_word m Transaction word = result_err (txn_said word)
-fault_of_word m Integer word = result_err (integer_said word)
-fault_of_word m Operations word = result_err (operations_said word)
-fault_of_word m Class word = result_err (class_said m word)
-fault_of_word m Object word = result_err (object_said m word)
+fault_of_word m Event word = result_err (parse_event_kind word)
+fault_of_word m Kind word = result_err (parse_kind word)
+fault_of_word m Operation word = result_err (parse_op_kind word)
+fault_of_word m Transaction word = result_err (parse_txn word)
+fault_of_word m Integer word = result_err (parse_integer word)
+fault_of_word m Operations word = result_err (parse_operations word)
+fault_of_word m Class word = result_err (parse_class m word)
+fault_of_word m Object word = result_err (parse_object m word)
 fault_of_word m Return word = result_err (ok_or (return_named word) Number)
-fault_of_word m (Seat seats) word = result_err (seat_said seats word)
-fault_of_word m Count word = result_err (count_said word)
-fault_of_word m Command word = result_err (command_kind_said word)
-fault_of_word m Break word = result_err (break_kind_said word)
+fault_of_word m (Seat seats) word = result_err (parse_seat seats word)
+fault_of_word m Count word = result_err (parse_count word)
+fault_of_word m Command word = result_err (parse_command_kind word)
+fault_of_word m Break word = result_err (parse_break_kind word)
 
 -- whether it is this fault
 abbrev pub is_fault : LineFault → Option LineFault → Bool
@@ -83,7 +83,7 @@ IsWrong m words d = IsWrongAt m words d.fault d.place d.expected
 
 -- the operation that the words after a `do` name, if they get that far and name one
 abbrev pub op_kind_in : List (List ℕ) → Option OpKind
-op_kind_in (t ∷ object ∷ op ∷ words) = result_ok (op_kind_said op)
+op_kind_in (t ∷ object ∷ op ∷ words) = result_ok (parse_op_kind op)
 op_kind_in _ = None
 
 -- what the words after a `do` stand for
@@ -121,7 +121,7 @@ wrong_behind m n (Err fault) words = Some (record { fault = fault; place = Wrong
 -- what is wrong with the words of an event, of which the first has number n in its line
 abbrev pub wrong_event : {A : Type 0} → Parts A → ℕ → List (List ℕ) → Option Diagnostic
 wrong_event m n [] = Some (record { fault = Empty; place = Missing n; expected = Part Event })
-wrong_event m n (word ∷ words) = wrong_behind m n (event_kind_said word) words
+wrong_event m n (word ∷ words) = wrong_behind m n (parse_event_kind word) words
 
 -- what is wrong with the words after a `=`, of which the first has number n in its line
 abbrev pub wrong_return : {A : Type 0} → Parts A → ℕ → List (List ℕ) → Option Diagnostic
@@ -169,7 +169,7 @@ wrong_break_of m (Err fault) words = Some (record { fault = fault; place = Wrong
 -- what is wrong with the words after `break`
 abbrev pub wrong_break : {A : Type 0} → Parts A → List (List ℕ) → Option Diagnostic
 wrong_break m [] = Some (record { fault = Arity; place = Missing 1; expected = Part Break })
-wrong_break m (word ∷ words) = wrong_break_of m (break_kind_said word) words
+wrong_break m (word ∷ words) = wrong_break_of m (parse_break_kind word) words
 
 -- what the words after the first stand for in a command of this kind; those of a break are another matter
 abbrev pub command_parts : CommandKind → List LinePart
@@ -197,4 +197,4 @@ wrong_command_of m (Err fault) words = Some (record { fault = fault; place = Wro
 -- what is wrong with the words of a command
 abbrev pub wrong_command : {A : Type 0} → Parts A → List (List ℕ) → Option Diagnostic
 wrong_command m [] = Some (record { fault = Empty; place = Missing 0; expected = Part Command })
-wrong_command m (word ∷ words) = wrong_command_of m (command_kind_said word) words
+wrong_command m (word ∷ words) = wrong_command_of m (parse_command_kind word) words

@@ -46,36 +46,36 @@ abbrev pub ◌>>=◌ : {X Y : Type 0} → Result X LineFault → (X → Result Y
 (Err fault) >>= f = Err fault
 
 -- T, a transaction: digits with a value of 16 bits
-abbrev pub txn_said : List ℕ → Result TxnId LineFault
-txn_said word = ok_or (option_map (λ n. record { 0 = n }) (read_natural 0xffff word)) Number
+abbrev pub parse_txn : List ℕ → Result TxnId LineFault
+parse_txn word = ok_or (option_map (λ n. record { 0 = n }) (read_natural 0xffff word)) Number
 
 -- INT: digits, with a minus before them or not, with a value of 32 bits
-abbrev pub integer_said : List ℕ → Result ℤ LineFault
-integer_said word = ok_or (read_integer 0x8000_0000 word) Number
+abbrev pub parse_integer : List ℕ → Result ℤ LineFault
+parse_integer word = ok_or (read_integer 0x8000_0000 word) Number
 
 -- CLASS and OBJECT: the number of the one that has this name
-abbrev pub class_said : {A : Type 0} → Parts A → List ℕ → Result ClassId LineFault
-class_said m word =
+abbrev pub parse_class : {A : Type 0} → Parts A → List ℕ → Result ClassId LineFault
+parse_class m word =
     ok_or (option_map (λ n. record { 0 = n }) (position_from (λ c. bytes_eq word c.name) 0 m.classes)) Name
 
-abbrev pub object_said : {A : Type 0} → Parts A → List ℕ → Result ObjId LineFault
-object_said m word =
+abbrev pub parse_object : {A : Type 0} → Parts A → List ℕ → Result ObjId LineFault
+parse_object m word =
     ok_or (option_map (λ n. record { 0 = n }) (position_from (λ o. bytes_eq word o.name) 0 m.objects)) Name
 
 -- KIND, a kind of dependency
-abbrev pub kind_said : List ℕ → Result Dep LineFault
-kind_said word = ok_or (find (λ kind. bytes_eq word (word_of kind)) all_kinds) Word
+abbrev pub parse_kind : List ℕ → Result Dep LineFault
+parse_kind word = ok_or (find (λ kind. bytes_eq word (word_of kind)) all_kinds) Word
 
 -- numbers of 32 bits joined by commas, as operations
-abbrev pub numbers_said : List ℕ → Result (List OpNo) LineFault
-numbers_said word =
+abbrev pub parse_numbers : List ℕ → Result (List OpNo) LineFault
+parse_numbers word =
     ok_or (option_map numbered (each_read (read_natural 0xffff_ffff) (slice_split (λ b. b == 44) word))) Number
 
 -- OPS: a minus, or numbers of 32 bits joined by commas, in any order; a number that stands twice counts once
-abbrev pub operations_said : List ℕ → Result (List OpNo) LineFault
-operations_said word =
+abbrev pub parse_operations : List ℕ → Result (List OpNo) LineFault
+parse_operations word =
     if bytes_eq word (codes "-") then Ok []
-    else numbers_said word >>= (λ ops. Ok (each_once ops))
+    else parse_numbers word >>= (λ ops. Ok (each_once ops))
 
 -- the value, where no word is left
 abbrev pub alone : {X : Type 0} → X → List (List ℕ) → Result X LineFault
@@ -84,7 +84,7 @@ alone x _ = Err Arity
 
 -- the INT that is the one word left
 abbrev pub integer_alone : List (List ℕ) → Result ℤ LineFault
-integer_alone (word ∷ []) = integer_said word
+integer_alone (word ∷ []) = parse_integer word
 integer_alone _ = Err Arity
 
 -- the operation with the INT that is the one word left
@@ -94,8 +94,8 @@ with_integer op words = do
   Ok (op v)
 
 -- OP, the kind of an operation
-abbrev pub op_kind_said : List ℕ → Result OpKind LineFault
-op_kind_said word =
+abbrev pub parse_op_kind : List ℕ → Result OpKind LineFault
+parse_op_kind word =
     if bytes_eq word (op_word op_kind.Read) then Ok op_kind.Read
     else if bytes_eq word (op_word op_kind.Get) then Ok op_kind.Get
     else if bytes_eq word (op_word op_kind.Size) then Ok op_kind.Size
@@ -118,105 +118,105 @@ operation_of_kind op_kind.Has words = with_integer (λ v. Has v) words
 operation_of_kind op_kind.Size words = alone Size words
 
 -- OP [INT], an operation
-abbrev pub operation_said : List ℕ → List (List ℕ) → Result Op LineFault
-operation_said word words = do
-  kind ← op_kind_said word
+abbrev pub parse_operation : List ℕ → List (List ℕ) → Result Op LineFault
+parse_operation word words = do
+  kind ← parse_op_kind word
   operation_of_kind kind words
 
 -- begin T CLASS
-unfoldable pub begin_said : {A : Type 0} → Parts A → List (List ℕ) → Result (Event A) LineFault
-begin_said m (t ∷ class ∷ []) = do
-  t ← txn_said t
-  class ← class_said m class
+unfoldable pub parse_begin : {A : Type 0} → Parts A → List (List ℕ) → Result (Event A) LineFault
+parse_begin m (t ∷ class ∷ []) = do
+  t ← parse_txn t
+  class ← parse_class m class
   Ok (Begin t class)
-begin_said m _ = Err Arity
+parse_begin m _ = Err Arity
 
 -- spawn T C CLASS
-unfoldable pub spawn_said : {A : Type 0} → Parts A → List (List ℕ) → Result (Event A) LineFault
-spawn_said m (t ∷ c ∷ class ∷ []) = do
-  t ← txn_said t
-  c ← txn_said c
-  class ← class_said m class
+unfoldable pub parse_spawn : {A : Type 0} → Parts A → List (List ℕ) → Result (Event A) LineFault
+parse_spawn m (t ∷ c ∷ class ∷ []) = do
+  t ← parse_txn t
+  c ← parse_txn c
+  class ← parse_class m class
   Ok (Spawn t c class)
-spawn_said m _ = Err Arity
+parse_spawn m _ = Err Arity
 
 -- split T U CLASS OPS
-unfoldable pub split_said : {A : Type 0} → Parts A → List (List ℕ) → Result (Event A) LineFault
-split_said m (t ∷ u ∷ class ∷ ops ∷ []) = do
-  t ← txn_said t
-  u ← txn_said u
-  ops ← operations_said ops
-  class ← class_said m class
+unfoldable pub parse_split : {A : Type 0} → Parts A → List (List ℕ) → Result (Event A) LineFault
+parse_split m (t ∷ u ∷ class ∷ ops ∷ []) = do
+  t ← parse_txn t
+  u ← parse_txn u
+  ops ← parse_operations ops
+  class ← parse_class m class
   Ok (Split t u class ops)
-split_said m _ = Err Arity
+parse_split m _ = Err Arity
 
 -- join T U
-unfoldable pub join_said : {A : Type 0} → List (List ℕ) → Result (Event A) LineFault
-join_said (t ∷ u ∷ []) = do
-  t ← txn_said t
-  u ← txn_said u
+unfoldable pub parse_join : {A : Type 0} → List (List ℕ) → Result (Event A) LineFault
+parse_join (t ∷ u ∷ []) = do
+  t ← parse_txn t
+  u ← parse_txn u
   Ok (Join t u)
-join_said _ = Err Arity
+parse_join _ = Err Arity
 
 -- delegate T U OPS
-unfoldable pub delegate_said : {A : Type 0} → List (List ℕ) → Result (Event A) LineFault
-delegate_said (t ∷ u ∷ ops ∷ []) = do
-  t ← txn_said t
-  u ← txn_said u
-  ops ← operations_said ops
+unfoldable pub parse_delegate : {A : Type 0} → List (List ℕ) → Result (Event A) LineFault
+parse_delegate (t ∷ u ∷ ops ∷ []) = do
+  t ← parse_txn t
+  u ← parse_txn u
+  ops ← parse_operations ops
   Ok (Delegate t u ops)
-delegate_said _ = Err Arity
+parse_delegate _ = Err Arity
 
 -- J I, behind a kind
 abbrev pub form_of_kind : {A : Type 0} → Dep → List (List ℕ) → Result (Event A) LineFault
 form_of_kind kind (j ∷ i ∷ []) = do
-  j ← txn_said j
-  i ← txn_said i
+  j ← parse_txn j
+  i ← parse_txn i
   Ok (Form kind j i)
 form_of_kind kind _ = Err Arity
 
 -- form KIND J I
-unfoldable pub form_said : {A : Type 0} → List (List ℕ) → Result (Event A) LineFault
-form_said [] = Err Arity
-form_said (kind ∷ words) = do
-  kind ← kind_said kind
+unfoldable pub parse_form : {A : Type 0} → List (List ℕ) → Result (Event A) LineFault
+parse_form [] = Err Arity
+parse_form (kind ∷ words) = do
+  kind ← parse_kind kind
   form_of_kind kind words
 
 -- do T OBJECT OP [INT]
-unfoldable pub do_said : {A : Type 0} → Parts A → List (List ℕ) → Result (Event A) LineFault
-do_said m (t ∷ object ∷ op ∷ words) = do
-  op ← operation_said op words
-  t ← txn_said t
-  object ← object_said m object
+unfoldable pub parse_do : {A : Type 0} → Parts A → List (List ℕ) → Result (Event A) LineFault
+parse_do m (t ∷ object ∷ op ∷ words) = do
+  op ← parse_operation op words
+  t ← parse_txn t
+  object ← parse_object m object
   Ok (Operate t object op)
-do_said m _ = Err Arity
+parse_do m _ = Err Arity
 
 -- commit T
-unfoldable pub commit_said : {A : Type 0} → List (List ℕ) → Result (Event A) LineFault
-commit_said (t ∷ []) = do
-  t ← txn_said t
+unfoldable pub parse_commit : {A : Type 0} → List (List ℕ) → Result (Event A) LineFault
+parse_commit (t ∷ []) = do
+  t ← parse_txn t
   Ok (Commit t)
-commit_said _ = Err Arity
+parse_commit _ = Err Arity
 
 -- abort T
-unfoldable pub abort_said : {A : Type 0} → List (List ℕ) → Result (Event A) LineFault
-abort_said (t ∷ []) = do
-  t ← txn_said t
+unfoldable pub parse_abort : {A : Type 0} → List (List ℕ) → Result (Event A) LineFault
+parse_abort (t ∷ []) = do
+  t ← parse_txn t
   Ok (Abort t)
-abort_said _ = Err Arity
+parse_abort _ = Err Arity
 
 -- permit T U OBJECT
-unfoldable pub permit_said : {A : Type 0} → Parts A → List (List ℕ) → Result (Event A) LineFault
-permit_said m (t ∷ u ∷ object ∷ []) = do
-  t ← txn_said t
-  u ← txn_said u
-  object ← object_said m object
+unfoldable pub parse_permit : {A : Type 0} → Parts A → List (List ℕ) → Result (Event A) LineFault
+parse_permit m (t ∷ u ∷ object ∷ []) = do
+  t ← parse_txn t
+  u ← parse_txn u
+  object ← parse_object m object
   Ok (Permit t u object)
-permit_said m _ = Err Arity
+parse_permit m _ = Err Arity
 
 -- the kind of event that a line with this first word says
-abbrev pub event_kind_said : List ℕ → Result EventKind LineFault
-event_kind_said word =
+abbrev pub parse_event_kind : List ℕ → Result EventKind LineFault
+parse_event_kind word =
     if bytes_eq word (event_word begin_kind) then Ok begin_kind
     else if bytes_eq word (event_word spawn_kind) then Ok spawn_kind
     else if bytes_eq word (event_word split_kind) then Ok split_kind
@@ -231,27 +231,27 @@ event_kind_said word =
 
 -- the event of this kind that the words behind the first say
 abbrev pub event_of_kind : {A : Type 0} → Parts A → EventKind → List (List ℕ) → Result (Event A) LineFault
-event_of_kind m begin_kind words = begin_said m words
-event_of_kind m spawn_kind words = spawn_said m words
-event_of_kind m split_kind words = split_said m words
-event_of_kind m join_kind words = join_said words
-event_of_kind m delegate_kind words = delegate_said words
-event_of_kind m form_kind words = form_said words
-event_of_kind m operate_kind words = do_said m words
-event_of_kind m commit_kind words = commit_said words
-event_of_kind m abort_kind words = abort_said words
-event_of_kind m permit_kind words = permit_said m words
+event_of_kind m begin_kind words = parse_begin m words
+event_of_kind m spawn_kind words = parse_spawn m words
+event_of_kind m split_kind words = parse_split m words
+event_of_kind m join_kind words = parse_join words
+event_of_kind m delegate_kind words = parse_delegate words
+event_of_kind m form_kind words = parse_form words
+event_of_kind m operate_kind words = parse_do m words
+event_of_kind m commit_kind words = parse_commit words
+event_of_kind m abort_kind words = parse_abort words
+event_of_kind m permit_kind words = parse_permit m words
 
 -- the event that words say
-unfoldable pub event_said : {A : Type 0} → Parts A → List (List ℕ) → Result (Event A) LineFault
-event_said m [] = Err Empty
-event_said m (word ∷ words) = do
-  kind ← event_kind_said word
+unfoldable pub parse_event : {A : Type 0} → Parts A → List (List ℕ) → Result (Event A) LineFault
+parse_event m [] = Err Empty
+parse_event m (word ∷ words) = do
+  kind ← parse_event_kind word
   event_of_kind m kind words
 
 -- the event that a line says, or its lowest fault
 abbrev pub event_of : {A : Type 0} → Parts A → List ℕ → Result (Event A) LineFault
-event_of m line = event_said m (words_of line)
+event_of m line = parse_event m (words_of line)
 
 -- the lower of two faults
 abbrev pub lower : LineFault → LineFault → LineFault
@@ -273,9 +273,9 @@ return_named word =
     else option_map (λ v. Value v) (read_integer 0x8000_0000_0000_0000 word)
 
 -- the return that the words behind a `=` say
-unfoldable pub return_said : List (List ℕ) → Result Ret LineFault
-return_said (word ∷ []) = ok_or (return_named word) Number
-return_said _ = Err Arity
+unfoldable pub parse_return : List (List ℕ) → Result Ret LineFault
+parse_return (word ∷ []) = ok_or (return_named word) Number
+parse_return _ = Err Arity
 
 -- whether the word stands between an event and its return
 abbrev pub is_equals : List ℕ → Bool
@@ -290,39 +290,39 @@ abbrev pub plain : {A : Type 0} → Event A → Result (Kept A) LineFault
 plain event = Ok (record { event = event; ret = None })
 
 -- the kept item that words say: an event and, behind the first `=`, if one stands there, its return
-unfoldable pub kept_said : {A : Type 0} → Parts A → List (List ℕ) → Result (Kept A) LineFault
-kept_said m words =
+unfoldable pub parse_kept : {A : Type 0} → Parts A → List (List ℕ) → Result (Kept A) LineFault
+parse_kept m words =
     if list_any is_equals words
-    then both with_return (event_said m (before_first is_equals words)) (return_said (after_first is_equals words))
-    else event_said m words >>= plain
+    then both with_return (parse_event m (before_first is_equals words)) (parse_return (after_first is_equals words))
+    else parse_event m words >>= plain
 
 -- the kept item that a line says, or its lowest fault
 abbrev pub kept_of : {A : Type 0} → Parts A → List ℕ → Result (Kept A) LineFault
-kept_of m line = kept_said m (words_of line)
+kept_of m line = parse_kept m (words_of line)
 
 -- SEAT: digits with a value from 1 to the number of seats
-abbrev pub seat_said : ℕ → List ℕ → Result ℕ LineFault
-seat_said seats word = do
+abbrev pub parse_seat : ℕ → List ℕ → Result ℕ LineFault
+parse_seat seats word = do
   seat ← ok_or (read_natural seats word) Number
   if nat_le 1 seat then Ok seat else Err Number
 
 -- the event that the words behind a seat say: no word is too few
 abbrev pub event_behind : {A : Type 0} → Parts A → List (List ℕ) → Result (Event A) LineFault
 event_behind m [] = Err Arity
-event_behind m (word ∷ words) = event_said m (word ∷ words)
+event_behind m (word ∷ words) = parse_event m (word ∷ words)
 
 -- an event at its seat
 abbrev pub at_seat : {A : Type 0} → Event A → ℕ → Seated A
 at_seat event seat = record { seat = seat; event = event }
 
 -- the seated event that words say: a seat, and behind it an event
-unfoldable pub seated_said : {A : Type 0} → Parts A → ℕ → List (List ℕ) → Result (Seated A) LineFault
-seated_said m seats [] = Err Empty
-seated_said m seats (seat ∷ words) = both at_seat (event_behind m words) (seat_said seats seat)
+unfoldable pub parse_seated : {A : Type 0} → Parts A → ℕ → List (List ℕ) → Result (Seated A) LineFault
+parse_seated m seats [] = Err Empty
+parse_seated m seats (seat ∷ words) = both at_seat (event_behind m words) (parse_seat seats seat)
 
 -- the seated event that a line says, or its lowest fault
 abbrev pub seated_of : {A : Type 0} → Parts A → ℕ → List ℕ → Result (Seated A) LineFault
-seated_of m seats line = seated_said m seats (words_of line)
+seated_of m seats line = parse_seated m seats (words_of line)
 
 -- whether the word separates two alternatives
 abbrev pub is_bar : List ℕ → Bool
@@ -337,24 +337,24 @@ abbrev pub alternatives_in : {A : Type 0} → Parts A → List (List (List ℕ))
 alternatives_in m [] = Ok []
 alternatives_in m (part ∷ parts) = both one_more (event_behind m part) (alternatives_in m parts)
 
--- the alternatives that words say: the events between the bars
-abbrev pub alternatives_said : {A : Type 0} → Parts A → List (List ℕ) → Result (List (Event A)) LineFault
-alternatives_said m words = alternatives_in m (slice_split is_bar words)
+-- the alternatives that words say: the events between the blocks
+abbrev pub parse_alternatives : {A : Type 0} → Parts A → List (List ℕ) → Result (List (Event A)) LineFault
+parse_alternatives m words = alternatives_in m (slice_split is_bar words)
 
 -- a step of the program of a seat
 abbrev pub step_at : {A : Type 0} → List (Event A) → ℕ → ProgramLine A
 step_at events seat = record { seat = seat; alternatives = events }
 
 -- the step of a program that words say: a seat, and then its alternatives
-unfoldable pub program_line_said : {A : Type 0} → Parts A → ℕ → List (List ℕ) → Result (ProgramLine A) LineFault
-program_line_said m seats [] = Err Empty
-program_line_said m seats (seat ∷ words) = both step_at (alternatives_said m words) (seat_said seats seat)
+unfoldable pub parse_program_line : {A : Type 0} → Parts A → ℕ → List (List ℕ) → Result (ProgramLine A) LineFault
+parse_program_line m seats [] = Err Empty
+parse_program_line m seats (seat ∷ words) = both step_at (parse_alternatives m words) (parse_seat seats seat)
 
 -- the step of a program that a line says, or its lowest fault
 abbrev pub program_line_of : {A : Type 0} → Parts A → ℕ → List ℕ → Result (ProgramLine A) LineFault
-program_line_of m seats line = program_line_said m seats (words_of line)
+program_line_of m seats line = parse_program_line m seats (words_of line)
 
 -- an error says why the line gave nothing: its fault, or want of memory, which says nothing of the line
 abbrev pub IsWhy : {X : Type 0} → Result X LineFault → LineError → Type 0
-IsWhy said error.Memory = ⊤
-IsWhy said (error.Fault f) = said ≡ Err f
+IsWhy parsed error.Memory = ⊤
+IsWhy parsed (error.Fault f) = parsed ≡ Err f

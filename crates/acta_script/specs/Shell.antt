@@ -26,10 +26,10 @@ use Rattle.acta_script.specs.declared.shell_lines.Topic.{Topic}
 use Rattle.acta_script.specs.declared.shell_lines.Topic.TheVariants as topic
 use Rattle.acta_script.specs.declared.shell_words.ShellKind.{ShellKind}
 use Rattle.acta_script.specs.declared.shell_words.ShellKind.TheVariants as kind
-use Rattle.acta_script.specs.Commands.{count_said}
+use Rattle.acta_script.specs.Commands.{parse_count}
 use Rattle.acta_script.specs.Diagnosis.{wrong_after_seat, wrong_event}
 use Rattle.acta_script.specs.Laws.{IsInModel}
-use Rattle.acta_script.specs.Reading.{event_behind, event_kind_said, event_said, object_said, txn_said}
+use Rattle.acta_script.specs.Reading.{event_behind, parse_event_kind, parse_event, parse_object, parse_txn}
 use Rattle.acta_script.specs.Words.{can_word, shell_word}
 
 -- all kinds of command
@@ -47,9 +47,9 @@ abbrev pub and_then : {X Y : Type 0} → (X → Result Y Diagnostic) → Result 
 and_then f (Ok x) = f x
 and_then f (Err d) = Err d
 
-abbrev pub map_said : {X Y : Type 0} → (X → Y) → Result X Diagnostic → Result Y Diagnostic
-map_said f (Ok x) = Ok (f x)
-map_said f (Err d) = Err d
+abbrev pub map_parsed : {X Y : Type 0} → (X → Y) → Result X Diagnostic → Result Y Diagnostic
+map_parsed f (Ok x) = Ok (f x)
+map_parsed f (Err d) = Err d
 
 -- what was read from the word of this number, or that the word is wrong, which stands for this
 abbrev pub at_word : {X : Type 0} → ℕ → LinePart → Result X LineFault → Result X Diagnostic
@@ -67,74 +67,74 @@ one_word kind (word ∷ []) = Ok word
 one_word kind (word ∷ more ∷ words) = Err (wrong_number kind (wrong_at 2))
 
 -- a command that no word follows
-abbrev pub alone_said : ShellKind → ShellCommand → List (List ℕ) → Result ShellCommand Diagnostic
-alone_said kind command [] = Ok command
-alone_said kind command (word ∷ words) = Err (wrong_number kind (wrong_at 1))
+abbrev pub parse_alone : ShellKind → ShellCommand → List (List ℕ) → Result ShellCommand Diagnostic
+parse_alone kind command [] = Ok command
+parse_alone kind command (word ∷ words) = Err (wrong_number kind (wrong_at 1))
 
 -- an argument, or none where no word follows the command
-abbrev pub maybe_said : {X : Type 0} → (List (List ℕ) → Result X Diagnostic) → List (List ℕ) → Result (Option X) Diagnostic
-maybe_said read [] = Ok None
-maybe_said read (word ∷ words) = map_said (λ x. Some x) (read (word ∷ words))
+abbrev pub parse_maybe : {X : Type 0} → (List (List ℕ) → Result X Diagnostic) → List (List ℕ) → Result (Option X) Diagnostic
+parse_maybe read [] = Ok None
+parse_maybe read (word ∷ words) = map_parsed (λ x. Some x) (read (word ∷ words))
 
 -- N
-abbrev pub one_count_said : ShellKind → List (List ℕ) → Result ℕ Diagnostic
-one_count_said kind words = and_then (λ word. at_word 1 part.Count (count_said word)) (one_word kind words)
+abbrev pub parse_one_count : ShellKind → List (List ℕ) → Result ℕ Diagnostic
+parse_one_count kind words = and_then (λ word. at_word 1 part.Count (parse_count word)) (one_word kind words)
 
-abbrev pub maybe_count_said : ShellKind → List (List ℕ) → Result (Option ℕ) Diagnostic
-maybe_count_said kind words = maybe_said (one_count_said kind) words
+abbrev pub parse_maybe_count : ShellKind → List (List ℕ) → Result (Option ℕ) Diagnostic
+parse_maybe_count kind words = parse_maybe (parse_one_count kind) words
 
 -- a count, which is 1 where it is left out
 abbrev pub or_one : Option ℕ → ℕ
 or_one count = option_map_or (λ n. n) count 1
 
 -- T
-abbrev pub one_txn_said : ShellKind → List (List ℕ) → Result TxnId Diagnostic
-one_txn_said kind words = and_then (λ word. at_word 1 part.Transaction (txn_said word)) (one_word kind words)
+abbrev pub parse_one_txn : ShellKind → List (List ℕ) → Result TxnId Diagnostic
+parse_one_txn kind words = and_then (λ word. at_word 1 part.Transaction (parse_txn word)) (one_word kind words)
 
-abbrev pub maybe_txn_said : ShellKind → List (List ℕ) → Result (Option TxnId) Diagnostic
-maybe_txn_said kind words = maybe_said (one_txn_said kind) words
+abbrev pub parse_maybe_txn : ShellKind → List (List ℕ) → Result (Option TxnId) Diagnostic
+parse_maybe_txn kind words = parse_maybe (parse_one_txn kind) words
 
 -- OBJECT
-abbrev pub one_object_said : {A : Type 0} → Parts A → ShellKind → List (List ℕ) → Result ObjId Diagnostic
-one_object_said m kind words = and_then (λ word. at_word 1 part.Object (object_said m word)) (one_word kind words)
+abbrev pub parse_one_object : {A : Type 0} → Parts A → ShellKind → List (List ℕ) → Result ObjId Diagnostic
+parse_one_object m kind words = and_then (λ word. at_word 1 part.Object (parse_object m word)) (one_word kind words)
 
 -- COMMAND: the word of a command, `can`, or the word of an event
 abbrev pub event_topic : Result EventKind LineFault → Result Topic LineFault
 event_topic (Ok kind) = Ok (topic.Event kind)
 event_topic (Err fault) = Err fault
 
-abbrev pub topic_said : List ℕ → Result Topic LineFault
-topic_said word =
+abbrev pub parse_topic : List ℕ → Result Topic LineFault
+parse_topic word =
     if bytes_eq word can_word then Ok topic.Can
-    else option_map_or (λ kind. Ok (topic.Command kind)) (shell_kind_of word) (event_topic (event_kind_said word))
+    else option_map_or (λ kind. Ok (topic.Command kind)) (shell_kind_of word) (event_topic (parse_event_kind word))
 
-abbrev pub one_topic_said : ShellKind → List (List ℕ) → Result Topic Diagnostic
-one_topic_said kind words = and_then (λ word. at_word 1 part.Event (topic_said word)) (one_word kind words)
+abbrev pub parse_one_topic : ShellKind → List (List ℕ) → Result Topic Diagnostic
+parse_one_topic kind words = and_then (λ word. at_word 1 part.Event (parse_topic word)) (one_word kind words)
 
-abbrev pub maybe_topic_said : ShellKind → List (List ℕ) → Result (Option Topic) Diagnostic
-maybe_topic_said kind words = maybe_said (one_topic_said kind) words
+abbrev pub parse_maybe_topic : ShellKind → List (List ℕ) → Result (Option Topic) Diagnostic
+parse_maybe_topic kind words = parse_maybe (parse_one_topic kind) words
 
 -- the command of this kind that the words after the first say
 abbrev pub shell_command_of : {A : Type 0} → Parts A → ShellKind → List (List ℕ) → Result ShellCommand Diagnostic
-shell_command_of m kind.Undo words = map_said (λ n. command.Undo (or_one n)) (maybe_count_said kind.Undo words)
-shell_command_of m kind.Redo words = map_said (λ n. command.Redo (or_one n)) (maybe_count_said kind.Redo words)
-shell_command_of m kind.Goto words = map_said (λ n. command.Goto n) (one_count_said kind.Goto words)
-shell_command_of m kind.State words = alone_said kind.State command.State words
-shell_command_of m kind.Status words = map_said (λ t. command.Status t) (one_txn_said kind.Status words)
-shell_command_of m kind.Value words = map_said (λ object. command.Value object) (one_object_said m kind.Value words)
-shell_command_of m kind.Held words = map_said (λ t. command.Held t) (one_txn_said kind.Held words)
-shell_command_of m kind.Conflicts words = map_said (λ t. command.Conflicts t) (one_txn_said kind.Conflicts words)
-shell_command_of m kind.Edges words = map_said (λ t. command.Edges t) (maybe_txn_said kind.Edges words)
-shell_command_of m kind.Permits words = alone_said kind.Permits command.Permits words
-shell_command_of m kind.Owed words = alone_said kind.Owed command.Owed words
-shell_command_of m kind.History words = alone_said kind.History command.History words
-shell_command_of m kind.Events words = alone_said kind.Events command.Events words
-shell_command_of m kind.Draw words = alone_said kind.Draw command.Draw words
-shell_command_of m kind.Why words = map_said (λ n. command.Why n) (maybe_count_said kind.Why words)
-shell_command_of m kind.Next words = map_said (λ t. command.Next t) (maybe_txn_said kind.Next words)
-shell_command_of m kind.Explore words = alone_said kind.Explore command.Explore words
-shell_command_of m kind.Help words = map_said (λ topic. command.Help topic) (maybe_topic_said kind.Help words)
-shell_command_of m kind.Quit words = alone_said kind.Quit command.Quit words
+shell_command_of m kind.Undo words = map_parsed (λ n. command.Undo (or_one n)) (parse_maybe_count kind.Undo words)
+shell_command_of m kind.Redo words = map_parsed (λ n. command.Redo (or_one n)) (parse_maybe_count kind.Redo words)
+shell_command_of m kind.Goto words = map_parsed (λ n. command.Goto n) (parse_one_count kind.Goto words)
+shell_command_of m kind.State words = parse_alone kind.State command.State words
+shell_command_of m kind.Status words = map_parsed (λ t. command.Status t) (parse_one_txn kind.Status words)
+shell_command_of m kind.Value words = map_parsed (λ object. command.Value object) (parse_one_object m kind.Value words)
+shell_command_of m kind.Held words = map_parsed (λ t. command.Held t) (parse_one_txn kind.Held words)
+shell_command_of m kind.Conflicts words = map_parsed (λ t. command.Conflicts t) (parse_one_txn kind.Conflicts words)
+shell_command_of m kind.Edges words = map_parsed (λ t. command.Edges t) (parse_maybe_txn kind.Edges words)
+shell_command_of m kind.Permits words = parse_alone kind.Permits command.Permits words
+shell_command_of m kind.Owed words = parse_alone kind.Owed command.Owed words
+shell_command_of m kind.History words = parse_alone kind.History command.History words
+shell_command_of m kind.Events words = parse_alone kind.Events command.Events words
+shell_command_of m kind.Draw words = parse_alone kind.Draw command.Draw words
+shell_command_of m kind.Why words = map_parsed (λ n. command.Why n) (parse_maybe_count kind.Why words)
+shell_command_of m kind.Next words = map_parsed (λ t. command.Next t) (parse_maybe_txn kind.Next words)
+shell_command_of m kind.Explore words = parse_alone kind.Explore command.Explore words
+shell_command_of m kind.Help words = map_parsed (λ topic. command.Help topic) (parse_maybe_topic kind.Help words)
+shell_command_of m kind.Quit words = parse_alone kind.Quit command.Quit words
 
 -- what was found to be wrong; a faulty event has such a place, and without one only the fault would be known
 abbrev pub wrong_by : Option Diagnostic → LineFault → Diagnostic
@@ -147,28 +147,28 @@ event_or_wrong make (Ok event) found = Ok (make event)
 event_or_wrong make (Err fault) found = Err (wrong_by found fault)
 
 -- an event, of which the line begins with this word
-abbrev pub event_line_said : {A : Type 0} → Parts A → List (List ℕ) → Result (ShellLine A) Diagnostic
-event_line_said m words = event_or_wrong (λ event. line.Event event) (event_said m words) (wrong_event m 0 words)
+abbrev pub parse_event_line : {A : Type 0} → Parts A → List (List ℕ) → Result (ShellLine A) Diagnostic
+parse_event_line m words = event_or_wrong (λ event. line.Event event) (parse_event m words) (wrong_event m 0 words)
 
 -- the question whether the event after the word `can` would be admitted
-abbrev pub can_line_said : {A : Type 0} → Parts A → List (List ℕ) → Result (ShellLine A) Diagnostic
-can_line_said m words = event_or_wrong (λ event. line.Can event) (event_behind m words) (wrong_after_seat m words)
+abbrev pub parse_can_line : {A : Type 0} → Parts A → List (List ℕ) → Result (ShellLine A) Diagnostic
+parse_can_line m words = event_or_wrong (λ event. line.Can event) (event_behind m words) (wrong_after_seat m words)
 
 -- a command, where the first word is that of one
-abbrev pub command_line_said : {A : Type 0} → Parts A → Option ShellKind → List ℕ → List (List ℕ) → Result (ShellLine A) Diagnostic
-command_line_said m (Some kind) word words = map_said (λ said. line.Command said) (shell_command_of m kind words)
-command_line_said m None word words = event_line_said m (word ∷ words)
+abbrev pub parse_command_line : {A : Type 0} → Parts A → Option ShellKind → List ℕ → List (List ℕ) → Result (ShellLine A) Diagnostic
+parse_command_line m (Some kind) word words = map_parsed (λ parsed. line.Command parsed) (shell_command_of m kind words)
+parse_command_line m None word words = parse_event_line m (word ∷ words)
 
 -- the line of a session that words say
-unfoldable pub shell_line_said : {A : Type 0} → Parts A → List (List ℕ) → Result (ShellLine A) Diagnostic
-shell_line_said m [] = event_line_said m []
-shell_line_said m (word ∷ words) =
-    if bytes_eq word can_word then can_line_said m words
-    else command_line_said m (shell_kind_of word) word words
+unfoldable pub parse_shell_line : {A : Type 0} → Parts A → List (List ℕ) → Result (ShellLine A) Diagnostic
+parse_shell_line m [] = parse_event_line m []
+parse_shell_line m (word ∷ words) =
+    if bytes_eq word can_word then parse_can_line m words
+    else parse_command_line m (shell_kind_of word) word words
 
 -- the line of a session that a line says, or what is wrong with it
 abbrev pub shell_line_of : {A : Type 0} → Parts A → List ℕ → Result (ShellLine A) Diagnostic
-shell_line_of m line = shell_line_said m (words_of line)
+shell_line_of m line = parse_shell_line m (words_of line)
 
 -- an error says why the line said nothing: what is wrong with it, or want of memory, which says nothing of the line
 abbrev pub IsWhyNot : {X : Type 0} → Result X Diagnostic → ShellFault → Type 0
@@ -179,4 +179,4 @@ IsWhyNot read shell_fault.Memory = ⊤
 abbrev pub IsShellInModel : {A : Type 0} → Parts A → ShellLine A → Type 0
 IsShellInModel m (line.Event event) = IsInModel m event
 IsShellInModel m (line.Can event) = IsInModel m event
-IsShellInModel m (line.Command said) = ⊤
+IsShellInModel m (line.Command parsed) = ⊤

@@ -1,7 +1,7 @@
 //! The commands to a debugger and the kinds of break: their words, and the forms of their lines.
 
 ghost use Rattle.std.specs.Prelude.{◌≡◌};
-ghost use Rattle.acta_script.specs.Commands.{break_kind_said, command_kind_said};
+ghost use Rattle.acta_script.specs.Commands.{parse_break_kind, parse_command_kind};
 ghost use Rattle.acta_script.specs.Words.{break_form, break_word, command_form, command_word};
 
 use crate::fault::LineFault;
@@ -79,8 +79,8 @@ impl CommandKind {
 }
 
 /// The kind of command that has this first word.
-pub(crate) fn command_kind_said(word: &[u8]) -> Result<CommandKind, LineFault>
-    ensures { result ≡ command_kind_said word.now }
+pub(crate) fn parse_command_kind(word: &[u8]) -> Result<CommandKind, LineFault>
+    ensures { result ≡ parse_command_kind word.now }
 {
     if word == CommandKind::Step.word().as_bytes() {
         Ok(CommandKind::Step)
@@ -158,8 +158,8 @@ impl BreakKind {
 }
 
 /// The kind of break that has this word.
-pub(crate) fn break_kind_said(word: &[u8]) -> Result<BreakKind, LineFault>
-    ensures { result ≡ break_kind_said word.now }
+pub(crate) fn parse_break_kind(word: &[u8]) -> Result<BreakKind, LineFault>
+    ensures { result ≡ parse_break_kind word.now }
 {
     if word == BreakKind::Kind.word().as_bytes() {
         Ok(BreakKind::Kind)

@@ -2,15 +2,15 @@
 //! numbers, then names. So the fault that is told is the lowest. What a command does is no matter of lines.
 
 ghost use Rattle.std.specs.Prelude.{◌≡◌, map, Ok, Err, IfOk, IfErr};
-ghost use Rattle.acta_script.specs.Commands.{break_command_said, break_of_kind, break_said, command_of, command_of_kind, command_said, ended_break_said, goto_said, kind_break_said, object_break_said, one_word, owed_break_said, status_said, txn_break_said, value_said};
+ghost use Rattle.acta_script.specs.Commands.{parse_break_command, break_of_kind, parse_break, command_of, command_of_kind, parse_command, parse_ended_break, parse_goto, parse_kind_break, parse_object_break, one_word, parse_owed_break, parse_status, parse_txn_break, parse_value};
 ghost use Rattle.acta_script.specs.Reading.{IsWhy};
 
-use crate::command_words::{BreakKind, CommandKind, break_kind_said, command_kind_said};
+use crate::command_words::{BreakKind, CommandKind, parse_break_kind, parse_command_kind};
 use crate::fault::{LineError, LineFault};
-use crate::names::object_said;
-use crate::numbers::{count_said, txn_said};
+use crate::names::parse_object;
+use crate::numbers::{parse_count, parse_txn};
 use crate::operations::alone;
-use crate::reading::event_kind_said;
+use crate::reading::parse_event_kind;
 use acta_table::{EventKind, Model, ObjId, TxnId};
 use acta_words::words_of;
 use std::alloc::Allocator;
@@ -65,49 +65,49 @@ fn one_word<'a>(words: &[&'a [u8]]) -> Result<&'a [u8], LineFault>
 }
 
 // kind EVENT
-fn kind_break_said(words: &[&[u8]]) -> Result<BreakOn, LineFault>
-    ensures { result ≡ kind_break_said (map (λ word. word.now) words.now) }
+fn parse_kind_break(words: &[&[u8]]) -> Result<BreakOn, LineFault>
+    ensures { result ≡ parse_kind_break (map (λ word. word.now) words.now) }
 {
     let [word, words @ ..] = words else {
         return Err(LineFault::Arity);
     };
-    let kind = event_kind_said(word)?;
+    let kind = parse_event_kind(word)?;
     alone(BreakOn::Kind(kind), words)
 }
 
 // txn T
-fn txn_break_said(words: &[&[u8]]) -> Result<BreakOn, LineFault>
-    ensures { result ≡ txn_break_said (map (λ word. word.now) words.now) }
+fn parse_txn_break(words: &[&[u8]]) -> Result<BreakOn, LineFault>
+    ensures { result ≡ parse_txn_break (map (λ word. word.now) words.now) }
 {
     let word = one_word(words)?;
-    let t = txn_said(word)?;
+    let t = parse_txn(word)?;
     Ok(BreakOn::Txn(t))
 }
 
 // object OBJECT
-fn object_break_said<A: Allocator>(model: &Model<A>, words: &[&[u8]]) -> Result<BreakOn, LineFault>
-    ensures { result ≡ object_break_said model.now (map (λ word. word.now) words.now) }
+fn parse_object_break<A: Allocator>(model: &Model<A>, words: &[&[u8]]) -> Result<BreakOn, LineFault>
+    ensures { result ≡ parse_object_break model.now (map (λ word. word.now) words.now) }
 {
     let word = one_word(words)?;
-    let object = object_said(model, word)?;
+    let object = parse_object(model, word)?;
     Ok(BreakOn::Object(object))
 }
 
 // owed N
-fn owed_break_said(words: &[&[u8]]) -> Result<BreakOn, LineFault>
-    ensures { result ≡ owed_break_said (map (λ word. word.now) words.now) }
+fn parse_owed_break(words: &[&[u8]]) -> Result<BreakOn, LineFault>
+    ensures { result ≡ parse_owed_break (map (λ word. word.now) words.now) }
 {
     let word = one_word(words)?;
-    let n = count_said(word)?;
+    let n = parse_count(word)?;
     Ok(BreakOn::Owed(n))
 }
 
 // ended T
-fn ended_break_said(words: &[&[u8]]) -> Result<BreakOn, LineFault>
-    ensures { result ≡ ended_break_said (map (λ word. word.now) words.now) }
+fn parse_ended_break(words: &[&[u8]]) -> Result<BreakOn, LineFault>
+    ensures { result ≡ parse_ended_break (map (λ word. word.now) words.now) }
 {
     let word = one_word(words)?;
-    let t = txn_said(word)?;
+    let t = parse_txn(word)?;
     Ok(BreakOn::Ended(t))
 }
 
@@ -120,61 +120,61 @@ fn break_of_kind<A: Allocator>(
     ensures { result ≡ break_of_kind model.now kind (map (λ word. word.now) words.now) }
 {
     match kind {
-        BreakKind::Kind => kind_break_said(words),
-        BreakKind::Txn => txn_break_said(words),
-        BreakKind::Object => object_break_said(model, words),
-        BreakKind::Owed => owed_break_said(words),
-        BreakKind::Ended => ended_break_said(words),
+        BreakKind::Kind => parse_kind_break(words),
+        BreakKind::Txn => parse_txn_break(words),
+        BreakKind::Object => parse_object_break(model, words),
+        BreakKind::Owed => parse_owed_break(words),
+        BreakKind::Ended => parse_ended_break(words),
     }
 }
 
 // The break that the words after `break` say.
-#[tactic(auto, unfolding(crate::specs::Commands::break_said))]
-fn break_said<A: Allocator>(model: &Model<A>, words: &[&[u8]]) -> Result<BreakOn, LineFault>
-    ensures { result ≡ break_said model.now (map (λ word. word.now) words.now) }
+#[tactic(auto, unfolding(crate::specs::Commands::parse_break))]
+fn parse_break<A: Allocator>(model: &Model<A>, words: &[&[u8]]) -> Result<BreakOn, LineFault>
+    ensures { result ≡ parse_break model.now (map (λ word. word.now) words.now) }
 {
     let [word, words @ ..] = words else {
         return Err(LineFault::Arity);
     };
-    let kind = break_kind_said(word)?;
+    let kind = parse_break_kind(word)?;
     break_of_kind(model, kind, words)
 }
 
 // goto N
-fn goto_said(words: &[&[u8]]) -> Result<DebugCommand, LineFault>
-    ensures { result ≡ goto_said (map (λ word. word.now) words.now) }
+fn parse_goto(words: &[&[u8]]) -> Result<DebugCommand, LineFault>
+    ensures { result ≡ parse_goto (map (λ word. word.now) words.now) }
 {
     let word = one_word(words)?;
-    let n = count_said(word)?;
+    let n = parse_count(word)?;
     Ok(DebugCommand::Goto(n))
 }
 
 // value OBJECT
-fn value_said<A: Allocator>(model: &Model<A>, words: &[&[u8]]) -> Result<DebugCommand, LineFault>
-    ensures { result ≡ value_said model.now (map (λ word. word.now) words.now) }
+fn parse_value<A: Allocator>(model: &Model<A>, words: &[&[u8]]) -> Result<DebugCommand, LineFault>
+    ensures { result ≡ parse_value model.now (map (λ word. word.now) words.now) }
 {
     let word = one_word(words)?;
-    let object = object_said(model, word)?;
+    let object = parse_object(model, word)?;
     Ok(DebugCommand::Value(object))
 }
 
 // status T
-fn status_said(words: &[&[u8]]) -> Result<DebugCommand, LineFault>
-    ensures { result ≡ status_said (map (λ word. word.now) words.now) }
+fn parse_status(words: &[&[u8]]) -> Result<DebugCommand, LineFault>
+    ensures { result ≡ parse_status (map (λ word. word.now) words.now) }
 {
     let word = one_word(words)?;
-    let t = txn_said(word)?;
+    let t = parse_txn(word)?;
     Ok(DebugCommand::Status(t))
 }
 
 // A command that adds a break.
-fn break_command_said<A: Allocator>(
+fn parse_break_command<A: Allocator>(
     model: &Model<A>,
     words: &[&[u8]],
 ) -> Result<DebugCommand, LineFault>
-    ensures { result ≡ break_command_said model.now (map (λ word. word.now) words.now) }
+    ensures { result ≡ parse_break_command model.now (map (λ word. word.now) words.now) }
 {
-    let on = break_said(model, words)?;
+    let on = parse_break(model, words)?;
     Ok(DebugCommand::Break(on))
 }
 
@@ -189,25 +189,25 @@ fn command_of_kind<A: Allocator>(
     match kind {
         CommandKind::Step => alone(DebugCommand::Step, words),
         CommandKind::Back => alone(DebugCommand::Back, words),
-        CommandKind::Goto => goto_said(words),
+        CommandKind::Goto => parse_goto(words),
         CommandKind::Run => alone(DebugCommand::Run, words),
-        CommandKind::Break => break_command_said(model, words),
+        CommandKind::Break => parse_break_command(model, words),
         CommandKind::Clear => alone(DebugCommand::Clear, words),
-        CommandKind::Value => value_said(model, words),
-        CommandKind::Status => status_said(words),
+        CommandKind::Value => parse_value(model, words),
+        CommandKind::Status => parse_status(words),
         CommandKind::Owed => alone(DebugCommand::Owed, words),
     }
 }
 
 // The command that the words say.
-#[tactic(auto, unfolding(crate::specs::Commands::command_said))]
-fn command_said<A: Allocator>(model: &Model<A>, words: &[&[u8]]) -> Result<DebugCommand, LineFault>
-    ensures { result ≡ command_said model.now (map (λ word. word.now) words.now) }
+#[tactic(auto, unfolding(crate::specs::Commands::parse_command))]
+fn parse_command<A: Allocator>(model: &Model<A>, words: &[&[u8]]) -> Result<DebugCommand, LineFault>
+    ensures { result ≡ parse_command model.now (map (λ word. word.now) words.now) }
 {
     let [word, words @ ..] = words else {
         return Err(LineFault::Empty);
     };
-    let kind = command_kind_said(word)?;
+    let kind = parse_command_kind(word)?;
     command_of_kind(model, kind, words)
 }
 
@@ -223,5 +223,5 @@ pub fn read_command<A: Allocator + Copy>(
     ensures fault { IfErr result (IsWhy (command_of model.now line.now)) }
 {
     let words = words_of(alloc, line)?;
-    Ok(command_said(model, &words)?)
+    Ok(parse_command(model, &words)?)
 }

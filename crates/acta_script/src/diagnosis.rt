@@ -5,18 +5,18 @@ ghost use Rattle.std.specs.Result.{result_err};
 ghost use Rattle.acta_words.specs.Text.{words_of};
 ghost use Rattle.acta_script.specs.Diagnosis.{IsWrong, fault_of_word, is_fault, wrong_word, wrong_count, wrong_in, op_kind_in, operation_parts, parts_of, form_of, wrong_event, wrong_return, lower_of, wrong_kept, wrong_seat, wrong_after_seat, wrong_seated, break_parts, wrong_break, command_parts, is_break, wrong_argument, wrong_command};
 ghost use Rattle.acta_script.specs.Commands.{command_of};
-ghost use Rattle.acta_script.specs.Reading.{operations_said, event_of, kept_of, seated_of};
+ghost use Rattle.acta_script.specs.Reading.{parse_operations, event_of, kept_of, seated_of};
 
-use crate::command_words::{BreakKind, CommandKind, break_kind_said, command_kind_said};
+use crate::command_words::{BreakKind, CommandKind, parse_break_kind, parse_command_kind};
 use crate::fault::{LineError, LineFault};
 use crate::kept::sign_place;
-use crate::names::{class_said, kind_said, object_said};
-use crate::numbers::{count_said, integer_said, txn_said};
-use crate::op_kind::{OpKind, op_kind_said};
-use crate::op_sets::operations_said;
-use crate::reading::event_kind_said;
-use crate::returns::return_word_said;
-use crate::seated::seat_said;
+use crate::names::{parse_class, parse_kind, parse_object};
+use crate::numbers::{parse_count, parse_integer, parse_txn};
+use crate::op_kind::{OpKind, parse_op_kind};
+use crate::op_sets::parse_operations;
+use crate::reading::parse_event_kind;
+use crate::returns::parse_return_word;
+use crate::seated::parse_seat;
 use crate::shell_words::ShellKind;
 use acta_table::{EventKind, Model};
 use acta_words::words_of;
@@ -105,9 +105,9 @@ fn fault_of_operations<A: Allocator + Copy>(
     alloc: A,
     word: &[u8],
 ) -> Result<Option<LineFault>, AllocError>
-    ensures { IfOk result (λ fault. fault ≡ result_err (operations_said word.now)) }
+    ensures { IfOk result (λ fault. fault ≡ result_err (parse_operations word.now)) }
 {
-    match operations_said(alloc, word) {
+    match parse_operations(alloc, word) {
         Ok(_) => Ok(None),
         Err(LineError::Fault(fault)) => Ok(Some(fault)),
         Err(LineError::Memory) => Err(AllocError),
@@ -124,19 +124,19 @@ fn fault_of_word<A: Allocator + Copy>(
     ensures { IfOk result (λ fault. fault ≡ fault_of_word model.now part word.now) }
 {
     Ok(match part {
-        LinePart::Event => event_kind_said(word).err(),
-        LinePart::Kind => kind_said(word).err(),
-        LinePart::Operation => op_kind_said(word).err(),
-        LinePart::Transaction => txn_said(word).err(),
-        LinePart::Integer => integer_said(word).err(),
+        LinePart::Event => parse_event_kind(word).err(),
+        LinePart::Kind => parse_kind(word).err(),
+        LinePart::Operation => parse_op_kind(word).err(),
+        LinePart::Transaction => parse_txn(word).err(),
+        LinePart::Integer => parse_integer(word).err(),
         LinePart::Operations => return fault_of_operations(alloc, word),
-        LinePart::Class => class_said(model, word).err(),
-        LinePart::Object => object_said(model, word).err(),
-        LinePart::Return => return_word_said(word).err(),
-        LinePart::Seat(seats) => seat_said(seats, word).err(),
-        LinePart::Count => count_said(word).err(),
-        LinePart::Command => command_kind_said(word).err(),
-        LinePart::Break => break_kind_said(word).err(),
+        LinePart::Class => parse_class(model, word).err(),
+        LinePart::Object => parse_object(model, word).err(),
+        LinePart::Return => parse_return_word(word).err(),
+        LinePart::Seat(seats) => parse_seat(seats, word).err(),
+        LinePart::Count => parse_count(word).err(),
+        LinePart::Command => parse_command_kind(word).err(),
+        LinePart::Break => parse_break_kind(word).err(),
     })
 }
 
@@ -296,7 +296,7 @@ pub(crate) fn wrong_event<A: Allocator + Copy>(
             expected: Expected::Part(LinePart::Event),
         }));
     };
-    match event_kind_said(word) {
+    match parse_event_kind(word) {
         Ok(kind) => {
             let op = op_kind_in(words);
             wrong_in(
@@ -443,7 +443,7 @@ fn wrong_break<A: Allocator + Copy>(
             expected: Expected::Part(LinePart::Break),
         }));
     };
-    match break_kind_said(word) {
+    match parse_break_kind(word) {
         Ok(kind) => wrong_in(
             alloc,
             model,
@@ -510,7 +510,7 @@ fn wrong_command<A: Allocator + Copy>(
             expected: Expected::Part(LinePart::Command),
         }));
     };
-    match command_kind_said(word) {
+    match parse_command_kind(word) {
         Ok(kind) => wrong_argument(alloc, model, kind, words),
         Err(fault) => Ok(Some(Diagnostic {
             fault,

@@ -2,13 +2,13 @@
 
 ghost use Rattle.std.specs.Prelude.{◌≡◌, map, position, Ok, IfOk, IfErr};
 ghost use Rattle.acta_script.specs.Laws.{IsInModel};
-ghost use Rattle.acta_script.specs.Reading.{IsWhy, is_equals, kept_said, kept_of};
+ghost use Rattle.acta_script.specs.Reading.{IsWhy, is_equals, parse_kept, kept_of};
 ghost use Rattle.acta_script.specs.Writing.{kept_line};
 
 use crate::fault::{LineError, lowest};
 use crate::laws::kept_again;
-use crate::reading::event_said;
-use crate::returns::{push_return, return_said};
+use crate::reading::parse_event;
+use crate::returns::{parse_return, push_return};
 use crate::writing::push_event;
 use acta_table::{Kept, Model};
 use acta_words::{push_word, words_of};
@@ -22,22 +22,22 @@ pub(crate) fn sign_place(words: &[&[u8]]) -> Option<usize>
 }
 
 // The kept item that the words say.
-#[tactic(auto, unfolding(crate::specs::Reading::kept_said))]
-fn kept_said<A: Allocator + Copy>(
+#[tactic(auto, unfolding(crate::specs::Reading::parse_kept))]
+fn parse_kept<A: Allocator + Copy>(
     alloc: A,
     model: &Model<A>,
     words: &[&[u8]],
 ) -> Result<Kept<A>, LineError>
-    ensures ok { IfOk result (λ kept. kept_said model.now (map (λ word. word.now) words.now) ≡ Ok kept) }
-    ensures fault { IfErr result (IsWhy (kept_said model.now (map (λ word. word.now) words.now))) }
+    ensures ok { IfOk result (λ kept. parse_kept model.now (map (λ word. word.now) words.now) ≡ Ok kept) }
+    ensures fault { IfErr result (IsWhy (parse_kept model.now (map (λ word. word.now) words.now))) }
     ensures in_model { IfOk result (λ kept. IsInModel model.now kept.event) }
 {
     let Some(at) = sign_place(words) else {
-        let event = event_said(alloc, model, words)?;
+        let event = parse_event(alloc, model, words)?;
         return Ok(Kept { event, ret: None });
     };
-    let ret = return_said(&words[at + 1..]);
-    match event_said(alloc, model, &words[..at]) {
+    let ret = parse_return(&words[at + 1..]);
+    match parse_event(alloc, model, &words[..at]) {
         Ok(event) => Ok(Kept {
             event,
             ret: Some(ret?),
@@ -59,7 +59,7 @@ pub fn read_kept<A: Allocator + Copy>(
     ensures in_model { IfOk result (λ kept. IsInModel model.now kept.event) }
 {
     let words = words_of(alloc, line)?;
-    kept_said(alloc, model, &words)
+    parse_kept(alloc, model, &words)
 }
 
 /// The line of the kept item: that of its event, and for a return ` = ` and its word. Read again it gives the item, if

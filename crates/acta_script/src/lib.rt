@@ -59,7 +59,7 @@ pub use names::object_name;
 pub use op_kind::OpKind;
 pub use programs::{ProgramLine, read_program_line};
 pub use reading::read_event;
-pub use returns::{RETURN_WORDS, push_return, return_said};
+pub use returns::{RETURN_WORDS, parse_return, push_return};
 pub use seated::{Seated, read_seated};
 pub use shell_lines::{ShellCommand, ShellFault, ShellLine, Topic, read_shell_line};
 pub use shell_words::{CAN_FORM, CAN_WORD, ShellKind};

@@ -4,7 +4,7 @@ ghost use Rattle.std.specs.Prelude.{◌≡◌, ◌<◌, length, find, IfOk, IfSo
 ghost use Rattle.std.specs.List.{position_from};
 ghost use Rattle.std.specs.Str.{bytes_eq};
 ghost use Rattle.acta_table.specs.Dependencies.{all_kinds, word_of};
-ghost use Rattle.acta_script.specs.Reading.{class_said, object_said, kind_said};
+ghost use Rattle.acta_script.specs.Reading.{parse_class, parse_object, parse_kind};
 ghost use Rattle.acta_script.specs.Writing.{class_word, object_word};
 
 use crate::fault::LineFault;
@@ -32,8 +32,8 @@ fn object_place<A: Allocator>(objects: &[Object<A>], word: &[u8]) -> Option<usiz
 }
 
 /// The class of the model that has this name.
-pub(crate) fn class_said<A: Allocator>(model: &Model<A>, word: &[u8]) -> Result<ClassId, LineFault>
-    ensures said { result ≡ class_said model.now word.now }
+pub(crate) fn parse_class<A: Allocator>(model: &Model<A>, word: &[u8]) -> Result<ClassId, LineFault>
+    ensures parsed { result ≡ parse_class model.now word.now }
     ensures within { IfOk result (λ class. class.0 < length model.now.classes) }
 {
     let place = class_place(model.classes(), word).ok_or(LineFault::Name)?;
@@ -41,8 +41,8 @@ pub(crate) fn class_said<A: Allocator>(model: &Model<A>, word: &[u8]) -> Result<
 }
 
 /// The object of the model that has this name.
-pub(crate) fn object_said<A: Allocator>(model: &Model<A>, word: &[u8]) -> Result<ObjId, LineFault>
-    ensures said { result ≡ object_said model.now word.now }
+pub(crate) fn parse_object<A: Allocator>(model: &Model<A>, word: &[u8]) -> Result<ObjId, LineFault>
+    ensures parsed { result ≡ parse_object model.now word.now }
     ensures within { IfOk result (λ object. object.0 < length model.now.objects) }
 {
     let place = object_place(model.objects(), word).ok_or(LineFault::Name)?;
@@ -60,8 +60,8 @@ fn kind_named(word: &[u8]) -> Option<Dep>
 }
 
 /// The kind of dependency that has this short name.
-pub(crate) fn kind_said(word: &[u8]) -> Result<Dep, LineFault>
-    ensures { result ≡ kind_said word.now }
+pub(crate) fn parse_kind(word: &[u8]) -> Result<Dep, LineFault>
+    ensures { result ≡ parse_kind word.now }
 {
     kind_named(word).ok_or(LineFault::Word)
 }

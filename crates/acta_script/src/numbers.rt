@@ -1,8 +1,8 @@
 //! The words of numbers: transactions, the numbers of operations on objects, and those of commands.
 
 ghost use Rattle.std.specs.Prelude.{◌≡◌, ◌++◌, ◌∷◌, OnOk};
-ghost use Rattle.acta_script.specs.Commands.{count_said};
-ghost use Rattle.acta_script.specs.Reading.{txn_said, integer_said};
+ghost use Rattle.acta_script.specs.Commands.{parse_count};
+ghost use Rattle.acta_script.specs.Reading.{parse_txn, parse_integer};
 ghost use Rattle.acta_script.specs.Writing.{txn_word};
 
 use crate::fault::LineFault;
@@ -11,23 +11,23 @@ use acta_words::{push_natural, read_i32, read_u16, read_u32};
 use std::alloc::{AllocError, Allocator};
 
 /// The transaction of a word of digits, of 16 bits.
-pub(crate) fn txn_said(word: &[u8]) -> Result<TxnId, LineFault>
-    ensures { result ≡ txn_said word.now }
+pub(crate) fn parse_txn(word: &[u8]) -> Result<TxnId, LineFault>
+    ensures { result ≡ parse_txn word.now }
 {
     let number = read_u16(word).ok_or(LineFault::Number)?;
     Ok(TxnId(number))
 }
 
 /// The number of 32 bits of a word of digits.
-pub(crate) fn count_said(word: &[u8]) -> Result<u32, LineFault>
-    ensures { result ≡ count_said word.now }
+pub(crate) fn parse_count(word: &[u8]) -> Result<u32, LineFault>
+    ensures { result ≡ parse_count word.now }
 {
     read_u32(word).ok_or(LineFault::Number)
 }
 
 /// The number of 32 bits of a word of digits, with a minus before them or not.
-pub(crate) fn integer_said(word: &[u8]) -> Result<i32, LineFault>
-    ensures { result ≡ integer_said word.now }
+pub(crate) fn parse_integer(word: &[u8]) -> Result<i32, LineFault>
+    ensures { result ≡ parse_integer word.now }
 {
     read_i32(word).ok_or(LineFault::Number)
 }

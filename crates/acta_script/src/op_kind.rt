@@ -2,7 +2,7 @@
 
 ghost use Rattle.std.specs.Prelude.{◌≡◌};
 ghost use Rattle.std.specs.Result.{result_ok};
-ghost use Rattle.acta_script.specs.Reading.{op_kind_said};
+ghost use Rattle.acta_script.specs.Reading.{parse_op_kind};
 ghost use Rattle.acta_script.specs.Words.{op_word, op_form, takes_integer};
 
 use crate::fault::LineFault;
@@ -74,15 +74,15 @@ impl OpKind {
 
     /// The kind of operation that has this word, if one has it.
     pub fn of_word(word: &[u8]) -> Option<OpKind>
-        ensures { result ≡ result_ok (op_kind_said word.now) }
+        ensures { result ≡ result_ok (parse_op_kind word.now) }
     {
-        op_kind_said(word).ok()
+        parse_op_kind(word).ok()
     }
 }
 
 /// The kind of operation that has this word.
-pub(crate) fn op_kind_said(word: &[u8]) -> Result<OpKind, LineFault>
-    ensures { result ≡ op_kind_said word.now }
+pub(crate) fn parse_op_kind(word: &[u8]) -> Result<OpKind, LineFault>
+    ensures { result ≡ parse_op_kind word.now }
 {
     if word == OpKind::Read.word().as_bytes() {
         Ok(OpKind::Read)

@@ -2,7 +2,7 @@
 
 ghost use Rattle.std.specs.Prelude.{◌≡◌, ◌==◌, ◌++◌, ◌∷◌, map, decimal, Ok, IfOk, IfErr, OnOk};
 ghost use Rattle.std.specs.List.{slice_split};
-ghost use Rattle.acta_script.specs.Reading.{IsWhy, numbers_said, operations_said};
+ghost use Rattle.acta_script.specs.Reading.{IsWhy, parse_numbers, parse_operations};
 ghost use Rattle.acta_script.specs.Writing.{operations_word};
 
 use crate::fault::{LineError, LineFault};
@@ -21,9 +21,9 @@ fn parts_of<'a, A: Allocator + Copy>(
 }
 
 // The numbers of 32 bits that are joined by commas, in their order.
-fn numbers_said<A: Allocator + Copy>(alloc: A, word: &[u8]) -> Result<Vec<OpNo, A>, LineError>
-    ensures ok { IfOk result (λ ops. numbers_said word.now ≡ Ok ops.items) }
-    ensures fault { IfErr result (IsWhy (numbers_said word.now)) }
+fn parse_numbers<A: Allocator + Copy>(alloc: A, word: &[u8]) -> Result<Vec<OpNo, A>, LineError>
+    ensures ok { IfOk result (λ ops. parse_numbers word.now ≡ Ok ops.items) }
+    ensures fault { IfErr result (IsWhy (parse_numbers word.now)) }
 {
     let parts = parts_of(alloc, word)?;
     let mut ops = Vec::with_capacity(alloc, parts.len())?;
@@ -35,17 +35,17 @@ fn numbers_said<A: Allocator + Copy>(alloc: A, word: &[u8]) -> Result<Vec<OpNo, 
 }
 
 /// The set of the operations that the word names.
-pub(crate) fn operations_said<A: Allocator + Copy>(
+pub(crate) fn parse_operations<A: Allocator + Copy>(
     alloc: A,
     word: &[u8],
 ) -> Result<OpSet<A>, LineError>
-    ensures ok { IfOk result (λ ops. operations_said word.now ≡ Ok ops) }
-    ensures fault { IfErr result (IsWhy (operations_said word.now)) }
+    ensures ok { IfOk result (λ ops. parse_operations word.now ≡ Ok ops) }
+    ensures fault { IfErr result (IsWhy (parse_operations word.now)) }
 {
     if word == b"-".as_slice() {
         return Ok(OpSet::of(alloc, &[])?);
     }
-    let numbers = numbers_said(alloc, word)?;
+    let numbers = parse_numbers(alloc, word)?;
     Ok(OpSet::of(alloc, &numbers)?)
 }
 

@@ -3,13 +3,13 @@
 ghost use Rattle.std.specs.Prelude.{◌≡◌, ◌++◌, ◌∷◌, map, OnOk};
 ghost use Rattle.std.specs.Fmt.{signed_decimal};
 ghost use Rattle.acta_words.specs.Text.{line_of};
-ghost use Rattle.acta_script.specs.Reading.{alone, integer_alone, operation_of_kind, operation_said};
+ghost use Rattle.acta_script.specs.Reading.{alone, integer_alone, operation_of_kind, parse_operation};
 ghost use Rattle.acta_script.specs.Words.{op_word};
 ghost use Rattle.acta_script.specs.Writing.{operation_words};
 
 use crate::fault::LineFault;
-use crate::numbers::integer_said;
-use crate::op_kind::{OpKind, op_kind_said};
+use crate::numbers::parse_integer;
+use crate::op_kind::{OpKind, parse_op_kind};
 use acta_table::Op;
 use acta_words::{push_integer, push_word};
 use std::alloc::{AllocError, Allocator};
@@ -30,7 +30,7 @@ fn integer_alone(words: &[&[u8]]) -> Result<i32, LineFault>
     ensures { result ≡ integer_alone (map (λ word. word.now) words.now) }
 {
     match words {
-        [word] => integer_said(word),
+        [word] => parse_integer(word),
         _ => Err(LineFault::Arity),
     }
 }
@@ -52,10 +52,10 @@ fn operation_of_kind(kind: OpKind, words: &[&[u8]]) -> Result<Op, LineFault>
 }
 
 /// The operation that has this word, and behind it these words.
-pub(crate) fn operation_said(word: &[u8], words: &[&[u8]]) -> Result<Op, LineFault>
-    ensures { result ≡ operation_said word.now (map (λ word. word.now) words.now) }
+pub(crate) fn parse_operation(word: &[u8], words: &[&[u8]]) -> Result<Op, LineFault>
+    ensures { result ≡ parse_operation word.now (map (λ word. word.now) words.now) }
 {
-    operation_of_kind(op_kind_said(word)?, words)
+    operation_of_kind(parse_op_kind(word)?, words)
 }
 
 // Writes the word of the operation and its number, a space before each.

@@ -3,10 +3,10 @@
 ghost use Rattle.std.specs.Prelude.{◌≡◌, ◌<◌, length, map, All, Ok, IfOk, IfErr};
 ghost use Rattle.std.specs.List.{slice_split};
 ghost use Rattle.acta_script.specs.Laws.{IsInModel};
-ghost use Rattle.acta_script.specs.Reading.{IsWhy, is_bar, alternatives_in, alternatives_said, program_line_said, program_line_of};
+ghost use Rattle.acta_script.specs.Reading.{IsWhy, is_bar, alternatives_in, parse_alternatives, parse_program_line, program_line_of};
 
 use crate::fault::{LineError, LineFault, lowest};
-use crate::seated::{event_behind, seat_said};
+use crate::seated::{event_behind, parse_seat};
 use acta_table::{Event, Items, Model};
 use acta_words::words_of;
 use std::alloc::{AllocError, Allocator};
@@ -19,7 +19,7 @@ pub struct ProgramLine<A: Allocator> {
     pub alternatives: Items<Event<A>, A>,
 }
 
-// The parts of the words between the bars.
+// The parts of the words between the blocks.
 fn parts_of<'w, 'a, A: Allocator + Copy>(
     alloc: A,
     words: &'w [&'a [u8]],
@@ -55,13 +55,13 @@ fn alternatives_in<A: Allocator + Copy>(
 }
 
 // The alternatives that the words say.
-fn alternatives_said<A: Allocator + Copy>(
+fn parse_alternatives<A: Allocator + Copy>(
     alloc: A,
     model: &Model<A>,
     words: &[&[u8]],
 ) -> Result<Items<Event<A>, A>, LineError>
-    ensures ok { IfOk result (λ events. alternatives_said model.now (map (λ word. word.now) words.now) ≡ Ok events) }
-    ensures fault { IfErr result (IsWhy (alternatives_said model.now (map (λ word. word.now) words.now))) }
+    ensures ok { IfOk result (λ events. parse_alternatives model.now (map (λ word. word.now) words.now) ≡ Ok events) }
+    ensures fault { IfErr result (IsWhy (parse_alternatives model.now (map (λ word. word.now) words.now))) }
     ensures in_model { IfOk result (λ events. All (IsInModel model.now) events) }
 {
     let parts = parts_of(alloc, words)?;
@@ -69,23 +69,23 @@ fn alternatives_said<A: Allocator + Copy>(
 }
 
 // The line of a program that the words say.
-#[tactic(auto, unfolding(crate::specs::Reading::program_line_said))]
-fn program_line_said<A: Allocator + Copy>(
+#[tactic(auto, unfolding(crate::specs::Reading::parse_program_line))]
+fn parse_program_line<A: Allocator + Copy>(
     alloc: A,
     model: &Model<A>,
     seats: u8,
     words: &[&[u8]],
 ) -> Result<ProgramLine<A>, LineError>
-    ensures ok { IfOk result (λ read. program_line_said model.now seats (map (λ word. word.now) words.now) ≡ Ok read) }
-    ensures fault { IfErr result (IsWhy (program_line_said model.now seats (map (λ word. word.now) words.now))) }
+    ensures ok { IfOk result (λ read. parse_program_line model.now seats (map (λ word. word.now) words.now) ≡ Ok read) }
+    ensures fault { IfErr result (IsWhy (parse_program_line model.now seats (map (λ word. word.now) words.now))) }
     ensures in_model { IfOk result (λ read. All (IsInModel model.now) read.alternatives) }
     ensures some { IfOk result (λ read. 0 < length read.alternatives) }
 {
     let [seat, words @ ..] = words else {
         return Err(LineFault::Empty.into());
     };
-    let seat = seat_said(seats, seat);
-    match alternatives_said(alloc, model, words) {
+    let seat = parse_seat(seats, seat);
+    match parse_alternatives(alloc, model, words) {
         Ok(alternatives) => Ok(ProgramLine {
             seat: seat?,
             alternatives,
@@ -110,5 +110,5 @@ pub fn read_program_line<A: Allocator + Copy>(
     ensures some { IfOk result (λ read. 0 < length read.alternatives) }
 {
     let words = words_of(alloc, line)?;
-    program_line_said(alloc, model, seats, &words)
+    parse_program_line(alloc, model, seats, &words)
 }

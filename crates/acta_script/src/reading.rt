@@ -4,180 +4,180 @@
 ghost use Rattle.std.specs.Prelude.{◌≡◌, map, Ok, IfOk, IfErr};
 ghost use Rattle.acta_script.specs.Laws.{IsInModel};
 ghost use Rattle.acta_script.specs.inside.Again.{NamesNothing};
-ghost use Rattle.acta_script.specs.Reading.{IsWhy, begin_said, spawn_said, split_said, join_said, delegate_said, form_said, form_of_kind, do_said, commit_said, abort_said, permit_said, event_kind_said, event_of_kind, event_said, event_of};
+ghost use Rattle.acta_script.specs.Reading.{IsWhy, parse_begin, parse_spawn, parse_split, parse_join, parse_delegate, parse_form, form_of_kind, parse_do, parse_commit, parse_abort, parse_permit, parse_event_kind, event_of_kind, parse_event, event_of};
 
 use crate::event_words::event_word;
 use crate::fault::{LineError, LineFault};
-use crate::names::{class_said, kind_said, object_said};
-use crate::numbers::txn_said;
-use crate::op_sets::operations_said;
-use crate::operations::operation_said;
+use crate::names::{parse_class, parse_kind, parse_object};
+use crate::numbers::parse_txn;
+use crate::op_sets::parse_operations;
+use crate::operations::parse_operation;
 use acta_table::{Dep, Event, EventKind, Model};
 use acta_words::words_of;
 use std::alloc::Allocator;
 
 // begin T CLASS
-#[tactic(auto, unfolding(crate::specs::Reading::begin_said))]
-fn begin_said<A: Allocator>(model: &Model<A>, words: &[&[u8]]) -> Result<Event<A>, LineFault>
-    ensures said { result ≡ begin_said model.now (map (λ word. word.now) words.now) }
+#[tactic(auto, unfolding(crate::specs::Reading::parse_begin))]
+fn parse_begin<A: Allocator>(model: &Model<A>, words: &[&[u8]]) -> Result<Event<A>, LineFault>
+    ensures parsed { result ≡ parse_begin model.now (map (λ word. word.now) words.now) }
     ensures in_model { IfOk result (λ event. IsInModel model.now event) }
 {
     let [t, class] = words else {
         return Err(LineFault::Arity);
     };
-    let t = txn_said(t)?;
-    let class = class_said(model, class)?;
+    let t = parse_txn(t)?;
+    let class = parse_class(model, class)?;
     Ok(Event::Begin(t, class))
 }
 
 // spawn T C CLASS
-#[tactic(auto, unfolding(crate::specs::Reading::spawn_said))]
-fn spawn_said<A: Allocator>(model: &Model<A>, words: &[&[u8]]) -> Result<Event<A>, LineFault>
-    ensures said { result ≡ spawn_said model.now (map (λ word. word.now) words.now) }
+#[tactic(auto, unfolding(crate::specs::Reading::parse_spawn))]
+fn parse_spawn<A: Allocator>(model: &Model<A>, words: &[&[u8]]) -> Result<Event<A>, LineFault>
+    ensures parsed { result ≡ parse_spawn model.now (map (λ word. word.now) words.now) }
     ensures in_model { IfOk result (λ event. IsInModel model.now event) }
 {
     let [t, c, class] = words else {
         return Err(LineFault::Arity);
     };
-    let t = txn_said(t)?;
-    let c = txn_said(c)?;
-    let class = class_said(model, class)?;
+    let t = parse_txn(t)?;
+    let c = parse_txn(c)?;
+    let class = parse_class(model, class)?;
     Ok(Event::Spawn(t, c, class))
 }
 
 // split T U CLASS OPS
-#[tactic(auto, unfolding(crate::specs::Reading::split_said))]
-fn split_said<A: Allocator + Copy>(
+#[tactic(auto, unfolding(crate::specs::Reading::parse_split))]
+fn parse_split<A: Allocator + Copy>(
     alloc: A,
     model: &Model<A>,
     words: &[&[u8]],
 ) -> Result<Event<A>, LineError>
-    ensures ok { IfOk result (λ event. split_said model.now (map (λ word. word.now) words.now) ≡ Ok event) }
-    ensures fault { IfErr result (IsWhy (split_said model.now (map (λ word. word.now) words.now))) }
+    ensures ok { IfOk result (λ event. parse_split model.now (map (λ word. word.now) words.now) ≡ Ok event) }
+    ensures fault { IfErr result (IsWhy (parse_split model.now (map (λ word. word.now) words.now))) }
     ensures in_model { IfOk result (λ event. IsInModel model.now event) }
 {
     let [t, u, class, ops] = words else {
         return Err(LineFault::Arity.into());
     };
-    let t = txn_said(t)?;
-    let u = txn_said(u)?;
-    let ops = operations_said(alloc, ops)?;
-    let class = class_said(model, class)?;
+    let t = parse_txn(t)?;
+    let u = parse_txn(u)?;
+    let ops = parse_operations(alloc, ops)?;
+    let class = parse_class(model, class)?;
     Ok(Event::Split(t, u, class, ops))
 }
 
 // join T U
-#[tactic(auto, unfolding(crate::specs::Reading::join_said))]
-fn join_said<A: Allocator>(words: &[&[u8]]) -> Result<Event<A>, LineFault>
-    ensures said { result ≡ join_said (map (λ word. word.now) words.now) }
+#[tactic(auto, unfolding(crate::specs::Reading::parse_join))]
+fn parse_join<A: Allocator>(words: &[&[u8]]) -> Result<Event<A>, LineFault>
+    ensures parsed { result ≡ parse_join (map (λ word. word.now) words.now) }
     ensures nowhere { IfOk result NamesNothing }
 {
     let [t, u] = words else {
         return Err(LineFault::Arity);
     };
-    let t = txn_said(t)?;
-    let u = txn_said(u)?;
+    let t = parse_txn(t)?;
+    let u = parse_txn(u)?;
     Ok(Event::Join(t, u))
 }
 
 // delegate T U OPS
-#[tactic(auto, unfolding(crate::specs::Reading::delegate_said))]
-fn delegate_said<A: Allocator + Copy>(alloc: A, words: &[&[u8]]) -> Result<Event<A>, LineError>
-    ensures ok { IfOk result (λ event. delegate_said (map (λ word. word.now) words.now) ≡ Ok event) }
-    ensures fault { IfErr result (IsWhy (delegate_said {A = A} (map (λ word. word.now) words.now))) }
+#[tactic(auto, unfolding(crate::specs::Reading::parse_delegate))]
+fn parse_delegate<A: Allocator + Copy>(alloc: A, words: &[&[u8]]) -> Result<Event<A>, LineError>
+    ensures ok { IfOk result (λ event. parse_delegate (map (λ word. word.now) words.now) ≡ Ok event) }
+    ensures fault { IfErr result (IsWhy (parse_delegate {A = A} (map (λ word. word.now) words.now))) }
     ensures nowhere { IfOk result NamesNothing }
 {
     let [t, u, ops] = words else {
         return Err(LineFault::Arity.into());
     };
-    let t = txn_said(t)?;
-    let u = txn_said(u)?;
-    let ops = operations_said(alloc, ops)?;
+    let t = parse_txn(t)?;
+    let u = parse_txn(u)?;
+    let ops = parse_operations(alloc, ops)?;
     Ok(Event::Delegate(t, u, ops))
 }
 
 // J I, behind a kind
 fn form_of_kind<A: Allocator>(kind: Dep, words: &[&[u8]]) -> Result<Event<A>, LineFault>
-    ensures said { result ≡ form_of_kind kind (map (λ word. word.now) words.now) }
+    ensures parsed { result ≡ form_of_kind kind (map (λ word. word.now) words.now) }
     ensures nowhere { IfOk result NamesNothing }
 {
     let [j, i] = words else {
         return Err(LineFault::Arity);
     };
-    let j = txn_said(j)?;
-    let i = txn_said(i)?;
+    let j = parse_txn(j)?;
+    let i = parse_txn(i)?;
     Ok(Event::Form(kind, j, i))
 }
 
 // form KIND J I
-#[tactic(auto, unfolding(crate::specs::Reading::form_said))]
-fn form_said<A: Allocator>(words: &[&[u8]]) -> Result<Event<A>, LineFault>
-    ensures said { result ≡ form_said (map (λ word. word.now) words.now) }
+#[tactic(auto, unfolding(crate::specs::Reading::parse_form))]
+fn parse_form<A: Allocator>(words: &[&[u8]]) -> Result<Event<A>, LineFault>
+    ensures parsed { result ≡ parse_form (map (λ word. word.now) words.now) }
     ensures nowhere { IfOk result NamesNothing }
 {
     let [kind, words @ ..] = words else {
         return Err(LineFault::Arity);
     };
-    form_of_kind(kind_said(kind)?, words)
+    form_of_kind(parse_kind(kind)?, words)
 }
 
 // do T OBJECT OP [INT]
-#[tactic(auto, unfolding(crate::specs::Reading::do_said))]
-fn do_said<A: Allocator>(model: &Model<A>, words: &[&[u8]]) -> Result<Event<A>, LineFault>
-    ensures said { result ≡ do_said model.now (map (λ word. word.now) words.now) }
+#[tactic(auto, unfolding(crate::specs::Reading::parse_do))]
+fn parse_do<A: Allocator>(model: &Model<A>, words: &[&[u8]]) -> Result<Event<A>, LineFault>
+    ensures parsed { result ≡ parse_do model.now (map (λ word. word.now) words.now) }
     ensures in_model { IfOk result (λ event. IsInModel model.now event) }
 {
     let [t, object, op, words @ ..] = words else {
         return Err(LineFault::Arity);
     };
-    let op = operation_said(op, words)?;
-    let t = txn_said(t)?;
-    let object = object_said(model, object)?;
+    let op = parse_operation(op, words)?;
+    let t = parse_txn(t)?;
+    let object = parse_object(model, object)?;
     Ok(Event::Operate(t, object, op))
 }
 
 // commit T
-#[tactic(auto, unfolding(crate::specs::Reading::commit_said))]
-fn commit_said<A: Allocator>(words: &[&[u8]]) -> Result<Event<A>, LineFault>
-    ensures said { result ≡ commit_said (map (λ word. word.now) words.now) }
+#[tactic(auto, unfolding(crate::specs::Reading::parse_commit))]
+fn parse_commit<A: Allocator>(words: &[&[u8]]) -> Result<Event<A>, LineFault>
+    ensures parsed { result ≡ parse_commit (map (λ word. word.now) words.now) }
     ensures nowhere { IfOk result NamesNothing }
 {
     let [t] = words else {
         return Err(LineFault::Arity);
     };
-    Ok(Event::Commit(txn_said(t)?))
+    Ok(Event::Commit(parse_txn(t)?))
 }
 
 // abort T
-#[tactic(auto, unfolding(crate::specs::Reading::abort_said))]
-fn abort_said<A: Allocator>(words: &[&[u8]]) -> Result<Event<A>, LineFault>
-    ensures said { result ≡ abort_said (map (λ word. word.now) words.now) }
+#[tactic(auto, unfolding(crate::specs::Reading::parse_abort))]
+fn parse_abort<A: Allocator>(words: &[&[u8]]) -> Result<Event<A>, LineFault>
+    ensures parsed { result ≡ parse_abort (map (λ word. word.now) words.now) }
     ensures nowhere { IfOk result NamesNothing }
 {
     let [t] = words else {
         return Err(LineFault::Arity);
     };
-    Ok(Event::Abort(txn_said(t)?))
+    Ok(Event::Abort(parse_txn(t)?))
 }
 
 // permit T U OBJECT
-#[tactic(auto, unfolding(crate::specs::Reading::permit_said))]
-fn permit_said<A: Allocator>(model: &Model<A>, words: &[&[u8]]) -> Result<Event<A>, LineFault>
-    ensures said { result ≡ permit_said model.now (map (λ word. word.now) words.now) }
+#[tactic(auto, unfolding(crate::specs::Reading::parse_permit))]
+fn parse_permit<A: Allocator>(model: &Model<A>, words: &[&[u8]]) -> Result<Event<A>, LineFault>
+    ensures parsed { result ≡ parse_permit model.now (map (λ word. word.now) words.now) }
     ensures in_model { IfOk result (λ event. IsInModel model.now event) }
 {
     let [t, u, object] = words else {
         return Err(LineFault::Arity);
     };
-    let t = txn_said(t)?;
-    let u = txn_said(u)?;
-    let object = object_said(model, object)?;
+    let t = parse_txn(t)?;
+    let u = parse_txn(u)?;
+    let object = parse_object(model, object)?;
     Ok(Event::Permit(t, u, object))
 }
 
 /// The kind of event that a line with this first word says.
-pub(crate) fn event_kind_said(word: &[u8]) -> Result<EventKind, LineFault>
-    ensures { result ≡ event_kind_said word.now }
+pub(crate) fn parse_event_kind(word: &[u8]) -> Result<EventKind, LineFault>
+    ensures { result ≡ parse_event_kind word.now }
 {
     if word == event_word(EventKind::Begin).as_bytes() {
         Ok(EventKind::Begin)
@@ -216,34 +216,34 @@ fn event_of_kind<A: Allocator + Copy>(
     ensures in_model { IfOk result (λ event. IsInModel model.now event) }
 {
     match kind {
-        EventKind::Begin => Ok(begin_said(model, words)?),
-        EventKind::Spawn => Ok(spawn_said(model, words)?),
-        EventKind::Split => split_said(alloc, model, words),
-        EventKind::Join => Ok(join_said(words)?),
-        EventKind::Delegate => delegate_said(alloc, words),
-        EventKind::Form => Ok(form_said(words)?),
-        EventKind::Operate => Ok(do_said(model, words)?),
-        EventKind::Commit => Ok(commit_said(words)?),
-        EventKind::Abort => Ok(abort_said(words)?),
-        EventKind::Permit => Ok(permit_said(model, words)?),
+        EventKind::Begin => Ok(parse_begin(model, words)?),
+        EventKind::Spawn => Ok(parse_spawn(model, words)?),
+        EventKind::Split => parse_split(alloc, model, words),
+        EventKind::Join => Ok(parse_join(words)?),
+        EventKind::Delegate => parse_delegate(alloc, words),
+        EventKind::Form => Ok(parse_form(words)?),
+        EventKind::Operate => Ok(parse_do(model, words)?),
+        EventKind::Commit => Ok(parse_commit(words)?),
+        EventKind::Abort => Ok(parse_abort(words)?),
+        EventKind::Permit => Ok(parse_permit(model, words)?),
     }
 }
 
 /// The event that the words say.
-#[tactic(auto, unfolding(crate::specs::Reading::event_said))]
-pub(crate) fn event_said<A: Allocator + Copy>(
+#[tactic(auto, unfolding(crate::specs::Reading::parse_event))]
+pub(crate) fn parse_event<A: Allocator + Copy>(
     alloc: A,
     model: &Model<A>,
     words: &[&[u8]],
 ) -> Result<Event<A>, LineError>
-    ensures ok { IfOk result (λ event. event_said model.now (map (λ word. word.now) words.now) ≡ Ok event) }
-    ensures fault { IfErr result (IsWhy (event_said model.now (map (λ word. word.now) words.now))) }
+    ensures ok { IfOk result (λ event. parse_event model.now (map (λ word. word.now) words.now) ≡ Ok event) }
+    ensures fault { IfErr result (IsWhy (parse_event model.now (map (λ word. word.now) words.now))) }
     ensures in_model { IfOk result (λ event. IsInModel model.now event) }
 {
     let [word, words @ ..] = words else {
         return Err(LineFault::Empty.into());
     };
-    let kind = event_kind_said(word)?;
+    let kind = parse_event_kind(word)?;
     event_of_kind(alloc, model, kind, words)
 }
 
@@ -260,5 +260,5 @@ pub fn read_event<A: Allocator + Copy>(
     ensures in_model { IfOk result (λ event. IsInModel model.now event) }
 {
     let words = words_of(alloc, line)?;
-    event_said(alloc, model, &words)
+    parse_event(alloc, model, &words)
 }

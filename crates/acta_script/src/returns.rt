@@ -2,7 +2,7 @@
 
 ghost use Rattle.std.specs.Prelude.{◌≡◌, ◌++◌, ◌∷◌, map, ok_or, OnOk};
 ghost use Rattle.acta_script.specs.declared.fault.LineFault.TheVariants.{Number};
-ghost use Rattle.acta_script.specs.Reading.{return_named, return_said};
+ghost use Rattle.acta_script.specs.Reading.{return_named, parse_return};
 ghost use Rattle.acta_script.specs.Writing.{return_word};
 
 use crate::fault::LineFault;
@@ -35,19 +35,19 @@ fn return_named(word: &[u8]) -> Option<Ret>
 }
 
 /// The return that the word says.
-pub(crate) fn return_word_said(word: &[u8]) -> Result<Ret, LineFault>
+pub(crate) fn parse_return_word(word: &[u8]) -> Result<Ret, LineFault>
     ensures { result ≡ ok_or (return_named word.now) Number }
 {
     return_named(word).ok_or(LineFault::Number)
 }
 
 /// The return that the words behind a `=` say.
-#[tactic(auto, unfolding(crate::specs::Reading::return_said))]
-pub fn return_said(words: &[&[u8]]) -> Result<Ret, LineFault>
-    ensures { result ≡ return_said (map (λ word. word.now) words.now) }
+#[tactic(auto, unfolding(crate::specs::Reading::parse_return))]
+pub fn parse_return(words: &[&[u8]]) -> Result<Ret, LineFault>
+    ensures { result ≡ parse_return (map (λ word. word.now) words.now) }
 {
     match words {
-        [word] => return_word_said(word),
+        [word] => parse_return_word(word),
         _ => Err(LineFault::Arity),
     }
 }

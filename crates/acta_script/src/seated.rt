@@ -2,10 +2,10 @@
 
 ghost use Rattle.std.specs.Prelude.{◌≡◌, map, Ok, IfOk, IfErr};
 ghost use Rattle.acta_script.specs.Laws.{IsInModel};
-ghost use Rattle.acta_script.specs.Reading.{IsWhy, seat_said, event_behind, seated_said, seated_of};
+ghost use Rattle.acta_script.specs.Reading.{IsWhy, parse_seat, event_behind, parse_seated, seated_of};
 
 use crate::fault::{LineError, LineFault, lowest};
-use crate::reading::event_said;
+use crate::reading::parse_event;
 use acta_table::{Event, Model};
 use acta_words::{read_u16, words_of};
 use std::alloc::Allocator;
@@ -20,8 +20,8 @@ pub struct Seated<A: Allocator> {
 }
 
 /// The seat of a word of digits, one of this many.
-pub(crate) fn seat_said(seats: u8, word: &[u8]) -> Result<u8, LineFault>
-    ensures { result ≡ seat_said seats word.now }
+pub(crate) fn parse_seat(seats: u8, word: &[u8]) -> Result<u8, LineFault>
+    ensures { result ≡ parse_seat seats word.now }
 {
     let seat = read_u16(word).ok_or(LineFault::Number)?;
     if (FIRST_SEAT..=u16::from(seats)).contains(&seat) {
@@ -44,25 +44,25 @@ pub(crate) fn event_behind<A: Allocator + Copy>(
     if words.is_empty() {
         return Err(LineFault::Arity.into());
     }
-    event_said(alloc, model, words)
+    parse_event(alloc, model, words)
 }
 
 // The seated event that the words say.
-#[tactic(auto, unfolding(crate::specs::Reading::seated_said))]
-fn seated_said<A: Allocator + Copy>(
+#[tactic(auto, unfolding(crate::specs::Reading::parse_seated))]
+fn parse_seated<A: Allocator + Copy>(
     alloc: A,
     model: &Model<A>,
     seats: u8,
     words: &[&[u8]],
 ) -> Result<Seated<A>, LineError>
-    ensures ok { IfOk result (λ seated. seated_said model.now seats (map (λ word. word.now) words.now) ≡ Ok seated) }
-    ensures fault { IfErr result (IsWhy (seated_said model.now seats (map (λ word. word.now) words.now))) }
+    ensures ok { IfOk result (λ seated. parse_seated model.now seats (map (λ word. word.now) words.now) ≡ Ok seated) }
+    ensures fault { IfErr result (IsWhy (parse_seated model.now seats (map (λ word. word.now) words.now))) }
     ensures in_model { IfOk result (λ seated. IsInModel model.now seated.event) }
 {
     let [seat, words @ ..] = words else {
         return Err(LineFault::Empty.into());
     };
-    let seat = seat_said(seats, seat);
+    let seat = parse_seat(seats, seat);
     match event_behind(alloc, model, words) {
         Ok(event) => Ok(Seated { seat: seat?, event }),
         Err(LineError::Fault(fault)) => Err(lowest(fault, seat.err()).into()),
@@ -83,5 +83,5 @@ pub fn read_seated<A: Allocator + Copy>(
     ensures in_model { IfOk result (λ seated. IsInModel model.now seated.event) }
 {
     let words = words_of(alloc, line)?;
-    seated_said(alloc, model, seats, &words)
+    parse_seated(alloc, model, seats, &words)
 }

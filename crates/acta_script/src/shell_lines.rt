@@ -3,13 +3,13 @@
 
 ghost use Rattle.std.specs.Prelude.{◌≡◌, map, Ok, Err, IfOk, IfErr};
 ghost use Rattle.acta_script.specs.Laws.{IsInModel};
-ghost use Rattle.acta_script.specs.Shell.{IsShellInModel, IsWhyNot, alone_said, at_word, can_line_said, command_line_said, event_line_said, maybe_count_said, maybe_topic_said, maybe_txn_said, one_count_said, one_object_said, one_topic_said, one_txn_said, one_word, shell_command_of, shell_line_of, shell_line_said, topic_said, wrong_by, wrong_number};
+ghost use Rattle.acta_script.specs.Shell.{IsShellInModel, IsWhyNot, parse_alone, at_word, parse_can_line, parse_command_line, parse_event_line, parse_maybe_count, parse_maybe_topic, parse_maybe_txn, parse_one_count, parse_one_object, parse_one_topic, parse_one_txn, one_word, shell_command_of, shell_line_of, parse_shell_line, parse_topic, wrong_by, wrong_number};
 
 use crate::diagnosis::{Diagnostic, Expected, LinePart, WordPlace, wrong_after_seat, wrong_event};
 use crate::fault::{LineError, LineFault};
-use crate::names::object_said;
-use crate::numbers::{count_said, txn_said};
-use crate::reading::{event_kind_said, event_said};
+use crate::names::parse_object;
+use crate::numbers::{parse_count, parse_txn};
+use crate::reading::{parse_event, parse_event_kind};
 use crate::seated::event_behind;
 use crate::shell_words::{CAN_WORD, ShellKind};
 use acta_table::{Event, EventKind, Model, ObjId, TxnId};
@@ -158,12 +158,12 @@ fn one_word<'a>(kind: ShellKind, words: &[&'a [u8]]) -> Result<&'a [u8], Diagnos
 }
 
 // A command that no word follows.
-fn alone_said(
+fn parse_alone(
     kind: ShellKind,
     command: ShellCommand,
     words: &[&[u8]],
 ) -> Result<ShellCommand, Diagnostic>
-    ensures { result ≡ alone_said kind command (map (λ word. word.now) words.now) }
+    ensures { result ≡ parse_alone kind command (map (λ word. word.now) words.now) }
 {
     if words.is_empty() {
         Ok(command)
@@ -173,58 +173,58 @@ fn alone_said(
 }
 
 // The count that follows the command.
-fn one_count_said(kind: ShellKind, words: &[&[u8]]) -> Result<u32, Diagnostic>
-    ensures { result ≡ one_count_said kind (map (λ word. word.now) words.now) }
+fn parse_one_count(kind: ShellKind, words: &[&[u8]]) -> Result<u32, Diagnostic>
+    ensures { result ≡ parse_one_count kind (map (λ word. word.now) words.now) }
 {
     let word = one_word(kind, words)?;
-    at_word(1, LinePart::Count, count_said(word))
+    at_word(1, LinePart::Count, parse_count(word))
 }
 
 // The count that follows the command, if one does.
-fn maybe_count_said(kind: ShellKind, words: &[&[u8]]) -> Result<Option<u32>, Diagnostic>
-    ensures { result ≡ maybe_count_said kind (map (λ word. word.now) words.now) }
+fn parse_maybe_count(kind: ShellKind, words: &[&[u8]]) -> Result<Option<u32>, Diagnostic>
+    ensures { result ≡ parse_maybe_count kind (map (λ word. word.now) words.now) }
 {
     if words.is_empty() {
         return Ok(None);
     }
-    let n = one_count_said(kind, words)?;
+    let n = parse_one_count(kind, words)?;
     Ok(Some(n))
 }
 
 // The transaction that follows the command.
-fn one_txn_said(kind: ShellKind, words: &[&[u8]]) -> Result<TxnId, Diagnostic>
-    ensures { result ≡ one_txn_said kind (map (λ word. word.now) words.now) }
+fn parse_one_txn(kind: ShellKind, words: &[&[u8]]) -> Result<TxnId, Diagnostic>
+    ensures { result ≡ parse_one_txn kind (map (λ word. word.now) words.now) }
 {
     let word = one_word(kind, words)?;
-    at_word(1, LinePart::Transaction, txn_said(word))
+    at_word(1, LinePart::Transaction, parse_txn(word))
 }
 
 // The transaction that follows the command, if one does.
-fn maybe_txn_said(kind: ShellKind, words: &[&[u8]]) -> Result<Option<TxnId>, Diagnostic>
-    ensures { result ≡ maybe_txn_said kind (map (λ word. word.now) words.now) }
+fn parse_maybe_txn(kind: ShellKind, words: &[&[u8]]) -> Result<Option<TxnId>, Diagnostic>
+    ensures { result ≡ parse_maybe_txn kind (map (λ word. word.now) words.now) }
 {
     if words.is_empty() {
         return Ok(None);
     }
-    let t = one_txn_said(kind, words)?;
+    let t = parse_one_txn(kind, words)?;
     Ok(Some(t))
 }
 
 // The object that follows the command.
-fn one_object_said<A: Allocator>(
+fn parse_one_object<A: Allocator>(
     model: &Model<A>,
     kind: ShellKind,
     words: &[&[u8]],
 ) -> Result<ObjId, Diagnostic>
-    ensures { result ≡ one_object_said model.now kind (map (λ word. word.now) words.now) }
+    ensures { result ≡ parse_one_object model.now kind (map (λ word. word.now) words.now) }
 {
     let word = one_word(kind, words)?;
-    at_word(1, LinePart::Object, object_said(model, word))
+    at_word(1, LinePart::Object, parse_object(model, word))
 }
 
 // The topic that has this word.
-fn topic_said(word: &[u8]) -> Result<Topic, LineFault>
-    ensures { result ≡ topic_said word.now }
+fn parse_topic(word: &[u8]) -> Result<Topic, LineFault>
+    ensures { result ≡ parse_topic word.now }
 {
     if word == CAN_WORD.as_bytes() {
         return Ok(Topic::Can);
@@ -232,28 +232,28 @@ fn topic_said(word: &[u8]) -> Result<Topic, LineFault>
     match ShellKind::of_word(word) {
         Some(kind) => Ok(Topic::Command(kind)),
         None => {
-            let kind = event_kind_said(word)?;
+            let kind = parse_event_kind(word)?;
             Ok(Topic::Event(kind))
         }
     }
 }
 
 // The topic that follows the command.
-fn one_topic_said(kind: ShellKind, words: &[&[u8]]) -> Result<Topic, Diagnostic>
-    ensures { result ≡ one_topic_said kind (map (λ word. word.now) words.now) }
+fn parse_one_topic(kind: ShellKind, words: &[&[u8]]) -> Result<Topic, Diagnostic>
+    ensures { result ≡ parse_one_topic kind (map (λ word. word.now) words.now) }
 {
     let word = one_word(kind, words)?;
-    at_word(1, LinePart::Event, topic_said(word))
+    at_word(1, LinePart::Event, parse_topic(word))
 }
 
 // The topic that follows the command, if one does.
-fn maybe_topic_said(kind: ShellKind, words: &[&[u8]]) -> Result<Option<Topic>, Diagnostic>
-    ensures { result ≡ maybe_topic_said kind (map (λ word. word.now) words.now) }
+fn parse_maybe_topic(kind: ShellKind, words: &[&[u8]]) -> Result<Option<Topic>, Diagnostic>
+    ensures { result ≡ parse_maybe_topic kind (map (λ word. word.now) words.now) }
 {
     if words.is_empty() {
         return Ok(None);
     }
-    let topic = one_topic_said(kind, words)?;
+    let topic = parse_one_topic(kind, words)?;
     Ok(Some(topic))
 }
 
@@ -266,39 +266,39 @@ fn shell_command_of<A: Allocator>(
     ensures { result ≡ shell_command_of model.now kind (map (λ word. word.now) words.now) }
 {
     Ok(match kind {
-        ShellKind::Undo => ShellCommand::Undo(maybe_count_said(kind, words)?.unwrap_or(1)),
-        ShellKind::Redo => ShellCommand::Redo(maybe_count_said(kind, words)?.unwrap_or(1)),
-        ShellKind::Goto => ShellCommand::Goto(one_count_said(kind, words)?),
-        ShellKind::State => alone_said(kind, ShellCommand::State, words)?,
-        ShellKind::Status => ShellCommand::Status(one_txn_said(kind, words)?),
-        ShellKind::Value => ShellCommand::Value(one_object_said(model, kind, words)?),
-        ShellKind::Held => ShellCommand::Held(one_txn_said(kind, words)?),
-        ShellKind::Conflicts => ShellCommand::Conflicts(one_txn_said(kind, words)?),
-        ShellKind::Edges => ShellCommand::Edges(maybe_txn_said(kind, words)?),
-        ShellKind::Permits => alone_said(kind, ShellCommand::Permits, words)?,
-        ShellKind::Owed => alone_said(kind, ShellCommand::Owed, words)?,
-        ShellKind::History => alone_said(kind, ShellCommand::History, words)?,
-        ShellKind::Events => alone_said(kind, ShellCommand::Events, words)?,
-        ShellKind::Draw => alone_said(kind, ShellCommand::Draw, words)?,
-        ShellKind::Why => ShellCommand::Why(maybe_count_said(kind, words)?),
-        ShellKind::Next => ShellCommand::Next(maybe_txn_said(kind, words)?),
-        ShellKind::Explore => alone_said(kind, ShellCommand::Explore, words)?,
-        ShellKind::Help => ShellCommand::Help(maybe_topic_said(kind, words)?),
-        ShellKind::Quit => alone_said(kind, ShellCommand::Quit, words)?,
+        ShellKind::Undo => ShellCommand::Undo(parse_maybe_count(kind, words)?.unwrap_or(1)),
+        ShellKind::Redo => ShellCommand::Redo(parse_maybe_count(kind, words)?.unwrap_or(1)),
+        ShellKind::Goto => ShellCommand::Goto(parse_one_count(kind, words)?),
+        ShellKind::State => parse_alone(kind, ShellCommand::State, words)?,
+        ShellKind::Status => ShellCommand::Status(parse_one_txn(kind, words)?),
+        ShellKind::Value => ShellCommand::Value(parse_one_object(model, kind, words)?),
+        ShellKind::Held => ShellCommand::Held(parse_one_txn(kind, words)?),
+        ShellKind::Conflicts => ShellCommand::Conflicts(parse_one_txn(kind, words)?),
+        ShellKind::Edges => ShellCommand::Edges(parse_maybe_txn(kind, words)?),
+        ShellKind::Permits => parse_alone(kind, ShellCommand::Permits, words)?,
+        ShellKind::Owed => parse_alone(kind, ShellCommand::Owed, words)?,
+        ShellKind::History => parse_alone(kind, ShellCommand::History, words)?,
+        ShellKind::Events => parse_alone(kind, ShellCommand::Events, words)?,
+        ShellKind::Draw => parse_alone(kind, ShellCommand::Draw, words)?,
+        ShellKind::Why => ShellCommand::Why(parse_maybe_count(kind, words)?),
+        ShellKind::Next => ShellCommand::Next(parse_maybe_txn(kind, words)?),
+        ShellKind::Explore => parse_alone(kind, ShellCommand::Explore, words)?,
+        ShellKind::Help => ShellCommand::Help(parse_maybe_topic(kind, words)?),
+        ShellKind::Quit => parse_alone(kind, ShellCommand::Quit, words)?,
     })
 }
 
 // The event of a line that begins with none of the words of a session.
-fn event_line_said<A: Allocator + Copy>(
+fn parse_event_line<A: Allocator + Copy>(
     alloc: A,
     model: &Model<A>,
     words: &[&[u8]],
 ) -> Result<ShellLine<A>, ShellFault>
-    ensures ok { IfOk result (λ said. event_line_said model.now (map (λ word. word.now) words.now) ≡ Ok said) }
-    ensures wrong { IfErr result (IsWhyNot (event_line_said model.now (map (λ word. word.now) words.now))) }
+    ensures ok { IfOk result (λ parsed. parse_event_line model.now (map (λ word. word.now) words.now) ≡ Ok parsed) }
+    ensures wrong { IfErr result (IsWhyNot (parse_event_line model.now (map (λ word. word.now) words.now))) }
     ensures in_model { IfOk result (IsShellInModel model.now) }
 {
-    match event_said(alloc, model, words) {
+    match parse_event(alloc, model, words) {
         Ok(event) => Ok(ShellLine::Event(event)),
         Err(LineError::Memory) => Err(ShellFault::Memory),
         Err(LineError::Fault(fault)) => {
@@ -320,13 +320,13 @@ fn wrong_by(found: Option<Diagnostic>, fault: LineFault) -> Diagnostic
 }
 
 // The event after the word `can`.
-fn can_line_said<A: Allocator + Copy>(
+fn parse_can_line<A: Allocator + Copy>(
     alloc: A,
     model: &Model<A>,
     words: &[&[u8]],
 ) -> Result<ShellLine<A>, ShellFault>
-    ensures ok { IfOk result (λ said. can_line_said model.now (map (λ word. word.now) words.now) ≡ Ok said) }
-    ensures wrong { IfErr result (IsWhyNot (can_line_said model.now (map (λ word. word.now) words.now))) }
+    ensures ok { IfOk result (λ parsed. parse_can_line model.now (map (λ word. word.now) words.now) ≡ Ok parsed) }
+    ensures wrong { IfErr result (IsWhyNot (parse_can_line model.now (map (λ word. word.now) words.now))) }
     ensures in_model { IfOk result (IsShellInModel model.now) }
 {
     match event_behind(alloc, model, words) {
@@ -340,25 +340,25 @@ fn can_line_said<A: Allocator + Copy>(
 }
 
 // The line that the words say.
-#[tactic(auto, unfolding(crate::specs::Shell::shell_line_said))]
-fn shell_line_said<A: Allocator + Copy>(
+#[tactic(auto, unfolding(crate::specs::Shell::parse_shell_line))]
+fn parse_shell_line<A: Allocator + Copy>(
     alloc: A,
     model: &Model<A>,
     words: &[&[u8]],
 ) -> Result<ShellLine<A>, ShellFault>
-    ensures ok { IfOk result (λ said. shell_line_said model.now (map (λ word. word.now) words.now) ≡ Ok said) }
-    ensures wrong { IfErr result (IsWhyNot (shell_line_said model.now (map (λ word. word.now) words.now))) }
+    ensures ok { IfOk result (λ parsed. parse_shell_line model.now (map (λ word. word.now) words.now) ≡ Ok parsed) }
+    ensures wrong { IfErr result (IsWhyNot (parse_shell_line model.now (map (λ word. word.now) words.now))) }
     ensures in_model { IfOk result (IsShellInModel model.now) }
 {
     let [word, rest @ ..] = words else {
-        return event_line_said(alloc, model, words);
+        return parse_event_line(alloc, model, words);
     };
     if *word == CAN_WORD.as_bytes() {
-        return can_line_said(alloc, model, rest);
+        return parse_can_line(alloc, model, rest);
     }
     match ShellKind::of_word(word) {
         Some(kind) => Ok(ShellLine::Command(shell_command_of(model, kind, rest)?)),
-        None => event_line_said(alloc, model, words),
+        None => parse_event_line(alloc, model, words),
     }
 }
 
@@ -371,10 +371,10 @@ pub fn read_shell_line<A: Allocator + Copy>(
     model: &Model<A>,
     line: &[u8],
 ) -> Result<ShellLine<A>, ShellFault>
-    ensures ok { IfOk result (λ said. shell_line_of model.now line.now ≡ Ok said) }
+    ensures ok { IfOk result (λ parsed. shell_line_of model.now line.now ≡ Ok parsed) }
     ensures wrong { IfErr result (IsWhyNot (shell_line_of model.now line.now)) }
     ensures in_model { IfOk result (IsShellInModel model.now) }
 {
     let words = words_of(alloc, line)?;
-    shell_line_said(alloc, model, &words)
+    parse_shell_line(alloc, model, &words)
 }

@@ -9,7 +9,7 @@ use Rattle.acta_io.specs.declared.input.BadLine.{BadLine}
 use Rattle.acta_io.specs.declared.models.NoModel.{NoModel}
 use Rattle.acta_io.specs.Models.{of_either}
 use Rattle.acta_io.specs.Reports.{Output, refused_by, refused_model, stop_line}
-use Rattle.acta_io.specs.Input.{Said, said_in}
+use Rattle.acta_io.specs.Input.{Said, parsed_in}
 use Rattle.acta_order.specs.declared.orders.Orders.{Orders}
 use Rattle.acta_order.specs.Answers.{IsImpossible}
 use Rattle.acta_order.specs.Orders.{HasMoreStates, IsSerial}
@@ -60,11 +60,11 @@ IsAnswerUnless None orders most m h out = IsOfHistory orders most m h out
 
 -- the output on a model, for what the lines of the input say
 abbrev pub IsAnswerTo : {A : Type 0} → Orders → ℕ → Parts A → Said (Kept A) → Output → Type 0
-IsAnswerTo orders most m s out = IsAnswerUnless s.stop orders most m s.said out
+IsAnswerTo orders most m s out = IsAnswerUnless s.stop orders most m s.parsed out
 
 -- the output on a model for an input
 abbrev pub IsAnswerOn : {A : Type 0} → Orders → ℕ → Parts A → List ℕ → Output → Type 0
-IsAnswerOn orders most m input out = IsAnswerTo orders most m (said_in (kept_of m) input) out
+IsAnswerOn orders most m input out = IsAnswerTo orders most m (parsed_in (kept_of m) input) out
 
 -- the output where this is what the model's bytes mean
 abbrev pub IsAnswerBy : {A : Type 0} → Orders → ℕ → Result (Parts A) NoModel → List ℕ → Output → Type 0

@@ -69,7 +69,7 @@ fn serialize_on<A: Handle>(
     let read = read_lines(alloc, &KeptLines { alloc, model }, input)?;
     match read.stop {
         Some(stop) => refuse_line(alloc, stop),
-        None => serialize(alloc, asked, model, input, read.said.as_slice()),
+        None => serialize(alloc, asked, model, input, read.parsed.as_slice()),
     }
 }
 

@@ -23,10 +23,10 @@ bars_text below = text_of (map bar_line (lines_left below))
 abbrev pub remarked_text : List ℕ → List ℕ → List ℕ → List ℕ → List ℕ
 remarked_text line gap words below = text_of ((line ++ beside gap words) ∷ []) ++ bars_text below
 
--- the text is this line, beside which words may stand after a gap, and below it lines behind bars
+-- the text is this line, beside which words may stand after a gap, and below it lines behind blocks
 abbrev pub IsRemarked : List ℕ → List ℕ → List ℕ → Type 0
 IsRemarked line gap text = (words : List ℕ) × (below : List ℕ) × (text ≡ remarked_text line gap words below)
 
--- the text is these lines, below which there may be lines behind bars
+-- the text is these lines, below which there may be lines behind blocks
 abbrev pub AreRemarked : List (List ℕ) → List ℕ → Type 0
 AreRemarked lines text = (below : List ℕ) × (text ≡ text_of lines ++ bars_text below)

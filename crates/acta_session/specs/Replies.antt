@@ -10,7 +10,7 @@ use Rattle.acta_script.specs.declared.shell_lines.ShellCommand.{ShellCommand}
 use Rattle.acta_script.specs.declared.shell_lines.ShellCommand.TheVariants.{Undo, Redo, Goto, Status, Value, Held, Conflicts, Edges, Permits, Owed, History, Events, Draw, Why, Next, Explore, Help, Quit}
 use Rattle.acta_script.specs.declared.shell_lines.ShellCommand.TheVariants as command
 use Rattle.acta_script.specs.declared.shell_lines.ShellLine.{ShellLine}
-use Rattle.acta_script.specs.declared.shell_lines.ShellLine.TheVariants as said
+use Rattle.acta_script.specs.declared.shell_lines.ShellLine.TheVariants as parsed
 use Rattle.acta_script.specs.Answers.{answer_line, owed_line}
 use Rattle.acta_script.specs.Shell.{shell_line_of}
 use Rattle.acta_script.specs.Words.{fault_name}
@@ -124,9 +124,9 @@ SaysFault (word ∷ words) d text = IsRemarked (fault_name d.fault) after_name t
 
 -- what the reply to a line says, as it was read: first the answer to the event, which is the machine's
 abbrev pub Says : {A : Type 0} → SaysCommand A → ShellState A → List (List ℕ) → Result (ShellLine A) Diagnostic → Vec ℕ A → Type 0
-Says says s words (Ok (said.Event event)) text = IsRemarked (answer_line (answer_to (state_of s.session) event)) after_answer text.items
-Says says s words (Ok (said.Can event)) text = IsRemarked (answer_line (answer_to (state_of s.session) event)) after_answer text.items
-Says says s words (Ok (said.Command command)) text = SaysOf says s command text
+Says says s words (Ok (parsed.Event event)) text = IsRemarked (answer_line (answer_to (state_of s.session) event)) after_answer text.items
+Says says s words (Ok (parsed.Can event)) text = IsRemarked (answer_line (answer_to (state_of s.session) event)) after_answer text.items
+Says says s words (Ok (parsed.Command command)) text = SaysOf says s command text
 Says says s words (Err d) text = SaysFault words d text.items
 
 -- what the reply to a line says where lines of programs are read: the one that ends them is answered by their ends

@@ -12,7 +12,7 @@ use Rattle.acta_script.specs.declared.programs.ProgramLine.{ProgramLine}
 use Rattle.acta_script.specs.declared.shell_lines.ShellCommand.{ShellCommand}
 use Rattle.acta_script.specs.declared.shell_lines.ShellCommand.TheVariants.{Undo, Redo, Goto, Explore, Quit}
 use Rattle.acta_script.specs.declared.shell_lines.ShellLine.{ShellLine}
-use Rattle.acta_script.specs.declared.shell_lines.ShellLine.TheVariants as said
+use Rattle.acta_script.specs.declared.shell_lines.ShellLine.TheVariants as parsed
 use Rattle.acta_script.specs.Reading.{program_line_of}
 use Rattle.acta_script.specs.Shell.{shell_line_of}
 use Rattle.acta_machine.specs.Table.{State, answer_to}
@@ -74,11 +74,11 @@ after_command s Explore = record s { is_exploring = true; programs = [] }
 after_command s command = record s { session = moved s.session command }
 
 -- what a line changes, as it was read: a question changes nothing, and neither does a faulty line
-abbrev pub after_said : {A : Type 0} → ShellState A → Result (ShellLine A) Diagnostic → ShellState A
-after_said s (Ok (said.Event event)) = after_event s event
-after_said s (Ok (said.Can event)) = s
-after_said s (Ok (said.Command command)) = after_command s command
-after_said s (Err d) = s
+abbrev pub after_parsed : {A : Type 0} → ShellState A → Result (ShellLine A) Diagnostic → ShellState A
+after_parsed s (Ok (parsed.Event event)) = after_event s event
+after_parsed s (Ok (parsed.Can event)) = s
+after_parsed s (Ok (parsed.Command command)) = after_command s command
+after_parsed s (Err d) = s
 
 -- what a line with a word is where lines of programs are read; their seats are numbered from 1 to 16
 abbrev pub read_by : {A : Type 0} → Result (ProgramLine A) LineFault → Typed A
@@ -103,11 +103,11 @@ after_typed s (Faulty fault) = s
 unfoldable pub after_line : {A : Type 0} → ShellState A → List ℕ → ShellState A
 after_line s line =
     if s.is_exploring then after_typed s (typed_of s.session.model line)
-    else after_said s (shell_line_of s.session.model line)
+    else after_parsed s (shell_line_of s.session.model line)
 
 -- whether a line ends the session
 abbrev pub quits_by : {A : Type 0} → Result (ShellLine A) Diagnostic → Bool
-quits_by (Ok (said.Command Quit)) = true
+quits_by (Ok (parsed.Command Quit)) = true
 quits_by _ = false
 
 unfoldable pub quits : {A : Type 0} → ShellState A → List ℕ → Bool

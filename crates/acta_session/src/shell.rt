@@ -13,7 +13,7 @@ ghost use Rattle.acta_debug.specs.Sessions.{moved_to};
 ghost use Rattle.acta_trace.specs.States.{ArePermitLines};
 ghost use Rattle.acta_session.specs.Remarks.{AreRemarked, IsRemarked};
 ghost use Rattle.acta_session.specs.Replies.{IsReply, Says, SaysFault, SaysOf, SaysTyped, SaysWhy, after_answer, after_name, lines_for, move_line, no_move_line, refusal_number};
-ghost use Rattle.acta_session.specs.Shells.{after_command, after_event, after_line, after_said, after_typed, begun, can_move, moved, place_after, quits, quits_by, refusal_by, state_of, typed_of};
+ghost use Rattle.acta_session.specs.Shells.{after_command, after_event, after_line, after_parsed, after_typed, begun, can_move, moved, place_after, quits, quits_by, refusal_by, state_of, typed_of};
 
 use crate::moves::{explore_text, left_text, place_text, places_text, refused_text};
 use crate::remarks::{Remark, push_bars, remarked};
@@ -200,12 +200,12 @@ impl<A: Handle, W: Words<Event<A>, Machine<A>, Model<A>, ProgramLine<A>, Vec<u8,
 
     // Answers a line of a session.
     fn read(&mut self, line: &[u8]) -> Result<Reply<A>, AllocError>
-        ensures session { OnOk result (self.new ≡ after_said self.old (shell_line_of self.old.session.model line.now)) }
+        ensures session { OnOk result (self.new ≡ after_parsed self.old (shell_line_of self.old.session.model line.now)) }
         ensures over { IfOk result (λ reply. reply.is_over ≡ quits_by (shell_line_of self.old.session.model line.now)) }
         ensures says { IfOk result (λ reply. Says W.says self.old (words_of line.now) (shell_line_of self.old.session.model line.now) reply.text) }
     {
         match read_shell_line(self.alloc, self.debugger.machine().model(), line) {
-            Ok(said) => self.obey(said),
+            Ok(parsed) => self.obey(parsed),
             Err(ShellFault::Wrong(found)) => self.refuse(line, found),
             Err(ShellFault::Memory) => Err(AllocError),
         }
@@ -226,12 +226,12 @@ impl<A: Handle, W: Words<Event<A>, Machine<A>, Model<A>, ProgramLine<A>, Vec<u8,
     }
 
     // Answers a line that was read.
-    fn obey(&mut self, said: ShellLine<A>) -> Result<Reply<A>, AllocError>
-        ensures session { OnOk result (self.new ≡ after_said self.old (Ok said)) }
-        ensures over { IfOk result (λ reply. reply.is_over ≡ quits_by {A = A} (Ok said)) }
-        ensures says { IfOk result (λ reply. (words : List (List ℕ)) → Says W.says self.old words (Ok said) reply.text) }
+    fn obey(&mut self, parsed: ShellLine<A>) -> Result<Reply<A>, AllocError>
+        ensures session { OnOk result (self.new ≡ after_parsed self.old (Ok parsed)) }
+        ensures over { IfOk result (λ reply. reply.is_over ≡ quits_by {A = A} (Ok parsed)) }
+        ensures says { IfOk result (λ reply. (words : List (List ℕ)) → Says W.says self.old words (Ok parsed) reply.text) }
     {
-        match said {
+        match parsed {
             ShellLine::Event(event) => Ok(going_on(self.take(event)?)),
             ShellLine::Can(event) => Ok(going_on(self.ask(&event)?)),
             ShellLine::Command(command) => Ok(Reply {
@@ -455,7 +455,7 @@ impl<A: Handle, W: Words<Event<A>, Machine<A>, Model<A>, ProgramLine<A>, Vec<u8,
         Ok(going_on(match typed {
             Typed::Comment => Vec::new(self.alloc),
             Typed::End => self.end_programs()?,
-            Typed::Line(said) => self.add_program(said, line)?,
+            Typed::Line(parsed) => self.add_program(parsed, line)?,
             Typed::Faulty(fault) => self.refuse_program(line, fault)?,
         }))
     }
@@ -477,11 +477,11 @@ impl<A: Handle, W: Words<Event<A>, Machine<A>, Model<A>, ProgramLine<A>, Vec<u8,
     }
 
     // Adds a line to the programs.
-    fn add_program(&mut self, said: ProgramLine<A>, line: &[u8]) -> Result<Vec<u8, A>, AllocError>
-        ensures session { OnOk result (self.new ≡ record self.old { programs = self.old.programs ++ said ∷ [] }) }
+    fn add_program(&mut self, parsed: ProgramLine<A>, line: &[u8]) -> Result<Vec<u8, A>, AllocError>
+        ensures session { OnOk result (self.new ≡ record self.old { programs = self.old.programs ++ parsed ∷ [] }) }
         ensures says { IfOk result (λ text. text.items ≡ []) }
     {
-        self.programs.push(said)?;
+        self.programs.push(parsed)?;
         push_line(&mut self.typed, line)?;
         Ok(Vec::new(self.alloc))
     }

@@ -40,7 +40,7 @@ fn read_typed<A: Allocator + Copy>(
     ensures { IfOk result (λ typed. typed ≡ read_as model.now line.now) }
 {
     match read_program_line(alloc, model, MOST_SEATS, line) {
-        Ok(said) => Ok(Typed::Line(said)),
+        Ok(parsed) => Ok(Typed::Line(parsed)),
         Err(LineError::Fault(fault)) => Ok(Typed::Faulty(fault)),
         Err(LineError::Memory) => Err(AllocError),
     }

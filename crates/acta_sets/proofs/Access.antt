@@ -18,7 +18,7 @@ use Rattle.acta_table.specs.Fates.{is_open}
 use Rattle.acta_table.specs.Sets.{is_named}
 use Rattle.std.specs.List.{list_all}
 use Rattle.std.specs.Option.{option_map_or}
-use Rattle.acta_sets.specs.Operations.{is_held, are_held, operation_at, ended, ended_op, handed, handed_op, moved, moved_from, handed_of, handed_from}
+use Rattle.acta_sets.specs.Operations.{is_held, are_held, operation_at, ended, ended_op, transferred, transferred_op, moved, moved_from, transferred_of, transferred_from}
 use Rattle.acta_sets.specs.inside.Held.{list_at, AreHeld, numbers_by, changed_from, changed_each, merge, last_below, is_below, joined, with_fate, held_by, without}
 
 -- a test that does not see numbers
@@ -315,22 +315,22 @@ held_if true true x i from = refl
 held_if true false x i from = let no : false ≡ true = from refl in cc
 held_if false c x i from = refl
 
-changed-held : (p : ℕ → HeldOp → Bool) (t : ℕ) (u : TxnId) (n : ℕ) (items : List HeldOp) → AllHeld p t → changed_from p (handed_op t u) n items ≡ changed_from p (held_by u) n items
+changed-held : (p : ℕ → HeldOp → Bool) (t : ℕ) (u : TxnId) (n : ℕ) (items : List HeldOp) → AllHeld p t → changed_from p (transferred_op t u) n items ≡ changed_from p (held_by u) n items
 changed-held p t u n [] from = refl
 changed-held p t u n (i ∷ items) from =
-    ap (λ (j : HeldOp). j ∷ changed_from p (handed_op t u) (n + 1) items) (held_if (p n i) (is_held t i) (held_by u i) i (from n i))
+    ap (λ (j : HeldOp). j ∷ changed_from p (transferred_op t u) (n + 1) items) (held_if (p n i) (is_held t i) (held_by u i) i (from n i))
     ∙ ap (λ l. (if p n i then held_by u i else i) ∷ l) (changed-held p t u (n + 1) items from)
 
-pub each-given : (p : ℕ → HeldOp → Bool) (t : ℕ) (u : TxnId) (items : List HeldOp) (ops : List ℕ) → AllHeld p t → ops ≡ numbers_by p 1 items → changed_each (handed_op t u) items ops ≡ changed_from p (held_by u) 1 items
-each-given p t u items ops from is = ap (changed_each (handed_op t u) items) is ∙ each_changed p (handed_op t u) 1 items ∙ changed-held p t u 1 items from
+pub each-given : (p : ℕ → HeldOp → Bool) (t : ℕ) (u : TxnId) (items : List HeldOp) (ops : List ℕ) → AllHeld p t → ops ≡ numbers_by p 1 items → changed_each (transferred_op t u) items ops ≡ changed_from p (held_by u) 1 items
+each-given p t u items ops from is = ap (changed_each (transferred_op t u) items) is ∙ each_changed p (transferred_op t u) 1 items ∙ changed-held p t u 1 items from
 
 pub named_held : (t : ℕ) (ops : List OpNo) → AllHeld (λ k i. is_held t i && is_named ops k) t
 named_held t ops k i both = (and_parts (is_held t i) (is_named ops k) both).0
 
 -- all that t holds
-pub changed-handed : (t : ℕ) (u : TxnId) (n : ℕ) (items : List HeldOp) → changed_from (λ _ i. is_held t i) (held_by u) n items ≡ handed t u items
-changed-handed t u n [] = refl
-changed-handed t u n (i ∷ items) = ap (λ l. handed_op t u i ∷ l) (changed-handed t u (n + 1) items)
+pub changed-transferred : (t : ℕ) (u : TxnId) (n : ℕ) (items : List HeldOp) → changed_from (λ _ i. is_held t i) (held_by u) n items ≡ transferred t u items
+changed-transferred t u n [] = refl
+changed-transferred t u n (i ∷ items) = ap (λ l. transferred_op t u i ∷ l) (changed-transferred t u (n + 1) items)
 
 nothing_left : (b : Bool) → (b && not b) ≡ false
 nothing_left true = refl
@@ -351,10 +351,10 @@ holder_is : (t : ℕ) (i : HeldOp) → is_held t i ≡ true → i.holder.0 ≡ t
 holder_is t i is = grind (arith, common_steps, nat_tests, is)
 
 -- a transaction that gets its own changes nothing
-pub handed_same : (t u : TxnId) (items : List HeldOp) → t.0 ≡ u.0 → items ≡ handed t.0 u items
-handed_same t u [] same = refl
-handed_same t u (i ∷ items) same =
-    ap (λ (j : HeldOp). j ∷ items) (held_again t u (is_held t.0 i) i same (holder_is t.0 i)) ∙ ap (λ l. handed_op t.0 u i ∷ l) (handed_same t u items same)
+pub transferred_same : (t u : TxnId) (items : List HeldOp) → t.0 ≡ u.0 → items ≡ transferred t.0 u items
+transferred_same t u [] same = refl
+transferred_same t u (i ∷ items) same =
+    ap (λ (j : HeldOp). j ∷ items) (held_again t u (is_held t.0 i) i same (holder_is t.0 i)) ∙ ap (λ l. transferred_op t.0 u i ∷ l) (transferred_same t u items same)
 
 -- what is named among a list, and what is not
 filter_step : (test : ℕ → Bool) (b c : Bool) (n : ℕ) (ns ms : List ℕ) → c ≡ test n → filter test ns ≡ ms → filter test (if b then n ∷ ns else ns) ≡ (if b && c then n ∷ ms else ms)
@@ -411,24 +411,24 @@ changed-moved t ops u items all =
     subst (λ m. option_map_or (is_held t) (operation_at items m) false ≡ true) one (named_holds (λ k. option_map_or (is_held t) (operation_at items k) false) ops (1 + j) all named))
 
 -- those of some that t holds
-pub changed-handed_of : (t : ℕ) (ops : List OpNo) (u : TxnId) (n : ℕ) (items : List HeldOp) → changed_from (λ k i. is_held t i && is_named ops k) (held_by u) n items ≡ handed_from n t ops u items
-changed-handed_of t ops u n [] = refl
-changed-handed_of t ops u n (i ∷ items) = ap (λ l. (if is_held t i && is_named ops n then record i { holder = u } else i) ∷ l) (changed-handed_of t ops u (n + 1) items)
+pub changed-transferred_of : (t : ℕ) (ops : List OpNo) (u : TxnId) (n : ℕ) (items : List HeldOp) → changed_from (λ k i. is_held t i && is_named ops k) (held_by u) n items ≡ transferred_from n t ops u items
+changed-transferred_of t ops u n [] = refl
+changed-transferred_of t ops u n (i ∷ items) = ap (λ l. (if is_held t i && is_named ops n then record i { holder = u } else i) ∷ l) (changed-transferred_of t ops u (n + 1) items)
 
 -- where t holds them all, these are moved
-pub handed_of-moved : (t : ℕ) (ops : List OpNo) (u : TxnId) (items : List HeldOp) → are_held t ops items ≡ true → handed_of t ops u items ≡ moved ops u items
-handed_of-moved t ops u items all = sym (changed-handed_of t ops u 1 items) ∙ changed-moved t ops u items all
+pub transferred_of-moved : (t : ℕ) (ops : List OpNo) (u : TxnId) (items : List HeldOp) → are_held t ops items ≡ true → transferred_of t ops u items ≡ moved ops u items
+transferred_of-moved t ops u items all = sym (changed-transferred_of t ops u 1 items) ∙ changed-moved t ops u items all
 
 -- a transaction that gets its own changes nothing
-handed_from_same : (t u : TxnId) (ops : List OpNo) (n : ℕ) (items : List HeldOp) → t.0 ≡ u.0 → items ≡ handed_from n t.0 ops u items
-handed_from_same t u ops n [] same = refl
-handed_from_same t u ops n (i ∷ items) same =
+transferred_from_same : (t u : TxnId) (ops : List OpNo) (n : ℕ) (items : List HeldOp) → t.0 ≡ u.0 → items ≡ transferred_from n t.0 ops u items
+transferred_from_same t u ops n [] same = refl
+transferred_from_same t u ops n (i ∷ items) same =
     ap (λ (j : HeldOp). j ∷ items)
     (held_again t u (is_held t.0 i && is_named ops n) i same (λ both. holder_is t.0 i (and_parts (is_held t.0 i) (is_named ops n) both).0))
-    ∙ ap (λ l. (if is_held t.0 i && is_named ops n then record i { holder = u } else i) ∷ l) (handed_from_same t u ops (n + 1) items same)
+    ∙ ap (λ l. (if is_held t.0 i && is_named ops n then record i { holder = u } else i) ∷ l) (transferred_from_same t u ops (n + 1) items same)
 
-pub handed_of-same : (t u : TxnId) (ops : List OpNo) (items : List HeldOp) → t.0 ≡ u.0 → items ≡ handed_of t.0 ops u items
-handed_of-same t u ops items same = handed_from_same t u ops 1 items same
+pub transferred_of-same : (t u : TxnId) (ops : List OpNo) (items : List HeldOp) → t.0 ≡ u.0 → items ≡ transferred_of t.0 ops u items
+transferred_of-same t u ops items same = transferred_from_same t u ops 1 items same
 
 -- the lists after one is joined by given, and another is changed
 lists_after : (held shared after : List (SmallVec ℕ)) (t u : ℕ) (joint : List ℕ) (f : List ℕ → List ℕ) → (t ≡ u → ⊥)
@@ -438,27 +438,27 @@ lists_after held shared after t u joint f apart share change v =
     let there : list_at shared t ≡ list_at held t = share t ∙ ap (λ b. if b then joint else list_at held t) (ne_eqb t u apart) in
     change v ∙ ap (λ l. if v == t then f l else list_at shared v) there ∙ ap (λ l. if v == t then f (list_at held t) else l) (share v)
 
-pub AreHeld-handed : (items : List HeldOp) (held shared after : List (SmallVec ℕ)) (t u : TxnId) (given : List ℕ)
+pub AreHeld-transferred : (items : List HeldOp) (held shared after : List (SmallVec ℕ)) (t u : TxnId) (given : List ℕ)
     → AreHeld items held → (t.0 ≡ u.0 → ⊥) → given ≡ numbers_by (λ _ i. is_held t.0 i) 1 items
     → ((v : ℕ) → list_at shared v ≡ (if v == u.0 then joined (list_at held u.0) given else list_at held v))
     → ((v : ℕ) → list_at after v ≡ (if v == t.0 then [] else list_at shared v))
-    → AreHeld (handed t.0 u items) after
-AreHeld-handed items held shared after t u given is apart given_is share change =
-    subst (λ xs. AreHeld xs after) (changed-handed t.0 u 1 items)
+    → AreHeld (transferred t.0 u items) after
+AreHeld-transferred items held shared after t u given is apart given_is share change =
+    subst (λ xs. AreHeld xs after) (changed-transferred t.0 u 1 items)
     (AreHeld-given items held after t u (λ _ i. is_held t.0 i) given [] is apart (λ k i held_so. held_so) given_is (none_left t.0 1 items)
     (lists_after held shared after t.0 u.0 (joined (list_at held u.0) given) (λ _. []) apart share change))
 
-pub length-handed_of : (t : ℕ) (ops : List OpNo) (u : TxnId) (n : ℕ) (items : List HeldOp) → length (handed_from n t ops u items) ≡ length items
-length-handed_of t ops u n [] = refl
-length-handed_of t ops u n (i ∷ items) = ap (λ k. suc k) (length-handed_of t ops u (n + 1) items)
+pub length-transferred_of : (t : ℕ) (ops : List OpNo) (u : TxnId) (n : ℕ) (items : List HeldOp) → length (transferred_from n t ops u items) ≡ length items
+length-transferred_of t ops u n [] = refl
+length-transferred_of t ops u n (i ∷ items) = ap (λ k. suc k) (length-transferred_of t ops u (n + 1) items)
 
-pub AreHeld-handed_of : (items : List HeldOp) (held shared after : List (SmallVec ℕ)) (t u : TxnId) (ops : List OpNo) (given : List ℕ)
+pub AreHeld-transferred_of : (items : List HeldOp) (held shared after : List (SmallVec ℕ)) (t u : TxnId) (ops : List OpNo) (given : List ℕ)
     → AreHeld items held → (t.0 ≡ u.0 → ⊥) → given ≡ numbers_by (λ k i. is_held t.0 i && is_named ops k) 1 items
     → ((v : ℕ) → list_at shared v ≡ (if v == u.0 then joined (list_at held u.0) given else list_at held v))
     → ((v : ℕ) → list_at after v ≡ (if v == t.0 then without ops (list_at shared t.0) else list_at shared v))
-    → AreHeld (handed_of t.0 ops u items) after
-AreHeld-handed_of items held shared after t u ops given is apart given_is share change =
-    subst (λ xs. AreHeld xs after) (changed-handed_of t.0 ops u 1 items)
+    → AreHeld (transferred_of t.0 ops u items) after
+AreHeld-transferred_of items held shared after t u ops given is apart given_is share change =
+    subst (λ xs. AreHeld xs after) (changed-transferred_of t.0 ops u 1 items)
     (AreHeld-given items held after t u (λ k i. is_held t.0 i && is_named ops k) given (without ops (list_at held t.0)) is apart (named_held t.0 ops) given_is
     (ap (without ops) (is t.0) ∙ left-named t.0 ops 1 items)
     (lists_after held shared after t.0 u.0 (joined (list_at held u.0) given) (without ops) apart share change))

@@ -18,7 +18,7 @@ use Rattle.acta_table.specs.Fates.{is_open}
 use Rattle.acta_table.specs.Numbered.{ascending, numbers_from}
 use Rattle.acta_table.proofs.AscendingSets.{any-inserted, at-number, in-passing}
 use Rattle.acta_sets.specs.declared.held_op.HeldOp.{HeldOp}
-use Rattle.acta_sets.specs.Operations.{ops_conflict, is_held, is_held_against, is_against, is_opponent, holders_against}
+use Rattle.acta_sets.specs.Operations.{ops_conflict, is_held, is_held_against, is_against, is_conflicting_holder, holders_against}
 use Rattle.acta_sets.specs.inside.Held.{list_at, has_any, has, AreHeld, AreAmong, without}
 
 or_right : (a b : Bool) → b ≡ true → (a || b) ≡ true
@@ -112,10 +112,10 @@ second : (a b : Bool) → (a && b) ≡ true → b ≡ true
 second true b e = e
 second false b e = absurd (false≢true e)
 
-opponent_there : (t : ℕ) (spared : List ℕ) (ob : ℕ) (op : Op) (items : List HeldOp) (held : List (SmallVec ℕ)) (keys : List ℕ) (u : ℕ) → AreHeld items held → AreAmong held keys
-    → is_opponent t spared ob op items u ≡ true → has keys u ≡ true
-opponent_there t spared ob op items held keys u is among e =
-    among u (ap has_any (is u) ∙ any_numbered (is_held u) 1 items (any_held u ob op items (second (not (u == t) && not (list_any (λ k. k == u) spared)) (list_any (is_held_against u ob op) items) e)))
+conflicting_holder_there : (t : ℕ) (exempt : List ℕ) (ob : ℕ) (op : Op) (items : List HeldOp) (held : List (SmallVec ℕ)) (keys : List ℕ) (u : ℕ) → AreHeld items held → AreAmong held keys
+    → is_conflicting_holder t exempt ob op items u ≡ true → has keys u ≡ true
+conflicting_holder_there t exempt ob op items held keys u is among e =
+    among u (ap has_any (is u) ∙ any_numbered (is_held u) 1 items (any_held u ob op items (second (not (u == t) && not (list_any (λ k. k == u) exempt)) (list_any (is_held_against u ob op) items) e)))
 
 -- those of them who are against it
 passing_step : (b c d : Bool) (x : Bool) → (b ≡ true → c ≡ d) → ((b && c) || (x && d)) ≡ ((b || x) && d)
@@ -145,10 +145,10 @@ theirs_step true f s s' z z' o c e g = (λ i. f && not (e refl i) && not (g refl
     turned false true false o c = refl
     turned false false b o c = refl
 
-theirs : (t : ℕ) (spared : List ℕ) (ob : ℕ) (op : Op) (q : ℕ) (i : HeldOp) → ((i.holder.0 == q) && is_against t spared ob op i) ≡ ((not (q == t) && not (list_any (λ k. k == q) spared)) && is_held_against q ob op i)
-theirs t spared ob op q i =
-    theirs_step (i.holder.0 == q) (is_open i.fate) (i.holder.0 == t) (q == t) (list_any (λ k. k == i.holder.0) spared) (list_any (λ k. k == q) spared) (i.ob.0 == ob) (ops_conflict i.op op)
-    (λ e. ap (λ n. n == t) (here e)) (λ e. ap (λ n. list_any (λ k. k == n) spared) (here e))
+theirs : (t : ℕ) (exempt : List ℕ) (ob : ℕ) (op : Op) (q : ℕ) (i : HeldOp) → ((i.holder.0 == q) && is_against t exempt ob op i) ≡ ((not (q == t) && not (list_any (λ k. k == q) exempt)) && is_held_against q ob op i)
+theirs t exempt ob op q i =
+    theirs_step (i.holder.0 == q) (is_open i.fate) (i.holder.0 == t) (q == t) (list_any (λ k. k == i.holder.0) exempt) (list_any (λ k. k == q) exempt) (i.ob.0 == ob) (ops_conflict i.op op)
+    (λ e. ap (λ n. n == t) (here e)) (λ e. ap (λ n. list_any (λ k. k == n) exempt) (here e))
   where
     here : (i.holder.0 == q) ≡ true → i.holder.0 ≡ q
     here e = grind (arith, nat_tests, e)
@@ -158,10 +158,10 @@ any_both true test items = refl
 any_both false test [] = refl
 any_both false test (i ∷ items) = any_both false test items
 
-of_holder : (t : ℕ) (spared : List ℕ) (ob : ℕ) (op : Op) (q : ℕ) (items : List HeldOp) → list_any (λ i. (i.holder.0 == q) && is_against t spared ob op i) items ≡ is_opponent t spared ob op items q
-of_holder t spared ob op q items =
-    ap (λ (test : HeldOp → Bool). list_any test items) (λ x i. theirs t spared ob op q i x)
-    ∙ any_both (not (q == t) && not (list_any (λ k. k == q) spared)) (is_held_against q ob op) items
+of_holder : (t : ℕ) (exempt : List ℕ) (ob : ℕ) (op : Op) (q : ℕ) (items : List HeldOp) → list_any (λ i. (i.holder.0 == q) && is_against t exempt ob op i) items ≡ is_conflicting_holder t exempt ob op items q
+of_holder t exempt ob op q items =
+    ap (λ (test : HeldOp → Bool). list_any test items) (λ x i. theirs t exempt ob op q i x)
+    ∙ any_both (not (q == t) && not (list_any (λ k. k == q) exempt)) (is_held_against q ob op) items
 
 there_step : (a b : Bool) → (b ≡ true → a ≡ true) → (a && b) ≡ b
 there_step a true from = ap (λ c. c && true) (from refl)
@@ -213,19 +213,19 @@ sorted : (ns : List ℕ) → IsStrictlySortedBy nat_cmp (ascending ns)
 sorted ns = sorted_all [] ns none_sorted
 
 -- those of the holders who are against it are those who hold what is against it
-pub opponents-are : (t : ℕ) (spared : List ℕ) (ob : ℕ) (op : Op) (items : List HeldOp) (held : List (SmallVec ℕ)) (keys : List ℕ) → AreHeld items held → AreAmong held keys
-    → ascending (map (λ k. k) (filter (is_opponent t spared ob op items) keys)) ≡ holders_against t spared ob op items
-opponents-are t spared ob op items held keys is among =
-    btree_set_from_contains nat_cmp_total (record { keys = ascending (map (λ k. k) (filter p keys)) }) (record { keys = holders_against t spared ob op items }) (sorted (map (λ k. k) (filter p keys))) (sorted (map (λ (i : HeldOp). i.holder.0) (filter (is_against t spared ob op) items)))
+pub conflicting_holders-are : (t : ℕ) (exempt : List ℕ) (ob : ℕ) (op : Op) (items : List HeldOp) (held : List (SmallVec ℕ)) (keys : List ℕ) → AreHeld items held → AreAmong held keys
+    → ascending (map (λ k. k) (filter (is_conflicting_holder t exempt ob op items) keys)) ≡ holders_against t exempt ob op items
+conflicting_holders-are t exempt ob op items held keys is among =
+    btree_set_from_contains nat_cmp_total (record { keys = ascending (map (λ k. k) (filter p keys)) }) (record { keys = holders_against t exempt ob op items }) (sorted (map (λ k. k) (filter p keys))) (sorted (map (λ (i : HeldOp). i.holder.0) (filter (is_against t exempt ob op) items)))
     (λ q.
     in-passing p (λ k. k) q keys ∙ passing p q keys
-    ∙ there_step (has keys q) (p q) (opponent_there t spared ob op items held keys q is among)
-    ∙ sym (of_holder t spared ob op q items)
-    ∙ sym (in-passing (is_against t spared ob op) (λ i. i.holder.0) q items))
+    ∙ there_step (has keys q) (p q) (conflicting_holder_there t exempt ob op items held keys q is among)
+    ∙ sym (of_holder t exempt ob op q items)
+    ∙ sym (in-passing (is_against t exempt ob op) (λ i. i.holder.0) q items))
     exact_unsigned
   where
     p : ℕ → Bool
-    p = is_opponent t spared ob op items
+    p = is_conflicting_holder t exempt ob op items
 
 -- where none is against it, nobody holds one
 none_filtered : (test : HeldOp → Bool) (items : List HeldOp) → list_any test items ≡ false → [] ≡ filter test items
@@ -236,5 +236,5 @@ none_filtered test (i ∷ items) none = of (test i) none (none_filtered test ite
     of true is later = absurd (false≢true (sym is))
     of false is later = later is
 
-pub nobody-against : (t : ℕ) (spared : List ℕ) (ob : ℕ) (op : Op) (items : List HeldOp) → list_any (is_against t spared ob op) items ≡ false → [] ≡ holders_against t spared ob op items
-nobody-against t spared ob op items none = ap (λ xs. ascending (map (λ (i : HeldOp). i.holder.0) xs)) (none_filtered (is_against t spared ob op) items none)
+pub nobody-against : (t : ℕ) (exempt : List ℕ) (ob : ℕ) (op : Op) (items : List HeldOp) → list_any (is_against t exempt ob op) items ≡ false → [] ≡ holders_against t exempt ob op items
+nobody-against t exempt ob op items none = ap (λ xs. ascending (map (λ (i : HeldOp). i.holder.0) xs)) (none_filtered (is_against t exempt ob op) items none)

@@ -18,24 +18,24 @@ use Rattle.acta_table.specs.declared.event.TxnId.{TxnId}
 use Rattle.acta_table.specs.declared.answer.Fate.{Fate}
 use Rattle.acta_table.specs.Numbered.{numbers_from}
 use Rattle.acta_table.specs.Sets.{is_named}
-use Rattle.acta_sets.specs.declared.mode.Mode.{Mode}
-use Rattle.acta_sets.specs.Operations.{operation_at, is_against, ops_conflict, is_held, ended, ended_op, handed, handed_op, handed_of, handed_from}
+use Rattle.acta_sets.specs.declared.mode.LockMode.{LockMode}
+use Rattle.acta_sets.specs.Operations.{operation_at, is_against, ops_conflict, is_held, ended, ended_op, transferred, transferred_op, transferred_of, transferred_from}
 use Rattle.std.specs.HashMap as hash
 use Rattle.std.specs.HashMap.{HashMap}
 use Rattle.std.specs.Option.{option_map_or}
 use Rattle.acta_sets.specs.contracts.mode.TagPartialEq.TheImpl.{eq-value}
-use Rattle.acta_sets.specs.declared.mode.Tag.{Tag}
+use Rattle.acta_sets.specs.declared.mode.ModeKey.{ModeKey}
 use Rattle.acta_sets.specs.declared.listing.ModeList.{ModeList}
 use Rattle.acta_sets.specs.inside.Modes.{same_tag}
 use Rattle.acta_sets.specs.inside.Listing.{numbers_in, front_in, is_ended_at, HaveEnded, FrontsHold, AreListed, belongs, passes_at}
 use Rattle.acta_sets.proofs.Keys.{get-updated, got, tag_is}
 
--- what is read of the value at a tag, after another is put at one
+-- what is read of the value at a mode key, after another is put at one
 put_step : {X Y : Type 0} (f : X → Y) (d : Y) (b : Bool) (w : X) (o : Option X) → option_map_or f (if b then Some w else o) d ≡ (if b then f w else option_map_or f o d)
 put_step f d true w o = refl
 put_step f d false w o = refl
 
-pub read-put : {X Y S : Type 0} (f : X → Y) (d : Y) (m n : HashMap Tag X S) (k : Tag) (w : X) → hash.Updates (eq-value).it m n k (Some w) → (q : Tag)
+pub read-put : {X Y S : Type 0} (f : X → Y) (d : Y) (m n : HashMap ModeKey X S) (k : ModeKey) (w : X) → hash.Updates (eq-value).it m n k (Some w) → (q : ModeKey)
     → option_map_or f (hash.get same_tag n q) d ≡ (if same_tag k q then f w else option_map_or f (hash.get same_tag m q) d)
 read-put f d m n k w is q = ap (λ o. option_map_or f o d) (get-updated m n k (Some w) is q) ∙ put_step f d (same_tag k q) w (hash.get same_tag m q)
 
@@ -44,26 +44,26 @@ same_step true x y e = e refl
 same_step false x y e = refl
 
 -- where the same is read of it, nothing shows
-pub read-same : {X Y S : Type 0} (f : X → Y) (d : Y) (m n : HashMap Tag X S) (k : Tag) (w : X) → hash.Updates (eq-value).it m n k (Some w) → f w ≡ option_map_or f (hash.get same_tag m k) d → (q : Tag)
+pub read-same : {X Y S : Type 0} (f : X → Y) (d : Y) (m n : HashMap ModeKey X S) (k : ModeKey) (w : X) → hash.Updates (eq-value).it m n k (Some w) → f w ≡ option_map_or f (hash.get same_tag m k) d → (q : ModeKey)
     → option_map_or f (hash.get same_tag n q) d ≡ option_map_or f (hash.get same_tag m q) d
 read-same f d m n k w is same q =
     read-put f d m n k w is q
     ∙ same_step (same_tag k q) (f w) (option_map_or f (hash.get same_tag m q) d) (λ e. same ∙ ap (λ p. option_map_or f (hash.get same_tag m p) d) (tag_is k q e))
 
--- what is read of the value at a tag, in a clone of the map
+-- what is read of the value at a mode key, in a clone of the map
 read_clone : {X Y : Type 0} (f : X → Y) (d : Y) (D : X → X → Type 0) → ((v w : X) → D v w → f w ≡ f v) → (o p : Option X) → MatchOption o (p ≡ None) (λ v. IsSomeAnd p (D v))
     → option_map_or f p d ≡ option_map_or f o d
 read_clone f d D same None p e = ap (λ x. option_map_or f x d) e
 read_clone f d D same (Some v) None e = absurd e
 read_clone f d D same (Some v) (Some w) e = same v w e
 
-pub read-clone : {X Y S : Type 0} (f : X → Y) (d : Y) (C : Tag → Tag → Type 0) (D : X → X → Type 0) → ((x y : Tag) → C x y → y ≡ x) → ((v w : X) → D v w → f w ≡ f v)
-    → (m n : HashMap Tag X S) → hash.IsClone C D m n → (q : Tag) → option_map_or f (hash.get same_tag n q) d ≡ option_map_or f (hash.get same_tag m q) d
+pub read-clone : {X Y S : Type 0} (f : X → Y) (d : Y) (C : ModeKey → ModeKey → Type 0) (D : X → X → Type 0) → ((x y : ModeKey) → C x y → y ≡ x) → ((v w : X) → D v w → f w ≡ f v)
+    → (m n : HashMap ModeKey X S) → hash.IsClone C D m n → (q : ModeKey) → option_map_or f (hash.get same_tag n q) d ≡ option_map_or f (hash.get same_tag m q) d
 read-clone f d C D key same m n is q =
     read_clone f d D same (hash.get same_tag m q) (hash.get same_tag n q) (lookup_clone C D (same_tag q) (λ x y e. ap (same_tag q) (key x y e)) m.entries n.entries is)
 
--- what a map has at a tag, after it is put there
-pub at_put : {X S : Type 0} (m n : HashMap Tag X S) (k : Tag) (w : X) → hash.Updates (eq-value).it m n k (Some w) → hash.get same_tag n k ≡ Some w
+-- what a map has at a mode key, after it is put there
+pub at_put : {X S : Type 0} (m n : HashMap ModeKey X S) (k : ModeKey) (w : X) → hash.Updates (eq-value).it m n k (Some w) → hash.get same_tag n k ≡ Some w
 at_put m n k w is = sym (got n k) ∙ is.1
 
 pub none_of : {X : Type 0} (o : Option X) → is_some o ≡ false → o ≡ None
@@ -74,9 +74,9 @@ pub if_same : {Y : Type 0} (b : Bool) (x y z : Y) → (b ≡ true → x ≡ y) �
 if_same true x y z e = e refl
 if_same false x y z e = refl
 
--- one more number at a tag
-pub numbers-more : {A S : Type 0} (m n : HashMap Tag (ModeList A) S) (k : Tag) (l w : ModeList A) (number : ℕ) → hash.Updates (eq-value).it m n k (Some w) → hash.get same_tag m k ≡ Some l
-    → w.numbers.items ≡ l.numbers.items ++ number ∷ [] → (q : Tag) → numbers_in n q ≡ (if same_tag k q then numbers_in m q ++ number ∷ [] else numbers_in m q)
+-- one more number at a mode key
+pub numbers-more : {A S : Type 0} (m n : HashMap ModeKey (ModeList A) S) (k : ModeKey) (l w : ModeList A) (number : ℕ) → hash.Updates (eq-value).it m n k (Some w) → hash.get same_tag m k ≡ Some l
+    → w.numbers.items ≡ l.numbers.items ++ number ∷ [] → (q : ModeKey) → numbers_in n q ≡ (if same_tag k q then numbers_in m q ++ number ∷ [] else numbers_in m q)
 numbers-more m n k l w number is at more q =
     read-put (λ x. x.numbers.items) [] m n k w is q
     ∙ if_same (same_tag k q) w.numbers.items (numbers_in m q ++ number ∷ []) (numbers_in m q)
@@ -89,7 +89,7 @@ ended_step items false ns ms f g x y = y
 pub HaveEnded-same : (items : List HeldOp) (ns ms : List ℕ) (f g : ℕ) → ns ≡ ms → f ≡ g → HaveEnded items ns f → HaveEnded items ms g
 HaveEnded-same items ns ms f g e d is = subst (λ ls. HaveEnded items ls g) e (subst (λ k. HaveEnded items ns k) d is)
 
-pub FrontsHold-put : {A S : Type 0} (items : List HeldOp) (m n : HashMap Tag (ModeList A) S) (k : Tag) (w : ModeList A) → hash.Updates (eq-value).it m n k (Some w)
+pub FrontsHold-put : {A S : Type 0} (items : List HeldOp) (m n : HashMap ModeKey (ModeList A) S) (k : ModeKey) (w : ModeList A) → hash.Updates (eq-value).it m n k (Some w)
     → FrontsHold items m → HaveEnded items w.numbers.items w.front → FrontsHold items n
 FrontsHold-put items m n k w is hold ended q =
     HaveEnded-same items (if same_tag k q then w.numbers.items else numbers_in m q) (numbers_in n q) (if same_tag k q then w.front else front_in m q) (front_in n q)
@@ -135,8 +135,8 @@ open_step : (f a b o c : Bool) → (f && a && b && o && c) ≡ true → f ≡ tr
 open_step true a b o c e = refl
 open_step false a b o c e = cc
 
-pub against_open : (t : ℕ) (spared : List ℕ) (ob : ℕ) (op : Op) (i : HeldOp) → is_against t spared ob op i ≡ true → is_open i.fate ≡ true
-against_open t spared ob op i e = open_step (is_open i.fate) (not (i.holder.0 == t)) (not (list_any (λ k. k == i.holder.0) spared)) (i.ob.0 == ob) (ops_conflict i.op op) e
+pub against_open : (t : ℕ) (exempt : List ℕ) (ob : ℕ) (op : Op) (i : HeldOp) → is_against t exempt ob op i ≡ true → is_open i.fate ≡ true
+against_open t exempt ob op i e = open_step (is_open i.fate) (not (i.holder.0 == t)) (not (list_any (λ k. k == i.holder.0) exempt)) (i.ob.0 == ob) (ops_conflict i.op op) e
 
 -- one more operation
 numbers_from-append : (test : HeldOp → Bool) (n : ℕ) (items : List HeldOp) (i : HeldOp)
@@ -144,8 +144,8 @@ numbers_from-append : (test : HeldOp → Bool) (n : ℕ) (items : List HeldOp) (
 numbers_from-append test n [] i = grind (arith, common_steps)
 numbers_from-append test n (j ∷ items) i = let later = numbers_from-append test (n + 1) items i in grind (arith, common_steps, later)
 
-pub AreListed-more : {A S : Type 0} (mode : Op → Option Mode) (items : List HeldOp) (m n : HashMap Tag (ModeList A) S) (i : HeldOp) (number : ℕ) → number ≡ 1 + length items → AreListed mode items m
-    → ((q : Tag) → numbers_in n q ≡ (if belongs mode q i then numbers_in m q ++ number ∷ [] else numbers_in m q)) → AreListed mode (items ++ i ∷ []) n
+pub AreListed-more : {A S : Type 0} (mode : Op → Option LockMode) (items : List HeldOp) (m n : HashMap ModeKey (ModeList A) S) (i : HeldOp) (number : ℕ) → number ≡ 1 + length items → AreListed mode items m
+    → ((q : ModeKey) → numbers_in n q ≡ (if belongs mode q i then numbers_in m q ++ number ∷ [] else numbers_in m q)) → AreListed mode (items ++ i ∷ []) n
 AreListed-more mode items m n i number at is after q =
     let more = numbers_from-append (belongs mode q) 1 items i in
     let here = is q in let now = after q in
@@ -158,24 +158,24 @@ numbers-mapped test f n (i ∷ items) e =
     ap (λ b. if b then n ∷ numbers_from test (n + 1) (map f items) else numbers_from test (n + 1) (map f items)) (e i)
     ∙ ap (λ l. if test i then n ∷ l else l) (numbers-mapped test f (n + 1) items e)
 
-belongs_if : (mode : Op → Option Mode) (q : Tag) (b : Bool) (x i : HeldOp) → belongs mode q x ≡ belongs mode q i → belongs mode q (if b then x else i) ≡ belongs mode q i
+belongs_if : (mode : Op → Option LockMode) (q : ModeKey) (b : Bool) (x i : HeldOp) → belongs mode q x ≡ belongs mode q i → belongs mode q (if b then x else i) ≡ belongs mode q i
 belongs_if mode q true x i e = e
 belongs_if mode q false x i e = refl
 
-pub AreListed-ended : {A S : Type 0} (mode : Op → Option Mode) (items : List HeldOp) (m : HashMap Tag (ModeList A) S) (t : ℕ) (fate : Fate) → AreListed mode items m → AreListed mode (ended t fate items) m
+pub AreListed-ended : {A S : Type 0} (mode : Op → Option LockMode) (items : List HeldOp) (m : HashMap ModeKey (ModeList A) S) (t : ℕ) (fate : Fate) → AreListed mode items m → AreListed mode (ended t fate items) m
 AreListed-ended mode items m t fate is q = is q ∙ sym (numbers-mapped (belongs mode q) (ended_op t fate) 1 items (λ i. belongs_if mode q (is_held t i) (record i { fate = fate }) i refl))
 
-pub AreListed-handed : {A S : Type 0} (mode : Op → Option Mode) (items : List HeldOp) (m : HashMap Tag (ModeList A) S) (t : ℕ) (u : TxnId) → AreListed mode items m → AreListed mode (handed t u items) m
-AreListed-handed mode items m t u is q = is q ∙ sym (numbers-mapped (belongs mode q) (handed_op t u) 1 items (λ i. belongs_if mode q (is_held t i) (record i { holder = u }) i refl))
+pub AreListed-transferred : {A S : Type 0} (mode : Op → Option LockMode) (items : List HeldOp) (m : HashMap ModeKey (ModeList A) S) (t : ℕ) (u : TxnId) → AreListed mode items m → AreListed mode (transferred t u items) m
+AreListed-transferred mode items m t u is q = is q ∙ sym (numbers-mapped (belongs mode q) (transferred_op t u) 1 items (λ i. belongs_if mode q (is_held t i) (record i { holder = u }) i refl))
 
-numbers-handed_of : (mode : Op → Option Mode) (q : Tag) (t : ℕ) (ops : List OpNo) (u : TxnId) (n : ℕ) (items : List HeldOp) → numbers_from (belongs mode q) n (handed_from n t ops u items) ≡ numbers_from (belongs mode q) n items
-numbers-handed_of mode q t ops u n [] = refl
-numbers-handed_of mode q t ops u n (i ∷ items) =
-    ap (λ b. if b then n ∷ numbers_from (belongs mode q) (n + 1) (handed_from (n + 1) t ops u items) else numbers_from (belongs mode q) (n + 1) (handed_from (n + 1) t ops u items)) (belongs_if mode q (is_held t i && is_named ops n) (record i { holder = u }) i refl)
-    ∙ ap (λ l. if belongs mode q i then n ∷ l else l) (numbers-handed_of mode q t ops u (n + 1) items)
+numbers-transferred_of : (mode : Op → Option LockMode) (q : ModeKey) (t : ℕ) (ops : List OpNo) (u : TxnId) (n : ℕ) (items : List HeldOp) → numbers_from (belongs mode q) n (transferred_from n t ops u items) ≡ numbers_from (belongs mode q) n items
+numbers-transferred_of mode q t ops u n [] = refl
+numbers-transferred_of mode q t ops u n (i ∷ items) =
+    ap (λ b. if b then n ∷ numbers_from (belongs mode q) (n + 1) (transferred_from (n + 1) t ops u items) else numbers_from (belongs mode q) (n + 1) (transferred_from (n + 1) t ops u items)) (belongs_if mode q (is_held t i && is_named ops n) (record i { holder = u }) i refl)
+    ∙ ap (λ l. if belongs mode q i then n ∷ l else l) (numbers-transferred_of mode q t ops u (n + 1) items)
 
-pub AreListed-handed_of : {A S : Type 0} (mode : Op → Option Mode) (items : List HeldOp) (m : HashMap Tag (ModeList A) S) (t : ℕ) (ops : List OpNo) (u : TxnId) → AreListed mode items m → AreListed mode (handed_of t ops u items) m
-AreListed-handed_of mode items m t ops u is q = is q ∙ sym (numbers-handed_of mode q t ops u 1 items)
+pub AreListed-transferred_of : {A S : Type 0} (mode : Op → Option LockMode) (items : List HeldOp) (m : HashMap ModeKey (ModeList A) S) (t : ℕ) (ops : List OpNo) (u : TxnId) → AreListed mode items m → AreListed mode (transferred_of t ops u items) m
+AreListed-transferred_of mode items m t ops u is q = is q ∙ sym (numbers-transferred_of mode q t ops u 1 items)
 
 -- nothing that has ended begins again
 abbrev pub NoneReopens : List HeldOp → List HeldOp → Type 0
@@ -187,7 +187,7 @@ still_ended items after (n ∷ ns) stay all =
     let parts = and_parts (is_ended_at items n) (list_all (is_ended_at items) ns) all in
     ap (λ b. b && list_all (is_ended_at after) ns) (stay n parts.0) ∙ still_ended items after ns stay parts.1
 
-pub FrontsHold-after : {A S : Type 0} (items after : List HeldOp) (m : HashMap Tag (ModeList A) S) → NoneReopens items after → FrontsHold items m → FrontsHold after m
+pub FrontsHold-after : {A S : Type 0} (items after : List HeldOp) (m : HashMap ModeKey (ModeList A) S) → NoneReopens items after → FrontsHold items m → FrontsHold after m
 FrontsHold-after items after m stay hold q = ((hold q).0, still_ended items after (take (front_in m q) (numbers_in m q)) stay (hold q).1)
 
 abbrev has_ended : HeldOp → Bool
@@ -210,17 +210,17 @@ mapped_opens f items from (suc k) e = mapped_at f items k from e
 pub NoneReopens-ended : (t : ℕ) (fate : Fate) (items : List HeldOp) → is_open fate ≡ false → NoneReopens items (ended t fate items)
 NoneReopens-ended t fate items closed = mapped_opens (ended_op t fate) items (λ i e. ended_if (is_held t i) (record i { fate = fate }) i (λ _. ap not closed) e)
 
-pub NoneReopens-handed : (t : ℕ) (u : TxnId) (items : List HeldOp) → NoneReopens items (handed t u items)
-NoneReopens-handed t u items = mapped_opens (handed_op t u) items (λ i e. ended_if (is_held t i) (record i { holder = u }) i (λ x. x) e)
+pub NoneReopens-transferred : (t : ℕ) (u : TxnId) (items : List HeldOp) → NoneReopens items (transferred t u items)
+NoneReopens-transferred t u items = mapped_opens (transferred_op t u) items (λ i e. ended_if (is_held t i) (record i { holder = u }) i (λ x. x) e)
 
-handed_at : (t : ℕ) (ops : List OpNo) (u : TxnId) (n : ℕ) (items : List HeldOp) (k : ℕ) → option_map_or has_ended (slice_get items k) false ≡ true → option_map_or has_ended (slice_get (handed_from n t ops u items) k) false ≡ true
-handed_at t ops u n [] k e = e
-handed_at t ops u n (i ∷ items) zero e = ended_if (is_held t i && is_named ops n) (record i { holder = u }) i (λ x. x) e
-handed_at t ops u n (i ∷ items) (suc k) e = handed_at t ops u (n + 1) items k e
+transferred_at : (t : ℕ) (ops : List OpNo) (u : TxnId) (n : ℕ) (items : List HeldOp) (k : ℕ) → option_map_or has_ended (slice_get items k) false ≡ true → option_map_or has_ended (slice_get (transferred_from n t ops u items) k) false ≡ true
+transferred_at t ops u n [] k e = e
+transferred_at t ops u n (i ∷ items) zero e = ended_if (is_held t i && is_named ops n) (record i { holder = u }) i (λ x. x) e
+transferred_at t ops u n (i ∷ items) (suc k) e = transferred_at t ops u (n + 1) items k e
 
-pub NoneReopens-handed_of : (t : ℕ) (ops : List OpNo) (u : TxnId) (items : List HeldOp) → NoneReopens items (handed_of t ops u items)
-NoneReopens-handed_of t ops u items zero e = e
-NoneReopens-handed_of t ops u items (suc k) e = handed_at t ops u 1 items k e
+pub NoneReopens-transferred_of : (t : ℕ) (ops : List OpNo) (u : TxnId) (items : List HeldOp) → NoneReopens items (transferred_of t ops u items)
+NoneReopens-transferred_of t ops u items zero e = e
+NoneReopens-transferred_of t ops u items (suc k) e = transferred_at t ops u 1 items k e
 
 appended_at : (items : List HeldOp) (x : HeldOp) (k : ℕ) → option_map_or has_ended (slice_get items k) false ≡ true → option_map_or has_ended (slice_get (items ++ x ∷ []) k) false ≡ true
 appended_at [] x k e = cc
@@ -240,15 +240,15 @@ longer_if : (items : List HeldOp) (b : Bool) (ns : List ℕ) (n front : ℕ) →
 longer_if items true ns n front is = longer items ns n front is
 longer_if items false ns n front is = is
 
-pub FrontsHold-added : {A S : Type 0} (mode : Op → Option Mode) (items : List HeldOp) (m n : HashMap Tag (ModeList A) S) (x : HeldOp) (number : ℕ) → FrontsHold items m
-    → ((q : Tag) → numbers_in n q ≡ (if belongs mode q x then numbers_in m q ++ number ∷ [] else numbers_in m q)) → ((q : Tag) → front_in n q ≡ front_in m q) → FrontsHold (items ++ x ∷ []) n
+pub FrontsHold-added : {A S : Type 0} (mode : Op → Option LockMode) (items : List HeldOp) (m n : HashMap ModeKey (ModeList A) S) (x : HeldOp) (number : ℕ) → FrontsHold items m
+    → ((q : ModeKey) → numbers_in n q ≡ (if belongs mode q x then numbers_in m q ++ number ∷ [] else numbers_in m q)) → ((q : ModeKey) → front_in n q ≡ front_in m q) → FrontsHold (items ++ x ∷ []) n
 FrontsHold-added mode items m n x number hold after same q =
     let was = FrontsHold-after items (items ++ x ∷ []) m (NoneReopens-added items x) hold q in
     HaveEnded-same (items ++ x ∷ []) (if belongs mode q x then numbers_in m q ++ number ∷ [] else numbers_in m q) (numbers_in n q) (front_in m q) (front_in n q) (sym (after q)) (sym (same q))
     (longer_if (items ++ x ∷ []) (belongs mode q x) (numbers_in m q) number (front_in m q) was)
 
-pub AreListed-same : {A S : Type 0} (mode : Op → Option Mode) (items : List HeldOp) (m n : HashMap Tag (ModeList A) S) → AreListed mode items m → ((q : Tag) → numbers_in n q ≡ numbers_in m q) → AreListed mode items n
+pub AreListed-same : {A S : Type 0} (mode : Op → Option LockMode) (items : List HeldOp) (m n : HashMap ModeKey (ModeList A) S) → AreListed mode items m → ((q : ModeKey) → numbers_in n q ≡ numbers_in m q) → AreListed mode items n
 AreListed-same mode items m n is same q = same q ∙ is q
 
-pub FrontsHold-same : {A S : Type 0} (items : List HeldOp) (m n : HashMap Tag (ModeList A) S) → FrontsHold items m → ((q : Tag) → numbers_in n q ≡ numbers_in m q) → ((q : Tag) → front_in n q ≡ front_in m q) → FrontsHold items n
+pub FrontsHold-same : {A S : Type 0} (items : List HeldOp) (m n : HashMap ModeKey (ModeList A) S) → FrontsHold items m → ((q : ModeKey) → numbers_in n q ≡ numbers_in m q) → ((q : ModeKey) → front_in n q ≡ front_in m q) → FrontsHold items n
 FrontsHold-same items m n hold same fronts q = HaveEnded-same items (numbers_in m q) (numbers_in n q) (front_in m q) (front_in n q) (sym (same q)) (sym (fronts q)) (hold q)

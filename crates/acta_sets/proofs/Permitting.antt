@@ -51,8 +51,8 @@ length-lists after taken same = sym (length-map after (λ s. s.keys)) ∙ ap (λ
 pub AreMirrored-same : (taken after given more : List (BTreeSet Grant)) → ((v object partner : ℕ) → is_granted after v object partner ≡ is_granted taken v object partner)
     → ((v object partner : ℕ) → is_granted more v object partner ≡ is_granted given v object partner)
     → AreMirrored taken given → AreMirrored after more
-AreMirrored-same taken after given more same alike mirrored = record {
-  back = λ g u object is. alike g object u ∙ mirrored.back g u object (sym (same u object g) ∙ is);
+AreMirrored-same taken after given more same equivalent mirrored = record {
+  back = λ g u object is. equivalent g object u ∙ mirrored.back g u object (sym (same u object g) ∙ is);
   small = λ g u object is. mirrored.small g u object (sym (same u object g) ∙ is);
 }
 

@@ -85,22 +85,22 @@ abbrev pub ended : ℕ → Fate → List HeldOp → List HeldOp
 ended t fate items = map (ended_op t fate) items
 
 -- the operation, held by u where t holds it in progress
-abbrev pub handed_op : ℕ → TxnId → HeldOp → HeldOp
-handed_op t u i = if is_held t i then record i { holder = u } else i
+abbrev pub transferred_op : ℕ → TxnId → HeldOp → HeldOp
+transferred_op t u i = if is_held t i then record i { holder = u } else i
 
 -- the operations, where u holds all that t holds in progress
-abbrev pub handed : ℕ → TxnId → List HeldOp → List HeldOp
-handed t u items = map (handed_op t u) items
+abbrev pub transferred : ℕ → TxnId → List HeldOp → List HeldOp
+transferred t u items = map (transferred_op t u) items
 
 -- the same as below, where the first item has the number n
-abbrev pub handed_from : ℕ → ℕ → List OpNo → TxnId → List HeldOp → List HeldOp
-handed_from n t ops u [] = []
-handed_from n t ops u (i ∷ items) =
-    (if is_held t i && is_named ops n then record i { holder = u } else i) ∷ handed_from (n + 1) t ops u items
+abbrev pub transferred_from : ℕ → ℕ → List OpNo → TxnId → List HeldOp → List HeldOp
+transferred_from n t ops u [] = []
+transferred_from n t ops u (i ∷ items) =
+    (if is_held t i && is_named ops n then record i { holder = u } else i) ∷ transferred_from (n + 1) t ops u items
 
 -- the operations, where u holds those of these that t holds in progress
-abbrev pub handed_of : ℕ → List OpNo → TxnId → List HeldOp → List HeldOp
-handed_of t ops u items = handed_from 1 t ops u items
+abbrev pub transferred_of : ℕ → List OpNo → TxnId → List HeldOp → List HeldOp
+transferred_of t ops u items = transferred_from 1 t ops u items
 
 -- whether two operations conflict on an object of whose kind they are
 abbrev pub ops_conflict : Op → Op → Bool
@@ -110,19 +110,19 @@ ops_conflict p q = register_conflicts p q || counter_conflicts p q || set_confli
 abbrev pub is_held_against : ℕ → ℕ → Op → HeldOp → Bool
 is_held_against t ob op i = is_held t i && (i.ob.0 == ob) && ops_conflict i.op op
 
--- whether the operation is in progress, on this object, held neither by t nor by one of these, whom t spares there, and
+-- whether the operation is in progress, on this object, held neither by t nor by one of these, whom t exempts there, and
 -- conflicts with the other
 abbrev pub is_against : ℕ → List ℕ → ℕ → Op → HeldOp → Bool
-is_against t spared ob op i =
-    is_open i.fate && not (i.holder.0 == t) && not (list_any (λ k. k == i.holder.0) spared) && (i.ob.0 == ob) && ops_conflict i.op op
+is_against t exempt ob op i =
+    is_open i.fate && not (i.holder.0 == t) && not (list_any (λ k. k == i.holder.0) exempt) && (i.ob.0 == ob) && ops_conflict i.op op
 
--- whether u is another than t, none of these, whom t spares on this object, and holds an operation in progress there
+-- whether u is another than t, none of these, whom t exempts on this object, and holds an operation in progress there
 -- that conflicts with the other
-abbrev pub is_opponent : ℕ → List ℕ → ℕ → Op → List HeldOp → ℕ → Bool
-is_opponent t spared ob op items u =
-    (not (u == t) && not (list_any (λ k. k == u) spared)) && list_any (is_held_against u ob op) items
+abbrev pub is_conflicting_holder : ℕ → List ℕ → ℕ → Op → List HeldOp → ℕ → Bool
+is_conflicting_holder t exempt ob op items u =
+    (not (u == t) && not (list_any (λ k. k == u) exempt)) && list_any (is_held_against u ob op) items
 
 -- who holds the operations that are against the other, ascending, each once
 abbrev pub holders_against : ℕ → List ℕ → ℕ → Op → List HeldOp → List ℕ
-holders_against t spared ob op items =
-    ascending (map (λ i. i.holder.0) (filter (is_against t spared ob op) items))
+holders_against t exempt ob op items =
+    ascending (map (λ i. i.holder.0) (filter (is_against t exempt ob op) items))

@@ -1,12 +1,12 @@
 ghost use Rattle.std.specs.Prelude.{◌≡◌, ◌≢◌, ◌<◌, ◌≤◌, ◌+◌, ◌-◌, ◌*◌, ◌^◌, ℕ, min};
 ghost use Rattle.std.specs.HashMap.{spare};
-ghost use Rattle.acta_sets.specs.declared.mode.Tag.{Tag as the_tag};
-ghost use Rattle.acta_sets.specs.Operations.{handed_op};
+ghost use Rattle.acta_sets.specs.declared.mode.ModeKey.{ModeKey as the_tag};
+ghost use Rattle.acta_sets.specs.Operations.{transferred_op};
 ghost use Rattle.acta_sets.specs.inside.Filing.{count, filings, tally_batch};
 
 use crate::counts::{Counts, file_as, unfile_as};
 use crate::held_op::HeldOp;
-use crate::mode::{Holder, are_alike};
+use crate::mode::{Holder, are_equivalent};
 use acta_table::{Fate, ObjId, Op, TxnId};
 use std::alloc::Allocator;
 
@@ -50,7 +50,7 @@ pub(crate) fn settle<A: Allocator + Copy>(counts: &mut Counts<A>, batch: Batch, 
 
 /// The batch, with the operation where `t` holds it in progress, so that it goes to `u`. Where it is not like those of the
 /// batch, these are settled, and it begins another.
-pub(crate) fn hand<A: Allocator + Copy>(
+pub(crate) fn transfer<A: Allocator + Copy>(
     counts: &mut Counts<A>,
     batch: Batch,
     item: HeldOp,
@@ -61,14 +61,14 @@ pub(crate) fn hand<A: Allocator + Copy>(
     requires room { 2 * min batch.length 1 ≤ spare counts.old }
     requires small { (q : the_tag) → count counts.old q + 2 * batch.length < 2 ^ 32 }
     requires short { batch.length + 1 < 2 ^ 32 }
-    ensures filed { (q : the_tag) → (n : ℕ) → n + tally_batch q t.0 batch ≡ count counts.old q + tally_batch q u.0 batch → (n + filings q (handed_op t.0 u item)) + tally_batch q t.0 result ≡ (count counts.new q + tally_batch q u.0 result) + filings q item }
+    ensures filed { (q : the_tag) → (n : ℕ) → n + tally_batch q t.0 batch ≡ count counts.old q + tally_batch q u.0 batch → (n + filings q (transferred_op t.0 u item)) + tally_batch q t.0 result ≡ (count counts.new q + tally_batch q u.0 result) + filings q item }
     ensures room { spare counts.old + 2 * min result.length 1 ≤ (spare counts.new + 2) + 2 * min batch.length 1 }
     ensures short { result.length ≤ batch.length + 1 }
 {
     if !item.is_held(t) {
         return batch;
     }
-    if batch.item.ob.0 == item.ob.0 && are_alike(&batch.item.op, &item.op) {
+    if batch.item.ob.0 == item.ob.0 && are_equivalent(&batch.item.op, &item.op) {
         let length = batch.length + 1;
         return Batch {
             item: batch.item,

@@ -4,8 +4,8 @@
 ghost use Rattle.std.specs.Prelude.{◌≡◌, ◌≢◌, ◌<◌, ◌≤◌, ◌+◌, ◌*◌, false, length, min};
 ghost use Rattle.std.specs.HashMap.{spare};
 ghost use Rattle.acta_table.specs.Fates.{is_open};
-ghost use Rattle.acta_sets.specs.declared.mode.Tag.{Tag as the_tag};
-ghost use Rattle.acta_sets.specs.Operations.{ended_op, handed_op};
+ghost use Rattle.acta_sets.specs.declared.mode.ModeKey.{ModeKey as the_tag};
+ghost use Rattle.acta_sets.specs.Operations.{ended_op, transferred_op};
 ghost use Rattle.acta_sets.specs.inside.Held.{changed_at, changed_each};
 ghost use Rattle.acta_sets.specs.inside.Listing.{numbers_in, FrontsHold};
 ghost use Rattle.acta_sets.specs.inside.Filing.{AreFiled, AreFiledBut};
@@ -103,7 +103,7 @@ pub(crate) fn advance_each<A: Allocator + Copy>(
 
 // The operation of this number is held by `u`, where the transaction holds it in progress; what it changes of the counts
 // joins the batch.
-fn hand_one<A: Allocator + Copy>(
+fn transfer_one<A: Allocator + Copy>(
     items: &mut Vec<HeldOp, A>,
     counts: &mut Counts<A>,
     batch: Batch,
@@ -116,7 +116,7 @@ fn hand_one<A: Allocator + Copy>(
     requires short { batch.length < MOST_EVENTS }
     requires filed { AreFiledBut batch t.0 u.0 items.old.items counts.old }
     requires room { 2 * min batch.length 1 ≤ spare counts.old }
-    ensures items { items.new.items ≡ changed_at (handed_op t.0 u) number items.old.items }
+    ensures items { items.new.items ≡ changed_at (transferred_op t.0 u) number items.old.items }
     ensures filed { AreFiledBut result t.0 u.0 items.new.items counts.new }
     ensures room { spare counts.old + 2 * min result.length 1 ≤ (spare counts.new + 2) + 2 * min batch.length 1 }
     ensures short { result.length ≤ batch.length + 1 }
@@ -128,15 +128,15 @@ fn hand_one<A: Allocator + Copy>(
     let place = place as usize;
     if place < items.len() {
         let item = items[place];
-        items[place] = item.handed(t, u);
-        return batch::hand(counts, batch, item, t, u);
+        items[place] = item.transferred(t, u);
+        return batch::transfer(counts, batch, item, t, u);
     }
     batch
 }
 
 // The operations of these numbers are held by `u`, where the transaction holds them in progress, and the last batch of
 // them is not settled.
-fn hand_batches<A: Allocator + Copy>(
+fn transfer_batches<A: Allocator + Copy>(
     items: &mut Vec<HeldOp, A>,
     counts: &mut Counts<A>,
     numbers: &[u32],
@@ -148,7 +148,7 @@ fn hand_batches<A: Allocator + Copy>(
     requires other { t.0 ≢ u.0 }
     requires filed { AreFiled items.old.items counts.old }
     requires room { 2 * length numbers.now ≤ spare counts.old }
-    ensures items { items.new.items ≡ changed_each (handed_op t.0 u) items.old.items numbers.now }
+    ensures items { items.new.items ≡ changed_each (transferred_op t.0 u) items.old.items numbers.now }
     ensures filed { AreFiledBut result t.0 u.0 items.new.items counts.new }
     ensures room { 2 * min result.length 1 ≤ spare counts.new }
     ensures short { result.length ≤ MOST_EVENTS }
@@ -156,13 +156,13 @@ fn hand_batches<A: Allocator + Copy>(
 {
     let mut batch = Batch::empty(t);
     for number in numbers {
-        batch = hand_one(items, counts, batch, *number, t, u);
+        batch = transfer_one(items, counts, batch, *number, t, u);
     }
     batch
 }
 
 /// The operations of these numbers are held by `u`, where the transaction holds them in progress.
-pub(crate) fn hand_each<A: Allocator + Copy>(
+pub(crate) fn transfer_each<A: Allocator + Copy>(
     items: &mut Vec<HeldOp, A>,
     counts: &mut Counts<A>,
     numbers: &[u32],
@@ -174,9 +174,9 @@ pub(crate) fn hand_each<A: Allocator + Copy>(
     requires other { t.0 ≢ u.0 }
     requires filed { AreFiled items.old.items counts.old }
     requires room { 2 * length numbers.now ≤ spare counts.old }
-    ensures items { items.new.items ≡ changed_each (handed_op t.0 u) items.old.items numbers.now }
+    ensures items { items.new.items ≡ changed_each (transferred_op t.0 u) items.old.items numbers.now }
     ensures filed { AreFiled items.new.items counts.new }
 {
-    let batch = hand_batches(items, counts, numbers, t, u);
+    let batch = transfer_batches(items, counts, numbers, t, u);
     batch::settle(counts, batch, t, u);
 }

@@ -3,10 +3,10 @@ ghost use Rattle.acta_sets.specs.inside.Modes as modes;
 
 use acta_table::Op;
 
-/// In which way operations on an object conflict with others: those in one mode conflict alike. An operation is in two
+/// In which way operations on an object conflict with others: those in one mode conflict equivalent. An operation is in two
 /// modes at most, a coarse one and a fine one.
 #[derive(Clone, Copy, PartialEq, Eq, Hash, Debug)]
-pub(crate) enum Mode {
+pub(crate) enum LockMode {
     /// Each `read`.
     Reads,
     /// Each `write`.
@@ -38,53 +38,59 @@ pub(crate) enum Holder {
 
 /// What operations are filed under: who holds them, on which object they are, and in which mode.
 #[derive(Clone, Copy, PartialEq, Eq, Hash, Debug)]
-pub(crate) struct Tag {
+pub(crate) struct ModeKey {
     pub holder: Holder,
     pub ob: u16,
-    pub mode: Mode,
+    pub mode: LockMode,
 }
 
 /// The coarse mode of an operation: that of all of its sort. A `has` and an `add` of 0 have none.
-pub(crate) fn coarse(op: &Op) -> Option<Mode>
+pub(crate) fn coarse(op: &Op) -> Option<LockMode>
     ensures { result ≡ modes.coarse op.now }
 {
     match op {
-        Op::Read => Some(Mode::Reads),
-        Op::Write(_) => Some(Mode::Writes),
-        Op::Get => Some(Mode::Gets),
-        Op::Add(amount) => { if *amount == 0 { None } else { Some(Mode::Adds) } }
-        Op::Insert(_) | Op::Remove(_) => Some(Mode::Changes),
+        Op::Read => Some(LockMode::Reads),
+        Op::Write(_) => Some(LockMode::Writes),
+        Op::Get => Some(LockMode::Gets),
+        Op::Add(amount) => {
+            if *amount == 0 {
+                None
+            } else {
+                Some(LockMode::Adds)
+            }
+        }
+        Op::Insert(_) | Op::Remove(_) => Some(LockMode::Changes),
         Op::Has(_) => None,
-        Op::Size => Some(Mode::Sizes),
+        Op::Size => Some(LockMode::Sizes),
     }
 }
 
 /// The fine mode of an operation: that of those with its value. What has no value has none.
-pub(crate) fn fine(op: &Op) -> Option<Mode>
+pub(crate) fn fine(op: &Op) -> Option<LockMode>
     ensures { result ≡ modes.fine op.now }
 {
     match op {
-        Op::Write(value) => Some(Mode::WritesOf(*value)),
-        Op::Insert(element) | Op::Remove(element) => Some(Mode::ChangesOf(*element)),
-        Op::Has(element) => Some(Mode::Tests(*element)),
+        Op::Write(value) => Some(LockMode::WritesOf(*value)),
+        Op::Insert(element) | Op::Remove(element) => Some(LockMode::ChangesOf(*element)),
+        Op::Has(element) => Some(LockMode::Tests(*element)),
         _ => None,
     }
 }
 
 /// The fine mode that an operation is listed under: nobody asks for the first `write` of a value, so these are counted
 /// and not listed.
-pub(crate) fn listed_fine(op: &Op) -> Option<Mode>
+pub(crate) fn listed_fine(op: &Op) -> Option<LockMode>
     ensures { result ≡ modes.listed_fine op.now }
 {
     match op {
-        Op::Insert(element) | Op::Remove(element) => Some(Mode::ChangesOf(*element)),
-        Op::Has(element) => Some(Mode::Tests(*element)),
+        Op::Insert(element) | Op::Remove(element) => Some(LockMode::ChangesOf(*element)),
+        Op::Has(element) => Some(LockMode::Tests(*element)),
         _ => None,
     }
 }
 
 // Whether both are the same mode, or none.
-fn is_same(a: Option<Mode>, b: Option<Mode>) -> bool
+fn is_same(a: Option<LockMode>, b: Option<LockMode>) -> bool
     ensures { result ≡ true → a ≡ b }
 {
     match (a, b) {
@@ -95,7 +101,7 @@ fn is_same(a: Option<Mode>, b: Option<Mode>) -> bool
 }
 
 /// Whether two operations are in the same modes.
-pub(crate) fn are_alike(p: &Op, q: &Op) -> bool
+pub(crate) fn are_equivalent(p: &Op, q: &Op) -> bool
     ensures coarse { result ≡ true → modes.coarse p.now ≡ modes.coarse q.now }
     ensures fine { result ≡ true → modes.fine p.now ≡ modes.fine q.now }
 {

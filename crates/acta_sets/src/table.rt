@@ -1,12 +1,12 @@
 ghost use Rattle.std.specs.Prelude.{◌≡◌, ◌<◌, ◌≤◌, ◌+◌, ◌++◌, ◌∷◌, [], true, false, not, find, IfOk, OnOk, OnErr, length};
 ghost use Rattle.acta_table.specs.Fates.{is_open};
-ghost use Rattle.acta_sets.specs.Operations.{is_held, operation_at, are_held, access_set, conflict_set, view_set, added, moved, ended, handed, handed_of, is_held_against, is_against, is_opponent, holders_against};
+ghost use Rattle.acta_sets.specs.Operations.{is_held, operation_at, are_held, access_set, conflict_set, view_set, added, moved, ended, transferred, transferred_of, is_held_against, is_against, is_conflicting_holder, holders_against};
 ghost use Rattle.std.specs.List.{list_any};
 ghost use Rattle.acta_table.specs.Numbered.{first_number, numbers_where};
 ghost use Rattle.acta_table.specs.Sets.{is_named};
 ghost use Rattle.acta_sets.specs.Permits.{permitted};
 
-use crate::changing::{advance_each, end_each, hand_each};
+use crate::changing::{advance_each, end_each, transfer_each};
 use crate::counts::Counts;
 use crate::handle::Handle;
 use crate::held::{
@@ -107,7 +107,7 @@ impl<A: Handle> OpTable<A> {
         listing::make_place(alloc, &mut self.fine, ob.0, fine)?;
         counts::make_room(&mut self.counts, 4)?;
         add_held(&mut self.held, &mut self.holders, t.0, number)?;
-        counts::file(&mut self.counts, &item);
+        counts::count_in(&mut self.counts, &item);
         listing::list_under(&mut self.coarse, ob.0, coarse, number);
         listing::list_under(&mut self.fine, ob.0, fine, number);
         self.items.push_reserved(item);
@@ -122,8 +122,8 @@ impl<A: Handle> OpTable<A> {
     }
 
     /// From now on `u` holds those of the named operations that `from` holds in progress. On `Err` none is handed on.
-    pub fn hand(&mut self, from: TxnId, ops: &OpSet<A>, u: TxnId) -> Result<(), AllocError>
-        ensures handed { OnOk result (self.new ≡ handed_of from.0 ops.now u self.old) }
+    pub fn transfer(&mut self, from: TxnId, ops: &OpSet<A>, u: TxnId) -> Result<(), AllocError>
+        ensures transferred { OnOk result (self.new ≡ transferred_of from.0 ops.now u self.old) }
         ensures err { OnErr result (self.new ≡ self.old) }
     {
         if from.0 == u.0 {
@@ -133,7 +133,7 @@ impl<A: Handle> OpTable<A> {
         counts::make_room(&mut self.counts, 2 * named.len())?;
         share_held(&mut self.held, &mut self.holders, u.0, named.as_slice())?;
         leave_out_at(&mut self.held, from.0, ops);
-        hand_each(&mut self.items, &mut self.counts, named.as_slice(), from, u);
+        transfer_each(&mut self.items, &mut self.counts, named.as_slice(), from, u);
         Ok(())
     }
 
@@ -143,12 +143,12 @@ impl<A: Handle> OpTable<A> {
         ensures moved { OnOk result (self.new ≡ moved ops.now u self.old) }
         ensures err { OnErr result (self.new ≡ self.old) }
     {
-        self.hand(from, ops, u)
+        self.transfer(from, ops, u)
     }
 
     /// From now on `u` holds all that `t` holds in progress. On `Err` nothing is handed on.
-    pub fn hand_all(&mut self, t: TxnId, u: TxnId) -> Result<(), AllocError>
-        ensures handed { OnOk result (self.new ≡ handed t.0 u self.old) }
+    pub fn transfer_all(&mut self, t: TxnId, u: TxnId) -> Result<(), AllocError>
+        ensures transferred { OnOk result (self.new ≡ transferred t.0 u self.old) }
         ensures err { OnErr result (self.new ≡ self.old) }
     {
         if t.0 == u.0 {
@@ -158,7 +158,7 @@ impl<A: Handle> OpTable<A> {
         counts::make_room(&mut self.counts, 2 * given.len())?;
         share_held(&mut self.held, &mut self.holders, u.0, given.as_slice())?;
         clear_held(&mut self.held, &mut self.holders, t.0);
-        hand_each(&mut self.items, &mut self.counts, given.as_slice(), t, u);
+        transfer_each(&mut self.items, &mut self.counts, given.as_slice(), t, u);
         Ok(())
     }
 
@@ -194,33 +194,33 @@ impl<A: Handle> OpTable<A> {
     }
 
     /// Whether an operation in progress, on the object, held neither by the transaction nor by one of those that it
-    /// spares on that object, conflicts with the operation. It spares its ancestors, and those who have permitted it to
+    /// exempts on that object, conflicts with the operation. It exempts its ancestors, and those who have permitted it to
     /// work on the object.
-    pub fn has_against(&self, t: TxnId, spares: &BTreeSet<u16, A>, ob: ObjId, op: &Op) -> bool
-        ensures { result ≡ list_any (is_against t.0 spares.now.keys ob.0 op.now) self.now }
+    pub fn has_conflict(&self, t: TxnId, exempts: &BTreeSet<u16, A>, ob: ObjId, op: &Op) -> bool
+        ensures { result ≡ list_any (is_against t.0 exempts.now.keys ob.0 op.now) self.now }
     {
-        counts::others_against(&self.counts, t, spares, ob, op) > 0
+        counts::others_against(&self.counts, t, exempts, ob, op) > 0
     }
 
     /// The number of the first operation in progress, on the object, held neither by the transaction nor by one of
-    /// those that it spares on that object, that conflicts with the operation. It spares its ancestors, and those who
+    /// those that it exempts on that object, that conflicts with the operation. It exempts its ancestors, and those who
     /// have permitted it to work on the object.
-    pub fn first_against(
+    pub fn first_conflict(
         &self,
         t: TxnId,
-        spares: &BTreeSet<u16, A>,
+        exempts: &BTreeSet<u16, A>,
         ob: ObjId,
         op: &Op,
     ) -> Option<u32>
-        ensures { result ≡ first_number (is_against t.0 spares.now.keys ob.0 op.now) self.now }
+        ensures { result ≡ first_number (is_against t.0 exempts.now.keys ob.0 op.now) self.now }
     {
-        if self.has_against(t, spares, ob, op) {
-            listing::first_against(
+        if self.has_conflict(t, exempts, ob, op) {
+            listing::first_conflict(
                 &self.coarse,
                 &self.fine,
                 self.items.as_slice(),
                 t,
-                spares,
+                exempts,
                 ob,
                 op,
             )
@@ -232,34 +232,34 @@ impl<A: Handle> OpTable<A> {
 
 // Who stands against an operation.
 impl<A: Handle> OpTable<A> {
-    // Whether the one of this number is another than the transaction and than those that it spares on the object, and
+    // Whether the one of this number is another than the transaction and than those that it exempts on the object, and
     // holds an operation in progress there that conflicts with the operation.
-    fn is_opponent(
+    fn is_conflicting_holder(
         &self,
         t: TxnId,
-        spares: &BTreeSet<u16, A>,
+        exempts: &BTreeSet<u16, A>,
         ob: ObjId,
         op: &Op,
         number: u16,
     ) -> bool
-        ensures { result ≡ is_opponent t.0 spares.now.keys ob.0 op.now self.now number }
+        ensures { result ≡ is_conflicting_holder t.0 exempts.now.keys ob.0 op.now self.now number }
     {
-        number != t.0 && !spares.contains(&number) && self.is_held_against(TxnId(number), ob, op)
+        number != t.0 && !exempts.contains(&number) && self.is_held_against(TxnId(number), ob, op)
     }
 
     // Those of the holders who are.
-    fn opponents(
+    fn conflicting_holders(
         &self,
         t: TxnId,
-        spares: &BTreeSet<u16, A>,
+        exempts: &BTreeSet<u16, A>,
         ob: ObjId,
         op: &Op,
     ) -> Result<BTreeSet<u16, A>, AllocError>
-        ensures { IfOk result (λ numbers. numbers.keys ≡ holders_against t.0 spares.now.keys ob.0 op.now self.now) }
+        ensures { IfOk result (λ numbers. numbers.keys ≡ holders_against t.0 exempts.now.keys ob.0 op.now self.now) }
     {
         let mut numbers = BTreeSet::new(self.allocator());
         for number in self.holders.iter() {
-            if self.is_opponent(t, spares, ob, op, *number) {
+            if self.is_conflicting_holder(t, exempts, ob, op, *number) {
                 numbers.insert(*number)?;
             }
         }
@@ -267,18 +267,18 @@ impl<A: Handle> OpTable<A> {
     }
 
     /// Who holds the operations in progress, on the object, that conflict with the operation, but for the transaction
-    /// and those that it spares on that object: its ancestors, and those who have permitted it to work on the object.
+    /// and those that it exempts on that object: its ancestors, and those who have permitted it to work on the object.
     pub fn holders_against(
         &self,
         t: TxnId,
-        spares: &BTreeSet<u16, A>,
+        exempts: &BTreeSet<u16, A>,
         ob: ObjId,
         op: &Op,
     ) -> Result<BTreeSet<u16, A>, AllocError>
-        ensures { IfOk result (λ numbers. numbers.keys ≡ holders_against t.0 spares.now.keys ob.0 op.now self.now) }
+        ensures { IfOk result (λ numbers. numbers.keys ≡ holders_against t.0 exempts.now.keys ob.0 op.now self.now) }
     {
-        if self.has_against(t, spares, ob, op) {
-            self.opponents(t, spares, ob, op)
+        if self.has_conflict(t, exempts, ob, op) {
+            self.conflicting_holders(t, exempts, ob, op)
         } else {
             Ok(BTreeSet::new(self.allocator()))
         }

@@ -43,9 +43,9 @@ is_whole Whole = true
 is_whole _ = false
 
 -- whether what ancestors hold is left out of the conflict set
-abbrev pub spares : Scope → Bool
-spares NonAncestors = true
-spares _ = false
+abbrev pub exempts : Scope → Bool
+exempts NonAncestors = true
+exempts _ = false
 
 -- whether a commit leaves what is held to the parent
 abbrev pub has_heir : AtCommit → Bool

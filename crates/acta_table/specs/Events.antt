@@ -79,10 +79,10 @@ operations_named (Delegate t u ops) = ops
 operations_named _ = []
 
 -- whether the event hands operations over by name
-abbrev pub hands_over : {A : Type 0} → Event A → Bool
-hands_over (Split t u class ops) = true
-hands_over (Delegate t u ops) = true
-hands_over _ = false
+abbrev pub transfers_over : {A : Type 0} → Event A → Bool
+transfers_over (Split t u class ops) = true
+transfers_over (Delegate t u ops) = true
+transfers_over _ = false
 
 -- whether by the event s permits t to work on the object
 abbrev pub permits : {A : Type 0} → ℕ → ℕ → ℕ → Event A → Bool

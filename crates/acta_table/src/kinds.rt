@@ -145,7 +145,7 @@ impl Kinds {
     }
 
     // No other bit is set: a fact of the type.
-    pub(crate) fn known(self)
+    pub(crate) fn lemma_invariant(self)
         ensures { self < 2 ^ 9 }
     {}
 

@@ -1,4 +1,4 @@
-//! The limits of models and histories: ours, each a constant that definitions, code and proofs read alike.
+//! The limits of models and histories: ours, each a constant that definitions, code and proofs read equivalent.
 
 /// The most objects of a model.
 pub const MOST_OBJECTS: usize = 256;

@@ -230,7 +230,7 @@ fn known_first(first: i32)
 
 impl Kind {
     // Its first value has 32 bits.
-    fn known(self)
+    fn lemma_invariant(self)
         ensures { HasFirst self }
     {
         match self {
@@ -243,11 +243,11 @@ impl Kind {
 
 impl<A: Allocator> Class<A> {
     // Its sets are sets: a fact of the types of its fields.
-    fn known(&self)
+    fn lemma_invariant(&self)
         ensures { HasSets self.now }
     {
-        self.may.known();
-        self.policy.known();
+        self.may.lemma_invariant();
+        self.policy.lemma_invariant();
         self.spawn_edges.as_slice();
         self.split_edges.as_slice();
     }
@@ -257,7 +257,7 @@ fn known_objects<A: Allocator>(objects: &[Object<A>])
     ensures { All (λ object. HasFirst object.kind) objects.now }
 {
     for object in objects {
-        object.kind.known();
+        object.kind.lemma_invariant();
     }
 }
 
@@ -265,7 +265,7 @@ fn known_classes<A: Allocator>(classes: &[Class<A>])
     ensures { All (λ class. HasSets class) classes.now }
 {
     for class in classes {
-        class.known();
+        class.lemma_invariant();
     }
 }
 
@@ -357,7 +357,7 @@ impl<A: Allocator> Model<A> {
 
     /// What holds of each model, for laws that need it: its parts have no fault, its first values are numbers of 32
     /// bits, no set has a bit that no kind has, and start edges stand in order, each once. Changes nothing.
-    pub fn known(&self)
+    pub fn lemma_invariant(&self)
         ensures { AreOfModel self.now }
     {
         known_objects(self.objects());

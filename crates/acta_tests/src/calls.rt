@@ -35,11 +35,11 @@ pub fn why<A: Handle>(
 }
 
 /// A chain of those who wait for one another, from the transaction on.
-pub fn closed_wait<A: Handle>(
+pub fn waits_for_cycle<A: Handle>(
     machine: &Machine<A>,
     t: TxnId,
 ) -> Result<Option<Items<TxnId, A>>, AllocError> {
-    machine.closed_wait(t)
+    machine.waits_for_cycle(t)
 }
 
 /// A copy of the machine.

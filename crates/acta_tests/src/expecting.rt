@@ -20,7 +20,7 @@ pub fn same<T: PartialEq + Debug>(rt: &impl Abort, found: &T, due: &T, line: &st
 }
 
 /// The bytes that were found are those of the text that is due, at this line.
-pub fn tells(rt: &impl Abort, found: &[u8], due: &str, line: &str) {
+pub fn expect_text(rt: &impl Abort, found: &[u8], due: &str, line: &str) {
     same(rt, &found, &due.as_bytes(), line);
 }
 

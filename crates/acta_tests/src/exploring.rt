@@ -4,12 +4,12 @@
 mod circles;
 mod drawn;
 mod orders;
-pub mod told;
+pub mod rendered;
 
-use crate::expecting::{holds, made, same, tells};
+use crate::expecting::{expect_text, holds, made, same};
 use crate::exploring::drawn::programs_drawn;
 use crate::exploring::orders::{End, all_ends, is_earlier};
-use crate::exploring::told::{told_at, told_of};
+use crate::exploring::rendered::{rendered_of, reported_at};
 use crate::models::{LENDING, SHARING, model_of};
 use acta_explore::{ExploreError, Explored, explore};
 use acta_machine::Handle;
@@ -140,9 +140,9 @@ pub fn programs_of<A: Allocator + Copy>(
 }
 
 // The text of the end of all orders that reach the outcome of this text.
-fn end_told<'a, A: Allocator>(ends: &'a [End<A>], told: &str) -> Option<&'a End<A>> {
+fn end_reported<'a, A: Allocator>(ends: &'a [End<A>], rendered: &str) -> Option<&'a End<A>> {
     for end in ends {
-        if end.told.as_str() == told {
+        if end.rendered.as_str() == rendered {
             return Some(end);
         }
     }
@@ -159,12 +159,12 @@ fn is_first<A: Handle>(
 ) {
     let outcome = explored.outcome(place).expect(rt, title);
     let point = explored.end(place).expect(rt, title);
-    let told = told_of(rt, other, outcome);
-    let end = end_told(ends, told.as_str()).expect(rt, title);
+    let rendered = rendered_of(rt, other, outcome);
+    let end = end_reported(ends, rendered.as_str()).expect(rt, title);
     same(rt, &point.steps(), &end.steps.as_slice(), title);
     let at = (point.steps(), point.machine());
-    let again = told_at(rt, (alloc, other), programs, at);
-    tells(rt, again.as_bytes(), told.as_str(), title);
+    let again = reported_at(rt, (alloc, other), programs, at);
+    expect_text(rt, again.as_bytes(), rendered.as_str(), title);
 }
 
 // The end at the place comes before the next one, if there is one.

@@ -2,7 +2,7 @@
 //! gives beforehand, and its answer.
 
 use crate::calls::{new_machine, take, why};
-use crate::expecting::{made, same, tells};
+use crate::expecting::{expect_text, made, same};
 use crate::models::{FAMILIES, SHARING, model_of};
 use acta_machine::{Handle, Machine, Reason};
 use acta_models::Standard;
@@ -39,10 +39,10 @@ fn answers<A: Handle>(
 ) {
     let found = made(rt, why(machine, &event), reason);
     let text = spelled(rt, alloc, found);
-    tells(rt, text.as_bytes(), reason, answer);
+    expect_text(rt, text.as_bytes(), reason, answer);
     let found = made(rt, take(machine, &event), answer);
     let line = made(rt, answer_line(alloc, &found), answer);
-    tells(rt, line.as_slice(), answer, reason);
+    expect_text(rt, line.as_slice(), answer, reason);
     drop(event);
 }
 

@@ -8,7 +8,7 @@
 //! ```
 
 use crate::calls::{new_machine, places_of, take};
-use crate::expecting::{made, parted, same, tells};
+use crate::expecting::{expect_text, made, parted, same};
 use crate::judging::is_faultless;
 use crate::models::{
     KINDRED as KINDRED_MODEL, PARTING as PARTING_MODEL, PERMITTING as PERMITTING_MODEL,
@@ -239,16 +239,16 @@ fn ask<A: Handle>(rt: &impl Abort, other: Global, machine: &Machine<A>, line: &s
     let (asked, due) = parted(rt, line, " --");
     let mut text = String::new(other);
     put_reading(rt, &mut text, machine, asked);
-    tells(rt, text.as_bytes(), due, line);
+    expect_text(rt, text.as_bytes(), due, line);
 }
 
 // The machine takes the event of the line, and answers as the line says.
 fn answer<A: Handle>(rt: &impl Abort, alloc: A, machine: &mut Machine<A>, line: &str) {
-    let (said, due) = parted(rt, line, " -- ");
-    let event = event_of(rt, alloc, machine.model(), said);
+    let (parsed, due) = parted(rt, line, " -- ");
+    let event = event_of(rt, alloc, machine.model(), parsed);
     let answer = made(rt, take(machine, &event), line);
     let found = made(rt, answer_line(alloc, &answer), line);
-    tells(rt, found.as_slice(), due, line);
+    expect_text(rt, found.as_slice(), due, line);
     drop(event);
 }
 

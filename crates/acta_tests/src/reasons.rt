@@ -9,8 +9,8 @@
 //! The first line has an event that is admitted, the second asks why an event would be refused, and the third for a cycle
 //! of transactions that wait for each other.
 
-use crate::calls::{closed_wait, new_machine, take, why};
-use crate::expecting::{holds, made, parted, same, tells};
+use crate::calls::{new_machine, take, waits_for_cycle, why};
+use crate::expecting::{expect_text, holds, made, parted, same};
 use crate::models::{Models, PARTING, event_of};
 use acta_machine::{Handle, Machine, Reason};
 use acta_models::Standard;
@@ -139,7 +139,7 @@ fn answers<A: Handle>(
     (asked, due): (&str, &str),
 ) {
     if let Some(word) = asked.strip_prefix("wait ") {
-        let chain = made(rt, closed_wait(machine, txn(rt, word)), asked);
+        let chain = made(rt, waits_for_cycle(machine, txn(rt, word)), asked);
         let found = chain_of(rt, alloc, chain.as_ref());
         same(rt, &found.as_str().trim_end(), &due, asked);
         return;
@@ -147,7 +147,7 @@ fn answers<A: Handle>(
     let event = event_of(rt, alloc, &models.wider, asked);
     let reason = made(rt, why(machine, &event), asked);
     let spelled = spelled(rt, alloc, reason, asked);
-    tells(rt, spelled.as_bytes(), due, asked);
+    expect_text(rt, spelled.as_bytes(), due, asked);
 }
 
 // A machine on the model goes through the lines.

@@ -14,7 +14,7 @@ mod tables;
 mod values;
 mod walks;
 
-use crate::expecting::{holds, made, parted, tells};
+use crate::expecting::{expect_text, holds, made, parted};
 use refusing::{Case, Refusing, refuse_each};
 use std::alloc::{Allocator, Global};
 use std::process::Abort;
@@ -52,7 +52,7 @@ pub fn is_over<B: Allocator>(
     heap.refuse(0);
     holds(rt, was_refused || answer.is_some(), due);
     if let Some(text) = &answer {
-        tells(rt, text.as_bytes(), due, due);
+        expect_text(rt, text.as_bytes(), due, due);
     }
     !was_refused
 }

@@ -19,17 +19,17 @@ fn add<A: Handle>(rt: &impl Abort, table: &mut OpTable<A>, t: TxnId, op: Op) {
 }
 
 // One more addition by 1, unless something stands against it, or there is no room.
-fn add_one<A: Handle>(rt: &impl Abort, table: &mut OpTable<A>, spares: &BTreeSet<u16, A>) {
+fn add_one<A: Handle>(rt: &impl Abort, table: &mut OpTable<A>, exempts: &BTreeSet<u16, A>) {
     let op = Op::Add(1);
-    let against = table.first_against(ONE, spares, ObjId(0), &op);
+    let against = table.first_conflict(ONE, exempts, ObjId(0), &op);
     holds(rt, against.is_none(), "what stands against it");
     add(rt, table, ONE, op);
 }
 
 // Whether 3 finds the first of these against it, and 1 finds none.
-fn stands_first<A: Handle>(table: &OpTable<A>, spares: &BTreeSet<u16, A>) -> bool {
-    table.first_against(THREE, spares, ObjId(0), &Op::Get) == Some(1)
-        && !table.has_against(ONE, spares, ObjId(0), &Op::Get)
+fn stands_first<A: Handle>(table: &OpTable<A>, exempts: &BTreeSet<u16, A>) -> bool {
+    table.first_conflict(THREE, exempts, ObjId(0), &Op::Get) == Some(1)
+        && !table.has_conflict(ONE, exempts, ObjId(0), &Op::Get)
 }
 
 // One transaction adds as often as a history has room for but once: nothing stands against any of its additions, and the
@@ -37,14 +37,14 @@ fn stands_first<A: Handle>(table: &OpTable<A>, spares: &BTreeSet<u16, A>) -> boo
 #[test]
 fn adds_without_end(rt: HostRuntime) {
     let mut table = OpTable::new(rt.alloc());
-    let spares = BTreeSet::new(rt.alloc());
+    let exempts = BTreeSet::new(rt.alloc());
     for _ in 1..MOST_EVENTS {
-        add_one(&rt, &mut table, &spares);
+        add_one(&rt, &mut table, &exempts);
     }
     same(&rt, &table.operations().len(), &65_535, "additions");
     holds(
         &rt,
-        stands_first(&table, &spares),
+        stands_first(&table, &exempts),
         "what stands against another",
     );
 }

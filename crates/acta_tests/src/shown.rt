@@ -123,7 +123,7 @@ fn put_txn<A: Handle>(rt: &impl Abort, text: &mut String, machine: &Machine<A>, 
     put(rt, text, &access.as_slice());
     let others = made(rt, machine.conflict_set(t), "a conflict set");
     put(rt, text, &others.as_slice());
-    let chain = made(rt, machine.closed_wait(t), "a chain");
+    let chain = made(rt, machine.waits_for_cycle(t), "a chain");
     put_chain(rt, text, chain.as_ref());
 }
 
@@ -245,8 +245,8 @@ impl<A: Handle> Question<A> {
         t: TxnId,
         (object, op): (ObjId, &Op),
     ) {
-        let first = table.first_against(t, &self.exempt, object, op);
-        let has = table.has_against(t, &self.exempt, object, op);
+        let first = table.first_conflict(t, &self.exempt, object, op);
+        let has = table.has_conflict(t, &self.exempt, object, op);
         put(
             rt,
             text,
@@ -290,10 +290,10 @@ impl<A: Handle> Question<A> {
 // Adds what a table of dependencies answers about a transaction.
 fn put_dependent<A: Handle>(rt: &impl Abort, text: &mut String, deps: &mut Deps<A>, t: TxnId) {
     put(rt, text, &deps.status(t));
-    let chain = made(rt, deps.closed_wait(t), "a chain");
+    let chain = made(rt, deps.waits_for_cycle(t), "a chain");
     put_chain(rt, text, chain.as_ref());
     for status in STATUSES {
-        put(rt, text, &deps.obstacle(t, status));
+        put(rt, text, &deps.block(t, status));
     }
     put(rt, text, &(deps.may_start(t), deps.may_commit(t)));
     put(rt, text, &(deps.may_abort(t), deps.may_join(t)));

@@ -1,6 +1,6 @@
 //! The texts of the standard models against their parts, written out by hand: a model has one canonical text.
 
-use crate::expecting::{made, tells};
+use crate::expecting::{expect_text, made};
 use acta_lang::print_model;
 use acta_models::Standard;
 use acta_table::{
@@ -116,6 +116,6 @@ fn the_texts_mean_what_is_listed(rt: HostRuntime) {
     for name in Standard::ALL {
         let model = model_by_parts(&rt, rt.alloc(), name);
         let text = made(&rt, print_model(rt.alloc(), &model), "a text");
-        tells(&rt, text.as_slice(), name.text(), "a standard model");
+        expect_text(&rt, text.as_slice(), name.text(), "a standard model");
     }
 }

@@ -1,6 +1,6 @@
 //! Calls of the libraries that read and write texts, images and lines, each allocation refused in turn.
 
-use crate::expecting::{at_least, made, parted, refuse, tells};
+use crate::expecting::{at_least, expect_text, made, parted, refuse};
 use crate::images::image_of;
 use acta_image::{load, upgrade, write_image};
 use acta_lang::{assemble, print_model};
@@ -183,8 +183,8 @@ impl<'a, R: Abort, A: Allocator + Copy> Case for Calling<'a, R, A> {
     }
 
     // Compares the bytes themselves, since those of an image are no text.
-    fn tell(&self, answer: &Vec<u8, A>, _state: &()) -> String {
-        tells(self.on.rt, answer.as_slice(), self.due, self.call);
+    fn describe(&self, answer: &Vec<u8, A>, _state: &()) -> String {
+        expect_text(self.on.rt, answer.as_slice(), self.due, self.call);
         String::new(self.on.other)
     }
 

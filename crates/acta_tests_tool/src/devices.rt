@@ -1,7 +1,7 @@
 //! Readers and writers that fail, a reader without end, and the longest input. No contract says that `Metered` reads
 //! once for each read of its own and passes each error on, nor that `Watched` does so with writes.
 
-use crate::expecting::{counts, holds, made, tells};
+use crate::expecting::{counts, expect_text, holds, made};
 use acta_args::ModelName;
 use acta_io::{Metered, Outcome, ReadFault, Watched};
 use acta_models::Standard;
@@ -74,7 +74,7 @@ fn fail_at(
     let ended = run(rt, alloc, text(), &mut input, &mut output);
     holds(rt, ended == due, "a read that fails");
     counts(rt, u64::from(input.reads), u64::from(reads), "reads");
-    tells(rt, output.as_slice(), written, "a read that fails");
+    expect_text(rt, output.as_slice(), written, "a read that fails");
 }
 
 // The line takes seven reads, and the eighth finds its end. No read follows the one that fails.

@@ -25,7 +25,7 @@ pub fn holds(rt: &impl Abort, is_so: bool, line: &str) {
 }
 
 /// Asserts that the bytes are the expected ones.
-pub fn tells(rt: &impl Abort, found: &[u8], due: &[u8], line: &str) {
+pub fn expect_text(rt: &impl Abort, found: &[u8], due: &[u8], line: &str) {
     assert_eq!(rt; found, due, "at {line}");
 }
 

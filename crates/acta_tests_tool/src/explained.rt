@@ -1,7 +1,7 @@
 //! Runs of `explain`, `draw`, `explore`, `compare` and `serialize`, each allocation refused in turn; and events that no line can have,
 //! explained.
 
-use crate::expecting::{MOST, at_least, holds, made, tells};
+use crate::expecting::{MOST, at_least, expect_text, holds, made};
 use crate::runs::ends;
 use acta_args::ModelName;
 use acta_compare::{Asked as AskedModels, Compared, compare_tool};
@@ -107,7 +107,7 @@ fn refuse_one<R: Threads + Sync + Abort, B: Allocator + Send + Sync>(
     if ended == Outcome::Unread(ReadFault::Memory) {
         holds(rt, was_refused && output.is_empty(), input);
     } else {
-        tells(rt, output.as_slice(), output_due, input);
+        expect_text(rt, output.as_slice(), output_due, input);
         ends(rt, Ok(ended), due, input);
     }
     was_refused
@@ -368,7 +368,7 @@ fn explain_lacking(rt: &impl Abort, alloc: Global, event: Event<Global>, due: &s
     let (line, bytes) = (1, b"".as_slice());
     made(rt, run.take(NonBlankLine { line, bytes }, event), due);
     let reason = run.texts().first().map_or("", |text| text.reason.as_str());
-    tells(rt, reason.as_bytes(), due.as_bytes(), due);
+    expect_text(rt, reason.as_bytes(), due.as_bytes(), due);
     drop(run);
 }
 

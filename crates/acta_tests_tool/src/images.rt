@@ -1,7 +1,7 @@
 //! Damaged images of the standard models, in either version: each proper prefix, and each byte set to each other value.
 //! An image in version 1 differs from that in version 2 by the number of the version alone.
 
-use crate::expecting::{made, tells};
+use crate::expecting::{expect_text, made};
 use acta_image::{ImageFault, LoadError, load, upgrade, write_image};
 use acta_lang::assemble;
 use acta_models::Standard;
@@ -100,7 +100,7 @@ fn prefixes_and_bytes(rt: HostRuntime) {
 // Asserts that the image is upgraded to the one in version 2.
 fn upgrades(rt: &impl Abort, alloc: Global, image: &[u8], due: &[u8]) {
     let found = made(rt, upgrade(alloc, image), "an image");
-    tells(rt, found.as_slice(), due, "an image");
+    expect_text(rt, found.as_slice(), due, "an image");
 }
 
 // Upgrades an image in version 2, and the same in version 1.

@@ -3,7 +3,7 @@
 
 mod table;
 
-use crate::expecting::{MOST, at_least, holds, made, tells};
+use crate::expecting::{MOST, at_least, expect_text, holds, made};
 use acta_args::ModelName;
 use acta_io::{Metered, Outcome, ReadFault, Watched};
 use acta_locked::DriveError;
@@ -84,7 +84,7 @@ fn refuse_one<R: Threads + Wait + Sync + Abort, B: Allocator + Send + Sync>(
     if is_short(ended) {
         holds(rt, was_refused && output.is_empty(), row.command);
     } else {
-        tells(rt, output.as_slice(), row.output.as_slice(), row.command);
+        expect_text(rt, output.as_slice(), row.output.as_slice(), row.command);
         ends(rt, ended.map_err(Failure::Undriven), due, row.command);
     }
     was_refused

@@ -1,7 +1,7 @@
 //! Sessions, each allocation refused in turn. Where one is refused, the session ends for want of memory after whole replies
 //! to its first lines, or it does without that memory and answers each line.
 
-use crate::expecting::{MOST, at_least, holds, tells};
+use crate::expecting::{MOST, at_least, expect_text, holds};
 use acta_args::ModelName;
 use acta_draw::Screen;
 use acta_io::{Outcome, ReadFault};
@@ -87,7 +87,7 @@ fn refuse_one<B: Allocator>(
         holds(rt, was_refused && is_front && is_whole_lines, "a session");
     } else {
         holds(rt, ended == Outcome::Done, "the end of a session");
-        tells(rt, output.as_slice(), whole, "a session");
+        expect_text(rt, output.as_slice(), whole, "a session");
     }
     was_refused
 }

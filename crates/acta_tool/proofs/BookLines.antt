@@ -14,12 +14,12 @@ use Rattle.acta_tool.specs.Driving.{book_lines, entry_line, front_line}
 pub whole : {A : Type 0} (b : Entries A) (fs : List (Front A)) (m : Parts A) (es : List (Entry A)) (machine : State A) (old first second all : List ℕ) → m ≡ b.model → es ≡ b.entries → machine ≡ state_of b
     → first ≡ old ++ text_of (map (entry_line m) es) → second ≡ first ++ text_of (map front_line fs) → all ≡ second ++ text_of (map owed_line (debts_in machine)) → all ≡ old ++ text_of (book_lines b fs)
 whole b fs m es machine old first second all model entries stands one two three =
-    let told = map (entry_line b.model) b.entries in
+    let reported = map (entry_line b.model) b.entries in
     let fronts = map front_line fs in
     let debts = map owed_line (debts_in (state_of b)) in
     three
     ∙ (λ i. two i ++ text_of (map owed_line (debts_in (stands i))))
     ∙ append_assoc first (text_of fronts) (text_of debts)
     ∙ (λ i. (one ∙ (λ j. old ++ text_of (map (entry_line (model j)) (entries j)))) i ++ (text_of fronts ++ text_of debts))
-    ∙ append_assoc old (text_of told) (text_of fronts ++ text_of debts)
-    ∙ ap (λ t. old ++ t) (ap (λ t. text_of told ++ t) (sym (flat_map-append _ fronts debts)) ∙ sym (flat_map-append _ told (fronts ++ debts)))
+    ∙ append_assoc old (text_of reported) (text_of fronts ++ text_of debts)
+    ∙ ap (λ t. old ++ t) (ap (λ t. text_of reported ++ t) (sym (flat_map-append _ fronts debts)) ∙ sym (flat_map-append _ reported (fronts ++ debts)))

@@ -18,29 +18,29 @@ use Rattle.acta_tool.specs.Output.{debug_on, debugged_on, debugged_unless}
 
 -- the texts of the commands, and what is told last
 pub whole : {A : Type 0} (m : Parts A) (events : List (Event A)) (s : Said DebugCommand) (d : Session A) (commands : List DebugCommand) (begun before all : List ℕ)
-    → d ≡ opened m (run_state m events).kept → commands ≡ s.said → begun ≡ [] → before ≡ begun ++ text_of (texts_of d commands)
+    → d ≡ opened m (run_state m events).kept → commands ≡ s.parsed → begun ≡ [] → before ≡ begun ++ text_of (texts_of d commands)
     → all ≡ before ++ text_of (option_map_or (λ b. stop_line b ∷ []) s.stop [])
     → (record { is_refused = is_some s.stop; text = all }) ≡ debugged_on m events s
 unfolding debugged_on
-whole m events s d commands begun before all is said none told tells =
+whole m events s d commands begun before all is parsed none reported tells =
     let last : List (List ℕ) = option_map_or (λ b. stop_line b ∷ []) s.stop [] in
-    let first : before ≡ text_of (texts_of (opened m (run_state m events).kept) s.said) = told ∙ (λ i. none i ++ text_of (texts_of (is i) (said i))) in
-    let texts : all ≡ text_of (texts_of (opened m (run_state m events).kept) s.said ++ last) = tells ∙ ap (λ (t : List ℕ). t ++ text_of last) first ∙ sym (flat_map-append _ (texts_of (opened m (run_state m events).kept) s.said) last) in
+    let first : before ≡ text_of (texts_of (opened m (run_state m events).kept) s.parsed) = reported ∙ (λ i. none i ++ text_of (texts_of (is i) (parsed i))) in
+    let texts : all ≡ text_of (texts_of (opened m (run_state m events).kept) s.parsed ++ last) = tells ∙ ap (λ (t : List ℕ). t ++ text_of last) first ∙ sym (flat_map-append _ (texts_of (opened m (run_state m events).kept) s.parsed) last) in
     λ i. record { is_refused = is_some s.stop; text = texts i }
 
 -- by what the events of the script say
 module _ {A : Type 0} (m : Parts A) (input : List ℕ) (s : Said (Event A)) (is : s ≡ script_events m input) where
   -- one of their lines is faulty: it is told alone
-  pub told_faulty : (b : BadLine) → s.stop ≡ Some b → debug_on m input ≡ record { is_refused = true; text = text_of (stop_line b ∷ []) }
+  pub reported_faulty : (b : BadLine) → s.stop ≡ Some b → debug_on m input ≡ record { is_refused = true; text = text_of (stop_line b ∷ []) }
   unfolding debug_on
-  told_faulty b stops =
+  reported_faulty b stops =
       let at : (script_events m input).stop ≡ Some b = ap (λ (s : Said (Event A)). s.stop) (sym is) ∙ stops in
-      ap (λ (o : Option BadLine). debugged_unless o m (script_events m input).said (script_commands m input)) at
+      ap (λ (o : Option BadLine). debugged_unless o m (script_events m input).parsed (script_commands m input)) at
 
   -- none is: the commands are told
-  pub told_whole : (commands : Said DebugCommand) → s.stop ≡ None → commands ≡ script_commands m input → debug_on m input ≡ debugged_on m s.said commands
+  pub reported_whole : (commands : Said DebugCommand) → s.stop ≡ None → commands ≡ script_commands m input → debug_on m input ≡ debugged_on m s.parsed commands
   unfolding debug_on
-  told_whole commands none are =
+  reported_whole commands none are =
       let at : (script_events m input).stop ≡ None = ap (λ (s : Said (Event A)). s.stop) (sym is) ∙ none in
-      ap (λ (o : Option BadLine). debugged_unless o m (script_events m input).said (script_commands m input)) at
-      ∙ (λ i. debugged_on m (sym is i).said (sym are i))
+      ap (λ (o : Option BadLine). debugged_unless o m (script_events m input).parsed (script_commands m input)) at
+      ∙ (λ i. debugged_on m (sym is i).parsed (sym are i))

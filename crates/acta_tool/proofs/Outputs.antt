@@ -8,16 +8,16 @@ use Rattle.acta_machine.specs.Table.{State, run_answers, run_state}
 use Rattle.acta_words.specs.Text.{text_of}
 use Rattle.acta_io.specs.declared.input.BadLine.{BadLine}
 use Rattle.acta_io.specs.Input.{Said}
-use Rattle.acta_tool.specs.Output.{told, told_last, run_on}
+use Rattle.acta_tool.specs.Output.{reported, reported_last, run_on}
 
 -- the events' answers, and what is told last
 pub whole : {A : Type 0} (is_kept : Bool) (m : Parts A) (s : Said (Event A)) (events : List (Event A)) (stop : Option BadLine) (answers : List Answer) (state : State A) (all : List ℕ)
-    → s ≡ record { said = events; stop = stop } → answers ≡ run_answers m events → state ≡ run_state m events
-    → all ≡ text_of (told is_kept answers state) ++ text_of (told_last is_kept state stop)
+    → s ≡ record { parsed = events; stop = stop } → answers ≡ run_answers m events → state ≡ run_state m events
+    → all ≡ text_of (reported is_kept answers state) ++ text_of (reported_last is_kept state stop)
     → (record { is_refused = is_some stop; text = all }) ≡ run_on is_kept m s
 unfolding run_on
-whole is_kept m s events stop answers state all said answered stands tells =
-    let texts : all ≡ text_of (told is_kept answers state ++ told_last is_kept state stop) = tells ∙ sym (flat_map-append _ (told is_kept answers state) (told_last is_kept state stop)) in
+whole is_kept m s events stop answers state all parsed answered stands tells =
+    let texts : all ≡ text_of (reported is_kept answers state ++ reported_last is_kept state stop) = tells ∙ sym (flat_map-append _ (reported is_kept answers state) (reported_last is_kept state stop)) in
     (λ i. record { is_refused = is_some stop; text = texts i })
-    ∙ (λ i. record { is_refused = is_some stop; text = text_of (told is_kept (answered i) (stands i) ++ told_last is_kept (stands i) stop) })
-    ∙ sym (ap (run_on is_kept m) said)
+    ∙ (λ i. record { is_refused = is_some stop; text = text_of (reported is_kept (answered i) (stands i) ++ reported_last is_kept (stands i) stop) })
+    ∙ sym (ap (run_on is_kept m) parsed)

@@ -56,27 +56,27 @@ short (Err line) e is = is
 -- a run that has a result is told
 pub driven : {A : Type 0} (task : Task A) (d : Driven A) (fs : List (Front A)) (r : Result (Report A) DriveError) → ((e : DriveError) → scripts_fault task.scripts ≡ Some e → Ok (let w : Watched A = record { driven = d; fronts = fs } in w) ≡ Err e) → IsDriven task.model task.scripts d → AreAsked task d fs
     → IfOk r (λ report. output_of report ≡ record { is_refused = false; text = text_of (book_lines d.book fs) }) → IfErr r (λ e. e ≡ Memory) → MayComeOf (unless_too_long task) r
-driven {A} task d fs (Ok report) barred is asked told memory =
-    let free : (e : DriveError) → scripts_fault task.scripts ≡ Some e → ⊥ = λ e has. never (let w : Watched A = record { driven = d; fronts = fs } in w) e (barred e has) in
+driven {A} task d fs (Ok report) blocked is asked reported memory =
+    let free : (e : DriveError) → scripts_fault task.scripts ≡ Some e → ⊥ = λ e has. never (let w : Watched A = record { driven = d; fronts = fs } in w) e (blocked e has) in
     subst (λ found. MayCome found (Ok (output_of report))) (sym (free_kept task (scripts_fault task.scripts) refl free))
-    (none_of task (scripts_fault task.scripts) refl free, d, is, fs, asked, told)
-driven task d fs (Err e) barred is asked told memory = short (unless_too_long task) e memory
+    (none_of task (scripts_fault task.scripts) refl free, d, is, fs, asked, reported)
+driven task d fs (Err e) blocked is asked reported memory = short (unless_too_long task) e memory
 
 undriven_by : {A : Type 0} (task : Task A) (e : DriveError) (fault : Option DriveError) → scripts_fault task.scripts ≡ fault → (is_of_scripts e ≡ true → scripts_fault task.scripts ≡ Some e) → is_stop e ≡ false
     → ((f : DriveError) → scripts_fault task.scripts ≡ Some f → ◌≡◌ {A = Result (Watched A) DriveError} (Err e) (Err f)) → e ≢ TooManyEvents → MayCome (by_fault task fault) (Err e)
-undriven_by task e None is only passed barred kept = (only, passed)
-undriven_by task e (Some NoWorker) is only passed barred kept = (only, passed)
-undriven_by task e (Some TooManyWorkers) is only passed barred kept = (only, passed)
-undriven_by task e (Some TooManyEvents) is only passed barred kept = absurd (kept (sym (one_error e TooManyEvents (barred TooManyEvents is))))
-undriven_by task e (Some Memory) is only passed barred kept = (only, passed)
-undriven_by task e (Some NoThread) is only passed barred kept = (only, passed)
-undriven_by task e (Some (GaveUp seat)) is only passed barred kept = (only, passed)
-undriven_by task e (Some Unsettled) is only passed barred kept = (only, passed)
+undriven_by task e None is only passed blocked kept = (only, passed)
+undriven_by task e (Some NoWorker) is only passed blocked kept = (only, passed)
+undriven_by task e (Some TooManyWorkers) is only passed blocked kept = (only, passed)
+undriven_by task e (Some TooManyEvents) is only passed blocked kept = absurd (kept (sym (one_error e TooManyEvents (blocked TooManyEvents is))))
+undriven_by task e (Some Memory) is only passed blocked kept = (only, passed)
+undriven_by task e (Some NoThread) is only passed blocked kept = (only, passed)
+undriven_by task e (Some (GaveUp seat)) is only passed blocked kept = (only, passed)
+undriven_by task e (Some Unsettled) is only passed blocked kept = (only, passed)
 
 -- and one that has none says why, unless there are too many events
 pub undriven : {A : Type 0} (task : Task A) (e : DriveError) → (is_of_scripts e ≡ true → scripts_fault task.scripts ≡ Some e) → is_stop e ≡ false → ((f : DriveError) → scripts_fault task.scripts ≡ Some f → ◌≡◌ {A = Result (Watched A) DriveError} (Err e) (Err f))
     → e ≢ TooManyEvents → MayCome (unless_too_long task) (Err e)
-undriven task e only passed barred kept = undriven_by task e (scripts_fault task.scripts) refl only passed barred kept
+undriven task e only passed blocked kept = undriven_by task e (scripts_fault task.scripts) refl only passed blocked kept
 
 -- a report that was written answers, for the bytes that were read
 answered : (outcome : Outcome) (May : Result Output DriveError → Type 0) (out : Output) (old new : Option (List ℕ)) → May (Ok out) → Answers outcome out old new → AnswersOne (Ok outcome) May old new

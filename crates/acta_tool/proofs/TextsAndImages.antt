@@ -40,8 +40,8 @@ pub loaded_is : {A : Type 0} (m n : Parts A) → AreOfModel m → loaded (image 
 loaded_is m n known is = let again : loaded (image m) ≡ Ok m = written-again m known in cc
 
 -- the same model is found in an image as in a text of its model
-pub found_alike : {A : Type 0} (text : List ℕ) (m : Parts A) → meaning text ≡ Ok m → AreOfModel m → of_either {A = A} (image m) ≡ of_either text
-found_alike {A} text m means known =
+pub found_equivalent : {A : Type 0} (text : List ℕ) (m : Parts A) → meaning text ≡ Ok m → AreOfModel m → of_either {A = A} (image m) ≡ of_either text
+found_equivalent {A} text m means known =
     rw (image_is_image Two m, text_is_no_image text m means, written-again m known, means) refl
 
 -- the model of an image in any version, by a command that takes no text, and by one that does
@@ -52,14 +52,14 @@ pub found_in_both : {A : Type 0} (version : ImageVersion) (m : Parts A) → AreO
 found_in_both {A} version m known has =
     rw (image_is_image version m, image_is_image Two m, image-again version m known has, written-again m known) refl
 
--- a command that takes texts and images alike writes the same for bytes in which these find the same model
-pub written_alike : {A : Type 0} (command : Command) (one other input : List ℕ) → of_either {A = A} one ≡ of_either other → takes_either command ≡ true → tool_output A command one input ≡ tool_output A command other input
-written_alike Assemble one other input same takes = absurd (true≢false (sym takes))
-written_alike CheckImage one other input same takes = absurd (true≢false (sym takes))
-written_alike Upgrade one other input same takes = absurd (true≢false (sym takes))
-written_alike (Run kept) one other input same takes = ap (λ found. output_by (Run kept) found input) same
-written_alike Trace one other input same takes = ap (λ found. output_by Trace found input) same
-written_alike Judge one other input same takes = ap (λ found. output_by Judge found input) same
-written_alike Debug one other input same takes = ap (λ found. output_by Debug found input) same
-written_alike Serial one other input same takes = ap (λ found. output_by Serial found input) same
-written_alike (Drive workers turns) one other input same takes = ap (λ found. output_by (Drive workers turns) found input) same
+-- a command that takes texts and images equivalent writes the same for bytes in which these find the same model
+pub written_equivalent : {A : Type 0} (command : Command) (one other input : List ℕ) → of_either {A = A} one ≡ of_either other → takes_either command ≡ true → tool_output A command one input ≡ tool_output A command other input
+written_equivalent Assemble one other input same takes = absurd (true≢false (sym takes))
+written_equivalent CheckImage one other input same takes = absurd (true≢false (sym takes))
+written_equivalent Upgrade one other input same takes = absurd (true≢false (sym takes))
+written_equivalent (Run kept) one other input same takes = ap (λ found. output_by (Run kept) found input) same
+written_equivalent Trace one other input same takes = ap (λ found. output_by Trace found input) same
+written_equivalent Judge one other input same takes = ap (λ found. output_by Judge found input) same
+written_equivalent Debug one other input same takes = ap (λ found. output_by Debug found input) same
+written_equivalent Serial one other input same takes = ap (λ found. output_by Serial found input) same
+written_equivalent (Drive workers turns) one other input same takes = ap (λ found. output_by (Drive workers turns) found input) same

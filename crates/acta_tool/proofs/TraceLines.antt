@@ -8,7 +8,7 @@ use Rattle.acta_machine.specs.Table.{State, fresh, after, run_state}
 use Rattle.acta_words.specs.Text.{line_of, text_of}
 use Rattle.acta_io.specs.declared.input.BadLine.{BadLine}
 use Rattle.acta_io.specs.Input.{Said}
-use Rattle.acta_tool.specs.Output.{told_last, trace_line, trace_lines, trace_on}
+use Rattle.acta_tool.specs.Output.{reported_last, trace_line, trace_lines, trace_on}
 use Rattle.acta_tool.proofs.EntryLines.{next}
 use Rattle.acta_io.proofs.ImageLines.{behind}
 
@@ -48,13 +48,13 @@ pub turn : {A : Type 0} (old text : List ℕ) (m m' : State A) (lines : List ℕ
     → i < length events → e ≡ get_or events i e → line ≡ get_or lines k 0 → m' ≡ after m e → text ≡ old ++ text_of (trace_line m line e ∷ [])
     → old ++ text_of (trace_lines m (drop k lines) (drop i events)) ≡ all
     → text ++ text_of (trace_lines m' (drop (k + 1) lines) (drop (i + 1) events)) ≡ all
-turn {A} old text m m' lines line k i events e all within is at moved told before =
+turn {A} old text m m' lines line k i events e all within is at moved reported before =
     let first : List ℕ = trace_line m line e ++ 10 ∷ [] in
     let rest : State A → List ℕ = λ s. text_of (trace_lines s (drop (k + 1) lines) (drop (i + 1) events)) in
     let split : drop i events ≡ e ∷ drop (i + 1) events = drop_more events i e within ∙ ap (λ x. x ∷ drop (i + 1) events) (sym is) in
     let next : get_or (drop k lines) 0 0 ≡ line = get_or-drop k lines 0 0 ∙ ap (λ n. get_or lines n 0) (omega arith) ∙ sym at in
     let behind : drop 1 (drop k lines) ≡ drop (k + 1) lines = drop-drop 1 k lines in
-    ap (λ t. t ++ rest m') told
+    ap (λ t. t ++ rest m') reported
     ∙ append_assoc old (text_of (trace_line m line e ∷ [])) (rest m')
     ∙ ap (λ t. old ++ (t ++ rest m')) (append-nil first)
     ∙ ap (λ s. old ++ (first ++ rest s)) moved
@@ -63,15 +63,15 @@ turn {A} old text m m' lines line k i events e all within is at moved told befor
     ∙ before
 
 -- the lines of the events, and what is told last
-pub traced : {A : Type 0} (m : Parts A) (lines numbers : List ℕ) (s : Said (Event A)) (events : List (Event A)) (stop : Option BadLine) (state : State A) (text all : List ℕ) → s ≡ record { said = events; stop = stop } → numbers ≡ lines
-    → text ≡ text_of (trace_lines (fresh m) numbers events) → state ≡ run_state m events → all ≡ text ++ text_of (told_last false state stop)
+pub traced : {A : Type 0} (m : Parts A) (lines numbers : List ℕ) (s : Said (Event A)) (events : List (Event A)) (stop : Option BadLine) (state : State A) (text all : List ℕ) → s ≡ record { parsed = events; stop = stop } → numbers ≡ lines
+    → text ≡ text_of (trace_lines (fresh m) numbers events) → state ≡ run_state m events → all ≡ text ++ text_of (reported_last false state stop)
     → (record { is_refused = is_some stop; text = all }) ≡ trace_on m lines s
 unfolding trace_on
-traced m lines numbers s events stop state text all said counted tells stands whole =
-    let texts : all ≡ text_of (trace_lines (fresh m) lines events ++ told_last false (run_state m events) stop) =
+traced m lines numbers s events stop state text all parsed counted tells stands whole =
+    let texts : all ≡ text_of (trace_lines (fresh m) lines events ++ reported_last false (run_state m events) stop) =
     whole
-    ∙ ap (λ t. t ++ text_of (told_last false state stop)) (tells ∙ ap (λ ns. text_of (trace_lines (fresh m) ns events)) counted)
-    ∙ ap (λ st. text_of (trace_lines (fresh m) lines events) ++ text_of (told_last false st stop)) stands
-    ∙ sym (flat_map-append _ (trace_lines (fresh m) lines events) (told_last false (run_state m events) stop))
+    ∙ ap (λ t. t ++ text_of (reported_last false state stop)) (tells ∙ ap (λ ns. text_of (trace_lines (fresh m) ns events)) counted)
+    ∙ ap (λ st. text_of (trace_lines (fresh m) lines events) ++ text_of (reported_last false st stop)) stands
+    ∙ sym (flat_map-append _ (trace_lines (fresh m) lines events) (reported_last false (run_state m events) stop))
     in
-    (λ i. record { is_refused = is_some stop; text = texts i }) ∙ sym (ap (trace_on m lines) said)
+    (λ i. record { is_refused = is_some stop; text = texts i }) ∙ sym (ap (trace_on m lines) parsed)

@@ -66,16 +66,16 @@ abbrev pub here : {A : Type 0} → Session A → State A
 here s = state_at s.model s.history s.at
 
 -- the text of a command: one line, but for the debts, which have one each
-unfoldable pub told_by : {A : Type 0} → Session A → DebugCommand → List (List ℕ)
-told_by s command.Step = move_line (stepped s) ∷ []
-told_by s command.Back = move_line (stepped_back s) ∷ []
-told_by s (command.Goto n) = move_line (gone_to s n) ∷ []
-told_by s command.Run = run_line (length s.history) (stop_of s) ∷ []
-told_by s (command.Break b) = set_line (length (with_break s (break_of b)).breaks) ∷ []
-told_by s command.Clear = codes "cleared" ∷ []
-told_by s (command.Value ob) = value_line (here s) ob ∷ []
-told_by s (command.Status t) = status_line (here s) t ∷ []
-told_by s command.Owed = map owed_line (debts_in (here s))
+unfoldable pub reported_by : {A : Type 0} → Session A → DebugCommand → List (List ℕ)
+reported_by s command.Step = move_line (stepped s) ∷ []
+reported_by s command.Back = move_line (stepped_back s) ∷ []
+reported_by s (command.Goto n) = move_line (gone_to s n) ∷ []
+reported_by s command.Run = run_line (length s.history) (stop_of s) ∷ []
+reported_by s (command.Break b) = set_line (length (with_break s (break_of b)).breaks) ∷ []
+reported_by s command.Clear = codes "cleared" ∷ []
+reported_by s (command.Value ob) = value_line (here s) ob ∷ []
+reported_by s (command.Status t) = status_line (here s) t ∷ []
+reported_by s command.Owed = map owed_line (debts_in (here s))
 
 -- the debugger behind it
 unfoldable pub behind : {A : Type 0} → Session A → DebugCommand → Session A
@@ -92,4 +92,4 @@ behind s command.Owed = s
 -- the texts of commands, one after another
 abbrev pub texts_of : {A : Type 0} → Session A → List DebugCommand → List (List ℕ)
 texts_of s [] = []
-texts_of s (c ∷ cs) = told_by s c ++ texts_of (behind s c) cs
+texts_of s (c ∷ cs) = reported_by s c ++ texts_of (behind s c) cs

@@ -26,15 +26,15 @@ use Rattle.acta_io.specs.declared.input.BadLine.{BadLine}
 use Rattle.acta_io.specs.Models.{of_either}
 use Rattle.acta_io.specs.Outcome.{Answers}
 use Rattle.acta_io.specs.Reports.{Output, no_model_line, stop_line}
-use Rattle.acta_io.specs.Input.{Said, said_in}
+use Rattle.acta_io.specs.Input.{Said, parsed_in}
 
 -- the script of a seat: the events of its lines, in order
 abbrev pub script_of : {A : Type 0} → List (Seated A) → ℕ → List (Event A)
-script_of said seat = map (λ s. s.event) (filter (λ s. s.seat == seat) said)
+script_of parsed seat = map (λ s. s.event) (filter (λ s. s.seat == seat) parsed)
 
 -- the scripts of the seats, from 1
 abbrev pub scripts_of : {A : Type 0} → ℕ → List (Seated A) → List (List (Event A))
-scripts_of workers said = map (script_of said) (range_with_len 1 workers)
+scripts_of workers parsed = map (script_of parsed) (range_with_len 1 workers)
 
 -- NUMBER SEAT EVENT : ANSWER
 unfoldable pub entry_line : {A : Type 0} → Parts A → Entry A → List ℕ
@@ -77,16 +77,16 @@ unless_too_long task = if is_too_long (scripts_fault task.scripts) then Err (cod
 
 -- the task of the lines on a model, or the line for the first that is faulty
 abbrev pub task_by : {A : Type 0} → ℕ → ℕ → Parts A → List (Seated A) → Option BadLine → Result (Task A) (List ℕ)
-task_by workers turns m said None = unless_too_long (record { model = m; scripts = scripts_of workers said; turns = turns })
-task_by workers turns m said (Some b) = Err (stop_line b)
+task_by workers turns m parsed None = unless_too_long (record { model = m; scripts = scripts_of workers parsed; turns = turns })
+task_by workers turns m parsed (Some b) = Err (stop_line b)
 
 abbrev pub task_on : {A : Type 0} → ℕ → ℕ → Parts A → Said (Seated A) → Result (Task A) (List ℕ)
-task_on workers turns m s = task_by workers turns m s.said s.stop
+task_on workers turns m s = task_by workers turns m s.parsed s.stop
 
 -- the task that the bytes of a model and of an input give so many workers and turns, or the line that says what is wrong
 abbrev pub task_of : {A : Type 0} → ℕ → ℕ → Result (Parts A) NoModel → List ℕ → Result (Task A) (List ℕ)
 task_of workers turns (Err fault) input = Err (no_model_line fault)
-task_of workers turns (Ok m) input = task_on workers turns m (said_in (seated_of m workers) input)
+task_of workers turns (Ok m) input = task_on workers turns m (parsed_in (seated_of m workers) input)
 
 -- what may be written: what some driven run of the task leaves, with any fronts that it asks for, or the line that
 -- refuses it; and why nothing may be: of a task no fault of the scripts unless they have it, and never a gate, and in

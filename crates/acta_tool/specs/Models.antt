@@ -20,7 +20,7 @@ model_by Debug bytes = of_either bytes
 model_by Serial bytes = of_either bytes
 model_by (Drive workers turns) bytes = of_either bytes
 
--- whether the command takes a text and an image alike
+-- whether the command takes a text and an image equivalent
 abbrev pub takes_either : Command → Bool
 takes_either Assemble = false
 takes_either CheckImage = false

@@ -28,7 +28,7 @@ use Rattle.acta_tool.specs.declared.args.Command.TheVariants.{Assemble, CheckIma
 use Rattle.acta_io.specs.declared.models.NoModel.{NoModel}
 use Rattle.acta_io.specs.declared.input.BadLine.{BadLine}
 use Rattle.acta_tool.specs.Debugging.{texts_of}
-use Rattle.acta_io.specs.Input.{Said, line_numbers, said_in}
+use Rattle.acta_io.specs.Input.{Said, line_numbers, parsed_in}
 use Rattle.acta_io.specs.Reports.{Output, refused_model, stop_line}
 use Rattle.acta_io.specs.Sections.{script_commands, script_events}
 use Rattle.acta_tool.specs.Models.{model_by}
@@ -36,23 +36,23 @@ use Rattle.acta_debug.specs.Sessions.{opened}
 use Rattle.acta_machine.specs.Table.{State, fresh, answer_to, after, op_added, edges_in, run_answers, run_state, debts_in}
 
 -- what a run tells of its events: the answers, or with `--kept` the kept items alone
-abbrev pub told : {A : Type 0} → Bool → List Answer → State A → List (List ℕ)
-told false answers state = map answer_line answers
-told true answers state = map (kept_line state.model) state.kept
+abbrev pub reported : {A : Type 0} → Bool → List Answer → State A → List (List ℕ)
+reported false answers state = map answer_line answers
+reported true answers state = map (kept_line state.model) state.kept
 
 -- what it tells last: the line that stopped it, or else what is owed; with `--kept` debts aren't told
-abbrev pub told_last : {A : Type 0} → Bool → State A → Option BadLine → List (List ℕ)
-told_last is_kept state (Some b) = stop_line b ∷ []
-told_last false state None = map owed_line (debts_in state)
-told_last true state None = []
+abbrev pub reported_last : {A : Type 0} → Bool → State A → Option BadLine → List (List ℕ)
+reported_last is_kept state (Some b) = stop_line b ∷ []
+reported_last false state None = map owed_line (debts_in state)
+reported_last true state None = []
 
 -- the output of `run` on a model
 unfoldable pub run_on : {A : Type 0} → Bool → Parts A → Said (Event A) → Output
 run_on is_kept m s =
-    let state = run_state m s.said in
+    let state = run_state m s.parsed in
     record {
       is_refused = is_some s.stop;
-      text = text_of (told is_kept (run_answers m s.said) state ++ told_last is_kept state s.stop);
+      text = text_of (reported is_kept (run_answers m s.parsed) state ++ reported_last is_kept state s.stop);
     }
 
 -- : op N
@@ -89,7 +89,7 @@ trace_lines state lines (event ∷ events) =
 unfoldable pub trace_on : {A : Type 0} → Parts A → List ℕ → Said (Event A) → Output
 trace_on m lines s = record {
   is_refused = is_some s.stop;
-  text = text_of (trace_lines (fresh m) lines s.said ++ told_last false (run_state m s.said) s.stop);
+  text = text_of (trace_lines (fresh m) lines s.parsed ++ reported_last false (run_state m s.parsed) s.stop);
 }
 
 -- what a verdict tells: its faults, then what is owed
@@ -106,7 +106,7 @@ judged_on m kept None =
 
 -- the same of what the lines say
 abbrev pub judge_on : {A : Type 0} → Parts A → Said (Kept A) → Output
-judge_on m s = judged_on m s.said s.stop
+judge_on m s = judged_on m s.parsed s.stop
 
 -- an operation of a serial order, as it was kept
 abbrev pub as_kept : {A : Type 0} → SerialItem → Kept A
@@ -127,12 +127,12 @@ serialized_on m kept None =
 
 -- the same of a run of what the lines say
 unfoldable pub serial_on : {A : Type 0} → Parts A → Said (Event A) → Output
-serial_on m s = serialized_on m (run_state m s.said).kept s.stop
+serial_on m s = serialized_on m (run_state m s.parsed).kept s.stop
 
 -- the texts of commands to a debugger on what a run of the events keeps, then the line that stopped them, if one did
 unfoldable pub debugged_on : {A : Type 0} → Parts A → List (Event A) → Said DebugCommand → Output
 debugged_on m events s =
-    let texts = texts_of (opened m (run_state m events).kept) s.said in
+    let texts = texts_of (opened m (run_state m events).kept) s.parsed in
     record {
       is_refused = is_some s.stop;
       text = text_of (texts ++ option_map_or (λ b. stop_line b ∷ []) s.stop []);
@@ -147,7 +147,7 @@ debugged_unless (Some b) m events commands = record { is_refused = true; text = 
 unfoldable pub debug_on : {A : Type 0} → Parts A → List ℕ → Output
 debug_on m input =
     let events = script_events m input in
-    debugged_unless events.stop m events.said (script_commands m input)
+    debugged_unless events.stop m events.parsed (script_commands m input)
 
 -- the output of a command on a model: its image in the version that is written, for the model of a text and for that
 -- of an image; its canonical text, a run of the input's events, the verdict on its kept items, a debugging run, or the
@@ -156,11 +156,11 @@ abbrev pub output_on : {A : Type 0} → Command → Parts A → List ℕ → Out
 output_on Assemble m input = record { is_refused = false; text = image m }
 output_on CheckImage m input = record { is_refused = false; text = canonical m }
 output_on Upgrade m input = record { is_refused = false; text = image m }
-output_on (Run kept) m input = run_on kept m (said_in (event_of m) input)
-output_on Trace m input = trace_on m (line_numbers input) (said_in (event_of m) input)
-output_on Judge m input = judge_on m (said_in (kept_of m) input)
+output_on (Run kept) m input = run_on kept m (parsed_in (event_of m) input)
+output_on Trace m input = trace_on m (line_numbers input) (parsed_in (event_of m) input)
+output_on Judge m input = judge_on m (parsed_in (kept_of m) input)
 output_on Debug m input = debug_on m input
-output_on Serial m input = serial_on m (said_in (event_of m) input)
+output_on Serial m input = serial_on m (parsed_in (event_of m) input)
 output_on (Drive workers turns) m input = record { is_refused = false; text = [] }
 
 -- the output of a command, where this is what it finds in the model's bytes

@@ -6,10 +6,10 @@ ghost use Rattle.std.specs.Option.{option_map_or};
 ghost use Rattle.acta_words.specs.Text.{text_of};
 ghost use Rattle.acta_io.specs.Reports.{stop_line};
 ghost use Rattle.acta_io.specs.inside.Reports.{output_of};
-ghost use Rattle.acta_io.specs.inside.Sections.{said_of};
+ghost use Rattle.acta_io.specs.inside.Sections.{parsed_of};
 ghost use Rattle.acta_tool.specs.Output.{debug_on, debugged_on};
 
-use crate::session::tell_commands;
+use crate::session::render_commands;
 use acta_debug::Debugger;
 use acta_io::{BadLine, Input, Report, push_stop, read_script, refuse_line};
 use acta_machine::Handle;
@@ -18,7 +18,7 @@ use acta_table::{Event, Model};
 use std::alloc::{AllocError, Allocator};
 
 // Tells the line that stopped the commands, if one did.
-fn tell_last<A: Allocator>(text: &mut Vec<u8, A>, stop: Option<BadLine>) -> Result<(), AllocError>
+fn render_last<A: Allocator>(text: &mut Vec<u8, A>, stop: Option<BadLine>) -> Result<(), AllocError>
     ensures { OnOk result (text.new.items ≡ text.old.items ++ text_of (option_map_or (λ b. stop_line b ∷ []) stop [])) }
 {
     match stop {
@@ -34,14 +34,14 @@ fn report_commands<A: Handle>(
     events: &[Event<A>],
     commands: &Input<DebugCommand, A>,
 ) -> Result<Report<A>, AllocError>
-    ensures { IfOk result (λ report. output_of report ≡ debugged_on model events.now (said_of commands.now)) }
+    ensures { IfOk result (λ report. output_of report ≡ debugged_on model events.now (parsed_of commands.now)) }
 {
     let mut debugger = Debugger::of_events(alloc, model, events)?;
     let mut text = Vec::new(alloc);
-    let told = tell_commands(alloc, &mut debugger, commands.said.as_slice(), &mut text);
+    let reported = render_commands(alloc, &mut debugger, commands.parsed.as_slice(), &mut text);
     drop(debugger);
-    told?;
-    tell_last(&mut text, commands.stop)?;
+    reported?;
+    render_last(&mut text, commands.stop)?;
     Ok(Report {
         text,
         is_refused: commands.stop.is_some(),
@@ -62,7 +62,7 @@ pub fn debug_model<A: Handle>(
         None => report_commands(
             alloc,
             model,
-            script.events.said.as_slice(),
+            script.events.parsed.as_slice(),
             &script.commands,
         ),
     }

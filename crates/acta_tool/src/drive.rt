@@ -9,13 +9,13 @@ ghost use Rattle.acta_tool.specs.Driving.{AnswersOne, MayWrite, book_lines, scri
 ghost use Rattle.acta_io.specs.Models.{of_either};
 ghost use Rattle.acta_io.specs.Outcome.{FailsBy, IsUnreadTooLong, KeepsUnread, WritesBy, reason_of};
 ghost use Rattle.acta_tool.specs.Outcome.{is_drive};
-ghost use Rattle.acta_io.specs.Input.{said_in};
+ghost use Rattle.acta_io.specs.Input.{parsed_in};
 ghost use Rattle.acta_io.specs.Reports.{stop_line};
 ghost use Rattle.acta_tool.specs.inside.Reports.{MayComeOf};
 ghost use Rattle.acta_io.specs.inside.Reports.{output_of};
 
 use crate::args::{Args, Command};
-use crate::telling::tell_book;
+use crate::rendering::render_book;
 use acta_io::{
     ModelError, Outcome, Report, SeatedLines, Sink, Source, read_lines, read_model, read_within,
     refuse_by, refuse_line, refuse_model, write_report,
@@ -31,13 +31,13 @@ use std::thread::Threads;
 // The events of a seat's lines, in order.
 fn script_of<A: Allocator + Copy>(
     alloc: A,
-    said: &[Seated<A>],
+    parsed: &[Seated<A>],
     seat: u8,
 ) -> Result<Script<A>, AllocError>
-    ensures { IfOk result (λ script. script ≡ script_of said.now seat) }
+    ensures { IfOk result (λ script. script ≡ script_of parsed.now seat) }
 {
     let mut events = Vec::new(alloc);
-    for one in said {
+    for one in parsed {
         if one.seat != seat {
             continue;
         }
@@ -50,13 +50,13 @@ fn script_of<A: Allocator + Copy>(
 fn scripts_of<A: Allocator + Copy>(
     alloc: A,
     workers: u8,
-    said: &[Seated<A>],
+    parsed: &[Seated<A>],
 ) -> Result<Vec<Script<A>, A>, AllocError>
-    ensures { IfOk result (λ scripts. scripts.items ≡ scripts_of workers said.now) }
+    ensures { IfOk result (λ scripts. scripts.items ≡ scripts_of workers parsed.now) }
 {
     let mut scripts = Vec::new(alloc);
     for k in 0..workers {
-        scripts.push(script_of(alloc, said, k + 1)?)?;
+        scripts.push(script_of(alloc, parsed, k + 1)?)?;
     }
     Ok(scripts)
 }
@@ -67,11 +67,11 @@ fn report_book<A: Handle>(
     book: &Book<A>,
     fronts: &[Front<A>],
 ) -> Result<Report<A>, DriveError>
-    ensures told { IfOk result (λ report. output_of report ≡ record { is_refused = false; text = text_of (book_lines book.now fronts.now) }) }
+    ensures reported { IfOk result (λ report. output_of report ≡ record { is_refused = false; text = text_of (book_lines book.now fronts.now) }) }
     ensures memory { IfErr result (λ e. e ≡ Memory) }
 {
     let mut text = Vec::new(alloc);
-    tell_book(alloc, book, fronts, &mut text)?;
+    render_book(alloc, book, fronts, &mut text)?;
     Ok(Report {
         text,
         is_refused: false,
@@ -93,10 +93,10 @@ fn drive_scripts<A: Handle + Send + Sync, R: Threads + Wait + Sync>(
             let Watched { driven, fronts } = watched;
             let Driven { book, reports } = driven;
             drop(reports);
-            let told = report_book(alloc, &book, fronts.as_slice());
+            let reported = report_book(alloc, &book, fronts.as_slice());
             drop(fronts);
             drop(book);
-            told
+            reported
         }
         Err(e) => match e {
             DriveError::TooManyEvents => Ok(refuse_by(alloc, b"drive fault 3")?),
@@ -106,17 +106,17 @@ fn drive_scripts<A: Handle + Send + Sync, R: Threads + Wait + Sync>(
 }
 
 // What is told of a driven run of what the lines say.
-fn drive_said<A: Handle + Send + Sync, R: Threads + Wait + Sync>(
+fn drive_parsed<A: Handle + Send + Sync, R: Threads + Wait + Sync>(
     rt: &R,
     alloc: A,
     workers: u8,
     turns: u8,
     model: Model<A>,
-    said: &[Seated<A>],
+    parsed: &[Seated<A>],
 ) -> Result<Report<A>, DriveError>
-    ensures { MayComeOf (unless_too_long (record { model = model; scripts = scripts_of workers said.now; turns = turns })) result }
+    ensures { MayComeOf (unless_too_long (record { model = model; scripts = scripts_of workers parsed.now; turns = turns })) result }
 {
-    match scripts_of(alloc, workers, said) {
+    match scripts_of(alloc, workers, parsed) {
         Ok(scripts) => drive_scripts(rt, alloc, model, scripts.as_slice(), turns),
         Err(_) => Err(DriveError::Memory),
     }
@@ -131,7 +131,7 @@ fn drive_lines<A: Handle + Send + Sync, R: Threads + Wait + Sync>(
     model: Model<A>,
     input: &[u8],
 ) -> Result<Report<A>, DriveError>
-    ensures { MayComeOf (task_on workers turns model (said_in (seated_of model workers) input.now)) result }
+    ensures { MayComeOf (task_on workers turns model (parsed_in (seated_of model workers) input.now)) result }
 {
     let lines = SeatedLines {
         alloc,
@@ -141,7 +141,7 @@ fn drive_lines<A: Handle + Send + Sync, R: Threads + Wait + Sync>(
     let read = read_lines(alloc, &lines, input)?;
     match read.stop {
         Some(stop) => Ok(refuse_line(alloc, stop)?),
-        None => drive_said(rt, alloc, workers, turns, model, read.said.as_slice()),
+        None => drive_parsed(rt, alloc, workers, turns, model, read.parsed.as_slice()),
     }
 }
 

@@ -4,10 +4,10 @@ ghost use Rattle.std.specs.Prelude.{◌≡◌, ◌∷◌, [], false, None, IfOk}
 ghost use Rattle.acta_script.specs.Reading.{kept_of};
 ghost use Rattle.acta_words.specs.Text.{text_of};
 ghost use Rattle.acta_tool.specs.Output.{judge_on, judged_on, verdict_lines};
-ghost use Rattle.acta_io.specs.Input.{said_in};
+ghost use Rattle.acta_io.specs.Input.{parsed_in};
 ghost use Rattle.acta_io.specs.inside.Reports.{output_of};
 
-use crate::telling::tell_verdict;
+use crate::rendering::render_verdict;
 use acta_io::{KeptLines, Report, read_lines, refuse_by, refuse_line};
 use acta_judge::{JudgeError, Verdict, judge};
 use acta_machine::Handle;
@@ -23,7 +23,7 @@ fn report_verdict<A: Allocator + Copy>(
     ensures { IfOk result (λ report. output_of report ≡ record { is_refused = false; text = text_of (verdict_lines verdict.now) }) }
 {
     let mut text = Vec::new(alloc);
-    tell_verdict(alloc, verdict, &mut text)?;
+    render_verdict(alloc, verdict, &mut text)?;
     Ok(Report {
         text,
         is_refused: false,
@@ -53,12 +53,12 @@ pub fn judge_model<A: Handle + Send + Sync, R: Threads + Sync>(
     model: &Model<A>,
     input: &[u8],
 ) -> Result<Report<A>, AllocError>
-    ensures { IfOk result (λ report. output_of report ≡ judge_on model.now (said_in (kept_of model.now) input.now)) }
+    ensures { IfOk result (λ report. output_of report ≡ judge_on model.now (parsed_in (kept_of model.now) input.now)) }
 {
     let lines = KeptLines { alloc, model };
     let read = read_lines(alloc, &lines, input)?;
     match read.stop {
         Some(stop) => refuse_line(alloc, stop),
-        None => judge_kept(rt, alloc, model, read.said.as_slice()),
+        None => judge_kept(rt, alloc, model, read.parsed.as_slice()),
     }
 }

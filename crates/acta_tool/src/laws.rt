@@ -29,7 +29,7 @@ pub fn images_run_as_their_texts<A: Allocator>(text: &[u8], model: &Model<A>)
     ensures output { (command : Command) (input : List ℕ) → takes_either command ≡ true → tool_output A command (image model.now) input ≡ tool_output A command text.now input }
     ensures driven { (workers turns : ℕ) (input : List ℕ) → task_of {A = A} workers turns (of_either (image model.now)) input ≡ task_of workers turns (of_either text.now) input }
 {
-    model.known();
+    model.lemma_invariant();
 }
 
 /// A law, for the image of a model in any version that has one: `upgrade` writes the image in the version that is
@@ -39,5 +39,5 @@ pub fn images_are_upgraded<A: Allocator>(model: &Model<A>)
     ensures upgraded { (version : ImageVersion) (input : List ℕ) → HasImageIn version model.now → tool_output A Upgrade (image_in version model.now) input ≡ record { is_refused = false; text = image model.now } }
     ensures output { (version : ImageVersion) (command : Command) (input : List ℕ) → HasImageIn version model.now → takes_either command ≡ true → tool_output A command (image_in version model.now) input ≡ tool_output A command (image model.now) input }
 {
-    model.known();
+    model.lemma_invariant();
 }

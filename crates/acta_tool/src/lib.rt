@@ -14,11 +14,11 @@ mod drive;
 mod judging;
 mod laws;
 mod models;
+mod rendering;
 mod run;
 mod serializing;
 mod session;
 mod status;
-mod telling;
 mod tracing;
 
 pub use args::{Args, Command, parse};

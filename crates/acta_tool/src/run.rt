@@ -4,8 +4,8 @@ ghost use Rattle.std.specs.Prelude.{◌≡◌, ◌≤◌, ◌<◌, ◌+◌, ◌+
 ghost use Rattle.acta_script.specs.Reading.{event_of};
 ghost use Rattle.acta_io.specs.Outcome.{Answers, FailsBy, IsUnreadTooLong, KeepsUnread, WritesBy, reason_of};
 ghost use Rattle.acta_tool.specs.Outcome.{input_of, is_drive, reads_input};
-ghost use Rattle.acta_tool.specs.Output.{output_on, run_on, told, told_last, tool_output};
-ghost use Rattle.acta_io.specs.Input.{said_in};
+ghost use Rattle.acta_tool.specs.Output.{output_on, run_on, reported, reported_last, tool_output};
+ghost use Rattle.acta_io.specs.Input.{parsed_in};
 ghost use Rattle.acta_words.specs.Text.{text_of};
 ghost use Rattle.acta_io.specs.declared.source.ReadFault.TheVariants.{TooMuch as too_much};
 ghost use Rattle.acta_io.specs.inside.Reports.{output_of};
@@ -14,8 +14,8 @@ use crate::args::{Args, Command};
 use crate::debugging::debug_model;
 use crate::judging::judge_model;
 use crate::models::read_model_for;
+use crate::rendering::{render_end, render_events};
 use crate::serializing::serial_model;
-use crate::telling::{tell_end, tell_events};
 use crate::tracing::trace_model;
 use acta_image::write_image;
 use acta_io::{
@@ -29,18 +29,18 @@ use std::alloc::{AllocError, Allocator};
 use std::thread::Threads;
 
 // What is told of a run that this line stopped, if one did: the answers and what is owed, or the kept events alone.
-fn tell_run<A: Handle>(
+fn render_run<A: Handle>(
     alloc: A,
     is_kept: bool,
     run: &Run<A>,
     stop: Option<BadLine>,
 ) -> Result<Vec<u8, A>, AllocError>
     ensures { IfOk result (λ text. text.items ≡
-        text_of (told is_kept run.now.answers run.now.machine) ++ text_of (told_last is_kept run.now.machine stop)) }
+        text_of (reported is_kept run.now.answers run.now.machine) ++ text_of (reported_last is_kept run.now.machine stop)) }
 {
     let mut text = Vec::new(alloc);
-    tell_events(alloc, is_kept, run, &mut text)?;
-    tell_end(alloc, is_kept, &run.machine, stop, &mut text)?;
+    render_events(alloc, is_kept, run, &mut text)?;
+    render_end(alloc, is_kept, &run.machine, stop, &mut text)?;
     Ok(text)
 }
 
@@ -51,24 +51,24 @@ fn run_model<A: Handle>(
     model: Model<A>,
     input: &[u8],
 ) -> Result<Report<A>, AllocError>
-    ensures { IfOk result (λ report. output_of report ≡ run_on is_kept model (said_in (event_of model) input.now)) }
+    ensures { IfOk result (λ report. output_of report ≡ run_on is_kept model (parsed_in (event_of model) input.now)) }
 {
     let lines = EventLines {
         alloc,
         model: &model,
     };
     let read = read_lines(alloc, &lines, input)?;
-    let run = Machine::run(alloc, model, read.said.as_slice())?;
-    let told = tell_run(alloc, is_kept, &run, read.stop);
+    let run = Machine::run(alloc, model, read.parsed.as_slice())?;
+    let reported = render_run(alloc, is_kept, &run, read.stop);
     drop(run);
     Ok(Report {
-        text: told?,
+        text: reported?,
         is_refused: read.stop.is_some(),
     })
 }
 
 // What a command tells of a model.
-fn tell_model<A: Handle + Send + Sync, R: Threads + Sync>(
+fn report_model<A: Handle + Send + Sync, R: Threads + Sync>(
     rt: &R,
     alloc: A,
     command: Command,
@@ -107,7 +107,7 @@ fn answer<A: Handle + Send + Sync, R: Threads + Sync>(
     ensures { IfOk result (λ report. output_of report ≡ tool_output A command model.now input.now) }
 {
     match read_model_for(alloc, command, model) {
-        Ok(model) => tell_model(rt, alloc, command, model, input),
+        Ok(model) => report_model(rt, alloc, command, model, input),
         Err(ModelError::Fault(fault)) => refuse_model(alloc, fault),
         Err(ModelError::Memory) => Err(AllocError),
     }

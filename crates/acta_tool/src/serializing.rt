@@ -3,7 +3,7 @@
 ghost use Rattle.std.specs.Prelude.{◌≡◌, ◌<◌, ◌++◌, All, length, false, None, IfOk, OnOk};
 ghost use Rattle.acta_script.specs.Reading.{event_of};
 ghost use Rattle.acta_words.specs.Text.{text_of};
-ghost use Rattle.acta_io.specs.Input.{said_in};
+ghost use Rattle.acta_io.specs.Input.{parsed_in};
 ghost use Rattle.acta_tool.specs.Output.{serial_lines, serial_on, serialized_on};
 ghost use Rattle.acta_io.specs.inside.Reports.{output_of};
 
@@ -16,7 +16,7 @@ use acta_words::push_line;
 use std::alloc::{AllocError, Allocator};
 
 // Tells the operations as they were kept, a line each.
-fn tell_order<A: Allocator + Copy>(
+fn render_order<A: Allocator + Copy>(
     alloc: A,
     model: &Model<A>,
     items: &[SerialItem],
@@ -45,7 +45,7 @@ fn report_order<A: Allocator + Copy>(
     ensures { IfOk result (λ report. output_of report ≡ record { is_refused = false; text = text_of (serial_lines model.now items.now) }) }
 {
     let mut text = Vec::new(alloc);
-    tell_order(alloc, model, items, &mut text)?;
+    render_order(alloc, model, items, &mut text)?;
     Ok(Report {
         text,
         is_refused: false,
@@ -69,7 +69,7 @@ pub fn serial_model<A: Handle>(
     model: Model<A>,
     input: &[u8],
 ) -> Result<Report<A>, AllocError>
-    ensures { IfOk result (λ report. output_of report ≡ serial_on model (said_in (event_of model) input.now)) }
+    ensures { IfOk result (λ report. output_of report ≡ serial_on model (parsed_in (event_of model) input.now)) }
 {
     let lines = EventLines {
         alloc,
@@ -79,7 +79,7 @@ pub fn serial_model<A: Handle>(
     if let Some(stop) = read.stop {
         return refuse_line(alloc, stop);
     }
-    let run = Machine::run(alloc, model, read.said.as_slice())?;
+    let run = Machine::run(alloc, model, read.parsed.as_slice())?;
     let report = serialize(alloc, &run.machine);
     drop(run);
     report

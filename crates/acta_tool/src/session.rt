@@ -3,9 +3,9 @@
 ghost use Rattle.std.specs.Prelude.{◌≡◌, ◌≢◌, ◌++◌, ◌∷◌, [], codes, length, IfOk, OnOk};
 ghost use Rattle.acta_debug.specs.Moves.{gone_to, stepped, stepped_back, with_break, without_breaks};
 ghost use Rattle.acta_debug.specs.Stops.{run_to_stop, stop_of};
-ghost use Rattle.acta_debug.specs.declared.errors.MoveError.TheVariants as barred;
+ghost use Rattle.acta_debug.specs.declared.errors.MoveError.TheVariants as blocked;
 ghost use Rattle.acta_words.specs.Text.{text_of};
-ghost use Rattle.acta_tool.specs.Debugging.{at_line, barred_line, behind, break_of, error_word, move_line, moved, run_line, set_line, texts_of, told_by};
+ghost use Rattle.acta_tool.specs.Debugging.{at_line, barred_line, behind, break_of, error_word, move_line, moved, run_line, set_line, texts_of, reported_by};
 
 use acta_debug::{Break, Debugger, MoveError, Stop};
 use acta_machine::Handle;
@@ -28,7 +28,7 @@ fn break_of(on: BreakOn) -> Break
 }
 
 // Tells where the debugger stands.
-fn tell_at<A: Allocator>(text: &mut Vec<u8, A>, at: u32) -> Result<(), AllocError>
+fn render_at<A: Allocator>(text: &mut Vec<u8, A>, at: u32) -> Result<(), AllocError>
     ensures { OnOk result (text.new.items ≡ text.old.items ++ text_of (at_line at ∷ [])) }
 {
     text.extend_from_slice(b"at")?;
@@ -39,7 +39,7 @@ fn tell_at<A: Allocator>(text: &mut Vec<u8, A>, at: u32) -> Result<(), AllocErro
 // Why a move can't be made. Want of memory is no reason that is told.
 fn error_word(error: MoveError) -> Result<&'static [u8], AllocError>
     ensures word { IfOk result (λ word. word.now ≡ error_word error) }
-    ensures memory { OnOk result (error ≢ barred.Memory) }
+    ensures memory { OnOk result (error ≢ blocked.Memory) }
 {
     match error {
         MoveError::AtEnd => Ok(b"AtEnd"),
@@ -50,9 +50,9 @@ fn error_word(error: MoveError) -> Result<&'static [u8], AllocError>
 }
 
 // Tells why a move can't be made.
-fn tell_barred<A: Allocator>(text: &mut Vec<u8, A>, error: MoveError) -> Result<(), AllocError>
-    ensures told { OnOk result (text.new.items ≡ text.old.items ++ text_of (barred_line error ∷ [])) }
-    ensures memory { OnOk result (error ≢ barred.Memory) }
+fn render_barred<A: Allocator>(text: &mut Vec<u8, A>, error: MoveError) -> Result<(), AllocError>
+    ensures reported { OnOk result (text.new.items ≡ text.old.items ++ text_of (barred_line error ∷ [])) }
+    ensures memory { OnOk result (error ≢ blocked.Memory) }
 {
     let word = error_word(error)?;
     text.extend_from_slice(b"no")?;
@@ -61,44 +61,50 @@ fn tell_barred<A: Allocator>(text: &mut Vec<u8, A>, error: MoveError) -> Result<
 }
 
 // Moves one event further.
-fn tell_step<A: Handle>(debugger: &mut Debugger<A>, text: &mut Vec<u8, A>) -> Result<(), AllocError>
-    ensures told { OnOk result (text.new.items ≡ text.old.items ++ text_of (move_line (stepped debugger.old) ∷ [])) }
+fn render_step<A: Handle>(
+    debugger: &mut Debugger<A>,
+    text: &mut Vec<u8, A>,
+) -> Result<(), AllocError>
+    ensures reported { OnOk result (text.new.items ≡ text.old.items ++ text_of (move_line (stepped debugger.old) ∷ [])) }
     ensures moved { OnOk result (debugger.new ≡ moved debugger.old (stepped debugger.old)) }
 {
     match debugger.step() {
-        Ok(()) => tell_at(text, debugger.at()),
-        Err(error) => tell_barred(text, error),
+        Ok(()) => render_at(text, debugger.at()),
+        Err(error) => render_barred(text, error),
     }
 }
 
 // Moves one event back.
-fn tell_back<A: Handle>(debugger: &mut Debugger<A>, text: &mut Vec<u8, A>) -> Result<(), AllocError>
-    ensures told { OnOk result (text.new.items ≡ text.old.items ++ text_of (move_line (stepped_back debugger.old) ∷ [])) }
+fn render_back<A: Handle>(
+    debugger: &mut Debugger<A>,
+    text: &mut Vec<u8, A>,
+) -> Result<(), AllocError>
+    ensures reported { OnOk result (text.new.items ≡ text.old.items ++ text_of (move_line (stepped_back debugger.old) ∷ [])) }
     ensures moved { OnOk result (debugger.new ≡ moved debugger.old (stepped_back debugger.old)) }
 {
     match debugger.back() {
-        Ok(()) => tell_at(text, debugger.at()),
-        Err(error) => tell_barred(text, error),
+        Ok(()) => render_at(text, debugger.at()),
+        Err(error) => render_barred(text, error),
     }
 }
 
 // Moves to behind so many events.
-fn tell_goto<A: Handle>(
+fn render_goto<A: Handle>(
     debugger: &mut Debugger<A>,
     n: u32,
     text: &mut Vec<u8, A>,
 ) -> Result<(), AllocError>
-    ensures told { OnOk result (text.new.items ≡ text.old.items ++ text_of (move_line (gone_to debugger.old n) ∷ [])) }
+    ensures reported { OnOk result (text.new.items ≡ text.old.items ++ text_of (move_line (gone_to debugger.old n) ∷ [])) }
     ensures moved { OnOk result (debugger.new ≡ moved debugger.old (gone_to debugger.old n)) }
 {
     match debugger.goto(n) {
-        Ok(()) => tell_at(text, debugger.at()),
-        Err(error) => tell_barred(text, error),
+        Ok(()) => render_at(text, debugger.at()),
+        Err(error) => render_barred(text, error),
     }
 }
 
 // Tells where a run over so many events has stopped.
-fn tell_stop<A: Allocator>(text: &mut Vec<u8, A>, last: u32, stop: Stop) -> Result<(), AllocError>
+fn render_stop<A: Allocator>(text: &mut Vec<u8, A>, last: u32, stop: Stop) -> Result<(), AllocError>
     ensures { OnOk result (text.new.items ≡ text.old.items ++ text_of (run_line last stop ∷ [])) }
 {
     match stop {
@@ -118,22 +124,25 @@ fn tell_stop<A: Allocator>(text: &mut Vec<u8, A>, last: u32, stop: Stop) -> Resu
 }
 
 // Runs on.
-fn tell_run<A: Handle>(debugger: &mut Debugger<A>, text: &mut Vec<u8, A>) -> Result<(), AllocError>
-    ensures told { OnOk result (text.new.items ≡ text.old.items ++ text_of (run_line (length debugger.old.history) (stop_of debugger.old) ∷ [])) }
+fn render_run<A: Handle>(
+    debugger: &mut Debugger<A>,
+    text: &mut Vec<u8, A>,
+) -> Result<(), AllocError>
+    ensures reported { OnOk result (text.new.items ≡ text.old.items ++ text_of (run_line (length debugger.old.history) (stop_of debugger.old) ∷ [])) }
     ensures moved { OnOk result (debugger.new ≡ run_to_stop debugger.old) }
 {
     let last = debugger.last();
     let stop = debugger.run()?;
-    tell_stop(text, last, stop)
+    render_stop(text, last, stop)
 }
 
 // Adds a break.
-fn tell_break<A: Handle>(
+fn render_break<A: Handle>(
     debugger: &mut Debugger<A>,
     on: BreakOn,
     text: &mut Vec<u8, A>,
 ) -> Result<(), AllocError>
-    ensures told { OnOk result (text.new.items ≡ text.old.items ++ text_of (set_line (length (with_break debugger.old (break_of on)).breaks) ∷ [])) }
+    ensures reported { OnOk result (text.new.items ≡ text.old.items ++ text_of (set_line (length (with_break debugger.old (break_of on)).breaks) ∷ [])) }
     ensures added { OnOk result (debugger.new ≡ with_break debugger.old (break_of on)) }
 {
     let number = debugger.add_break(break_of(on))?;
@@ -144,11 +153,11 @@ fn tell_break<A: Handle>(
 }
 
 // Takes away all breaks.
-fn tell_clear<A: Handle>(
+fn render_clear<A: Handle>(
     debugger: &mut Debugger<A>,
     text: &mut Vec<u8, A>,
 ) -> Result<(), AllocError>
-    ensures told { OnOk result (text.new.items ≡ text.old.items ++ text_of (codes "cleared" ∷ [])) }
+    ensures reported { OnOk result (text.new.items ≡ text.old.items ++ text_of (codes "cleared" ∷ [])) }
     ensures cleared { OnOk result (debugger.new ≡ without_breaks debugger.old) }
 {
     debugger.clear_breaks();
@@ -156,23 +165,23 @@ fn tell_clear<A: Handle>(
 }
 
 // Does a command, and tells its text.
-#[tactic(auto, unfolding(crate::specs::Debugging::told_by, crate::specs::Debugging::behind))]
-fn tell_command<A: Handle>(
+#[tactic(auto, unfolding(crate::specs::Debugging::reported_by, crate::specs::Debugging::behind))]
+fn render_command<A: Handle>(
     alloc: A,
     debugger: &mut Debugger<A>,
     command: DebugCommand,
     text: &mut Vec<u8, A>,
 ) -> Result<(), AllocError>
-    ensures told { OnOk result (text.new.items ≡ text.old.items ++ text_of (told_by debugger.old command)) }
+    ensures reported { OnOk result (text.new.items ≡ text.old.items ++ text_of (reported_by debugger.old command)) }
     ensures behind { OnOk result (debugger.new ≡ behind debugger.old command) }
 {
     match command {
-        DebugCommand::Step => tell_step(debugger, text),
-        DebugCommand::Back => tell_back(debugger, text),
-        DebugCommand::Goto(n) => tell_goto(debugger, n, text),
-        DebugCommand::Run => tell_run(debugger, text),
-        DebugCommand::Break(on) => tell_break(debugger, on, text),
-        DebugCommand::Clear => tell_clear(debugger, text),
+        DebugCommand::Step => render_step(debugger, text),
+        DebugCommand::Back => render_back(debugger, text),
+        DebugCommand::Goto(n) => render_goto(debugger, n, text),
+        DebugCommand::Run => render_run(debugger, text),
+        DebugCommand::Break(on) => render_break(debugger, on, text),
+        DebugCommand::Clear => render_clear(debugger, text),
         DebugCommand::Value(object) => push_value_line(alloc, debugger.machine(), object, text),
         DebugCommand::Status(t) => push_status_line(debugger.machine(), t, text),
         DebugCommand::Owed => push_debt_lines(alloc, debugger.machine(), text),
@@ -180,7 +189,7 @@ fn tell_command<A: Handle>(
 }
 
 /// Does the commands, one after another, and tells their texts. On `Err` some may have been done.
-pub fn tell_commands<A: Handle>(
+pub fn render_commands<A: Handle>(
     alloc: A,
     debugger: &mut Debugger<A>,
     commands: &[DebugCommand],
@@ -189,7 +198,7 @@ pub fn tell_commands<A: Handle>(
     ensures { OnOk result (text.new.items ≡ text.old.items ++ text_of (texts_of debugger.old commands.now)) }
 {
     for command in commands {
-        tell_command(alloc, debugger, *command, text)?;
+        render_command(alloc, debugger, *command, text)?;
     }
     Ok(())
 }

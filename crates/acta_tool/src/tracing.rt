@@ -5,10 +5,10 @@ ghost use Rattle.acta_machine.specs.Table.{after_all, edges_in};
 ghost use Rattle.acta_script.specs.Reading.{event_of};
 ghost use Rattle.acta_words.specs.Text.{text_of};
 ghost use Rattle.acta_tool.specs.Output.{edge_words, formed_line, op_words, trace_lines, trace_on};
-ghost use Rattle.acta_io.specs.Input.{line_numbers, said_in};
+ghost use Rattle.acta_io.specs.Input.{line_numbers, parsed_in};
 ghost use Rattle.acta_io.specs.inside.Reports.{output_of};
 
-use crate::telling::tell_end;
+use crate::rendering::render_end;
 use acta_io::{EventLines, Report, numbers_of_lines, read_lines};
 use acta_machine::{Formed, Handle, Machine};
 use acta_script::{answer_line, write_event};
@@ -18,7 +18,7 @@ use itoa::Buffer;
 use std::alloc::{AllocError, Allocator};
 
 // Tells the operation that an event added.
-fn tell_op<A: Allocator>(text: &mut Vec<u8, A>, op: Option<OpNo>) -> Result<(), AllocError>
+fn render_op<A: Allocator>(text: &mut Vec<u8, A>, op: Option<OpNo>) -> Result<(), AllocError>
     ensures { OnOk result (text.new.items ≡ text.old.items ++ flat_map (λ word. 32 ∷ word) (op_words op)) }
 {
     let Some(op) = op else {
@@ -31,7 +31,7 @@ fn tell_op<A: Allocator>(text: &mut Vec<u8, A>, op: Option<OpNo>) -> Result<(), 
 }
 
 // Tells an edge with its number.
-fn tell_edge<A: Allocator>(
+fn report_edge<A: Allocator>(
     text: &mut Vec<u8, A>,
     number: u64,
     edge: &Edge,
@@ -48,7 +48,7 @@ fn tell_edge<A: Allocator>(
 }
 
 // Tells the edges that are new, of which so many were in force before.
-fn tell_edges<A: Allocator>(
+fn report_edges<A: Allocator>(
     text: &mut Vec<u8, A>,
     before: usize,
     edges: &[Edge],
@@ -59,7 +59,7 @@ fn tell_edges<A: Allocator>(
     let mut number = before as u64;
     for edge in edges {
         number += 1;
-        tell_edge(text, number, edge)?;
+        report_edge(text, number, edge)?;
     }
     Ok(())
 }
@@ -76,7 +76,7 @@ fn behind(edges: &[Edge], before: usize) -> &[Edge]
 }
 
 // Tells an event in this line, and what became of it on the machine.
-fn tell_formed<A: Handle>(
+fn render_formed<A: Handle>(
     alloc: A,
     machine: &Machine<A>,
     line: usize,
@@ -91,9 +91,9 @@ fn tell_formed<A: Handle>(
     push_word(text, answer_line(alloc, &formed.answer)?.as_slice())?;
     push_word(text, b":")?;
     push_word(text, write_event(alloc, machine.model(), event)?.as_slice())?;
-    tell_op(text, formed.op)?;
+    render_op(text, formed.op)?;
     let before = formed.edges_before;
-    tell_edges(text, before, behind(machine.edges(), before))?;
+    report_edges(text, before, behind(machine.edges(), before))?;
     push_line(text, b"")?;
     Ok(())
 }
@@ -109,14 +109,14 @@ fn line_at(lines: &[usize], k: usize) -> usize
 }
 
 // Has the machine take the events, which stand in these lines, and tells each.
-fn tell_traced<A: Handle>(
+fn render_traced<A: Handle>(
     alloc: A,
     machine: &mut Machine<A>,
     lines: &[usize],
     events: &[Event<A>],
     text: &mut Vec<u8, A>,
 ) -> Result<(), AllocError>
-    ensures told { OnOk result (text.new.items ≡ text.old.items ++ text_of (trace_lines machine.old lines.now events.now)) }
+    ensures reported { OnOk result (text.new.items ≡ text.old.items ++ text_of (trace_lines machine.old lines.now events.now)) }
     ensures machine { OnOk result (machine.new ≡ after_all machine.old events.now) }
 {
     let mut k = 0;
@@ -124,7 +124,7 @@ fn tell_traced<A: Handle>(
         let line = line_at(lines, k);
         k += 1;
         let formed = machine.take_forming(event)?;
-        tell_formed(alloc, machine, line, event, &formed, text)?;
+        render_formed(alloc, machine, line, event, &formed, text)?;
     }
     Ok(())
 }
@@ -135,7 +135,7 @@ pub fn trace_model<A: Handle>(
     model: Model<A>,
     input: &[u8],
 ) -> Result<Report<A>, AllocError>
-    ensures { IfOk result (λ report. output_of report ≡ trace_on model (line_numbers input.now) (said_in (event_of model) input.now)) }
+    ensures { IfOk result (λ report. output_of report ≡ trace_on model (line_numbers input.now) (parsed_in (event_of model) input.now)) }
 {
     let lines = EventLines {
         alloc,
@@ -145,14 +145,14 @@ pub fn trace_model<A: Handle>(
     let numbers = numbers_of_lines(alloc, input)?;
     let mut machine = Machine::new(alloc, model)?;
     let mut text = Vec::new(alloc);
-    tell_traced(
+    render_traced(
         alloc,
         &mut machine,
         &numbers,
-        read.said.as_slice(),
+        read.parsed.as_slice(),
         &mut text,
     )?;
-    tell_end(alloc, false, &machine, read.stop, &mut text)?;
+    render_end(alloc, false, &machine, read.stop, &mut text)?;
     drop(machine);
     Ok(Report {
         text,

@@ -10,7 +10,7 @@ use Rattle.acta_table.specs.declared.event.Event.{Event}
 use Rattle.acta_table.specs.declared.event.Event.TheVariants.{Begin, Spawn, Split, Join, Delegate, Form, Operate, Commit, Abort, Permit}
 use Rattle.acta_table.specs.declared.model.Parts.{Parts}
 use Rattle.acta_sets.specs.declared.held_op.HeldOp.{HeldOp}
-use Rattle.acta_sets.specs.Operations.{moved_from, moved, ended_op, ended, handed_op, handed, added}
+use Rattle.acta_sets.specs.Operations.{moved_from, moved, ended_op, ended, transferred_op, transferred, added}
 use Rattle.acta_machine.specs.Summary.{Summary, stood, terminated, permit_given, entered, linked, given, inherited, operated, fated, counted}
 use Rattle.acta_machine.specs.Changes.{effect, settled, summary_of}
 use Rattle.acta_machine.specs.Families.{heir_of}
@@ -42,7 +42,7 @@ unfolding stood terminated permit_given entered linked given inherited operated 
 effect-more m s (Begin t class) = same s.operations s.operations refl
 effect-more m s (Spawn t c class) = same s.operations s.operations refl
 effect-more m s (Split t u class ops) = same s.operations (moved ops u s.operations) (moved-length 1 ops u s.operations)
-effect-more m s (Join t u) = same s.operations (handed t.0 u s.operations) (map-length (handed_op t.0 u) s.operations)
+effect-more m s (Join t u) = same s.operations (transferred t.0 u s.operations) (map-length (transferred_op t.0 u) s.operations)
 effect-more m s (Delegate t u ops) = same s.operations (moved ops u s.operations) (moved-length 1 ops u s.operations)
 effect-more m s (Form kind j i) = same s.operations s.operations refl
 effect-more m s (Operate t ob op) = omega (arith, length-append {A = HeldOp})

@@ -1,5 +1,5 @@
 pub mod Added
-pub mod Alike
+pub mod Equivalence
 pub mod CounterStates
 pub mod Forgotten
 pub mod LiveSets

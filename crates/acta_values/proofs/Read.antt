@@ -19,10 +19,10 @@ use Rattle.acta_values.specs.LiveValues.{ops_of, IsAfter}
 use Rattle.acta_values.specs.KeptValues.{numbered_from, numbered_live, AreAfter}
 
 -- operations of other kinds make no difference to a value
-state-alike : {A : Type 0} (kind : Kind) (object n : ℕ) (items : List HeldOp) (s : ObjectState A) → IsOf kind s → state_after s (ops_of (numbered_from object n items)) ≡ state_after s (live_ops kind items object)
-state-alike kind object n [] s ok = refl
-state-alike {A} kind object n (i ∷ items) s ok =
-    at (i.ob.0 == object) (is_live i) (suits kind i.op) refl (state-alike kind object (n + 1) items s ok) (state-alike kind object (n + 1) items (step s i.op) (is_of-step kind s i.op ok))
+state-equivalent : {A : Type 0} (kind : Kind) (object n : ℕ) (items : List HeldOp) (s : ObjectState A) → IsOf kind s → state_after s (ops_of (numbered_from object n items)) ≡ state_after s (live_ops kind items object)
+state-equivalent kind object n [] s ok = refl
+state-equivalent {A} kind object n (i ∷ items) s ok =
+    at (i.ob.0 == object) (is_live i) (suits kind i.op) refl (state-equivalent kind object (n + 1) items s ok) (state-equivalent kind object (n + 1) items (step s i.op) (is_of-step kind s i.op ok))
   where
     at : (on live fits : Bool) → suits kind i.op ≡ fits → state_after s (ops_of (numbered_from object (n + 1) items)) ≡ state_after s (live_ops kind items object)
         → state_after (step s i.op) (ops_of (numbered_from object (n + 1) items)) ≡ state_after (step s i.op) (live_ops kind items object)
@@ -42,7 +42,7 @@ read_there {A = A} {R = R} kinds items values object value f r after within is s
     let kind : Kind = get_or kinds object elements_kind in
     let there : slice_get kinds object ≡ Some kind = slice_get-get_or kinds object elements_kind (omega (arith, within, after.long)) in
     let here : slice_get values object ≡ Some value = slice_get-get_or values object value within ∙ ap (λ v. Some v) (sym is) in
-    ap (λ (x : R). Some x) (says kind (numbered_live items object) (after.each object kind value there here) ∙ ap f (state-alike kind object 1 items (first_state kind) (is_of-first A kind)))
+    ap (λ (x : R). Some x) (says kind (numbered_live items object) (after.each object kind value there here) ∙ ap f (state-equivalent kind object 1 items (first_state kind) (is_of-first A kind)))
     ∙ ap (option_map (λ k. f (state_after (first_state {A = A} k) (live_ops k items object)))) (sym there)
 
 -- where there is no object, there is nothing

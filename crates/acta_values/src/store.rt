@@ -2,7 +2,7 @@ ghost use Rattle.std.specs.Prelude.{◌≡◌, ◌+◌, ◌<◌, ◌≤◌, [], 
 ghost use Rattle.acta_table.specs.declared.limits.TheConstants.{MOST_EVENTS};
 ghost use Rattle.acta_table.specs.Fates.{is_open};
 ghost use Rattle.acta_objects.specs.Objects.{first_state, state_after, returned};
-ghost use Rattle.acta_sets.specs.Operations.{added, are_held, ended, handed, handed_of, moved};
+ghost use Rattle.acta_sets.specs.Operations.{added, are_held, ended, transferred, transferred_of, moved};
 ghost use Rattle.acta_values.specs.Live.{live_ops};
 ghost use Rattle.acta_values.specs.KeptValues.{kinds_of};
 
@@ -104,11 +104,11 @@ impl<A: Handle> Store<A> {
     }
 
     /// From now on `u` holds those of the named operations that `from` holds in progress. On `Err` none is handed on.
-    pub fn hand(&mut self, from: TxnId, ops: &OpSet<A>, u: TxnId) -> Result<(), AllocError>
-        ensures ok { OnOk result (self.new ≡ record self.old { items = handed_of from.0 ops.now u self.old.items }) }
+    pub fn transfer(&mut self, from: TxnId, ops: &OpSet<A>, u: TxnId) -> Result<(), AllocError>
+        ensures ok { OnOk result (self.new ≡ record self.old { items = transferred_of from.0 ops.now u self.old.items }) }
         ensures err { OnErr result (self.new ≡ self.old) }
     {
-        self.operations.hand(from, ops, u)
+        self.operations.transfer(from, ops, u)
     }
 
     /// From now on `u` holds the named operations, which `from` holds in progress. On `Err` none is moved.
@@ -121,11 +121,11 @@ impl<A: Handle> Store<A> {
     }
 
     /// From now on `u` holds all that `t` holds in progress. On `Err` nothing is handed on.
-    pub fn hand_all(&mut self, t: TxnId, u: TxnId) -> Result<(), AllocError>
-        ensures ok { OnOk result (self.new ≡ record self.old { items = handed t.0 u self.old.items }) }
+    pub fn transfer_all(&mut self, t: TxnId, u: TxnId) -> Result<(), AllocError>
+        ensures ok { OnOk result (self.new ≡ record self.old { items = transferred t.0 u self.old.items }) }
         ensures err { OnErr result (self.new ≡ self.old) }
     {
-        self.operations.hand_all(t, u)
+        self.operations.transfer_all(t, u)
     }
 
     /// All that `t` holds in progress gets this fate, which is committed or aborted. What is aborted is taken back from

@@ -21,7 +21,7 @@ pub trait Case {
     fn call(&self, state: &mut Self::State) -> Option<Self::Answer>;
 
     /// Returns the answer as text, after the call has left this state. Nothing is refused meanwhile.
-    fn tell(&self, answer: &Self::Answer, state: &Self::State) -> String;
+    fn describe(&self, answer: &Self::Answer, state: &Self::State) -> String;
 
     /// Returns what the readers of the state answer, as text. Nothing is refused meanwhile.
     fn read(&self, state: &Self::State) -> String;
@@ -69,7 +69,7 @@ fn try_call<B: Allocator, C: Case>(
 // Whether the call has this answer.
 fn has_answer<C: Case>(case: &C, state: &C::State, answer: Option<&C::Answer>, due: &str) -> bool {
     match answer {
-        Some(answer) => case.tell(answer, state).as_str() == due,
+        Some(answer) => case.describe(answer, state).as_str() == due,
         None => false,
     }
 }

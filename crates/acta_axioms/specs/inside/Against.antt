@@ -1,4 +1,4 @@
--- What stands against an operation, whomever its transaction spares, and which edges an event forms that is no operation.
+-- What stands against an operation, whomever its transaction exempts, and which edges an event forms that is no operation.
 use Rattle.std.specs.Prelude.{ℕ, Bool, ◌&&◌, not, ◌==◌, List, [], ◌∷◌, slice_get}
 use Rattle.std.specs.Option.{option_map_or}
 use Rattle.acta_table.specs.declared.dep.Edge.{Edge}
@@ -23,5 +23,5 @@ edges_wanted classes _ = []
 -- whether the operation is in progress, on this object, held by another than t whom t does not spare, and conflicts with
 -- the other
 abbrev pub is_against_but : ℕ → (ℕ → Bool) → ℕ → Op → HeldOp → Bool
-is_against_but t spared object op i =
-    is_open i.fate && not (i.holder.0 == t) && not (spared i.holder.0) && (i.ob.0 == object) && ops_conflict i.op op
+is_against_but t exempt object op i =
+    is_open i.fate && not (i.holder.0 == t) && not (exempt i.holder.0) && (i.ob.0 == object) && ops_conflict i.op op

@@ -10,7 +10,7 @@ use Rattle.acta_table.specs.declared.event.OpNo.{OpNo}
 use Rattle.acta_table.specs.declared.event.TxnId.{TxnId}
 use Rattle.acta_table.specs.declared.limits.TheConstants.{MOST_EVENTS}
 use Rattle.acta_table.specs.declared.model.Parts.{Parts}
-use Rattle.acta_table.specs.Classes.{spares}
+use Rattle.acta_table.specs.Classes.{exempts}
 use Rattle.acta_table.specs.Events.{named}
 use Rattle.acta_table.specs.Numbered.{numbers_where, ascending}
 use Rattle.acta_objects.specs.Conflicts.{conflict_on}
@@ -18,15 +18,15 @@ use Rattle.acta_sets.specs.declared.held_op.HeldOp.{HeldOp}
 use Rattle.acta_sets.specs.Permits.{Permitted, with_permit, without_permits}
 use Rattle.acta_values.specs.KeptValues.{kinds_of}
 use Rattle.acta_values.specs.Stores.{Stored}
-use Rattle.acta_axioms.specs.declared.lineage.Lineage.{Lineage}
+use Rattle.acta_axioms.specs.declared.txn_record.TxnRecord.{TxnRecord}
 use Rattle.acta_axioms.specs.declared.seeking.Sought.{Sought}
 use Rattle.acta_axioms.specs.declared.seeking.Sought.TheVariants.{Others, Against}
 use Rattle.acta_axioms.specs.History.{has_class, has_ended, ancestors}
-use Rattle.acta_axioms.specs.Operations.{Standing, is_spared, is_of_others}
+use Rattle.acta_axioms.specs.Operations.{Standing, is_exempt, is_of_others}
 use Rattle.acta_axioms.specs.Permits.{has_permitted}
 use Rattle.acta_axioms.specs.Edges.{edges}
 use Rattle.acta_axioms.specs.Walks.{held_ops}
-use Rattle.acta_axioms.specs.inside.Lineages.{unbegun, lineage}
+use Rattle.acta_axioms.specs.inside.TxnRecords.{unbegun, txn_record}
 
 -- the permits that an event leaves: those that name the one that it ends are gone
 abbrev pub permits_left : {A : Type 0} → Event A → Permitted → Permitted
@@ -47,11 +47,11 @@ is_left h s t object = has_permitted h s t object && not (has_ended h s) && not 
 -- what is kept is what the definitions give behind the first n items: the lineage of each transaction, the
 -- operations on the objects of the model, the edges, and the permits that can still count
 pub record IsKept {A : Type 0} (m : Parts A) (h : List (Kept A)) (n : ℕ)
-    (lines : List Lineage) (store : Stored) (formed : List Edge) (permitted : Permitted) : Type 0 where
+    (lines : List TxnRecord) (store : Stored) (formed : List Edge) (permitted : Permitted) : Type 0 where
   pub within : n ≤ length h
   pub few : length h ≤ MOST_EVENTS
   pub wide : All (λ k. All (λ t. t < length lines) (named k.event)) h
-  pub lines_are : (t : ℕ) → get_or lines t unbegun ≡ lineage (take n h) t
+  pub lines_are : (t : ℕ) → get_or lines t unbegun ≡ txn_record (take n h) t
   pub kinds_are : store.kinds ≡ kinds_of m.objects
   pub items_are : store.items ≡ held_ops m (take n h)
   pub edges_are : formed ≡ edges m (take n h)
@@ -62,16 +62,16 @@ abbrev pub standing_in : HeldOp → Standing
 standing_in x = record { holder = x.holder.0; fate = x.fate }
 
 -- the ancestors of t that its class leaves out of its conflict set
-abbrev pub spared : {A : Type 0} → Parts A → List (Kept A) → ℕ → List TxnId
-spared m h t = if has_class (λ k. spares k.scope) m h t then ancestors h t else []
+abbrev pub exempt : {A : Type 0} → Parts A → List (Kept A) → ℕ → List TxnId
+exempt m h t = if has_class (λ k. exempts k.scope) m h t then ancestors h t else []
 
 -- the same by number, ascending, each once
-abbrev pub spared_numbers : {A : Type 0} → Parts A → List (Kept A) → ℕ → List ℕ
-spared_numbers m h t = ascending (map (λ u. u.0) (spared m h t))
+abbrev pub exempt_numbers : {A : Type 0} → Parts A → List (Kept A) → ℕ → List ℕ
+exempt_numbers m h t = ascending (map (λ u. u.0) (exempt m h t))
 
--- these are those whose operations on the object t is spared
-abbrev pub AreSpared : {A : Type 0} → Parts A → List (Kept A) → ℕ → ℕ → List ℕ → Type 0
-AreSpared m h t object us = (u : ℕ) → list_any (λ k. k == u) us ≡ is_spared m h t object u
+-- these are those whose operations on the object t is exempt
+abbrev pub AreExempt : {A : Type 0} → Parts A → List (Kept A) → ℕ → ℕ → List ℕ → Type 0
+AreExempt m h t object us = (u : ℕ) → list_any (λ k. k == u) us ≡ is_exempt m h t object u
 
 -- whether the operation is on this object and of t's conflict set, and conflicts with one of t
 abbrev pub is_against : {A : Type 0} → Parts A → List (Kept A) → ℕ → ℕ → Op → HeldOp → Bool

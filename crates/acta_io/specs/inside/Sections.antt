@@ -5,14 +5,14 @@ use Rattle.acta_script.specs.Commands.{command_of}
 use Rattle.acta_script.specs.declared.commands.DebugCommand.{DebugCommand}
 use Rattle.acta_io.specs.declared.input.Input.{Input}
 use Rattle.acta_io.specs.Sections.{ends_events}
-use Rattle.acta_io.specs.Input.{Said, said_from}
+use Rattle.acta_io.specs.Input.{Said, parsed_from}
 
 -- what was read, as the definitions see it
-abbrev pub said_of : {X A : Type 0} → Input X A → Said X
-said_of read = record { said = read.said.items; stop = read.stop }
+abbrev pub parsed_of : {X A : Type 0} → Input X A → Said X
+parsed_of read = record { parsed = read.parsed.items; stop = read.stop }
 
 -- the commands behind the first of these lines, which has the number n, if it ends the events
 abbrev pub commands_from : {A : Type 0} → Parts A → ℕ → List (List ℕ) → Option (Said DebugCommand)
 commands_from m n [] = None
 commands_from m n (line ∷ lines) =
-    if ends_events line then Some (said_from (command_of m) (n + 1) lines) else None
+    if ends_events line then Some (parsed_from (command_of m) (n + 1) lines) else None

@@ -165,20 +165,20 @@ unfolding verdict all_faults owed breaches bad_number bad_class bad_object bad_o
 allowed_all = refl
 
 -- parties in progress: one that never began hands over
-handed_over_by_none : verdict model (begin 6 4 ∷ delegate 7 6 [] ∷ []) ≡ found (fault PartiesInProgress 2 7 ∷ [])
+transferred_over_by_none : verdict model (begin 6 4 ∷ delegate 7 6 [] ∷ []) ≡ found (fault PartiesInProgress 2 7 ∷ [])
 unfolding verdict all_faults owed breaches bad_number bad_class bad_object bad_operation same_transaction
-handed_over_by_none = refl
+transferred_over_by_none = refl
 
 -- one is handed something that never began
-handed_to_none : verdict model (begin 6 4 ∷ delegate 6 7 [] ∷ []) ≡ found (fault PartiesInProgress 2 7 ∷ [])
+transferred_to_none : verdict model (begin 6 4 ∷ delegate 6 7 [] ∷ []) ≡ found (fault PartiesInProgress 2 7 ∷ [])
 unfolding verdict all_faults owed breaches bad_number bad_class bad_object bad_operation same_transaction
-handed_to_none = refl
+transferred_to_none = refl
 
 -- neither has begun: a fault by each, in order of numbers
-handed_by_and_to_none : verdict model (delegate 7 6 [] ∷ [])
+transferred_by_and_to_none : verdict model (delegate 7 6 [] ∷ [])
     ≡ found (fault PartiesInProgress 1 6 ∷ fault PartiesInProgress 1 7 ∷ [])
 unfolding verdict all_faults owed breaches bad_number bad_class bad_object bad_operation same_transaction axiom_number
-handed_by_and_to_none = refl
+transferred_by_and_to_none = refl
 
 -- one is joined that has aborted
 joined_to_none : verdict parting (begin 6 0 ∷ begin 7 0 ∷ abort 7 ∷ join 6 7 ∷ [])
@@ -197,21 +197,21 @@ unfolding verdict all_faults owed breaches bad_number bad_class bad_object bad_o
 spawned_by_none = refl
 
 -- both have begun
-handed_among_those_in_progress : verdict model (begin 6 4 ∷ begin 7 4 ∷ delegate 6 7 [] ∷ []) ≡ faultless
+transferred_among_those_in_progress : verdict model (begin 6 4 ∷ begin 7 4 ∷ delegate 6 7 [] ∷ []) ≡ faultless
 unfolding verdict all_faults owed breaches bad_number bad_class bad_object bad_operation same_transaction
-handed_among_those_in_progress = refl
+transferred_among_those_in_progress = refl
 
 -- responsible: what another holds is handed over
-handed_what_another_holds : verdict model (begin 6 4 ∷ begin 7 4 ∷ operate 7 1 (Add (pos 5)) Done ∷ operate 6 1 (Add (pos 5)) Done ∷ delegate 7 6 (2 ∷ []) ∷ [])
+transferred_what_another_holds : verdict model (begin 6 4 ∷ begin 7 4 ∷ operate 7 1 (Add (pos 5)) Done ∷ operate 6 1 (Add (pos 5)) Done ∷ delegate 7 6 (2 ∷ []) ∷ [])
     ≡ found (fault Responsible 5 2 ∷ [])
 unfolding verdict all_faults owed breaches bad_number bad_class bad_object bad_operation same_transaction is_permitted
-handed_what_another_holds = refl
+transferred_what_another_holds = refl
 
 -- operations that are nowhere, that stand later, and that no operation is
-handed_what_is_not_there : verdict model (begin 6 4 ∷ begin 7 4 ∷ delegate 7 6 (0 ∷ 1 ∷ 9 ∷ []) ∷ operate 7 1 (Add (pos 5)) Done ∷ [])
+transferred_what_is_not_there : verdict model (begin 6 4 ∷ begin 7 4 ∷ delegate 7 6 (0 ∷ 1 ∷ 9 ∷ []) ∷ operate 7 1 (Add (pos 5)) Done ∷ [])
     ≡ found (fault Responsible 3 0 ∷ fault Responsible 3 1 ∷ fault Responsible 3 9 ∷ [])
 unfolding verdict all_faults owed breaches bad_number bad_class bad_object bad_operation same_transaction axiom_number
-handed_what_is_not_there = refl
+transferred_what_is_not_there = refl
 
 -- what has been handed over is split off
 split_what_is_over : verdict parting (begin 6 0 ∷ begin 7 0 ∷ operate 6 1 (Add (pos 5)) Done ∷ operate 6 1 (Add (pos 5)) Done ∷ split 6 8 0 (2 ∷ []) ∷ split 6 9 0 (1 ∷ 2 ∷ []) ∷ [])
@@ -220,10 +220,10 @@ unfolding verdict all_faults owed breaches bad_number bad_class bad_object bad_o
 split_what_is_over = refl
 
 -- one hands over what it holds
-handed_what_it_holds : verdict model (begin 6 4 ∷ begin 7 4 ∷ operate 7 1 (Add (pos 5)) Done ∷ operate 6 1 (Add (pos 5)) Done ∷ delegate 6 7 (2 ∷ []) ∷ [])
+transferred_what_it_holds : verdict model (begin 6 4 ∷ begin 7 4 ∷ operate 7 1 (Add (pos 5)) Done ∷ operate 6 1 (Add (pos 5)) Done ∷ delegate 6 7 (2 ∷ []) ∷ [])
     ≡ faultless
 unfolding verdict all_faults owed breaches bad_number bad_class bad_object bad_operation same_transaction is_permitted
-handed_what_it_holds = refl
+transferred_what_it_holds = refl
 
 -- hands over the whole: one that must do so keeps its second operation
 kept_one_back : verdict model (begin 6 5 ∷ begin 7 4 ∷ operate 6 1 (Add (pos 5)) Done ∷ operate 6 1 (Add (pos 5)) Done ∷ delegate 6 7 (1 ∷ []) ∷ [])
@@ -238,16 +238,16 @@ unfolding verdict all_faults owed breaches bad_number bad_class bad_object bad_o
 split_keeps_one_back = refl
 
 -- it hands over both
-handed_all : verdict model (begin 6 5 ∷ begin 7 4 ∷ operate 6 1 (Add (pos 5)) Done ∷ operate 6 1 (Add (pos 5)) Done ∷ delegate 6 7 (1 ∷ 2 ∷ []) ∷ [])
+transferred_all : verdict model (begin 6 5 ∷ begin 7 4 ∷ operate 6 1 (Add (pos 5)) Done ∷ operate 6 1 (Add (pos 5)) Done ∷ delegate 6 7 (1 ∷ 2 ∷ []) ∷ [])
     ≡ faultless
 unfolding verdict all_faults owed breaches bad_number bad_class bad_object bad_operation same_transaction
-handed_all = refl
+transferred_all = refl
 
 -- one of a class that hands over any part keeps one back
-handed_any : verdict model (begin 6 4 ∷ begin 7 4 ∷ operate 6 1 (Add (pos 5)) Done ∷ operate 6 1 (Add (pos 5)) Done ∷ delegate 6 7 (1 ∷ []) ∷ [])
+transferred_any : verdict model (begin 6 4 ∷ begin 7 4 ∷ operate 6 1 (Add (pos 5)) Done ∷ operate 6 1 (Add (pos 5)) Done ∷ delegate 6 7 (1 ∷ []) ∷ [])
     ≡ faultless
 unfolding verdict all_faults owed breaches bad_number bad_class bad_object bad_operation same_transaction
-handed_any = refl
+transferred_any = refl
 
 -- conflict: one writes over what another has written
 written_over : verdict model (begin 6 0 ∷ begin 7 0 ∷ operate 6 1 (Add (pos 5)) Done ∷ operate 6 0 (Write (pos 5)) Done ∷ operate 7 0 (Write (pos 6)) Done ∷ [])

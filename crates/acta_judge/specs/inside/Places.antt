@@ -7,7 +7,7 @@ use Rattle.acta_table.specs.declared.model.Parts.{Parts}
 use Rattle.acta_axioms.specs.declared.fault.Axiom.{Axiom}
 use Rattle.acta_axioms.specs.declared.fault.Axiom.TheVariants.{BegunOnce, EndedAfterBegun, EndedOnce, OperatesInProgress, FormOfEvent, Allowed, PartiesInProgress, Responsible, HandsWhole, Conflict, Return, Heir, FormedInTime}
 use Rattle.acta_axioms.specs.declared.fault.Fault.{Fault}
-use Rattle.acta_axioms.specs.Faults.{begun_again, ended_unbegun, ended_again, operated_idle, ill_formed, not_allowed, idle_party, handed_unheld, kept_back, in_conflict, wrong_return, without_heir, not_in_time, faults_of}
+use Rattle.acta_axioms.specs.Faults.{begun_again, ended_unbegun, ended_again, operated_idle, ill_formed, not_allowed, idle_party, transferred_unheld, kept_back, in_conflict, wrong_return, without_heir, not_in_time, faults_of}
 
 -- the faults at a place by which axioms are broken so
 abbrev pub faults_by : ℕ → List (Axiom × List ℕ) → List Fault
@@ -27,10 +27,10 @@ abbrev pub out_of_model : {A : Type 0} → Parts A → List (Kept A) → Event A
 out_of_model m before e = (FormOfEvent, ill_formed m e) ∷ (Allowed, not_allowed m before e) ∷ []
 
 -- who takes part, or hands over, what it cannot
-abbrev pub badly_handed : {A : Type 0} → Parts A → List (Kept A) → Event A → List (Axiom × List ℕ)
-badly_handed m before e =
+abbrev pub badly_transferred : {A : Type 0} → Parts A → List (Kept A) → Event A → List (Axiom × List ℕ)
+badly_transferred m before e =
     (PartiesInProgress, idle_party before e)
-    ∷ (Responsible, handed_unheld m before e)
+    ∷ (Responsible, transferred_unheld m before e)
     ∷ (HandsWhole, kept_back m before e)
     ∷ []
 

@@ -68,11 +68,11 @@ abbrev pub closed_noted : Noted → Option ClassAt → Noted
 closed_noted x None = x
 closed_noted x (Some c) = record x { classes = x.classes ++ (record { name = c.name; line = c.line }) ∷ []; current = None }
 
-abbrev pub said_more : Form → ℕ → ClassAt → ClassAt
-said_more said number c = record c { parts = with_line said number c.parts }
+abbrev pub parsed_more : Form → ℕ → ClassAt → ClassAt
+parsed_more parsed number c = record c { parts = with_line parsed number c.parts }
 
-abbrev pub said_noted : Noted → ℕ → Form → Noted
-said_noted x number said = record x { current = option_map (said_more said number) x.current }
+abbrev pub parsed_noted : Noted → ℕ → Form → Noted
+parsed_noted x number parsed = record x { current = option_map (parsed_more parsed number) x.current }
 
 -- what is noted with the line of this number, of these words and this form
 abbrev pub noted_by : ℕ → List (List ℕ) → Form → Noted → Noted
@@ -81,33 +81,33 @@ noted_by number words form.Counter x = object_noted x (name_in words) number
 noted_by number words form.Elements x = object_noted x (name_in words) number
 noted_by number words form.Class x = record x { current = Some (begun (name_in words) number) }
 noted_by number words form.End x = closed_noted x x.current
-noted_by number words said x = said_noted x number said
+noted_by number words parsed x = parsed_noted x number parsed
 
 -- the line and the class of a fault, by what is noted
 abbrev pub earlier_noted : Noted → List (List ℕ) → Form → Code → Option ℕ
-earlier_noted x words said DuplicateName =
-    if is_class said then option_or (line_of (name_in words) x.classes) (current_line (name_in words) x.current)
+earlier_noted x words parsed DuplicateName =
+    if is_class parsed then option_or (line_of (name_in words) x.classes) (current_line (name_in words) x.current)
     else line_of (name_in words) x.objects
-earlier_noted x words said WrongPlace = option_and_then (λ c. part_line said c.parts) x.current
-earlier_noted x words said _ = None
+earlier_noted x words parsed WrongPlace = option_and_then (λ c. part_line parsed c.parts) x.current
+earlier_noted x words parsed _ = None
 
 abbrev pub class_noted : Noted → ℕ → List (List ℕ) → Form → Code → Option ClassAt
-class_noted x number words said MissingEnd = if is_class said then Some (begun (name_in words) number) else x.current
-class_noted x number words said _ = x.current
+class_noted x number words parsed MissingEnd = if is_class parsed then Some (begun (name_in words) number) else x.current
+class_noted x number words parsed _ = x.current
 
 -- the diagnostic of the line of this number that has this code
 abbrev pub diagnosis : {A : Type 0} → Draft A → Noted → ℕ → List ℕ → Code → Diagnostic
 diagnosis d x number line code =
     let words = words_of line in
-    let said = form_of words in
-    let at = place_of d line words said code in
+    let parsed = form_of words in
+    let at = place_of d line words parsed code in
     record {
       line = number;
       code = code;
       place = at.0;
       expected = at.1;
-      earlier = earlier_noted x words said code;
-      class = class_noted x number words said code;
+      earlier = earlier_noted x words parsed code;
+      class = class_noted x number words parsed code;
     }
 
 -- a class has said the parts whose lines are noted

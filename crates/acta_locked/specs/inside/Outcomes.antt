@@ -31,7 +31,7 @@ IsOfGate {A} may_stop may_pass may_go_on stop pass go_on =
     ((seat k : ℕ) → may_stop seat k → stop seat k) × ((seat k : ℕ) → may_pass seat k → pass seat k)
     × ((seat k : ℕ) (e : Entry A) → may_go_on seat k e → go_on seat k e)
 
--- why a run whose scripts nothing bars may have no result
+-- why a run whose scripts nothing blocks may have no result
 abbrev pub MayEnd : {A : Type 0} → (ℕ → ℕ → Type 0) → List (List (Event A)) → DriveError → Type 0
 MayEnd may_stop scripts e = (is_of_scripts e ≡ false) × MayFail may_stop scripts e
 

@@ -23,54 +23,54 @@ apart_back : (x y : ℤ) → int_eq x y ≡ false → int_eq y x ≡ false
 apart_back x y n = int_eq_equiv.symm y x ∙ n
 
 -- an insertion or a removal tells a test of another element the same before and after
-told_inserted : (f : Bool → Ret) (v : List ℤ) (x y : ℤ) → int_eq x y ≡ false → f (has (insert_key int_cmp v y) x) ≡ f (has v x)
-told_inserted f v x y n = ap f (has_inserted_other v x y n)
+reported_inserted : (f : Bool → Ret) (v : List ℤ) (x y : ℤ) → int_eq x y ≡ false → f (has (insert_key int_cmp v y) x) ≡ f (has v x)
+reported_inserted f v x y n = ap f (has_inserted_other v x y n)
 
-told_removed : (f : Bool → Ret) (v : List ℤ) (x y : ℤ) → int_eq x y ≡ false → IsSet v → f (has (remove_key (int_eq y) v) x) ≡ f (has v x)
-told_removed f v x y n s = ap f (has_removed_other v x y n s)
+reported_removed : (f : Bool → Ret) (v : List ℤ) (x y : ℤ) → int_eq x y ≡ false → IsSet v → f (has (remove_key (int_eq y) v) x) ≡ f (has v x)
+reported_removed f v x y n s = ap f (has_removed_other v x y n s)
 
 -- where the table says no, the order cannot tell
 pub set_commutes : (p q : Op) → set_conflicts p q ≡ false → (v : List ℤ) → IsSet v → Commutes set_step set_return v p q
 set_commutes (Insert x) (Insert y) n v s = record {
   state = insert_insert v x y s;
-  first = sym (told_inserted (λ b. Flag (not b)) v x y n);
-  second = told_inserted (λ b. Flag (not b)) v y x (apart_back x y n);
+  first = sym (reported_inserted (λ b. Flag (not b)) v x y n);
+  second = reported_inserted (λ b. Flag (not b)) v y x (apart_back x y n);
 }
 set_commutes (Insert x) (Remove y) n v s = record {
   state = insert_remove v x y n s;
-  first = sym (told_removed (λ b. Flag (not b)) v x y n s);
-  second = told_inserted Flag v y x (apart_back x y n);
+  first = sym (reported_removed (λ b. Flag (not b)) v x y n s);
+  second = reported_inserted Flag v y x (apart_back x y n);
 }
 set_commutes (Insert x) (Has y) n v s = record {
   state = refl;
   first = refl;
-  second = told_inserted Flag v y x (apart_back x y n);
+  second = reported_inserted Flag v y x (apart_back x y n);
 }
 set_commutes (Insert x) Size n v s = absurd (true≢false n)
 set_commutes (Remove x) (Insert y) n v s = record {
   state = sym (insert_remove v y x (apart_back x y n) s);
-  first = sym (told_inserted Flag v x y n);
-  second = told_removed (λ b. Flag (not b)) v y x (apart_back x y n) s;
+  first = sym (reported_inserted Flag v x y n);
+  second = reported_removed (λ b. Flag (not b)) v y x (apart_back x y n) s;
 }
 set_commutes (Remove x) (Remove y) n v s = record {
   state = remove_remove v x y s;
-  first = sym (told_removed Flag v x y n s);
-  second = told_removed Flag v y x (apart_back x y n) s;
+  first = sym (reported_removed Flag v x y n s);
+  second = reported_removed Flag v y x (apart_back x y n) s;
 }
 set_commutes (Remove x) (Has y) n v s = record {
   state = refl;
   first = refl;
-  second = told_removed Flag v y x (apart_back x y n) s;
+  second = reported_removed Flag v y x (apart_back x y n) s;
 }
 set_commutes (Remove x) Size n v s = absurd (true≢false n)
 set_commutes (Has x) (Insert y) n v s = record {
   state = refl;
-  first = sym (told_inserted Flag v x y n);
+  first = sym (reported_inserted Flag v x y n);
   second = refl;
 }
 set_commutes (Has x) (Remove y) n v s = record {
   state = refl;
-  first = sym (told_removed Flag v x y n s);
+  first = sym (reported_removed Flag v x y n s);
   second = refl;
 }
 set_commutes Size (Insert y) n v s = absurd (true≢false n)

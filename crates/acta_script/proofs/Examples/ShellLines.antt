@@ -21,8 +21,8 @@ use Rattle.acta_script.specs.declared.shell_lines.ShellLine.{ShellLine}
 use Rattle.acta_script.specs.declared.shell_lines.ShellLine.TheVariants as line
 use Rattle.acta_script.specs.declared.shell_lines.Topic.TheVariants as topic
 use Rattle.acta_script.specs.declared.shell_words.ShellKind.TheVariants as kind
-use Rattle.acta_script.specs.Reading.{commit_said, event_said}
-use Rattle.acta_script.specs.Shell.{shell_line_of, shell_line_said}
+use Rattle.acta_script.specs.Reading.{parse_commit, parse_event}
+use Rattle.acta_script.specs.Shell.{shell_line_of, parse_shell_line}
 
 -- a register and a class
 abbrev model : Parts (Unit {0})
@@ -38,63 +38,63 @@ abbrev wrong : LineFault → WordPlace → Expected → Result (ShellLine (Unit 
 wrong fault place expected = Err (record { fault = fault; place = place; expected = expected })
 
 an_event : read (codes "commit 2") ≡ Ok (line.Event (event.Commit (record { 0 = 2 })))
-unfolding shell_line_said event_said commit_said
+unfolding parse_shell_line parse_event parse_commit
 an_event = refl
 
 asked : read (codes "can commit 2") ≡ Ok (line.Can (event.Commit (record { 0 = 2 })))
-unfolding shell_line_said event_said commit_said
+unfolding parse_shell_line parse_event parse_commit
 asked = refl
 
 -- a count that is left out is 1
 one_back : read (codes "undo") ≡ Ok (line.Command (command.Undo 1))
-unfolding shell_line_said event_said commit_said
+unfolding parse_shell_line parse_event parse_commit
 one_back = refl
 
 four_back : read (codes "undo 4") ≡ Ok (line.Command (command.Undo 4))
-unfolding shell_line_said event_said commit_said
+unfolding parse_shell_line parse_event parse_commit
 four_back = refl
 
 all_edges : read (codes "edges") ≡ Ok (line.Command (command.Edges None))
-unfolding shell_line_said event_said commit_said
+unfolding parse_shell_line parse_event parse_commit
 all_edges = refl
 
 about_can : read (codes "help can") ≡ Ok (line.Command (command.Help (Some topic.Can)))
-unfolding shell_line_said event_said commit_said
+unfolding parse_shell_line parse_event parse_commit
 about_can = refl
 
 about_an_event : read (codes "help commit") ≡ Ok (line.Command (command.Help (Some (topic.Event event_kind.Commit))))
-unfolding shell_line_said event_said commit_said
+unfolding parse_shell_line parse_event parse_commit
 about_an_event = refl
 
 no_place : read (codes "goto") ≡ wrong Arity (Missing 1) (ShellForm kind.Goto)
-unfolding shell_line_said event_said commit_said
+unfolding parse_shell_line parse_event parse_commit
 no_place = refl
 
 two_words : read (codes "goto 1 2") ≡ wrong Arity (Wrong 2) (ShellForm kind.Goto)
-unfolding shell_line_said event_said commit_said
+unfolding parse_shell_line parse_event parse_commit
 two_words = refl
 
 no_count : read (codes "undo x") ≡ wrong Number (Wrong 1) (Part part.Count)
-unfolding shell_line_said event_said commit_said
+unfolding parse_shell_line parse_event parse_commit
 no_count = refl
 
 no_object : read (codes "value y") ≡ wrong Name (Wrong 1) (Part part.Object)
-unfolding shell_line_said event_said commit_said
+unfolding parse_shell_line parse_event parse_commit
 no_object = refl
 
 nothing_asked : read (codes "can") ≡ wrong Arity (Missing 1) (Part part.Event)
-unfolding shell_line_said event_said commit_said
+unfolding parse_shell_line parse_event parse_commit
 nothing_asked = refl
 
 -- the number of the word counts the word `can` too
 asked_of_x : read (codes "can commit x") ≡ wrong Number (Wrong 2) (Part part.Transaction)
-unfolding shell_line_said event_said commit_said
+unfolding parse_shell_line parse_event parse_commit
 asked_of_x = refl
 
 misspelt : read (codes "comit 2") ≡ wrong Word (Wrong 0) (Part part.Event)
-unfolding shell_line_said event_said commit_said
+unfolding parse_shell_line parse_event parse_commit
 misspelt = refl
 
 blank : read (codes "") ≡ wrong Empty (Missing 0) (Part part.Event)
-unfolding shell_line_said event_said commit_said
+unfolding parse_shell_line parse_event parse_commit
 blank = refl

@@ -4,7 +4,7 @@ use Rattle.std.specs.HashMap.{HashMap}
 use Rattle.smallvec.specs.SmallVec.{SmallVec}
 use Rattle.acta_table.specs.declared.limits.TheConstants.{MOST_EVENTS}
 use Rattle.acta_sets.specs.declared.held_op.HeldOp.{HeldOp}
-use Rattle.acta_sets.specs.declared.mode.Tag.{Tag}
+use Rattle.acta_sets.specs.declared.mode.ModeKey.{ModeKey}
 use Rattle.acta_sets.specs.inside.Held.{AreHeld, AreAmong}
 use Rattle.acta_sets.specs.inside.Filing.{AreFiled}
 use Rattle.acta_sets.specs.inside.Modes.{coarse, listed_fine}
@@ -13,7 +13,7 @@ use Rattle.acta_sets.specs.inside.Listing.{AreListed, FrontsHold}
 
 -- there are few enough, each transaction's list is its access set, those with one that is not empty are
 -- among the holders, and each operation in progress is filed
-abbrev pub IsIndexed : {A S : Type 0} → List HeldOp → List (SmallVec ℕ) → List ℕ → HashMap Tag ℕ S → HashMap Tag (ModeList A) S → HashMap Tag (ModeList A) S → Type 0
+abbrev pub IsIndexed : {A S : Type 0} → List HeldOp → List (SmallVec ℕ) → List ℕ → HashMap ModeKey ℕ S → HashMap ModeKey (ModeList A) S → HashMap ModeKey (ModeList A) S → Type 0
 IsIndexed items lists holders counts first second = record {
   few : length items ≤ MOST_EVENTS;
   held : AreHeld items lists;

@@ -3,14 +3,14 @@ use Rattle.std.specs.Prelude.{Bool, true, false, ◌&&◌, ◌==◌, pos, Option
 use Rattle.std.specs.Ordering.{int_eq}
 use Rattle.acta_table.specs.declared.event.Op.{Op}
 use Rattle.acta_table.specs.declared.event.Op.TheVariants.{Read, Write, Get, Add, Insert, Remove, Has, Size}
-use Rattle.acta_sets.specs.declared.mode.Mode.{Mode}
-use Rattle.acta_sets.specs.declared.mode.Mode.TheVariants.{Reads, Writes, WritesOf, Gets, Adds, Sizes, Changes, ChangesOf, Tests}
+use Rattle.acta_sets.specs.declared.mode.LockMode.{LockMode}
+use Rattle.acta_sets.specs.declared.mode.LockMode.TheVariants.{Reads, Writes, WritesOf, Gets, Adds, Sizes, Changes, ChangesOf, Tests}
 use Rattle.acta_sets.specs.declared.mode.Holder.{Holder}
 use Rattle.acta_sets.specs.declared.mode.Holder.TheVariants.{Anyone, Txn}
-use Rattle.acta_sets.specs.declared.mode.Tag.{Tag}
+use Rattle.acta_sets.specs.declared.mode.ModeKey.{ModeKey}
 
 -- whether two modes are the same
-abbrev pub same_mode : Mode → Mode → Bool
+abbrev pub same_mode : LockMode → LockMode → Bool
 same_mode Reads Reads = true
 same_mode Writes Writes = true
 same_mode (WritesOf v) (WritesOf w) = int_eq v w
@@ -29,11 +29,11 @@ same_holder (Txn t) (Txn u) = t == u
 same_holder _ _ = false
 
 -- whether two tags are the same
-abbrev pub same_tag : Tag → Tag → Bool
+abbrev pub same_tag : ModeKey → ModeKey → Bool
 same_tag k l = same_holder k.holder l.holder && (k.ob == l.ob) && same_mode k.mode l.mode
 
 -- the coarse mode of an operation, if any: that of all of its sort
-abbrev pub coarse : Op → Option Mode
+abbrev pub coarse : Op → Option LockMode
 coarse Read = Some Reads
 coarse (Write v) = Some Writes
 coarse Get = Some Gets
@@ -44,7 +44,7 @@ coarse (Has x) = None
 coarse Size = Some Sizes
 
 -- its fine mode, if any: that of those with its value
-abbrev pub fine : Op → Option Mode
+abbrev pub fine : Op → Option LockMode
 fine Read = None
 fine (Write v) = Some (WritesOf v)
 fine Get = None
@@ -55,7 +55,7 @@ fine (Has x) = Some (Tests x)
 fine Size = None
 
 -- the fine mode that it is listed under, if any
-abbrev pub listed_fine : Op → Option Mode
+abbrev pub listed_fine : Op → Option LockMode
 listed_fine Read = None
 listed_fine (Write v) = None
 listed_fine Get = None

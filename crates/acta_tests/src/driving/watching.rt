@@ -133,7 +133,7 @@ fn a_front_in_the_midst_of_two_scripts(rt: HostRuntime) {
     watch_two(&rt, rt.alloc());
 }
 
-// Without a turn there is no front; and what bars a drive bars one that is watched.
+// Without a turn there is no front; and what blocks a drive blocks one that is watched.
 fn watch_none<A: Handle + Send + Sync, R: Threads + Wait + Sync + Abort>(rt: &R, alloc: A) {
     let scripts = scripts(rt, alloc, &ADDITIONS);
     let watched = made(
@@ -150,6 +150,6 @@ fn watch_none<A: Handle + Send + Sync, R: Threads + Wait + Sync + Abort>(rt: &R,
 fn no_turn_and_no_worker(rt: HostRuntime) {
     watch_none(&rt, rt.alloc());
     let none = scripts(&rt, rt.alloc(), &[]);
-    let barred = watched(&rt, rt.alloc(), none.as_slice(), &OpenGate, 2).err();
-    same(&rt, &barred, &Some(DriveError::NoWorker), "no worker");
+    let blocked = watched(&rt, rt.alloc(), none.as_slice(), &OpenGate, 2).err();
+    same(&rt, &blocked, &Some(DriveError::NoWorker), "no worker");
 }

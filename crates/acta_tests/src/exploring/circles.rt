@@ -1,6 +1,6 @@
 //! Seats that wait for one another at ends of programs.
 
-use crate::expecting::{made, tells};
+use crate::expecting::{expect_text, made};
 use crate::exploring::{FOUR, programs_of};
 use crate::models::model_of;
 use acta_explore::{Plan, deadlock, explore};
@@ -64,7 +64,7 @@ fn two_that_cross(rt: HostRuntime) {
         (3, " -; -; -;"),
     ] {
         let found = circles(&rt, (rt.alloc(), rt.alloc()), (FOUR, CROSSED), seat);
-        tells(&rt, found.as_bytes(), due, CROSSED);
+        expect_text(&rt, found.as_bytes(), due, CROSSED);
     }
 }
 
@@ -84,7 +84,7 @@ const ROUND: &str = "\
 #[test]
 fn three_in_a_round(rt: HostRuntime) {
     let found = circles(&rt, (rt.alloc(), rt.alloc()), (FOUR, ROUND), 2);
-    tells(&rt, found.as_bytes(), " -; -; 2 3 1 2; -;", ROUND);
+    expect_text(&rt, found.as_bytes(), " -; -; 2 3 1 2; -;", ROUND);
 }
 
 // A seat that waits for a transaction that begins by its own later line.
@@ -92,7 +92,7 @@ fn three_in_a_round(rt: HostRuntime) {
 fn one_alone(rt: HostRuntime) {
     let programs = (Standard::Atomic.text(), "1 commit 1\n1 begin 1 flat");
     let found = circles(&rt, (rt.alloc(), rt.alloc()), programs, 1);
-    tells(&rt, found.as_bytes(), " 1 1;", programs.1);
+    expect_text(&rt, found.as_bytes(), " 1 1;", programs.1);
 }
 
 // A seat that waits for a transaction that no line begins, and one that waits for a transaction whose lines were all done.
@@ -109,6 +109,6 @@ fn nobody_to_wait_for(rt: HostRuntime) {
         ),
     ] {
         let found = circles(&rt, (rt.alloc(), rt.alloc()), (atomic, lines), seat);
-        tells(&rt, found.as_bytes(), due, lines);
+        expect_text(&rt, found.as_bytes(), due, lines);
     }
 }

@@ -35,8 +35,8 @@ fn put_move(
     let nth = words.next_word().checked_rem(lines_in(moves)).unwrap_or(0);
     let line = line_after(rt, moves, nth);
     let numbers = (mostly(words, seat), any(words));
-    let said = filled(rt, other, line, numbers);
-    made(rt, text.push_str(said.as_str()), line);
+    let parsed = filled(rt, other, line, numbers);
+    made(rt, text.push_str(parsed.as_str()), line);
 }
 
 // Adds a line: one of the moves, or now and then two of which one happens.
@@ -60,8 +60,8 @@ fn put_line(
 fn put_begin(rt: &impl Abort, other: Global, text: &mut String, moves: &str, seat: u32) {
     made(rt, write!(text, "{seat} "), "a seat");
     let line = line_after(rt, moves, 0);
-    let said = filled(rt, other, line, (seat, seat));
-    made(rt, text.push_str(said.as_str()), line);
+    let parsed = filled(rt, other, line, (seat, seat));
+    made(rt, text.push_str(parsed.as_str()), line);
     made(rt, text.push_str("\n"), "a line");
 }
 

@@ -3,7 +3,7 @@
 use crate::calls::{copy_of, new_machine, take, why};
 use crate::expecting::{holds, made};
 use crate::exploring::SEATS;
-use crate::exploring::told::{event_now, events_at, next_line, told_at};
+use crate::exploring::rendered::{event_now, events_at, next_line, reported_at};
 use acta_explore::Step;
 use acta_machine::{Handle, Machine};
 use acta_script::ProgramLine;
@@ -17,7 +17,7 @@ const MOST_RUNS: u32 = 1_000_000;
 /// An outcome, as text, and the first order of those that reach it.
 #[derive(Drop)]
 pub struct End<A: Allocator> {
-    pub told: String,
+    pub rendered: String,
     pub steps: Vec<Step, A>,
 }
 
@@ -101,21 +101,21 @@ pub fn is_earlier(steps: &[Step], others: &[Step]) -> bool {
 }
 
 // Puts the end of a run, or its order to that end, if it comes before the others that lead there.
-fn put_end<A: Handle>(rt: &impl Abort, run: Run<A>, told: String, ends: &mut Vec<End<A>, A>) {
+fn put_end<A: Handle>(rt: &impl Abort, run: Run<A>, rendered: String, ends: &mut Vec<End<A>, A>) {
     let Run { steps, machine } = run;
     drop(machine);
     for place in 0..ends.len() {
         let Some(end) = ends.get_mut(place) else {
             break;
         };
-        if end.told.as_str() == told.as_str() {
+        if end.rendered.as_str() == rendered.as_str() {
             if is_earlier(steps.as_slice(), end.steps.as_slice()) {
                 end.steps = steps;
             }
             return;
         }
     }
-    made(rt, ends.push(End { told, steps }), "an end");
+    made(rt, ends.push(End { rendered, steps }), "an end");
 }
 
 // Goes on from a run: puts the runs that its steps lead to, or its end if it has no step.
@@ -133,8 +133,8 @@ fn settle<A: Handle>(
     }
     if further == 0 {
         let at = (run.steps.as_slice(), &run.machine);
-        let told = told_at(rt, (alloc, other), programs, at);
-        put_end(rt, run, told, ends);
+        let rendered = reported_at(rt, (alloc, other), programs, at);
+        put_end(rt, run, rendered, ends);
     } else {
         drop(run);
     }

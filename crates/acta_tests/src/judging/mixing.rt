@@ -110,7 +110,7 @@ pub fn filled<A: Allocator + Copy>(
     line: &str,
     (t, u): (u32, u32),
 ) -> String<A> {
-    let mut said = String::new(alloc);
+    let mut parsed = String::new(alloc);
     for word in line.split(' ') {
         let filled = match word {
             "T" => format!(in alloc; "{t} "),
@@ -118,9 +118,9 @@ pub fn filled<A: Allocator + Copy>(
             _ => format!(in alloc; "{word} "),
         };
         let filled = made(rt, filled, line);
-        made(rt, said.push_str(filled.as_str()), line);
+        made(rt, parsed.push_str(filled.as_str()), line);
     }
-    said
+    parsed
 }
 
 // The event of the first of the moves, a begin, of this transaction.
@@ -131,8 +131,8 @@ fn begun<A: Allocator + Copy>(
     moves: &str,
     t: u32,
 ) -> Event<A> {
-    let said = filled(rt, alloc, line_after(rt, moves, 0), (t, t));
-    event_of(rt, alloc, model, said.as_str())
+    let parsed = filled(rt, alloc, line_after(rt, moves, 0), (t, t));
+    event_of(rt, alloc, model, parsed.as_str())
 }
 
 // The event of one of the moves, by the next words.
@@ -146,8 +146,8 @@ fn drawn<A: Allocator + Copy>(
     let nth = words.next_word().checked_rem(lines_in(moves)).unwrap_or(0);
     let line = line_after(rt, moves, nth);
     let numbers = (txn_drawn(words), txn_drawn(words));
-    let said = filled(rt, alloc, line, numbers);
-    event_of(rt, alloc, model, said.as_str())
+    let parsed = filled(rt, alloc, line, numbers);
+    event_of(rt, alloc, model, parsed.as_str())
 }
 
 // A machine that has taken, or refused, random events.

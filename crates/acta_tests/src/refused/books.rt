@@ -54,7 +54,7 @@ impl<'a, 's, R: Abort, A: Handle> Case for Taking<'a, 's, R, A> {
     }
 
     // How many entries and events there are.
-    fn tell(&self, answer: &Entry<A>, book: &Book<A>) -> String {
+    fn describe(&self, answer: &Entry<A>, book: &Book<A>) -> String {
         let mut text = String::new(self.on.other);
         put(self.on.rt, &mut text, &answer.number);
         put(self.on.rt, &mut text, &book.entries().len());
@@ -130,7 +130,7 @@ impl<'a, 's, R: Abort, A: Handle> Case for Seating<'a, 's, R, A> {
         PlainDesk::new(self.on.alloc, 2, model).ok()
     }
 
-    fn tell(&self, answer: &PlainDesk<A>, _state: &()) -> String {
+    fn describe(&self, answer: &PlainDesk<A>, _state: &()) -> String {
         let mut text = String::new(self.on.other);
         put(
             self.on.rt,
@@ -186,7 +186,7 @@ impl<'a, 's, R: Abort, A: Handle> Case for Working<'a, 's, R, A> {
         reported(self.on.alloc, desk, self.script).ok()
     }
 
-    fn tell(&self, answer: &Report<A>, desk: &PlainDesk<A>) -> String {
+    fn describe(&self, answer: &Report<A>, desk: &PlainDesk<A>) -> String {
         let (rt, other) = (self.on.rt, self.on.other);
         holds(rt, self.is_kept(&desk.book), "the book of a desk");
         answers(rt, other, answer.entries.as_slice())

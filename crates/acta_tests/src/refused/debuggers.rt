@@ -35,7 +35,7 @@ impl<'a, 's, R: Abort, A: Handle> Case for Commanding<'a, 's, R, A> {
         answer(self.on.other, debugger, self.command).ok()
     }
 
-    fn tell(&self, answer: &String, debugger: &Debugger<A>) -> String {
+    fn describe(&self, answer: &String, debugger: &Debugger<A>) -> String {
         at_and_sum(self.on.rt, self.on.other, debugger, answer.as_str())
     }
 
@@ -76,8 +76,8 @@ fn refuse_commands<R: Abort, A: Handle, B: Allocator>(
     let model = Standard::Contingent.text();
     let mut debugger = debugger_of(on.rt, on.alloc, model, text.as_str());
     for line in lines.lines() {
-        let (said, due) = call_and_answer(on.rt, line);
-        let command = read_command(on.alloc, debugger.machine().model(), said.as_bytes());
+        let (parsed, due) = call_and_answer(on.rt, line);
+        let command = read_command(on.alloc, debugger.machine().model(), parsed.as_bytes());
         let command = made(on.rt, command, line);
         let more = refuse_command(&*on, heap, &mut debugger, command, due);
         refused = refused.wrapping_add(more);
@@ -201,7 +201,7 @@ impl<'a, 's, R: Abort, A: Handle> Case for Opening<'a, 's, R, A> {
         }
     }
 
-    fn tell(&self, answer: &Debugger<A>, _parts: &Option<Parts<A>>) -> String {
+    fn describe(&self, answer: &Debugger<A>, _parts: &Option<Parts<A>>) -> String {
         let mut text = at_and_sum(self.on.rt, self.on.other, answer, "");
         put(self.on.rt, &mut text, &answer.last());
         text

@@ -102,7 +102,7 @@ impl<'a, 's, R: Abort, A: Handle> Case for Forming<'a, 's, R, A> {
         form_more(deps).ok()
     }
 
-    fn tell(&self, answer: &usize, deps: &Deps<A>) -> String {
+    fn describe(&self, answer: &usize, deps: &Deps<A>) -> String {
         let mut text = String::new(self.on.other);
         put(self.on.rt, &mut text, answer);
         for edge in deps.edges() {

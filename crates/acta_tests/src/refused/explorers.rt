@@ -2,7 +2,7 @@
 
 use crate::expecting::made;
 use crate::exploring::programs_of;
-use crate::exploring::told::told_of;
+use crate::exploring::rendered::rendered_of;
 use crate::models::{SHARING, model_of};
 use crate::refused::{Setting, at_least, refuse};
 use acta_explore::{Explored, explore};
@@ -33,12 +33,12 @@ impl<'a, 's, R: Abort, A: Handle> Case for Searching<'a, 's, R, A> {
         explore(self.on.alloc, self.model, self.programs, 1_000, &mut ()).ok()
     }
 
-    fn tell(&self, answer: &Explored<A>, _state: &()) -> String {
+    fn describe(&self, answer: &Explored<A>, _state: &()) -> String {
         let mut text = String::new(self.on.other);
         for place in 0..answer.len() {
             let outcome = answer.outcome(place).expect(self.on.rt, "an outcome");
-            let told = told_of(self.on.rt, self.on.other, outcome);
-            made(self.on.rt, text.push_str(told.as_str()), "a text");
+            let rendered = rendered_of(self.on.rt, self.on.other, outcome);
+            made(self.on.rt, text.push_str(rendered.as_str()), "a text");
             made(self.on.rt, text.push_str("\n"), "a text");
         }
         text
@@ -63,7 +63,7 @@ fn refuse_search<R: Abort, A: Handle, B: Allocator>(
         programs: programs.as_slice(),
     };
     let explored = searching.call(&mut ()).expect(on.rt, lines);
-    let due = searching.tell(&explored, &());
+    let due = searching.describe(&explored, &());
     drop(explored);
     let refused = refuse(on.rt, heap, &searching, due.as_str());
     drop(programs);

@@ -1,7 +1,8 @@
 //! Events that machines take, and what machines and models are asked, each allocation refused in turn.
 
 use crate::calls::{
-    closed_wait, copy_of, new_machine, owed_by, permits_of, places_of, run_on, serial_of, take, why,
+    copy_of, new_machine, owed_by, permits_of, places_of, run_on, serial_of, take, waits_for_cycle,
+    why,
 };
 use crate::expecting::made;
 use crate::models::{PARTING, PERMITTING, event_of, events_of, model_of};
@@ -51,7 +52,7 @@ impl<'a, 's, R: Abort, A: Handle> Case for Taking<'a, 's, R, A> {
         take(machine, self.event).ok()
     }
 
-    fn tell(&self, answer: &Answer, _machine: &Machine<A>) -> String {
+    fn describe(&self, answer: &Answer, _machine: &Machine<A>) -> String {
         let line = made(self.on.rt, answer_line(self.on.other, answer), "an answer");
         made(self.on.rt, String::from_utf8(line), "an answer")
     }
@@ -95,8 +96,8 @@ fn refuse_events<R: Abort, A: Handle, B: Allocator>(
     let model = model_of(on.rt, on.alloc, model);
     let (mut before, mut refused) = (Vec::new(on.alloc), 0u64);
     for line in lines.lines() {
-        let (said, due) = call_and_answer(on.rt, line);
-        let event = event_of(on.rt, on.alloc, &model, said);
+        let (parsed, due) = call_and_answer(on.rt, line);
+        let event = event_of(on.rt, on.alloc, &model, parsed);
         let more = refuse_event(&*on, heap, &model, (before.as_slice(), &event), due);
         refused = refused.wrapping_add(more);
         made(on.rt, before.push(event), line);
@@ -310,7 +311,7 @@ fn put_cycle<A: Handle>(
     text: &mut String,
     machine: &Machine<A>,
 ) -> Result<(), AllocError> {
-    let cycle = closed_wait(machine, TxnId(1))?;
+    let cycle = waits_for_cycle(machine, TxnId(1))?;
     put(rt, text, &cycle.is_some());
     Ok(())
 }
@@ -374,7 +375,7 @@ impl<'a, 's, R: Abort, A: Handle> Case for Asking<'a, 's, R, A> {
         Some(text)
     }
 
-    fn tell(&self, answer: &String, _machine: &Machine<A>) -> String {
+    fn describe(&self, answer: &String, _machine: &Machine<A>) -> String {
         made(
             self.on.rt,
             String::from_str(self.on.other, answer.as_str()),
@@ -462,7 +463,7 @@ impl<'a, 's, R: Abort, A: Handle> Case for Making<'a, 's, R, A> {
     }
 
     // How many events the new machine has, and whether it answers as the other.
-    fn tell(&self, answer: &Machine<A>, machine: &Machine<A>) -> String {
+    fn describe(&self, answer: &Machine<A>, machine: &Machine<A>) -> String {
         let mut text = String::new(self.asking.on.other);
         put(self.asking.on.rt, &mut text, &answer.history().len());
         let (found, due) = (self.read(answer), self.read(machine));

@@ -27,8 +27,8 @@ fn number(rt: &impl Abort, word: &str) -> u16 {
 }
 
 // The change that the words say.
-fn change_of(rt: &impl Abort, said: &str) -> Change {
-    let (word, rest) = parted(rt, said, " ");
+fn change_of(rt: &impl Abort, parsed: &str) -> Change {
+    let (word, rest) = parted(rt, parsed, " ");
     if word == "ended" {
         return Change {
             txn: TxnId(number(rt, rest)),
@@ -88,7 +88,7 @@ impl<'a, 's, R: Abort, A: Handle> Case for Changing<'a, 's, R, A> {
         make(permits, self.change).ok()
     }
 
-    fn tell(&self, _answer: &(), permits: &Permits<A>) -> String {
+    fn describe(&self, _answer: &(), permits: &Permits<A>) -> String {
         let mut text = String::new(self.on.other);
         for t in 0..TXNS {
             self.put_given(&mut text, permits, t);
@@ -139,7 +139,7 @@ impl<'a, 's, R: Abort, A: Handle> Case for Asking<'a, 's, R, A> {
         Some(text)
     }
 
-    fn tell(&self, answer: &String, _permits: &Permits<A>) -> String {
+    fn describe(&self, answer: &String, _permits: &Permits<A>) -> String {
         let (rt, other) = (self.changing.on.rt, self.changing.on.other);
         made(rt, String::from_str(other, answer.as_str()), "a text")
     }
@@ -205,8 +205,8 @@ fn refuse_answer<'a, 's, R: Abort, A: Handle, B: Allocator>(
 fn refuse_all<R: Abort, A: Handle, B: Allocator>(on: &Setting<'_, R, A>, heap: &Refusing<B>) {
     let (mut changes, mut refused) = (Vec::new(on.other), 0u64);
     for line in CHANGES.lines() {
-        let (said, due) = asked_and_answer(on.rt, line);
-        let change = change_of(on.rt, said);
+        let (parsed, due) = asked_and_answer(on.rt, line);
+        let change = change_of(on.rt, parsed);
         let more = refuse_change(&*on, heap, changes.as_slice(), change, due);
         refused = refused.wrapping_add(more);
         made(on.rt, changes.push(change), line);

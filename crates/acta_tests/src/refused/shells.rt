@@ -39,7 +39,7 @@ impl<'a, 's, R: Abort, A: Allocator + Copy> Case for Reading<'a, 's, R, A> {
         Some(text)
     }
 
-    fn tell(&self, answer: &String, _state: &()) -> String {
+    fn describe(&self, answer: &String, _state: &()) -> String {
         made(
             self.on.rt,
             String::from_str(self.on.other, answer.as_str()),

@@ -58,7 +58,7 @@ fn change<A: Handle>(table: &mut OpTable<A>, event: &Event<A>) -> Result<(), All
     match event {
         Event::Operate(t, ob, op) => add(table, *t, *ob, *op)?,
         Event::Delegate(t, u, ops) => move_to(table, *t, ops, *u)?,
-        Event::Join(t, u) => table.hand_all(*t, *u)?,
+        Event::Join(t, u) => table.transfer_all(*t, *u)?,
         Event::Commit(t) => table.end_all(*t, Fate::Committed),
         Event::Abort(t) => table.end_all(*t, Fate::Aborted),
         _ => {}
@@ -100,7 +100,7 @@ impl<'a, 's, R: Abort, A: Handle> Case for Changing<'a, 's, R, A> {
         change(table, self.event).ok()
     }
 
-    fn tell(&self, _answer: &(), table: &OpTable<A>) -> String {
+    fn describe(&self, _answer: &(), table: &OpTable<A>) -> String {
         let mut text = String::new(self.on.other);
         for item in table.operations() {
             let (holder, mark) = (item.holder.0, mark_of(item.fate));
@@ -134,8 +134,8 @@ fn refuse_changes<R: Abort, A: Handle, B: Allocator>(
     let model = model_of(on.rt, on.alloc, PARTING);
     let (mut before, mut refused) = (Vec::new(on.alloc), 0u64);
     for line in lines.lines() {
-        let (said, due) = asked_and_answer(on.rt, line);
-        let event = event_of(on.rt, on.alloc, &model, said);
+        let (parsed, due) = asked_and_answer(on.rt, line);
+        let event = event_of(on.rt, on.alloc, &model, parsed);
         let more = refuse_change(&*on, heap, (before.as_slice(), &event), due);
         refused = refused.wrapping_add(more);
         made(on.rt, before.push(event), line);

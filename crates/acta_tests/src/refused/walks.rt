@@ -49,7 +49,7 @@ impl<'a, 's, R: Abort, A: Handle> Case for Stepping<'a, 's, R, A> {
         walk.step().ok()
     }
 
-    fn tell(&self, _answer: &(), walk: &Walk<'a, A>) -> String {
+    fn describe(&self, _answer: &(), walk: &Walk<'a, A>) -> String {
         self.read(walk)
     }
 
@@ -273,7 +273,7 @@ impl<'a, 's, R: Abort, A: Handle> Case for Asking<'a, 's, R, A> {
         Some(text)
     }
 
-    fn tell(&self, answer: &String, _walk: &Walk<'a, A>) -> String {
+    fn describe(&self, answer: &String, _walk: &Walk<'a, A>) -> String {
         made(
             self.on.rt,
             String::from_str(self.on.other, answer.as_str()),

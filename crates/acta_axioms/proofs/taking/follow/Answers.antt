@@ -10,19 +10,19 @@ with_items : (s : Stored) {items others : List HeldOp} → items ≡ others → 
 with_items s e = λ i. record s { items = e i }
 
 pub returns-in-Split-clause-ok : goal.returns-in-Split-clause-ok
-returns-in-Split-clause-ok g c = on_ok_weaker c.hand.result (λ e. e ∙ with_items c.args.store.now (split-on c.args.heir c.args.event.now c.in-Split.s c.in-Split.u c.in-Split.field-2 c.in-Split.ops c.args.store.now.items c.in-Split.is)) c.hand.ensures.ok
+returns-in-Split-clause-ok g c = on_ok_weaker c.transfer.result (λ e. e ∙ with_items c.args.store.now (split-on c.args.heir c.args.event.now c.in-Split.s c.in-Split.u c.in-Split.field-2 c.in-Split.ops c.args.store.now.items c.in-Split.is)) c.transfer.ensures.ok
 
 pub returns-in-Join-clause-ok : goal.returns-in-Join-clause-ok
-returns-in-Join-clause-ok g c = on_ok_weaker c.hand_all.result (λ e. e ∙ with_items c.args.store.now (join-on c.args.heir c.args.event.now c.in-Join.s c.in-Join.u c.args.store.now.items c.in-Join.is)) c.hand_all.ensures.ok
+returns-in-Join-clause-ok g c = on_ok_weaker c.transfer_all.result (λ e. e ∙ with_items c.args.store.now (join-on c.args.heir c.args.event.now c.in-Join.s c.in-Join.u c.args.store.now.items c.in-Join.is)) c.transfer_all.ensures.ok
 
 pub returns-in-Delegate-clause-ok : goal.returns-in-Delegate-clause-ok
-returns-in-Delegate-clause-ok g c = on_ok_weaker c.hand-in-Delegate.result (λ e. e ∙ with_items c.args.store.now (delegate-on c.args.heir c.args.event.now c.in-Delegate.s c.in-Delegate.u c.in-Delegate.ops c.args.store.now.items c.in-Delegate.is)) c.hand-in-Delegate.ensures.ok
+returns-in-Delegate-clause-ok g c = on_ok_weaker c.transfer-in-Delegate.result (λ e. e ∙ with_items c.args.store.now (delegate-on c.args.heir c.args.event.now c.in-Delegate.s c.in-Delegate.u c.in-Delegate.ops c.args.store.now.items c.in-Delegate.is)) c.transfer-in-Delegate.ensures.ok
 
 pub returns-in-Some-clause-ok : goal.returns-in-Some-clause-ok
 returns-in-Some-clause-ok g c =
-    on_ok_weaker c.hand_all-in-Some.result
+    on_ok_weaker c.transfer_all-in-Some.result
     (λ e. e ∙ with_items c.args.store.now (heir-on c.args.event.now c.in-Commit.s c.in-Some.u c.args.store.now.items c.in-Commit.is ∙ ap (λ left. further_on left c.args.event.now c.args.store.now.items) (sym c.in-Some.is)))
-    c.hand_all-in-Some.ensures.ok
+    c.transfer_all-in-Some.ensures.ok
 
 pub returns-in-None-clause-ok : goal.returns-in-None-clause-ok
 returns-in-None-clause-ok g c =

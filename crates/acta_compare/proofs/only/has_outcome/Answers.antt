@@ -1,6 +1,6 @@
 use Rattle.std.proofs.Common.{◌≤◌, ℕ, Some, true≢false, ap, refl, subst, sym, ◌∙◌}
 use Rattle.acta_explore.specs.inside.Shown.{shown}
-use Rattle.acta_explore.proofs.Alike.{outcome-shown}
+use Rattle.acta_explore.proofs.Equivalence.{outcome-shown}
 use Rattle.acta_compare.proofs.Missing.{contains-at, ended-at, not-contained, not-next}
 use Rattle.acta_compare.proofs.only.has_outcome.Goals as goal
 

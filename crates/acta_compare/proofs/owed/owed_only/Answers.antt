@@ -3,7 +3,7 @@ use Rattle.std.proofs.lemmas.Option.{slice_get-get_or, slice_get_past}
 use Rattle.acta_explore.specs.declared.debt.Debt.{Debt}
 use Rattle.acta_explore.specs.inside.Debts.{debt_eq}
 use Rattle.acta_explore.specs.Outcomes.{debts_of}
-use Rattle.acta_explore.proofs.Alike.{debt-decides}
+use Rattle.acta_explore.proofs.Equivalence.{debt-decides}
 use Rattle.acta_compare.specs.OnlyIn.{IsMissing}
 use Rattle.acta_compare.specs.Selected.{Selects}
 use Rattle.acta_compare.proofs.Missing.{missing-by, there-by}

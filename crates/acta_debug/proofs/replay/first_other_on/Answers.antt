@@ -41,11 +41,11 @@ loop-item-preserved g c =
     let admitted : answer_to c.loop-item.recording k.event ≡ Admitted c.loop-item.place k.ret = sym c.in_ok-answer.ensures.answer ∙ c.is_admitted.ensures.0 c.if-not-is_admitted.false in
     let has = kept-one m h i k c.loop-item.recording t before (taken h i k c.loop-item-test.true c.item-item.is) c.loop-item.place admitted c.in_ok-answer.ensures.ok in
     let size : length t.kept ≡ i + 1 = ap (λ (s : State g.row.A.Denot). length s.kept) has.kept ∙ length-take-le (i + 1) h (omega arith) in
-    let told = ap length (c.history.ensures.history ∙ ap (λ (s : State g.row.A.Denot). s.kept) c.machine.ensures) in
+    let reported = ap length (c.history.ensures.history ∙ ap (λ (s : State g.row.A.Denot). s.kept) c.machine.ensures) in
     let few = c.history.ensures.within in
     let same = ap (λ (s : State g.row.A.Denot). length s.kept) c.machine.ensures in
     record {
-      place = omega (arith, told, size);
+      place = omega (arith, reported, size);
       few = omega (arith, few, same, size);
       kept = has.kept;
       so_far = has.so_far;

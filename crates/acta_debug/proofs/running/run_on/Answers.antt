@@ -7,35 +7,35 @@ use Rattle.acta_debug.proofs.running.run_on.Goals as goal
 pub returns-in-Some-clause-stop : goal.returns-in-Some-clause-stop
 returns-in-Some-clause-stop g c =
     stops-here c.args.machine.now c.loop-k.machine c.take.new.self c.args.history.now c.args.at c.args.breaks.now c.requires c.loop-k.k c.index-history-k.result c.in_ok-number.field-0
-    c.loop-k.invariant.kept c.loop-k-test.true c.index-history-k.is c.in_ok-take.ensures.ok c.in_ok-take.ensures.follows c.loop-k.invariant.told c.in_ok-number.ensures
+    c.loop-k.invariant.kept c.loop-k-test.true c.index-history-k.is c.in_ok-take.ensures.ok c.in_ok-take.ensures.follows c.loop-k.invariant.reported c.in_ok-number.ensures
     c.in-Some.number c.in-Some.is
 
 pub returns-in-Some-clause-inside : goal.returns-in-Some-clause-inside
 returns-in-Some-clause-inside g c =
     turn-inside c.args.machine.now c.loop-k.machine c.take.new.self c.args.history.now c.args.at c.args.breaks.now c.requires c.loop-k.k c.index-history-k.result c.in_ok-number.field-0
-    c.loop-k.invariant.kept c.loop-k-test.true c.index-history-k.is c.in_ok-take.ensures.ok c.in_ok-take.ensures.follows c.loop-k.invariant.told c.in_ok-number.ensures
+    c.loop-k.invariant.kept c.loop-k-test.true c.index-history-k.is c.in_ok-take.ensures.ok c.in_ok-take.ensures.follows c.loop-k.invariant.reported c.in_ok-number.ensures
 
 pub returns-in-Some-clause-model : goal.returns-in-Some-clause-model
 returns-in-Some-clause-model g c =
     turn-model c.args.machine.now c.loop-k.machine c.take.new.self c.args.history.now c.args.at c.args.breaks.now c.requires c.loop-k.k c.index-history-k.result c.in_ok-number.field-0
-    c.loop-k.invariant.kept c.loop-k-test.true c.index-history-k.is c.in_ok-take.ensures.ok c.in_ok-take.ensures.follows c.loop-k.invariant.told c.in_ok-number.ensures
+    c.loop-k.invariant.kept c.loop-k-test.true c.index-history-k.is c.in_ok-take.ensures.ok c.in_ok-take.ensures.follows c.loop-k.invariant.reported c.in_ok-number.ensures
 
 pub loop-k-preserved : goal.loop-k-preserved
 loop-k-preserved g c = record {
   within = omega arith;
   kept =
       turn-kept c.args.machine.now c.loop-k.machine c.take.new.self c.args.history.now c.args.at c.args.breaks.now c.requires c.loop-k.k c.index-history-k.result c.in_ok-number.field-0
-      c.loop-k.invariant.kept c.loop-k-test.true c.index-history-k.is c.in_ok-take.ensures.ok c.in_ok-take.ensures.follows c.loop-k.invariant.told c.in_ok-number.ensures;
+      c.loop-k.invariant.kept c.loop-k-test.true c.index-history-k.is c.in_ok-take.ensures.ok c.in_ok-take.ensures.follows c.loop-k.invariant.reported c.in_ok-number.ensures;
   follows = c.in_ok-take.ensures.follows;
-  told =
+  reported =
       goes-on c.args.machine.now c.loop-k.machine c.take.new.self c.args.history.now c.args.at c.args.breaks.now c.requires c.loop-k.k c.index-history-k.result c.in_ok-number.field-0
-      c.loop-k.invariant.kept c.loop-k-test.true c.index-history-k.is c.in_ok-take.ensures.ok c.in_ok-take.ensures.follows c.loop-k.invariant.told c.in_ok-number.ensures
+      c.loop-k.invariant.kept c.loop-k-test.true c.index-history-k.is c.in_ok-take.ensures.ok c.in_ok-take.ensures.follows c.loop-k.invariant.reported c.in_ok-number.ensures
       c.in_default.is;
 }
 
 pub returns-clause-stop : goal.returns-clause-stop
 returns-clause-stop g c =
-    sym (stops-end (session_of c.args.machine.now c.args.history.now c.args.at c.args.breaks.now) c.loop-k.k c.loop-k-test.false c.loop-k.invariant.told)
+    sym (stops-end (session_of c.args.machine.now c.args.history.now c.args.at c.args.breaks.now) c.loop-k.k c.loop-k-test.false c.loop-k.invariant.reported)
 
 pub returns-clause-inside : goal.returns-clause-inside
 returns-clause-inside g c =

@@ -14,5 +14,5 @@ invariant-loop-k g l =
       within : l.k ≤ length l.history;
       kept : l.machine ≡ with_kept l.fn.machine.model (take l.k l.history);
       follows : FollowsPlaces l.machine;
-      told : stop_of session ≡ stop_among session (range_with_len (l.k + 1) (length l.history - l.k));
+      reported : stop_of session ≡ stop_among session (range_with_len (l.k + 1) (length l.history - l.k));
     }

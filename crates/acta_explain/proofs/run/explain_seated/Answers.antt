@@ -7,5 +7,5 @@ use Rattle.acta_explain.proofs.run.explain_seated.Goals as goal
 pub returns : goal.returns
 returns g c =
     subst (λ (b : Bool). IfOk c.run_report.result (λ (report : Report _). report.is_refused ≡ b))
-    (c.stop_at.ensures ∙ sym (ap (λ (s : Said _). is_some s.stop) c.in_ok-said.ensures.said))
+    (c.stop_at.ensures ∙ sym (ap (λ (s : Said _). is_some s.stop) c.in_ok-parsed.ensures.parsed))
     c.run_report.ensures

@@ -1,9 +1,9 @@
 use Rattle.std.proofs.Common.{inl, inr, sym, ap, subst, ◌∙◌}
 use Rattle.acta_table.specs.Fates.{is_open}
-use Rattle.acta_hope.specs.Hopes.{IsWhy, MayBeUntold}
+use Rattle.acta_hope.specs.Hopes.{IsWhy, MayBeUnreported}
 use Rattle.acta_hope.proofs.Growth.{summary_in}
-use Rattle.acta_hope.proofs.Clashes.{of-clash, told-clash}
-use Rattle.acta_hope.proofs.Reasons.{IsFinal, of-final, of-acting, of-partner, of-heir, of-responsible, of-ended, of-set, of-no-operation, of-barring, of-edges, of-conflict, of-left-out, told-acting, told-barring, told-partner, told-heir, told-responsible, told-set, told-left-out, told-edges, told-conflict}
+use Rattle.acta_hope.proofs.Clashes.{of-clash, reported-clash}
+use Rattle.acta_hope.proofs.Reasons.{IsFinal, of-final, of-acting, of-partner, of-heir, of-responsible, of-ended, of-set, of-no-operation, of-blocking_edge, of-edges, of-conflict, of-left-out, reported-acting, reported-blocking_edge, reported-partner, reported-heir, reported-responsible, reported-set, reported-left-out, reported-edges, reported-conflict}
 use Rattle.acta_hope.proofs.hoping.hope_of.Goals as goal
 
 pub returns-in-Full-clause-hope : goal.returns-in-Full-clause-hope
@@ -56,34 +56,34 @@ returns-else-is_no_operation-clause-hope g c =
     of-set c.args.machine.now c.args.event.now c.in-BadSet.number c.in-BadSet.operations c.once_held-else-is_no_operation.result c.once_held-else-is_no_operation.ensures
     (subst (IsWhy c.args.machine.now c.args.event.now) c.in-BadSet.is c.requires)
 
-pub returns-in-Barred-clause-hope : goal.returns-in-Barred-clause-hope
-returns-in-Barred-clause-hope g c =
-    of-barring c.args.machine.now c.args.event.now c.in-Barred.barring c.barred.result c.barred.ensures
-    (subst (IsWhy c.args.machine.now c.args.event.now) c.in-Barred.is c.requires)
+pub returns-in-Blocked-clause-hope : goal.returns-in-Blocked-clause-hope
+returns-in-Blocked-clause-hope g c =
+    of-blocking_edge c.args.machine.now c.args.event.now c.in-Blocked.blocking_edge c.blocked.result c.blocked.ensures
+    (subst (IsWhy c.args.machine.now c.args.event.now) c.in-Blocked.is c.requires)
 
-pub returns-in-NotInProgress-clause-told : goal.returns-in-NotInProgress-clause-told
-returns-in-NotInProgress-clause-told g c = λ same.
-    absurd (told-acting c.args.machine.now c.args.event.now c.in-NotInProgress.txn c.in-NotInProgress.status c.once_begun.result c.once_begun.ensures
+pub returns-in-NotInProgress-clause-reported : goal.returns-in-NotInProgress-clause-reported
+returns-in-NotInProgress-clause-reported g c = λ same.
+    absurd (reported-acting c.args.machine.now c.args.event.now c.in-NotInProgress.txn c.in-NotInProgress.status c.once_begun.result c.once_begun.ensures
     (subst (IsWhy c.args.machine.now c.args.event.now) c.in-NotInProgress.is c.requires) same)
 
-pub returns-in-PartnerNotInProgress-clause-told : goal.returns-in-PartnerNotInProgress-clause-told
-returns-in-PartnerNotInProgress-clause-told g c = λ same.
-    absurd (told-partner c.args.machine.now c.args.event.now c.in-PartnerNotInProgress.txn c.in-PartnerNotInProgress.status c.once_begun-in-PartnerNotInProgress.result c.once_begun-in-PartnerNotInProgress.ensures
+pub returns-in-PartnerNotInProgress-clause-reported : goal.returns-in-PartnerNotInProgress-clause-reported
+returns-in-PartnerNotInProgress-clause-reported g c = λ same.
+    absurd (reported-partner c.args.machine.now c.args.event.now c.in-PartnerNotInProgress.txn c.in-PartnerNotInProgress.status c.once_begun-in-PartnerNotInProgress.result c.once_begun-in-PartnerNotInProgress.ensures
     (subst (IsWhy c.args.machine.now c.args.event.now) c.in-PartnerNotInProgress.is c.requires) same)
 
-pub returns-in-NoHeir-clause-told : goal.returns-in-NoHeir-clause-told
-returns-in-NoHeir-clause-told g c = λ same.
-    absurd (told-heir c.args.machine.now c.args.event.now c.in-NoHeir.parent c.in-NoHeir.status c.once_begun-in-NoHeir.result c.once_begun-in-NoHeir.ensures
+pub returns-in-NoHeir-clause-reported : goal.returns-in-NoHeir-clause-reported
+returns-in-NoHeir-clause-reported g c = λ same.
+    absurd (reported-heir c.args.machine.now c.args.event.now c.in-NoHeir.parent c.in-NoHeir.status c.once_begun-in-NoHeir.result c.once_begun-in-NoHeir.ensures
     (subst (IsWhy c.args.machine.now c.args.event.now) c.in-NoHeir.is c.requires) same)
 
-pub returns-in-InProgress-clause-told : goal.returns-in-InProgress-clause-told
-returns-in-InProgress-clause-told g c = λ same.
-    absurd (told-responsible c.args.machine.now c.args.event.now c.in-NotResponsible.op c.once_held.result c.once_held.ensures
+pub returns-in-InProgress-clause-reported : goal.returns-in-InProgress-clause-reported
+returns-in-InProgress-clause-reported g c = λ same.
+    absurd (reported-responsible c.args.machine.now c.args.event.now c.in-NotResponsible.op c.once_held.result c.once_held.ensures
     (subst (IsWhy c.args.machine.now c.args.event.now) c.in-NotResponsible.is c.requires) same)
 
-pub returns-else-is_no_operation-clause-told : goal.returns-else-is_no_operation-clause-told
-returns-else-is_no_operation-clause-told g c = λ same.
-    absurd (told-set c.args.machine.now c.args.event.now c.in-BadSet.number c.in-BadSet.operations c.once_held-else-is_no_operation.result c.once_held-else-is_no_operation.ensures
+pub returns-else-is_no_operation-clause-reported : goal.returns-else-is_no_operation-clause-reported
+returns-else-is_no_operation-clause-reported g c = λ same.
+    absurd (reported-set c.args.machine.now c.args.event.now c.in-BadSet.number c.in-BadSet.operations c.once_held-else-is_no_operation.result c.once_held-else-is_no_operation.ensures
     (subst (IsWhy c.args.machine.now c.args.event.now) c.in-BadSet.is c.requires) same)
 
 pub returns-in-EdgesFull-clause-hope : goal.returns-in-EdgesFull-clause-hope
@@ -91,18 +91,18 @@ returns-in-EdgesFull-clause-hope g c =
     of-edges c.args.machine.now c.args.event.now c.too_many_edges.result c.too_many_edges.ensures
     (subst (IsWhy c.args.machine.now c.args.event.now) c.in-EdgesFull.is c.requires)
 
-pub returns-in-EdgesFull-clause-told : goal.returns-in-EdgesFull-clause-told
-returns-in-EdgesFull-clause-told g c = λ same.
-    absurd (told-edges c.args.event.now c.too_many_edges.result c.too_many_edges.ensures same)
+pub returns-in-EdgesFull-clause-reported : goal.returns-in-EdgesFull-clause-reported
+returns-in-EdgesFull-clause-reported g c = λ same.
+    absurd (reported-edges c.args.event.now c.too_many_edges.result c.too_many_edges.ensures same)
 
 pub returns-in-PartialDelegation-clause-hope : goal.returns-in-PartialDelegation-clause-hope
 returns-in-PartialDelegation-clause-hope g c =
     of-left-out c.args.machine.now c.args.event.now c.in-PartialDelegation.op c.once_let_go.result c.once_let_go.ensures
     (subst (IsWhy c.args.machine.now c.args.event.now) c.in-PartialDelegation.is c.requires)
 
-pub returns-in-PartialDelegation-clause-told : goal.returns-in-PartialDelegation-clause-told
-returns-in-PartialDelegation-clause-told g c = λ same.
-    absurd (told-left-out c.args.machine.now c.args.event.now c.in-PartialDelegation.op c.once_let_go.result c.once_let_go.ensures
+pub returns-in-PartialDelegation-clause-reported : goal.returns-in-PartialDelegation-clause-reported
+returns-in-PartialDelegation-clause-reported g c = λ same.
+    absurd (reported-left-out c.args.machine.now c.args.event.now c.in-PartialDelegation.op c.once_let_go.result c.once_let_go.ensures
     (subst (IsWhy c.args.machine.now c.args.event.now) c.in-PartialDelegation.is c.requires) same)
 
 pub returns-in-Conflict-clause-hope : goal.returns-in-Conflict-clause-hope
@@ -110,21 +110,21 @@ returns-in-Conflict-clause-hope g c =
     of-conflict c.args.machine.now c.args.event.now c.in-Conflict.op c.in_conflict.result c.in_conflict.ensures
     (subst (IsWhy c.args.machine.now c.args.event.now) c.in-Conflict.is c.requires)
 
-pub returns-in-Conflict-clause-told : goal.returns-in-Conflict-clause-told
-returns-in-Conflict-clause-told g c = λ same.
-    absurd (told-conflict c.args.machine.now.model (summary_in c.args.machine.now) c.args.event.now c.in-Conflict.op c.in_conflict.result c.in_conflict.ensures same)
+pub returns-in-Conflict-clause-reported : goal.returns-in-Conflict-clause-reported
+returns-in-Conflict-clause-reported g c = λ same.
+    absurd (reported-conflict c.args.machine.now.model (summary_in c.args.machine.now) c.args.event.now c.in-Conflict.op c.in_conflict.result c.in_conflict.ensures same)
 
-pub returns-in-Barred-clause-told : goal.returns-in-Barred-clause-told
-returns-in-Barred-clause-told g c = λ same.
-    subst MayBeUntold (sym c.in-Barred.is)
-    (told-barring c.args.machine.now c.args.event.now c.in-Barred.barring c.barred.result c.barred.ensures
-    (subst (IsWhy c.args.machine.now c.args.event.now) c.in-Barred.is c.requires) same)
+pub returns-in-Blocked-clause-reported : goal.returns-in-Blocked-clause-reported
+returns-in-Blocked-clause-reported g c = λ same.
+    subst MayBeUnreported (sym c.in-Blocked.is)
+    (reported-blocking_edge c.args.machine.now c.args.event.now c.in-Blocked.blocking_edge c.blocked.result c.blocked.ensures
+    (subst (IsWhy c.args.machine.now c.args.event.now) c.in-Blocked.is c.requires) same)
 
 pub returns-in-Clash-clause-hope : goal.returns-in-Clash-clause-hope
 returns-in-Clash-clause-hope g c =
     of-clash c.args.machine.now c.args.event.now c.in-Clash.clash c.status.result c.owes_both.result c.owes_both.ensures c.status.ensures.status
     (subst (IsWhy c.args.machine.now c.args.event.now) c.in-Clash.is c.requires)
 
-pub returns-in-Clash-clause-told : goal.returns-in-Clash-clause-told
-returns-in-Clash-clause-told g c = λ same.
-    absurd (told-clash c.in-Clash.clash c.status.result c.owes_both.result c.owes_both.ensures same)
+pub returns-in-Clash-clause-reported : goal.returns-in-Clash-clause-reported
+returns-in-Clash-clause-reported g c = λ same.
+    absurd (reported-clash c.in-Clash.clash c.status.result c.owes_both.result c.owes_both.ensures same)

@@ -9,6 +9,6 @@ use Rattle.acta_io.proofs.input.read_lines.Goals as goal
 pub returns-clause-numbered : goal.returns-clause-numbered
 unfolding line_numbers
 returns-clause-numbered g c =
-    subst (λ (lines : List (List ℕ)). IfOk c.read_left.result (λ read. IfNone read.stop (length (numbers_from has_word 1 lines) ≡ length read.said.items)))
+    subst (λ (lines : List (List ℕ)). IfOk c.read_left.result (λ read. IfNone read.stop (length (numbers_from has_word 1 lines) ≡ length read.parsed.items)))
     c.of-lines.ensures.lines
-    (numbered (g.L.LineReader.said c.args.reader.now) (lines_to_come c.of-lines.result) (λ read. read.said.items) (λ read. read.stop) c.read_left.result c.read_left.ensures.said)
+    (numbered (g.L.LineReader.parsed c.args.reader.now) (lines_to_come c.of-lines.result) (λ read. read.parsed.items) (λ read. read.stop) c.read_left.result c.read_left.ensures.parsed)

@@ -7,5 +7,5 @@ abbrev pub invariant-loop : goal.invariant-loop
 invariant-loop g l =
     record {
       whole : at_end l.walk ≡ at_end l.initial.walk;
-      told : flat_map (faults_ahead l.size) l.parts.items ++ faults_left l.walk ≡ faults_left l.initial.walk;
+      reported : flat_map (faults_ahead l.size) l.parts.items ++ faults_left l.walk ≡ faults_left l.initial.walk;
     }

@@ -3,7 +3,7 @@ use Rattle.acta_words.specs.Text.{lines_of}
 use Rattle.acta_words.specs.inside.LinesToCome.{lines_to_come}
 use Rattle.acta_lang.specs.Drafts.{declared, nothing_yet}
 use Rattle.acta_lang.specs.inside.Noted.{IsNoted, IsSaid, noted}
-use Rattle.acta_lang.specs.inside.Shown.{shown}
+use Rattle.acta_lang.specs.inside.Abstraction.{abstraction}
 use Rattle.acta_lang.proofs.Sound.{IsFaultless}
 use Rattle.acta_lang.proofs.Turns.{meaning_from}
 use Rattle.acta_lang.proofs.declare.declare_all.Given as goal
@@ -12,12 +12,12 @@ use Rattle.acta_lang.proofs.declare.declare_all.Given as goal
 -- that were read, with their numbers
 abbrev pub invariant-loop-line : goal.invariant-loop-line
 invariant-loop-line g l = record {
-  means : meaning_from (l.number + 1) (shown l.draft) (lines_to_come l.lines) ≡ meaning_from 1 nothing_yet (lines_of l.text);
+  means : meaning_from (l.number + 1) (abstraction l.draft) (lines_to_come l.lines) ≡ meaning_from 1 nothing_yet (lines_of l.text);
   counts : l.number + length (lines_to_come l.lines) ≤ length l.text + 1;
-  faultless : IsFaultless (shown l.draft);
-  declares : shown l.draft ≡ declared (take l.number (lines_of l.text));
+  faultless : IsFaultless (abstraction l.draft);
+  declares : abstraction l.draft ≡ declared (take l.number (lines_of l.text));
   notes : IsNoted (take l.number (lines_of l.text)) (noted l.draft);
-  said : IsSaid (shown l.draft).current (noted l.draft).current;
+  parsed : IsSaid (abstraction l.draft).current (noted l.draft).current;
   left : drop l.number (lines_of l.text) ≡ lines_to_come l.lines;
 }
 

@@ -25,16 +25,16 @@ returns-in-Err-Memory-clause-before g c =
 pub returns-then-not-after-clause-before : goal.returns-then-not-after-clause-before
 returns-then-not-after-clause-before g c =
     let i = c.loop-k.invariant in
-    let told = c.in-Ok-hand.ensures in
+    let reported = c.in-Ok-hand.ensures in
     stopped-answered g.D.Desk.seat_in g.D.Desk.event_in (g.D.Desk.answered c.args.desk.now) c.seat-seat.result (g.D.Desk.seat_of c.args.desk.now) c.args.script.now c.as_slice-events.result.now c.loop-k.k c.loop-k.entries.items
-    i.opened c.as_slice-events.ensures i.seats i.made _ c.in-Ok-hand.entry c.index-events-k.result (g.met.D.Desk.further _ _ _ _ _ i.answered told.answered) (told.seat ∙ i.same_seat) (told.event ∙ c.in-Ok.ensures) c.index-events-k.is c.loop-k-test.true
+    i.opened c.as_slice-events.ensures i.seats i.made _ c.in-Ok-hand.entry c.index-events-k.result (g.met.D.Desk.further _ _ _ _ _ i.answered reported.answered) (reported.seat ∙ i.same_seat) (reported.event ∙ c.in-Ok.ensures) c.index-events-k.is c.loop-k-test.true
 
 pub returns-then-is_err-2-clause-before : goal.returns-then-is_err-2-clause-before
 returns-then-is_err-2-clause-before g c =
     let i = c.loop-k.invariant in
-    let told = c.in-Ok-hand.ensures in
+    let reported = c.in-Ok-hand.ensures in
     stopped-answered g.D.Desk.seat_in g.D.Desk.event_in (g.D.Desk.answered c.args.desk.now) c.seat-seat.result (g.D.Desk.seat_of c.args.desk.now) c.args.script.now c.as_slice-events.result.now c.loop-k.k c.loop-k.entries.items
-    i.opened c.as_slice-events.ensures i.seats i.made _ c.in-Ok-hand.entry c.index-events-k.result (g.met.D.Desk.further _ _ _ _ _ i.answered told.answered) (told.seat ∙ i.same_seat) (told.event ∙ c.in-Ok.ensures) c.index-events-k.is c.loop-k-test.true
+    i.opened c.as_slice-events.ensures i.seats i.made _ c.in-Ok-hand.entry c.index-events-k.result (g.met.D.Desk.further _ _ _ _ _ i.answered reported.answered) (reported.seat ∙ i.same_seat) (reported.event ∙ c.in-Ok.ensures) c.index-events-k.is c.loop-k-test.true
 
 pub loop-k-preserved : goal.loop-k-preserved
 loop-k-preserved g c =
@@ -135,10 +135,10 @@ returns-then-is_err-2-clause-why g c =
     let Q = g.G.Gate.may_go_on c.args.gate.now in
     let es = c.loop-k.entries.items in
     let e = c.in-Ok-hand.entry in
-    let told = c.in-Ok-hand.ensures in
+    let reported = c.in-Ok-hand.ensures in
     let grown = es ++ e ∷ [] in
-    let seats = seats-push g.D.Desk.seat_in c.seat-seat.result es grown e refl i.seats (told.seat ∙ i.same_seat) in
-    let made = made-push g.D.Desk.event_in c.as_slice-events.result.now c.loop-k.k es grown e c.index-events-k.result refl i.made (told.event ∙ c.in-Ok.ensures) c.index-events-k.is c.loop-k-test.true in
+    let seats = seats-push g.D.Desk.seat_in c.seat-seat.result es grown e refl i.seats (reported.seat ∙ i.same_seat) in
+    let made = made-push g.D.Desk.event_in c.as_slice-events.result.now c.loop-k.k es grown e c.index-events-k.result refl i.made (reported.event ∙ c.in-Ok.ensures) c.index-events-k.is c.loop-k-test.true in
     let let_on = let_on-push (P c.seat-seat.result) (Q c.seat-seat.result) 1 (c.loop-k.k + 1) es e i.let_on (let m = i.many in omega (arith, m)) (c.if-not-before.ensures.passes refl) (c.if-not-after.ensures.goes_on refl) in (
       grown,
       are-let_on g.D.Desk.seat_in g.D.Desk.event_in P Q c.seat-seat.result (g.D.Desk.seat_of c.args.desk.now) c.args.script.now c.as_slice-events.result.now (c.loop-k.k + 1) grown i.opened c.as_slice-events.ensures seats made (grown-many c.loop-k.k es grown e refl i.many) let_on,

@@ -17,7 +17,7 @@ returns g c =
     let numbers = line_numbers c.args.input.now in
     IfOk-weaker c.explore_lines.result _ _
     (λ report h.
-    subst (λ (s : Said (ProgramLine _)). IsAnswerTo form given most model s numbers (output_of report)) (sym c.in_ok-read.ensures.said)
-    (subst (λ (stop : Option BadLine). IsAnswerUnless stop form given most model c.in_ok-read.read.said.items numbers (output_of report)) (sym c.in-None.is)
+    subst (λ (s : Said (ProgramLine _)). IsAnswerTo form given most model s numbers (output_of report)) (sym c.in_ok-read.ensures.parsed)
+    (subst (λ (stop : Option BadLine). IsAnswerUnless stop form given most model c.in_ok-read.read.parsed.items numbers (output_of report)) (sym c.in-None.is)
     (subst (λ (lines : List (ProgramLine _)). IsAnswerUnless None form given most model lines numbers (output_of report)) c.as_slice.ensures.value h)))
     c.explore_lines.ensures

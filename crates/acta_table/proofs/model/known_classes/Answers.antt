@@ -7,7 +7,7 @@ use Rattle.acta_table.proofs.model.known_classes.Goals as goal
 pub loop-class-preserved : goal.loop-class-preserved
 loop-class-preserved g c =
     AllWithin-more (λ class. HasSets {A = g.row.A.Denot} class) c.args.classes.now 0 c.loop-class.class-index c.loop-class.invariant
-    (holds_at (λ class. HasSets {A = g.row.A.Denot} class) c.args.classes.now c.loop-class.class-index c.class-item.result (omega arith) c.class-item.is c.known.ensures)
+    (holds_at (λ class. HasSets {A = g.row.A.Denot} class) c.args.classes.now c.loop-class.class-index c.class-item.result (omega arith) c.class-item.is c.lemma_invariant.ensures)
 
 pub returns : goal.returns
 returns g c = λ k d within. c.loop-class.invariant k d (omega arith) (omega arith)

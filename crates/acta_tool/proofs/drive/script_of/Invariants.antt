@@ -4,4 +4,4 @@ use Rattle.acta_tool.proofs.drive.script_of.Given as goal
 
 -- the events so far, before those of the lines that are left
 abbrev pub invariant-loop-one : goal.invariant-loop-one
-invariant-loop-one g l = l.events.items ++ script_of (drop l.one-index l.said) l.seat ≡ script_of l.said l.seat
+invariant-loop-one g l = l.events.items ++ script_of (drop l.one-index l.parsed) l.seat ≡ script_of l.parsed l.seat

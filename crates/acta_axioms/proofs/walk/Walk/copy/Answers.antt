@@ -3,8 +3,8 @@ use Rattle.acta_table.specs.Events.{named}
 use Rattle.acta_sets.specs.Permits.{permitted}
 use Rattle.acta_sets.specs.declared.grant.Grant.{Grant}
 use Rattle.acta_values.specs.Stores.{Stored}
-use Rattle.acta_axioms.specs.declared.lineage.Lineage.{Lineage}
-use Rattle.acta_axioms.specs.inside.Lineages.{unbegun}
+use Rattle.acta_axioms.specs.declared.txn_record.TxnRecord.{TxnRecord}
+use Rattle.acta_axioms.specs.inside.TxnRecords.{unbegun}
 use Rattle.std.proofs.lemmas.List.Elements.{same_from_all_zip}
 use Rattle.acta_axioms.proofs.walk.Walk.copy.Goals as goal
 
@@ -17,8 +17,8 @@ invariant_of-result g c =
     record {
       within = walk.within;
       few = walk.few;
-      wide = subst (λ (ls : List Lineage). All (λ k. All (λ t. t < length ls) (named k.event)) h) (sym lines) walk.wide;
-      lines_are = λ t. ap (λ (ls : List Lineage). get_or ls t unbegun) lines ∙ walk.lines_are t;
+      wide = subst (λ (ls : List TxnRecord). All (λ k. All (λ t. t < length ls) (named k.event)) h) (sym lines) walk.wide;
+      lines_are = λ t. ap (λ (ls : List TxnRecord). get_or ls t unbegun) lines ∙ walk.lines_are t;
       kinds_are = ap (λ (s : Stored). s.kinds) store ∙ walk.kinds_are;
       items_are = ap (λ (s : Stored). s.items) store ∙ walk.items_are;
       permits_are = λ s t object. ap (λ (ps : List (List Grant)). permitted ps s t object) c.in_ok-copy-2.ensures ∙ walk.permits_are s t object;

@@ -4,8 +4,8 @@ use Rattle.std.proofs.lemmas.List.{length-replicate}
 use Rattle.acta_values.specs.KeptValues.{kinds_of}
 use Rattle.acta_sets.specs.Permits.{Permitted}
 use Rattle.acta_values.specs.Stores.{Stored}
-use Rattle.acta_axioms.specs.inside.Lineages.{unbegun}
-use Rattle.acta_axioms.proofs.Lineages.{lines-blank}
+use Rattle.acta_axioms.specs.inside.TxnRecords.{unbegun}
+use Rattle.acta_axioms.proofs.TxnRecords.{lines-blank}
 use Rattle.acta_axioms.proofs.Named.{named-below}
 use Rattle.acta_axioms.proofs.Permitting.{none-left}
 use Rattle.acta_axioms.proofs.walk.Walk.of.Goals as goal

@@ -9,5 +9,5 @@ abbrev pub invariant-loop-item : goal.invariant-loop-item
 invariant-loop-item g l =
     record {
       next : l.number ≡ l.item-index + 1;
-      told : l.numbers.items ++ map (λ n. record { 0 = n }) (numbers_from (is_sought l.self.model l.self.front l.t.0 l.sought) l.number (drop l.item-index (held_ops l.self.model l.self.front))) ≡ numbers_of (is_sought l.self.model l.self.front l.t.0 l.sought) (held_ops l.self.model l.self.front);
+      reported : l.numbers.items ++ map (λ n. record { 0 = n }) (numbers_from (is_sought l.self.model l.self.front l.t.0 l.sought) l.number (drop l.item-index (held_ops l.self.model l.self.front))) ≡ numbers_of (is_sought l.self.model l.self.front l.t.0 l.sought) (held_ops l.self.model l.self.front);
     }

@@ -2,10 +2,10 @@ use Rattle.std.proofs.Common.{◌≡◌, ◌<◌, ◌+◌, ◌++◌, ◌∷◌, 
 use Rattle.std.proofs.lemmas.List.{take_more, take_min}
 use Rattle.acta_axioms.specs.Operations.{number_after, standing_of}
 use Rattle.acta_axioms.specs.inside.Holding.{followed_on, next_number}
-use Rattle.acta_axioms.specs.inside.Lineages.{heir_before, lineage}
+use Rattle.acta_axioms.specs.inside.TxnRecords.{heir_before, txn_record}
 use Rattle.acta_axioms.specs.inside.Walking.{standing_in}
 use Rattle.acta_axioms.proofs.Bringing.{standing-more, number-more, number-low}
-use Rattle.acta_axioms.proofs.Lineages.{heir-before}
+use Rattle.acta_axioms.proofs.TxnRecords.{heir-before}
 use Rattle.acta_axioms.proofs.walk.Walk.standing.Goals as goal
 
 pub loop-i-preserved : goal.loop-i-preserved
@@ -24,7 +24,7 @@ loop-i-preserved g c =
     let longer : take i h ++ k ∷ [] ≡ take (i + 1) h = ap (λ q. take i h ++ q ∷ []) here ∙ sym (take_more h i d within) in
     let left : c.heir_behind-heir.result ≡ heir_before c.self.inside.model.now i c.as_slice.result.now k.event = c.heir_behind-heir.ensures in
     let heir = left ∙ (λ x. heir_before (ap (λ w. w.model) c.self.view_is x) i (c.as_slice.ensures.value x) k.event)
-    ∙ heir-before m h c.self.inside.lines.items i k.event (omega (arith, within)) (λ t. c.self.invariant.lines_are t ∙ ap (λ w. lineage w.front t) c.self.view_is) in
+    ∙ heir-before m h c.self.inside.lines.items i k.event (omega (arith, within)) (λ t. c.self.invariant.lines_are t ∙ ap (λ w. txn_record w.front t) c.self.view_is) in
     let held : c.followed_on-held.result ≡ followed_on c.heir_behind-heir.result k.event c.args.op.0 c.loop-i.number c.loop-i.held = c.followed_on-held.ensures in
     let number : c.next_number-number.result ≡ next_number k.event c.loop-i.number = c.next_number-number.ensures in
     record {

@@ -5,7 +5,7 @@ use Rattle.std.specs.Option.{option_copied}
 use Rattle.acta_table.specs.Edges.{formed}
 use Rattle.acta_table.specs.Events.{named}
 use Rattle.acta_axioms.specs.Edges.{formed_by}
-use Rattle.acta_axioms.specs.inside.Lineages.{unbegun, begun_in, ended_in, is_late, further, heir_in}
+use Rattle.acta_axioms.specs.inside.TxnRecords.{unbegun, begun_in, ended_in, is_late, further, heir_in}
 use Rattle.acta_axioms.specs.inside.Walking.{permits_behind}
 use Rattle.acta_sets.specs.Permits.{permitted}
 use Rattle.std.proofs.lemmas.List.{length-take}

@@ -4,13 +4,13 @@ use Rattle.acta_debug.specs.Sessions.{Session, moved_to}
 use Rattle.acta_debug.proofs.Standing.{not-both, stepped-behind}
 use Rattle.acta_debug.proofs.debugger.Debugger.back.Goals as goal
 
-pub returns-in_err-stand_behind-clause-barred : goal.returns-in_err-stand_behind-clause-barred
-returns-in_err-stand_behind-clause-barred g c =
+pub returns-in_err-stand_behind-clause-blocked : goal.returns-in_err-stand_behind-clause-blocked
+returns-in_err-stand_behind-clause-blocked g c =
     let at = ap (λ (s : Session g.row.A.Denot). s.at) c.self.view_is in
     λ e bad. absurd (not-both _ e (stepped-behind c.args.self.now c.self.inside.at at c.if-at-eq0.false) bad)
 
-pub returns-in_err-draw_near-clause-barred : goal.returns-in_err-draw_near-clause-barred
-returns-in_err-draw_near-clause-barred g c =
+pub returns-in_err-draw_near-clause-blocked : goal.returns-in_err-draw_near-clause-blocked
+returns-in_err-draw_near-clause-blocked g c =
     let at = ap (λ (s : Session g.row.A.Denot). s.at) c.self.view_is in
     λ e bad. absurd (not-both _ e (stepped-behind c.args.self.now c.self.inside.at at c.if-at-eq0.false) bad)
 
@@ -20,5 +20,5 @@ returns-clause-ok g c =
     stepped-behind c.args.self.now c.self.inside.at at c.if-at-eq0.false
     ∙ ap (λ (s : Session g.row.A.Denot). Ok s) (sym (c.in_ok-stand_behind.ensures.ok ∙ ap (λ (s : Session g.row.A.Denot). moved_to s (c.self.inside.at - 1)) c.draw_near.ensures))
 
-pub returns-clause-barred : goal.returns-clause-barred
-returns-clause-barred g c = λ e bad. absurd (not-both _ e (returns-clause-ok g c) bad)
+pub returns-clause-blocked : goal.returns-clause-blocked
+returns-clause-blocked g c = λ e bad. absurd (not-both _ e (returns-clause-ok g c) bad)

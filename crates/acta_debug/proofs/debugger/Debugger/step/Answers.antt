@@ -24,8 +24,8 @@ returns-clause-ok g c =
     step-moves c.self.inside.machine c.take.new.self c.self.inside.history.items c.as_slice-history.result.now c.self.inside.at c.self.inside.breaks.items c.self.invariant.stands c.as_slice-history.ensures.value c.in_ok-take.ensures.follows
     c.index-history-at.result c.if-at-history.false c.index-history-at.is c.in_ok-take.ensures.ok c.args.self.now c.self.view_is
 
-pub returns-clause-barred : goal.returns-clause-barred
-returns-clause-barred g c = λ e bad. absurd (not-both _ e (returns-clause-ok g c) bad)
+pub returns-clause-blocked : goal.returns-clause-blocked
+returns-clause-blocked g c = λ e bad. absurd (not-both _ e (returns-clause-ok g c) bad)
 
 pub returns-then-at-history-clause-only : goal.returns-then-at-history-clause-only
 returns-then-at-history-clause-only g c =
@@ -33,8 +33,8 @@ returns-then-at-history-clause-only g c =
     let size = ap length c.as_slice-history.ensures.value in
     inl (subst (λ (q : Session g.row.A.Denot). stepped q ≡ Err AtEnd) c.self.view_is (stepped-end before (omega (arith, size, c.if-at-history.true))))
 
-pub returns-in_err-take-clause-barred : goal.returns-in_err-take-clause-barred
-returns-in_err-take-clause-barred g c =
+pub returns-in_err-take-clause-blocked : goal.returns-in_err-take-clause-blocked
+returns-in_err-take-clause-blocked g c =
     let before = session_of c.self.inside.machine c.self.inside.history.items c.self.inside.at c.self.inside.breaks.items in
     let size = ap length c.as_slice-history.ensures.value in
     let on = stepped-ahead before (omega (arith, size, c.if-at-history.false)) in

@@ -4,11 +4,11 @@ use Rattle.acta_table.specs.declared.dep.Edge.{Edge}
 use Rattle.acta_table.specs.declared.answer.Status.{Status}
 use Rattle.acta_deps.specs.Deps.{status_of}
 use Rattle.acta_deps.specs.Statuses.{with_status}
-use Rattle.acta_deps.specs.inside.Bars.{tears}
+use Rattle.acta_deps.specs.inside.BlockKinds.{would_owe_both}
 use Rattle.acta_deps.specs.inside.Places.{latest}
-use Rattle.acta_deps.proofs.Parties.{tears_party}
+use Rattle.acta_deps.proofs.Parties.{would_owe_both_party}
 use Rattle.acta_deps.proofs.LastPlaces.{latest_le}
-use Rattle.acta_deps.proofs.Clashes.{clashing_is_torn}
+use Rattle.acta_deps.proofs.Clashes.{clashing_is_owing_both}
 use Rattle.acta_deps.proofs.Walks.{blank, walk_within, walk_on, least_of, least_start, least_step}
 use Rattle.acta_deps.proofs.deps.Deps.clashing.Goals as goal
 
@@ -25,7 +25,7 @@ loop-place-init g c =
     record {
       within = omega arith;
       on = walk_on ps t (length ps) c.last-place.result c.last-place.ensures;
-      rest = least_start (tears s' c.args.self.now.edges t) key t (tears_party s' c.args.self.now.edges t) es ps all c.last-place.result c.torn-least.result c.last-place.ensures;
+      rest = least_start (would_owe_both s' c.args.self.now.edges t) key t (would_owe_both_party s' c.args.self.now.edges t) es ps all c.last-place.result c.all_owing_both-least.result c.last-place.ensures;
     }
 
 pub loop-place-smaller : goal.loop-place-smaller
@@ -54,7 +54,7 @@ loop-place-preserved g c =
     record {
       within = omega arith;
       on = walk_on ps t (place - 1) next (is ∙ ap (λ u. latest ps u (place - 1)) on);
-      rest = least_step (tears s' c.args.self.now.edges t) key t (tears_party s' c.args.self.now.edges t) es ps all place next _ c.loop-place.least c.with_torn-least.result some within (c.with_torn-least.ensures blank) on is ∙ c.loop-place.invariant.rest;
+      rest = least_step (would_owe_both s' c.args.self.now.edges t) key t (would_owe_both_party s' c.args.self.now.edges t) es ps all place next _ c.loop-place.least c.with_owing_both-least.result some within (c.with_owing_both-least.ensures blank) on is ∙ c.loop-place.invariant.rest;
     }
 
 pub returns : goal.returns
@@ -62,11 +62,11 @@ returns g c =
     let t : ℕ = c.args.change.txn.0 in
     let s' : ℕ → Status = with_status (status_of c.args.self.now) t c.args.change.status in
     let es : List Edge = c.args.self.now.edges in
-    let pass : Edge → Bool = tears s' c.args.self.now.edges t in
+    let pass : Edge → Bool = would_owe_both s' c.args.self.now.edges t in
     let place : ℕ = c.loop-place.place in
     let none : place ≤ 0 = c.loop-place-test.false in
     let zero : place ≡ 0 = omega arith in
     sym (ap (λ n. least_of pass c.loop-place.least (take n es)) zero)
     ∙ c.loop-place.invariant.rest
-    ∙ ap (λ o. least_of pass o c.args.self.now.edges) c.torn-least.ensures
-    ∙ clashing_is_torn (status_of c.args.self.now) t c.args.change.status c.args.self.now.edges c.known.ensures.clear
+    ∙ ap (λ o. least_of pass o c.args.self.now.edges) c.all_owing_both-least.ensures
+    ∙ clashing_is_owing_both (status_of c.args.self.now) t c.args.change.status c.args.self.now.edges c.lemma_invariant.ensures.clear

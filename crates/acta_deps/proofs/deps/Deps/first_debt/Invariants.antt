@@ -2,7 +2,7 @@ use Rattle.std.proofs.Common.{◌≡◌, ◌≤◌, ◌+◌, length, drop}
 use Rattle.std.specs.List.{position_from}
 use Rattle.acta_table.specs.declared.limits.TheConstants.{MOST_EDGES}
 use Rattle.acta_table.specs.Numbered.{first_number}
-use Rattle.acta_deps.specs.inside.Bars.{owes}
+use Rattle.acta_deps.specs.inside.BlockKinds.{owes}
 use Rattle.acta_deps.specs.inside.Refused.{status_after}
 use Rattle.acta_deps.proofs.deps.Deps.first_debt.Given as goal
 

@@ -5,8 +5,8 @@ use Rattle.acta_table.specs.declared.dep.Edge.{Edge}
 use Rattle.acta_table.specs.Numbered.{first_number}
 use Rattle.acta_table.specs.declared.answer.Status.{Status}
 use Rattle.acta_deps.specs.Deps.{status_of}
-use Rattle.acta_deps.specs.inside.Bars.{bars, party}
-use Rattle.acta_deps.specs.declared.bar.Bar.TheVariants.{CommittedFirst, BeganFirst, CannotPayCommit}
+use Rattle.acta_deps.specs.inside.BlockKinds.{blocks, party}
+use Rattle.acta_deps.specs.declared.block_kind.BlockKind.TheVariants.{CommittedFirst, BeganFirst, CannotPayCommit}
 use Rattle.acta_deps.specs.inside.Places.{latest}
 use Rattle.acta_deps.proofs.Parties.{bars_party}
 use Rattle.acta_deps.proofs.LastPlaces.{latest_le}
@@ -25,9 +25,9 @@ loop-place-init g c =
     record {
       within = omega arith;
       on = walk_on ps t (length ps) c.last-place.result c.last-place.ensures;
-      order = first_start (bars CommittedFirst s t) (party CommittedFirst) t (bars_party CommittedFirst s t) es ps all c.last-place.result c.last-place.ensures;
-      begun = first_start (bars BeganFirst s t) (party CommittedFirst) t (bars_party BeganFirst s t) es ps all c.last-place.result c.last-place.ensures;
-      unpayable = first_start (bars CannotPayCommit s t) (party CommittedFirst) t (bars_party CannotPayCommit s t) es ps all c.last-place.result c.last-place.ensures;
+      order = first_start (blocks CommittedFirst s t) (party CommittedFirst) t (bars_party CommittedFirst s t) es ps all c.last-place.result c.last-place.ensures;
+      begun = first_start (blocks BeganFirst s t) (party CommittedFirst) t (bars_party BeganFirst s t) es ps all c.last-place.result c.last-place.ensures;
+      unpayable = first_start (blocks CannotPayCommit s t) (party CommittedFirst) t (bars_party CannotPayCommit s t) es ps all c.last-place.result c.last-place.ensures;
     }
 
 pub loop-place-smaller : goal.loop-place-smaller
@@ -56,15 +56,15 @@ loop-place-preserved g c =
       within = omega arith;
       on = walk_on ps t (place - 1) next (is ∙ ap (λ u. latest ps u (place - 1)) on);
       order =
-          ap (λ o. option_or (first_number (bars CommittedFirst s t) (take next es)) o) c.or_here-order.ensures
-          ∙ first_step (bars CommittedFirst s t) (party CommittedFirst) t (bars_party CommittedFirst s t) es ps all place next _ c.is_barred.result c.loop-place.order some within c.is_barred.ensures on is
+          ap (λ o. option_or (first_number (blocks CommittedFirst s t) (take next es)) o) c.or_here-order.ensures
+          ∙ first_step (blocks CommittedFirst s t) (party CommittedFirst) t (bars_party CommittedFirst s t) es ps all place next _ c.is_blocked.result c.loop-place.order some within c.is_blocked.ensures on is
           ∙ c.loop-place.invariant.order;
       begun =
-          ap (λ o. option_or (first_number (bars BeganFirst s t) (take next es)) o) c.or_here-begun.ensures
-          ∙ first_step (bars BeganFirst s t) (party CommittedFirst) t (bars_party BeganFirst s t) es ps all place next _ c.is_barred-in-loop-place.result c.loop-place.begun some within c.is_barred-in-loop-place.ensures on is
+          ap (λ o. option_or (first_number (blocks BeganFirst s t) (take next es)) o) c.or_here-begun.ensures
+          ∙ first_step (blocks BeganFirst s t) (party CommittedFirst) t (bars_party BeganFirst s t) es ps all place next _ c.is_blocked-in-loop-place.result c.loop-place.begun some within c.is_blocked-in-loop-place.ensures on is
           ∙ c.loop-place.invariant.begun;
       unpayable =
-          ap (λ o. option_or (first_number (bars CannotPayCommit s t) (take next es)) o) c.or_here-unpayable.ensures
-          ∙ first_step (bars CannotPayCommit s t) (party CommittedFirst) t (bars_party CannotPayCommit s t) es ps all place next _ c.is_barred-in-loop-place-2.result c.loop-place.unpayable some within c.is_barred-in-loop-place-2.ensures on is
+          ap (λ o. option_or (first_number (blocks CannotPayCommit s t) (take next es)) o) c.or_here-unpayable.ensures
+          ∙ first_step (blocks CannotPayCommit s t) (party CommittedFirst) t (bars_party CannotPayCommit s t) es ps all place next _ c.is_blocked-in-loop-place-2.result c.loop-place.unpayable some within c.is_blocked-in-loop-place-2.ensures on is
           ∙ c.loop-place.invariant.unpayable;
     }

@@ -2,8 +2,8 @@ use Rattle.std.proofs.Common.{◌≡◌, ◌<◌, ◌≤◌, ◌-◌, length, ta
 use Rattle.std.specs.Option.{option_or}
 use Rattle.acta_table.specs.Numbered.{first_number}
 use Rattle.acta_deps.specs.Deps.{status_of}
-use Rattle.acta_deps.specs.inside.Bars.{bars}
-use Rattle.acta_deps.specs.declared.bar.Bar.TheVariants.{CommittedFirst, BeganFirst, CannotPayCommit}
+use Rattle.acta_deps.specs.inside.BlockKinds.{blocks}
+use Rattle.acta_deps.specs.declared.block_kind.BlockKind.TheVariants.{CommittedFirst, BeganFirst, CannotPayCommit}
 use Rattle.acta_deps.proofs.deps.Deps.later.Given as goal
 
 -- the first up to here, or else the one that was found behind, is the first of all
@@ -12,9 +12,9 @@ invariant-loop-place g l =
     record {
       within : l.place ≤ length l.edges;
       on : 0 < l.place → get_or l.parties (l.place - 1) 0 ≡ l.t.0;
-      order : option_or (first_number (bars CommittedFirst (status_of l.self) l.t.0) (take l.place l.edges)) l.order ≡ first_number (bars CommittedFirst (status_of l.self) l.t.0) l.edges;
-      begun : option_or (first_number (bars BeganFirst (status_of l.self) l.t.0) (take l.place l.edges)) l.begun ≡ first_number (bars BeganFirst (status_of l.self) l.t.0) l.edges;
-      unpayable : option_or (first_number (bars CannotPayCommit (status_of l.self) l.t.0) (take l.place l.edges)) l.unpayable ≡ first_number (bars CannotPayCommit (status_of l.self) l.t.0) l.edges;
+      order : option_or (first_number (blocks CommittedFirst (status_of l.self) l.t.0) (take l.place l.edges)) l.order ≡ first_number (blocks CommittedFirst (status_of l.self) l.t.0) l.edges;
+      begun : option_or (first_number (blocks BeganFirst (status_of l.self) l.t.0) (take l.place l.edges)) l.begun ≡ first_number (blocks BeganFirst (status_of l.self) l.t.0) l.edges;
+      unpayable : option_or (first_number (blocks CannotPayCommit (status_of l.self) l.t.0) (take l.place l.edges)) l.unpayable ≡ first_number (blocks CannotPayCommit (status_of l.self) l.t.0) l.edges;
     }
 
 abbrev pub decreases-loop-place : goal.decreases-loop-place

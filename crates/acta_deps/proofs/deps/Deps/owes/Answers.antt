@@ -4,7 +4,7 @@ use Rattle.acta_table.specs.declared.dep.Edge.{Edge}
 use Rattle.acta_table.specs.declared.answer.Status.{Status}
 use Rattle.acta_deps.specs.Deps.{status_of}
 use Rattle.acta_deps.specs.Statuses.{with_status}
-use Rattle.acta_deps.specs.inside.Bars.{owes}
+use Rattle.acta_deps.specs.inside.BlockKinds.{owes}
 use Rattle.acta_deps.specs.inside.Places.{latest}
 use Rattle.acta_deps.proofs.Parties.{owes_party}
 use Rattle.acta_deps.proofs.LastPlaces.{latest_le}

@@ -2,7 +2,7 @@ use Rattle.std.proofs.Common.{◌≡◌, ◌<◌, ◌≤◌, ◌-◌, length, ta
 use Rattle.std.specs.List.{list_any}
 use Rattle.acta_deps.specs.Deps.{status_of}
 use Rattle.acta_deps.specs.Statuses.{with_status}
-use Rattle.acta_deps.specs.inside.Bars.{owes}
+use Rattle.acta_deps.specs.inside.BlockKinds.{owes}
 use Rattle.acta_deps.proofs.deps.Deps.owes.Given as goal
 
 -- one of all owes where one up to here does

@@ -1,5 +1,5 @@
 use Rattle.std.proofs.Common.{◌≡◌, ◌++◌, map}
-use Rattle.acta_lang.specs.inside.Shown.{closed_shown}
+use Rattle.acta_lang.specs.inside.Abstraction.{closed_shown}
 use Rattle.acta_lang.proofs.draft.Draft.classes.Given as goal
 
 -- with those that are left it is all

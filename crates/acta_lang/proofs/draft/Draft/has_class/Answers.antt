@@ -1,7 +1,7 @@
 use Rattle.std.proofs.Common.{◌||◌, false, sym, ap, ◌∙◌, option_map}
 use Rattle.std.specs.Option.{option_map_or}
 use Rattle.std.specs.Str.{bytes_eq}
-use Rattle.acta_lang.specs.inside.Shown.{current_shown}
+use Rattle.acta_lang.specs.inside.Abstraction.{current_shown}
 use Rattle.acta_lang.proofs.Held.{among_classes}
 use Rattle.acta_lang.proofs.draft.Draft.has_class.Goals as goal
 

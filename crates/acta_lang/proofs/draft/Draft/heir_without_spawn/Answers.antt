@@ -3,7 +3,7 @@ use Rattle.std.specs.Option.{option_map_or}
 use Rattle.acta_table.specs.Faults.{lacks_parents}
 use Rattle.acta_lang.specs.Drafts.{closed}
 use Rattle.acta_lang.specs.Faults.{heir_without_spawn}
-use Rattle.acta_lang.specs.inside.Shown.{current_shown}
+use Rattle.acta_lang.specs.inside.Abstraction.{current_shown}
 use Rattle.acta_lang.proofs.draft.Draft.heir_without_spawn.Goals as goal
 
 pub returns-then-is_end : goal.returns-then-is_end

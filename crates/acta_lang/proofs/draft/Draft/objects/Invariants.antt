@@ -1,5 +1,5 @@
 use Rattle.std.proofs.Common.{◌≡◌, ◌++◌, map}
-use Rattle.acta_lang.specs.inside.Shown.{object_shown}
+use Rattle.acta_lang.specs.inside.Abstraction.{object_shown}
 use Rattle.acta_lang.proofs.draft.Draft.objects.Given as goal
 
 -- with those that are left it is all

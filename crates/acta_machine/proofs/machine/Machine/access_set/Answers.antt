@@ -10,8 +10,8 @@ use Rattle.acta_machine.proofs.machine.Machine.access_set.Goals as goal
 
 pub returns-clause-places : goal.returns-clause-places
 returns-clause-places g c =
-    let board = c.self.inside.board in
-    let state : State g.row.A.Denot = record { model = board.model; kept = board.kept.items } in
+    let machine_state = c.self.inside.machine_state in
+    let state : State g.row.A.Denot = record { model = machine_state.model; kept = machine_state.kept.items } in
     let same = ap (λ (s : Summary). access_set c.args.t.0 s.operations) c.self.invariant.agrees ∙ access-places state c.args.t.0 c.self.invariant.follows
     ∙ ap (λ (x : State g.row.A.Denot). op_numbers (by_places.access_set x.model x.kept c.args.t.0)) c.self.view_is in
     subst (λ (numbers : List OpNo). IfOk c.access_set.result (λ v. v.items ≡ numbers)) same c.access_set.ensures.set

@@ -10,7 +10,7 @@ use Rattle.acta_machine.specs.Summary.{Summary, linked, counted}
 use Rattle.acta_machine.specs.Changes.{edges_due, changed, summary_of}
 use Rattle.acta_machine.specs.Values.{return_due}
 use Rattle.acta_machine.specs.Rules.{lowest_broken}
-use Rattle.acta_machine.specs.inside.Shown.{shown}
+use Rattle.acta_machine.specs.inside.Abstraction.{abstraction}
 use Rattle.acta_machine.specs.Table.{State, kept_as}
 use Rattle.acta_machine.specs.Places.{AreHeldWell, FollowsPlaces}
 use Rattle.acta_machine.specs.inside.FreshEdges.{is_fresh_edge}
@@ -21,7 +21,7 @@ use Rattle.acta_values.specs.KeptValues.{kinds_of}
 use Rattle.acta_deps.specs.Deps.{status_of}
 use Rattle.acta_machine.proofs.FreshEdges.{fresh-due}
 use Rattle.acta_machine.proofs.Refusals.{none_refused}
-use Rattle.acta_machine.proofs.Handing.{event-held}
+use Rattle.acta_machine.proofs.Transferring.{event-held}
 use Rattle.acta_machine.proofs.Histories.{summary_more, operations_few}
 use Rattle.acta_machine.proofs.Unbroken.{Admissible, Unbroken, unbroken, none-earlier, still-admissible, linked-room}
 use Rattle.acta_machine.proofs.Steps.{follows-push}
@@ -35,31 +35,31 @@ module _ {A : Type 0} (model : Parts A) (kept : List (Kept A)) (s : Summary) (ev
   none-kept : lowest_broken model (summary_of model kept) event ≡ None
   none-kept = ap (λ (x : State A). lowest_broken x.model (summary_of x.model x.kept) event) is ∙ none
 
-  none-shown : lowest_broken model s event ≡ None
-  none-shown = ap (λ (x : Summary). lowest_broken model x event) agrees ∙ none-kept
+  none-abstraction : lowest_broken model s event ≡ None
+  none-abstraction = ap (λ (x : Summary). lowest_broken model x event) agrees ∙ none-kept
 
-  unbroken-shown : Unbroken model s event
-  unbroken-shown = unbroken model s event (none-earlier model s event none-shown)
+  unbroken-abstraction : Unbroken model s event
+  unbroken-abstraction = unbroken model s event (none-earlier model s event none-abstraction)
 
   due-kept : due ≡ edges_due model (summary_of model kept) event
   due-kept = formed ∙ sym (ap (λ (x : State A). edges_due x.model (summary_of x.model x.kept) event) is)
 
-  due-shown : due ≡ edges_due model s event
-  due-shown = due-kept ∙ sym (ap (λ (x : Summary). edges_due model x event) agrees)
+  due-abstraction : due ≡ edges_due model s event
+  due-abstraction = due-kept ∙ sym (ap (λ (x : Summary). edges_due model x event) agrees)
 
   faultless-kept : lowest_fault model ≡ None
   faultless-kept = ap (λ (x : State A). lowest_fault x.model) is ∙ faultless
 
   admissible : {later : Summary} → later ≡ linked s due → Admissible later event
-  admissible {later} linked = still-admissible model s later event due faultless-kept none-shown due-shown linked
+  admissible {later} linked = still-admissible model s later event due faultless-kept none-abstraction due-abstraction linked
 
 pub next_place-place-requires : goal.next_place-place-requires
-next_place-place-requires g c = none-shown _ _ _ _ _ _ c.self.invariant.agrees c.self.view_is c.requires.none c.requires.due c.requires.faultless
+next_place-place-requires g c = none-abstraction _ _ _ _ _ _ c.self.invariant.agrees c.self.view_is c.requires.none c.requires.due c.requires.faultless
 
 pub admit-requires-clause-few : goal.admit-requires-clause-few
 admit-requires-clause-few g c =
-    let before = c.self.inside.board.kept.items in
-    let few = operations_few c.self.inside.board.model before in
+    let before = c.self.inside.machine_state.kept.items in
+    let few = operations_few c.self.inside.machine_state.model before in
     let count = ap (λ (s : Summary). length s.operations) c.self.invariant.agrees in
     let roomy = ap (λ b. length b.store.items) c.make_room.ensures.others in
     let room = c.next_place-place.ensures.room in
@@ -67,7 +67,7 @@ admit-requires-clause-few g c =
 
 pub admit-requires-clause-named : goal.admit-requires-clause-named
 admit-requires-clause-named g c =
-    let u = unbroken-shown _ _ _ _ _ _ c.self.invariant.agrees c.self.view_is c.requires.none c.requires.due c.requires.faultless in
+    let u = unbroken-abstraction _ _ _ _ _ _ c.self.invariant.agrees c.self.view_is c.requires.none c.requires.due c.requires.faultless in
     ap (λ items. option_map_or (λ t. are_held t (operations_named c.args.event.now) items) (acting c.args.event.now) true) (ap (λ b. b.store.items) c.make_room.ensures.others)
     ∙ event-held _ _ _ u
 
@@ -75,10 +75,10 @@ admit-requires-clause-named g c =
 pub admit-requires-clause-fits : goal.admit-requires-clause-fits
 admit-requires-clause-fits g c =
     let event = c.args.event.now in
-    let model = c.self.inside.board.model in
-    let s = shown c.self.inside.board in
-    let u = unbroken-shown _ _ _ _ _ _ c.self.invariant.agrees c.self.view_is c.requires.none c.requires.due c.requires.faultless in
-    let due = due-shown _ _ _ _ _ _ c.self.invariant.agrees c.self.view_is c.requires.none c.requires.due c.requires.faultless in
+    let model = c.self.inside.machine_state.model in
+    let s = abstraction c.self.inside.machine_state in
+    let u = unbroken-abstraction _ _ _ _ _ _ c.self.invariant.agrees c.self.view_is c.requires.none c.requires.due c.requires.faultless in
+    let due = due-abstraction _ _ _ _ _ _ c.self.invariant.agrees c.self.view_is c.requires.none c.requires.due c.requires.faultless in
     let room = linked-room model s event u.edges in
     let roomy = ap (λ b. b.deps.edges) c.make_room.ensures.others in
     let same : length (formed c.make_room.new.self.deps.edges c.args.due.now) ≡ length (formed s.edges (edges_due model s event)) = λ i. length (formed (roomy i) (due i)) in
@@ -88,15 +88,15 @@ admit-requires-clause-fits g c =
 pub admit-requires-clause-fresh : goal.admit-requires-clause-fresh
 admit-requires-clause-fresh g c =
     let event = c.args.event.now in
-    let model = c.self.inside.board.model in
-    let s = shown c.self.inside.board in
-    let u = unbroken-shown _ _ _ _ _ _ c.self.invariant.agrees c.self.view_is c.requires.none c.requires.due c.requires.faultless in
-    let due = due-shown _ _ _ _ _ _ c.self.invariant.agrees c.self.view_is c.requires.none c.requires.due c.requires.faultless in
+    let model = c.self.inside.machine_state.model in
+    let s = abstraction c.self.inside.machine_state in
+    let u = unbroken-abstraction _ _ _ _ _ _ c.self.invariant.agrees c.self.view_is c.requires.none c.requires.due c.requires.faultless in
+    let due = due-abstraction _ _ _ _ _ _ c.self.invariant.agrees c.self.view_is c.requires.none c.requires.due c.requires.faultless in
     let faultless = faultless-kept _ _ _ _ _ _ c.self.invariant.agrees c.self.view_is c.requires.none c.requires.due c.requires.faultless in
     let well : AreHeldWell s = subst AreHeldWell (sym c.self.invariant.agrees) c.self.invariant.follows.holders in
     ap (λ (es : List Edge). list_all (is_fresh_edge (status_of c.make_room.new.self.deps)) es) due
     ∙ ap (λ b. list_all (is_fresh_edge (status_of b.deps)) (edges_due model s event)) c.make_room.ensures.others
-    ∙ fresh-due model s event faultless well c.known.ensures.nobody u
+    ∙ fresh-due model s event faultless well c.lemma_invariant.ensures.nobody u
 
 pub admit-requires-clause-progress : goal.admit-requires-clause-progress
 admit-requires-clause-progress g c =
@@ -113,8 +113,8 @@ admit-requires-clause-allowed g c =
 pub invariant_of-self-2 : goal.invariant_of-self-2
 invariant_of-self-2 g c =
     let event = c.args.event.now in
-    let model = c.self.inside.board.model in
-    let before = c.self.inside.board.kept.items in
+    let model = c.self.inside.machine_state.model in
+    let before = c.self.inside.machine_state.kept.items in
     let agrees = c.self.invariant.agrees in
     let state : State g.row.A.Denot = record { model = model; kept = before } in
     let kept : Kept g.row.A.Denot = record { event = event; ret = c.return_of-ret.result } in
@@ -135,7 +135,7 @@ invariant_of-self-2 g c =
       agrees = c.in_ok-admit.ensures.shows
           ∙ (λ i. counted (changed (roomy_model i) (linked ((c.make_room.ensures.shows ∙ agrees) i) (edges i)) event))
           ∙ sym ((λ i. summary_of (same_model i) (longer i)) ∙ summary_more model before kept);
-      origins = c.admit.ensures.origins;
+      records = c.admit.ensures.records;
       kinds = c.admit.ensures.kinds ∙ ap (λ b. b.store.kinds) c.make_room.ensures.others ∙ c.self.invariant.kinds ∙ sym (ap (λ (m : Parts g.row.A.Denot). kinds_of m.objects) same_model);
       within = omega (arith, count, room);
       follows = subst (λ (x : State g.row.A.Denot). FollowsPlaces x) (λ i. record { model = sym same_model i; kept = sym same_kept i }) (follows-push model before event faultless c.self.invariant.follows none);

@@ -13,7 +13,7 @@ invariant_of-result g c =
     let none : length c.new-5.result.items ≡ 0 = ap (length {A = Kept g.row.A.Denot}) c.new-5.ensures.items in
     record {
       agrees = fresh_summary _ _ _ _ _ _ c.new-2.ensures c.new-3.ensures.items (ap (λ (s : Stored). s.items) c.in_ok-store.ensures) c.new-4.ensures c.new-5.ensures.items;
-      origins = let empty = ap length c.new-3.ensures.items in omega arith;
+      records = let empty = ap length c.new-3.ensures.items in omega arith;
       kinds = ap (λ (s : Stored). s.kinds) c.in_ok-store.ensures ∙ ap kinds_of c.objects.ensures.objects;
       within = omega arith;
       follows = subst (λ (kept : List (Kept g.row.A.Denot)). FollowsPlaces {A = g.row.A.Denot} (record { model = c.args.model; kept = kept })) (sym c.new-5.ensures.items) (follows-fresh c.args.model);

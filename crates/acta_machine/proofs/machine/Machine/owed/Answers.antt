@@ -9,8 +9,8 @@ use Rattle.acta_machine.proofs.machine.Machine.owed.Goals as goal
 
 pub returns-clause-places : goal.returns-clause-places
 returns-clause-places g c =
-    let board = c.self.inside.board in
-    let state : State g.row.A.Denot = record { model = board.model; kept = board.kept.items } in
-    let same = ap (λ (s : Summary). owed_in s.status s.edges) c.self.invariant.agrees ∙ owed-places board.model board.kept.items c.self.invariant.follows.shows c.self.invariant.follows.orderly
+    let machine_state = c.self.inside.machine_state in
+    let state : State g.row.A.Denot = record { model = machine_state.model; kept = machine_state.kept.items } in
+    let same = ap (λ (s : Summary). owed_in s.status s.edges) c.self.invariant.agrees ∙ owed-places machine_state.model machine_state.kept.items c.self.invariant.follows.shows c.self.invariant.follows.orderly
     ∙ ap (λ (x : State g.row.A.Denot). owed x.model x.kept) c.self.view_is in
     subst (λ (debts : List Owed). IfOk c.owed.result (λ o. o.items ≡ debts)) same c.owed.ensures

@@ -8,7 +8,7 @@ use Rattle.acta_machine.proofs.machine.Machine.take_all.Given as goal
 abbrev pub invariant-loop-event : goal.invariant-loop-event
 invariant-loop-event g l =
     record {
-      told : l.answers.items ++ answers_to l.self (drop l.event-index l.events) ≡ answers_to l.initial.self l.events;
+      reported : l.answers.items ++ answers_to l.self (drop l.event-index l.events) ≡ answers_to l.initial.self l.events;
       follows : FollowsPlaces l.self;
       rest : after_all l.self (drop l.event-index l.events) ≡ after_all l.initial.self l.events;
     }

@@ -9,8 +9,8 @@ use Rattle.acta_machine.proofs.machine.Machine.value.Goals as goal
 
 pub returns-clause-places : goal.returns-clause-places
 returns-clause-places g c =
-    let board = c.self.inside.board in
-    let state : State g.row.A.Denot = record { model = board.model; kept = board.kept.items } in
-    let same = ap (λ (s : Summary). value_of board.model s c.args.ob.0) c.self.invariant.agrees ∙ values-places state c.args.ob.0 c.self.invariant.follows
+    let machine_state = c.self.inside.machine_state in
+    let state : State g.row.A.Denot = record { model = machine_state.model; kept = machine_state.kept.items } in
+    let same = ap (λ (s : Summary). value_of machine_state.model s c.args.ob.0) c.self.invariant.agrees ∙ values-places state c.args.ob.0 c.self.invariant.follows
     ∙ ap (λ (x : State g.row.A.Denot). value_at x c.args.ob.0) c.self.view_is in
     subst (λ (value : Option (ObjectState g.row.A.Denot)). IfOk c.value.result (λ v. v ≡ value)) same c.value.ensures

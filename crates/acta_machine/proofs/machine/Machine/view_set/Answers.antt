@@ -10,8 +10,8 @@ use Rattle.acta_machine.proofs.machine.Machine.view_set.Goals as goal
 
 pub returns-clause-places : goal.returns-clause-places
 returns-clause-places g c =
-    let board = c.self.inside.board in
-    let state : State g.row.A.Denot = record { model = board.model; kept = board.kept.items } in
+    let machine_state = c.self.inside.machine_state in
+    let state : State g.row.A.Denot = record { model = machine_state.model; kept = machine_state.kept.items } in
     let same = ap view_set c.operations.ensures ∙ ap (λ (s : Summary). view_set s.operations) c.self.invariant.agrees ∙ view-places state c.self.invariant.follows
     ∙ ap (λ (x : State g.row.A.Denot). op_numbers (by_places.view_set x.model x.kept)) c.self.view_is in
     subst (λ (numbers : List OpNo). IfOk c.view_set.result (λ v. v.items ≡ numbers)) same c.view_set.ensures

@@ -11,8 +11,8 @@ use Rattle.acta_sets.proofs.Listed.{AreListed-same, AreListed-more, FrontsHold-s
 use Rattle.acta_sets.proofs.Filed.{filed_small, AreFiled-same, AreFiled-added}
 use Rattle.acta_sets.proofs.table.OpTable.add.Goals as goal
 
-pub file-requires-clause-small : goal.file-requires-clause-small
-file-requires-clause-small g c = λ q. omega (arith, c.self.invariant.few, filed_small c.self.inside.items.items c.self.inside.counts c.self.invariant.filed q, c.make_room.ensures.same q)
+pub count_in-requires-clause-small : goal.count_in-requires-clause-small
+count_in-requires-clause-small g c = λ q. omega (arith, c.self.invariant.few, filed_small c.self.inside.items.items c.self.inside.counts c.self.invariant.filed q, c.make_room.ensures.same q)
 
 pub invariant_of-self-2 : goal.invariant_of-self-2
 invariant_of-self-2 g c =
@@ -21,13 +21,13 @@ invariant_of-self-2 g c =
     let long : c.len.result ≡ length items = search rules in
     let number : c.len.result + 1 ≡ 1 + length items = omega arith in
     let added = AreHeld-added items c.self.inside.held.items c.add_held.new.held.items x (c.len.result + 1) number c.self.invariant.held refl c.in_ok-add_held.ensures.ok in
-    let filed = AreFiled-added items c.make_room.new.counts c.file.new.counts x refl (AreFiled-same items c.self.inside.counts c.make_room.new.counts c.self.invariant.filed c.make_room.ensures.same) c.file.ensures in
+    let filed = AreFiled-added items c.make_room.new.counts c.count_in.new.counts x refl (AreFiled-same items c.self.inside.counts c.make_room.new.counts c.self.invariant.filed c.make_room.ensures.same) c.count_in.ensures in
     let after = c.push_reserved.ensures.items ∙ ap (λ xs. xs ++ x ∷ []) c.reserve.ensures.items in
     record {
       few = search rules;
       held = subst (λ xs. AreHeld xs c.add_held.new.held.items) (sym after) added;
       among = c.in_ok-add_held.ensures.among c.self.invariant.among;
-      filed = subst (λ xs. AreFiled xs c.file.new.counts) (sym after) filed;
+      filed = subst (λ xs. AreFiled xs c.count_in.new.counts) (sym after) filed;
       coarse = subst (λ xs. AreListed coarse xs c.list_under.new.lists) (sym after)
           (AreListed-more coarse items c.make_place.new.lists c.list_under.new.lists x (c.len.result + 1) number (AreListed-same coarse items c.self.inside.coarse c.make_place.new.lists c.self.invariant.coarse c.make_place.ensures.numbers)
           (λ q. c.list_under.ensures.numbers q ∙ ap (λ o. if is_tag q c.args.ob.0 o then numbers_in c.make_place.new.lists q ++ (c.len.result + 1) ∷ [] else numbers_in c.make_place.new.lists q) c.coarse-coarse.ensures));

@@ -4,7 +4,7 @@ use Rattle.acta_sets.specs.declared.held_op.HeldOp.{HeldOp}
 use Rattle.acta_sets.specs.Operations.{ended}
 use Rattle.acta_values.specs.declared.store.Store.TheInside.{Inside}
 use Rattle.acta_values.specs.KeptValues.{AreAfter}
-use Rattle.acta_values.proofs.Alike.{committed_after, is_committed-closed}
+use Rattle.acta_values.proofs.Equivalence.{committed_after, is_committed-closed}
 use Rattle.acta_values.proofs.store.Store.end_all.Goals.{in-Aborted, in_default}
 use Rattle.acta_values.proofs.store.Store.end_all.Goals as goal
 

@@ -1,9 +1,0 @@
-use Rattle.std.proofs.Common.{ap, ◌∙◌}
-use Rattle.std.proofs.lemmas.Result.{IfOk-weaker}
-use Rattle.acta_axioms.specs.inside.Against.{edges_wanted}
-use Rattle.acta_machine.specs.inside.Shown.{shown}
-use Rattle.acta_machine.proofs.Opponents.{wanted-due}
-use Rattle.acta_machine.proofs.board.Board.edges_due.Goals as goal
-
-pub returns-in_default-clause-due : goal.returns-in_default-clause-due
-returns-in_default-clause-due g c = IfOk-weaker c.edges_wanted.result _ _ (λ _ seen. seen ∙ ap (λ ks. edges_wanted ks c.args.event.now) c.classes-classes.ensures.classes ∙ wanted-due c.args.self.now.model (shown c.args.self.now) c.args.event.now c.in_default.not-Operate) c.edges_wanted.ensures
