@@ -1,6 +1,7 @@
 -- What a refusal by the edges in force names is there.
-use Rattle.std.proofs.Common.{◌≡◌, ◌≢◌, ℕ, ◌+◌, Bool, true, false, ◌||◌, cond, List, [], ◌∷◌, Option, Some, None, refl, sym, ap, ◌∙◌}
+use Rattle.std.proofs.Common.{◌≡◌, ◌≢◌, ℕ, zero, suc, ◌+◌, ◌≤◌, Bool, true, false, ◌||◌, cond, List, [], ◌∷◌, slice_get, Option, Some, None, refl, sym, ap, ◌∙◌, subst, arith}
 use Rattle.std.specs.List.{list_any, position_from}
+use Rattle.std.specs.Prelude.{option_map, IfSome}
 use Rattle.std.specs.Option.{option_or}
 use Rattle.std.proofs.lemmas.Bool.{and_parts, true≢false}
 use Rattle.acta_table.specs.declared.dep.Edge.{Edge}
@@ -17,7 +18,9 @@ use Rattle.acta_deps.specs.Debts.{owing_both, clashing, owes_commit, owes_abort}
 use Rattle.acta_deps.specs.Dependencies.{depends, is_awaited, awaits_begin, awaits_end, awaits_commit, awaits_abort, ends_after, committed_first, began_first, cannot_pay_commit, cannot_pay_abort, begin_dep, serial_dep, begin_on_commit, begin_on_abort, termination_dep, owing_abort, owing_commit, commit_order, weak_begin, unpayable_commit, unpayable_abort, clash, start_refusal, commit_refusal, abort_refusal, join_refusal, refusal_to}
 use Rattle.acta_deps.specs.Statuses.{with_status}
 use Rattle.acta_deps.specs.inside.BlockKinds.{owes}
+use Rattle.acta_deps.specs.declared.block.NumberedEdge.{NumberedEdge}
 use Rattle.acta_deps.proofs.Clashes.{in_owing}
+use Rattle.acta_deps.proofs.Parties.{owes_party}
 use Rattle.acta_deps.proofs.SmallestSame.{least-in}
 use Rattle.acta_table.proofs.FirstNumbers.{some-is, none-some, first-there}
 
@@ -130,3 +133,35 @@ refusal-reported s es t InProgress r e = start-reported s es t r e
 refusal-reported s es t Committed r e = commit-reported s es t r e
 refusal-reported s es t Aborted r e = abort-reported s es t r e
 refusal-reported s es t Joined r e = join-reported s es t r e
+
+low-by : (a : Bool) (k n : ℕ) (o : Option ℕ) → (o ≡ Some n → k + 1 ≤ n) → cond a (Some k) o ≡ Some n → k ≤ n
+low-by true k n o later e = let same : k ≡ n = some-is e in omega arith
+low-by false k n o later e = let least = later e in omega arith
+
+low : {X : Type 0} (test : X → Bool) (k n : ℕ) (xs : List X) → position_from test k xs ≡ Some n → k ≤ n
+low test k n [] e = absurd (none-some e)
+low test k n (x ∷ xs) e = low-by (test x) k n (position_from test (k + 1) xs) (low test (k + 1) n xs) e
+
+passes-step : {X : Type 0} (test : X → Bool) (k n m : ℕ) (y : X) (ys : List X) (x : X) → ((p : ℕ) → position_from test (k + 1) ys ≡ Some n → n ≡ k + 1 + p → slice_get ys p ≡ Some x → test x ≡ true) → (b : Bool) → test y ≡ b → cond b (Some k) (position_from test (k + 1) ys) ≡ Some n → n ≡ k + m → slice_get (y ∷ ys) m ≡ Some x → test x ≡ true
+passes-step test k n zero y ys x later true here e at is = subst (λ z. test z ≡ true) (some-is is) here
+passes-step test k n (suc m) y ys x later true here e at is = let same : k ≡ n = some-is e in absurd (omega arith)
+passes-step test k n zero y ys x later false here e at is = let least : k + 1 ≤ n = low test (k + 1) n ys e in absurd (omega arith)
+passes-step test k n (suc m) y ys x later false here e at is = later m e (omega arith) is
+
+passes-from : {X : Type 0} (test : X → Bool) (k n m : ℕ) (xs : List X) (x : X) → position_from test k xs ≡ Some n → n ≡ k + m → slice_get xs m ≡ Some x → test x ≡ true
+passes-from test k n m [] x e at is = absurd (none-some e)
+passes-from test k n m (y ∷ ys) x e at is = passes-step test k n m y ys x (λ p. passes-from test (k + 1) n p ys x) (test y) refl e at is
+
+first-passes : {X : Type 0} (test : X → Bool) (xs : List X) (n : ℕ) (x : X) → first_number test xs ≡ Some n → item_at xs n ≡ Some x → test x ≡ true
+first-passes test xs zero x e is = absurd (none-some is)
+first-passes test xs (suc m) x e is = passes-from test 1 (suc m) m xs x e (omega arith) is
+
+-- the edge of the number that was found is there
+pub numbered-first : (test : Edge → Bool) (es : List Edge) (n : ℕ) (o : Option NumberedEdge) → Some n ≡ first_number test es → option_map (λ (one : NumberedEdge). one.edge) o ≡ item_at es n → IfSome o (λ one. one.number ≡ n) → option_map (λ (one : NumberedEdge). one.number) o ≡ first_number test es
+numbered-first test es n None is edge number = absurd (first-there test es n (sym is) (sym edge))
+numbered-first test es n (Some one) is edge number = (λ i. Some (number i)) ∙ is
+
+-- its transaction is the one that owes
+pub numbered-party : (missing : Missing) (s : ℕ → Status) (t : ℕ) (es : List Edge) (n : ℕ) (o : Option NumberedEdge) → Some n ≡ first_number (owes missing s t) es → option_map (λ (one : NumberedEdge). one.edge) o ≡ item_at es n → IfSome o (λ one. one.edge.j.0 ≡ t)
+numbered-party missing s t es n None is edge = tt
+numbered-party missing s t es n (Some one) is edge = owes_party missing s t one.edge (first-passes (owes missing s t) es n one.edge (sym is) (sym edge))

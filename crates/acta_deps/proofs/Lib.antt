@@ -8,4 +8,3 @@ mod Clashes
 pub mod Clear
 mod Parties
 mod NewEdges
-mod Refusals

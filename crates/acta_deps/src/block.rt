@@ -9,10 +9,11 @@ ghost use Rattle.acta_deps.specs.Dependencies.{refusal_to};
 ghost use Rattle.acta_deps.specs.Blocks.{refusal_of, IsBlockingEdge, IsFirstBy, IsClash, IsBlock};
 ghost use Rattle.acta_deps.specs.Statuses.{with_status};
 ghost use Rattle.acta_deps.specs.inside.BlockKinds.{owes};
-ghost use Rattle.acta_deps.specs.inside.Refused.{status_after};
+ghost use Rattle.acta_deps.specs.inside.Changes.{status_after};
 
 use crate::clash::Change;
 use crate::deps::Deps;
+use crate::rules::or_here;
 use acta_table::{Edge, Missing, Refusal, Rule, Status, TxnId};
 use std::alloc::Allocator;
 
@@ -84,21 +85,37 @@ impl<A: Allocator> Deps<A> {
         Some(BlockingEdge { rule, by, j, i })
     }
 
+    // Whether the transaction of this number would owe the event by the edge after the change.
+    fn owes_through(&self, change: Change, number: u32, missing: Missing, edge: &Edge) -> bool
+        ensures { result ≡ owes missing (status_after self.now change) number edge.now }
+    {
+        u32::from(edge.j.0) == number && self.owes_by(change, edge.j, missing, edge)
+    }
+
+    // The number of the first edge by which the transaction of this number would owe the event after the change.
+    fn first_owed(&self, change: Change, number: u32, missing: Missing) -> Option<u32>
+        ensures { result ≡ first_number (owes missing (status_after self.now change) number) self.now.edges }
+    {
+        let parties = self.by_j();
+        let edges = self.edges();
+        let mut place = parties.last_of(number);
+        let mut first = None;
+        while place > 0 {
+            let e = &edges[place as usize - 1];
+            first = or_here(self.owes_through(change, number, missing, e), place, first);
+            place = parties.before(place);
+        }
+        first
+    }
+
     // The first edge by which the transaction of this number would owe the event after the change.
     fn first_debt(&self, change: Change, number: u32, missing: Missing) -> Option<NumberedEdge>
         ensures number { option_map (λ one. one.number) result ≡ first_number (owes missing (status_after self.now change) number) self.now.edges }
         ensures edge { IfSome result (λ one. item_at self.now.edges one.number ≡ Some one.edge) }
         ensures party { IfSome result (λ one. one.edge.j.0 ≡ number) }
     {
-        let mut place = 0;
-        for edge in self.edges() {
-            place += 1;
-            if u32::from(edge.j.0) == number && self.owes_by(change, edge.j, missing, edge) {
-                let (number, edge) = (place, *edge);
-                return Some(NumberedEdge { number, edge });
-            }
-        }
-        None
+        let first = self.first_owed(change, number, missing)?;
+        self.numbered(first)
     }
 
     // The first edges by which one would owe both events after the change, the smallest that would.

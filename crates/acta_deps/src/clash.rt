@@ -6,7 +6,7 @@ ghost use Rattle.acta_deps.specs.Deps.{status_of};
 ghost use Rattle.acta_deps.specs.Debts.{debt_of, owes_commit, owes_abort, owes_both, clashing};
 ghost use Rattle.acta_deps.specs.Dependencies.{clash};
 ghost use Rattle.acta_deps.specs.inside.BlockKinds.{owes, other_of, would_owe_both};
-ghost use Rattle.acta_deps.specs.inside.Refused.{status_after};
+ghost use Rattle.acta_deps.specs.inside.Changes.{status_after};
 
 use crate::debt::{debt_by, is_abort, is_commit};
 use crate::deps::Deps;
@@ -109,7 +109,7 @@ impl<A: Allocator> Deps<A> {
         e.i.0 == change.txn.0 && is_other
     }
 
-    // The smaller of the least so far and the one that the edge tears, where it does.
+    // The smaller of the least so far and the transaction that would owe both by this edge, if it would.
     fn with_owing_both(&self, change: Change, place: u16, least: Option<u32>) -> Option<u32>
         requires place { 0 < place }
         requires within { place ≤ length self.now.edges }
@@ -122,7 +122,7 @@ impl<A: Allocator> Deps<A> {
         }
     }
 
-    // The one that changes, where it would owe both.
+    // The transaction that changes, if it would owe both.
     fn all_owing_both(&self, change: Change) -> Option<u32>
         ensures { result ≡ (if owes_both (status_after self.now change) self.now.edges change.txn.0 then Some change.txn.0 else None) }
     {

@@ -5,15 +5,12 @@ ghost use Rattle.acta_table.specs.WellFormed.{is_bad_number};
 ghost use Rattle.acta_deps.specs.Deps.{status_of};
 ghost use Rattle.acta_deps.specs.Statuses.{with_status};
 ghost use Rattle.acta_deps.specs.Debts.{debt_of, owes_both};
-ghost use Rattle.acta_deps.specs.inside.Refused.{refusal_upon};
 ghost use Rattle.acta_deps.specs.Dependencies.{start_refusal, commit_refusal, abort_refusal, join_refusal};
 
-use crate::clash::Change;
 use crate::edge_list::EdgeList;
 use crate::lacking::is_named_before;
 use crate::places::Places;
-use crate::refused::{Refused, keep_refused, refusal_among};
-use acta_table::{Edge, LAST_TXN, MOST_EDGES, Refusal, Status, TABLE_SIZE, TxnId, lengthen};
+use acta_table::{Edge, LAST_TXN, MOST_EDGES, Status, TABLE_SIZE, TxnId, lengthen};
 use std::alloc::{AllocError, Allocator};
 
 /// How the transactions stand, and the edges in force among them. Contracts see the list of statuses by number, and
@@ -23,8 +20,6 @@ pub struct Deps<A: Allocator> {
     // By the number of the transaction. One past the end has not begun.
     statuses: Vec<Status, A>,
     edges: EdgeList<A>,
-    // What was refused since the last change of a status or an edge: a refusal stands until then.
-    refused: Vec<Refused, A>,
 }
 
 impl<A: Allocator> std::marker::Model for Deps<A> {
@@ -33,7 +28,6 @@ impl<A: Allocator> std::marker::Model for Deps<A> {
     ghost use Rattle.acta_table.specs.declared.limits.TheConstants.{TABLE_SIZE};
     ghost use Rattle.acta_deps.specs.Deps.{DepState, status_listed};
     ghost use Rattle.acta_deps.specs.Debts.{owes_both};
-    ghost use Rattle.acta_deps.specs.inside.Refused.{AreRefused};
 
     ghost Value = { DepState };
 
@@ -43,7 +37,6 @@ impl<A: Allocator> std::marker::Model for Deps<A> {
       few : length d.statuses.items ≤ TABLE_SIZE;
       nobody : status_listed d.statuses.items 0 ≡ Status.NotBegun;
       clear : (u : ℕ) → owes_both (status_listed d.statuses.items) d.edges u ≡ false;
-      refused : AreRefused (status_listed d.statuses.items) d.edges d.refused.items;
     } };
 }
 
@@ -103,7 +96,6 @@ impl<A: Allocator> Deps<A> {
         ensures edges { self.new.edges ≡ self.old.edges }
     {
         self.statuses[t.0 as usize] = status;
-        self.refused.clear();
     }
 
     /// `t`, a number from 1 to 16,383 that has not begun, begins. Ask `may_start` first, and then for room, by `make_room`.
@@ -209,22 +201,6 @@ impl<A: Allocator> Deps<A> {
     {
         let left = self.edges().len() - n;
         self.edges.truncate(left);
-        self.refused.clear();
-    }
-
-    // The refusal of the change, where it is known.
-    pub(crate) fn known_refusal(&self, change: Change) -> Option<Refusal>
-        ensures { IfSome result (λ refusal. refusal_upon (status_of self.now) self.now.edges change ≡ Some refusal) }
-    {
-        refusal_among(&self.refused, change)
-    }
-
-    // Keeps the refusal of the change, where there is room for it.
-    pub(crate) fn keep_refusal(&mut self, change: Change, refusal: Refusal)
-        requires { refusal_upon (status_of self.old) self.old.edges change ≡ Some refusal }
-        ensures { self.new ≡ self.old }
-    {
-        keep_refused(&mut self.refused, Refused { change, refusal });
     }
 }
 
@@ -236,7 +212,6 @@ impl<A: Allocator + Copy> Deps<A> {
         Deps {
             statuses: Vec::new(alloc),
             edges: EdgeList::new(alloc),
-            refused: Vec::new(alloc),
         }
     }
 
@@ -261,11 +236,7 @@ impl<A: Allocator + Copy> Deps<A> {
     {
         let before = self.edges().len();
         self.edges.form_all(more)?;
-        let count = self.edges.as_slice().len() - before;
-        if count > 0 {
-            self.refused.clear();
-        }
-        Ok(count)
+        Ok(self.edges.as_slice().len() - before)
     }
 
     /// The same statuses and edges, in memory of their own.
@@ -275,7 +246,6 @@ impl<A: Allocator + Copy> Deps<A> {
         Ok(Deps {
             statuses: Vec::from_slice(self.allocator(), &self.statuses)?,
             edges: self.edges.copy()?,
-            refused: Vec::new(self.allocator()),
         })
     }
 }

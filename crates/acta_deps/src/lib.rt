@@ -16,7 +16,6 @@ mod deps;
 mod edge_list;
 mod lacking;
 mod places;
-mod refused;
 mod rules;
 mod waiting;
 

@@ -51,7 +51,14 @@ impl<A: Allocator> Places<A> {
     pub(crate) fn last(&self, t: TxnId) -> u16
         ensures { result ≡ latest self.now t.0 (length self.now) }
     {
-        match self.last.get(t.0 as usize) {
+        self.last_of(u32::from(t.0))
+    }
+
+    /// The last place of the transaction of this number, or 0.
+    pub(crate) fn last_of(&self, number: u32) -> u16
+        ensures { result ≡ latest self.now number (length self.now) }
+    {
+        match self.last.get(number as usize) {
             Some(place) => *place,
             None => 0,
         }

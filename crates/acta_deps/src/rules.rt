@@ -4,8 +4,8 @@ ghost use Rattle.acta_table.specs.Numbered.{first_number};
 ghost use Rattle.acta_table.specs.Refusals.{broken_by};
 ghost use Rattle.acta_deps.specs.Deps.{status_of};
 ghost use Rattle.acta_deps.specs.inside.BlockKinds.{blocks, party};
-ghost use Rattle.acta_deps.specs.inside.Refused.{refusal_upon};
-ghost use Rattle.acta_deps.specs.Dependencies.{commit_order, weak_begin, unpayable_commit, start_refusal, commit_refusal, abort_refusal, join_refusal, refusal_to};
+ghost use Rattle.acta_deps.specs.inside.Changes.{refusal_upon};
+ghost use Rattle.acta_deps.specs.Dependencies.{commit_order, weak_begin, unpayable_commit, start_refusal, commit_refusal, abort_refusal, join_refusal};
 
 use crate::block_kind::BlockKind;
 use crate::clash::Change;
@@ -14,8 +14,8 @@ use crate::places::Places;
 use acta_table::{Refusal, Rule, Status, TxnId};
 use std::alloc::Allocator;
 
-// The place, where the test is true, or else the one that was found behind it.
-fn or_here(test: bool, place: u16, behind: Option<u32>) -> Option<u32>
+/// The place if the test is true, or else the one that was found after it.
+pub(crate) fn or_here(test: bool, place: u16, behind: Option<u32>) -> Option<u32>
     ensures { result ≡ (if test then Some place else behind) }
 {
     if test { Some(u32::from(place)) } else { behind }
@@ -129,9 +129,10 @@ impl<A: Allocator> Deps<A> {
 }
 
 impl<A: Allocator> Deps<A> {
-    // The lowest rule that the start would break.
+    /// The lowest rule that the start of `t` would break, with the smallest number of an edge that breaks it, and for
+    /// `Clash` the smallest transaction. `None` if it breaks none.
     #[tactic(auto, unfolding(crate::specs::Dependencies::start_refusal, crate::specs::Dependencies::begin_dep, crate::specs::Dependencies::serial_dep, crate::specs::Dependencies::begin_on_commit, crate::specs::Dependencies::begin_on_abort))]
-    fn start_refusal(&self, t: TxnId) -> Option<Refusal>
+    pub fn may_start(&self, t: TxnId) -> Option<Refusal>
         ensures { result ≡ start_refusal (status_of self.now) self.now.edges t.0 }
     {
         let change = Change {
@@ -145,9 +146,10 @@ impl<A: Allocator> Deps<A> {
             .or_else(|| self.clash(change))
     }
 
-    // The lowest rule that the commit would break.
+    /// The lowest rule that the commit of `t` would break, with the smallest number of an edge that breaks it, and for
+    /// `Clash` the smallest transaction. `None` if it breaks none.
     #[tactic(auto, unfolding(crate::specs::Dependencies::commit_refusal, crate::specs::Dependencies::termination_dep, crate::specs::Dependencies::owing_abort), using(crate::proofs::Walks::or_assoc))]
-    fn commit_refusal(&self, t: TxnId) -> Option<Refusal>
+    pub fn may_commit(&self, t: TxnId) -> Option<Refusal>
         ensures { result ≡ commit_refusal (status_of self.now) self.now.edges t.0 }
     {
         let change = Change {
@@ -160,9 +162,10 @@ impl<A: Allocator> Deps<A> {
             .or_else(|| self.clash(change))
     }
 
-    // The lowest rule that the abort would break.
+    /// The lowest rule that the abort of `t` would break, with the smallest number of an edge that breaks it, and for
+    /// `Clash` the smallest transaction. `None` if it breaks none.
     #[tactic(auto, unfolding(crate::specs::Dependencies::abort_refusal, crate::specs::Dependencies::termination_dep, crate::specs::Dependencies::owing_commit, crate::specs::Dependencies::unpayable_abort))]
-    fn abort_refusal(&self, t: TxnId) -> Option<Refusal>
+    pub fn may_abort(&self, t: TxnId) -> Option<Refusal>
         ensures { result ≡ abort_refusal (status_of self.now) self.now.edges t.0 }
     {
         let change = Change {
@@ -175,9 +178,10 @@ impl<A: Allocator> Deps<A> {
             .or_else(|| self.clash(change))
     }
 
-    // The lowest rule that joining another would break.
+    /// The lowest rule that `t` would break by joining another, with the smallest number of an edge that breaks it.
+    /// `None` if it breaks none.
     #[tactic(auto, unfolding(crate::specs::Dependencies::join_refusal, crate::specs::Dependencies::owing_abort, crate::specs::Dependencies::owing_commit))]
-    fn join_refusal(&self, t: TxnId) -> Option<Refusal>
+    pub fn may_join(&self, t: TxnId) -> Option<Refusal>
         ensures { result ≡ join_refusal (status_of self.now) self.now.edges t.0 }
     {
         let owing_abort = self.broken(Rule::OwesAbort, BlockKind::OwesAbort, t);
@@ -190,60 +194,10 @@ impl<A: Allocator> Deps<A> {
     {
         match change.status {
             Status::NotBegun => None,
-            Status::InProgress => self.start_refusal(change.txn),
-            Status::Committed => self.commit_refusal(change.txn),
-            Status::Aborted => self.abort_refusal(change.txn),
-            Status::Joined => self.join_refusal(change.txn),
+            Status::InProgress => self.may_start(change.txn),
+            Status::Committed => self.may_commit(change.txn),
+            Status::Aborted => self.may_abort(change.txn),
+            Status::Joined => self.may_join(change.txn),
         }
-    }
-
-    // The lowest rule that it would break where `t` came to stand so.
-    fn asked(&mut self, txn: TxnId, status: Status) -> Option<Refusal>
-        ensures refusal { result ≡ refusal_to (status_of self.old) self.old.edges txn.0 status }
-        ensures same { self.new ≡ self.old }
-    {
-        let change = Change { txn, status };
-        if let Some(refusal) = self.known_refusal(change) {
-            return Some(refusal);
-        }
-        let refusal = self.refusal(change)?;
-        self.keep_refusal(change, refusal);
-        Some(refusal)
-    }
-
-    /// The lowest rule that the start of `t` would break, with the smallest number of an edge that breaks it, and for
-    /// `Clash` the smallest transaction. `None` where it breaks none.
-    pub fn may_start(&mut self, t: TxnId) -> Option<Refusal>
-        ensures refusal { result ≡ start_refusal (status_of self.old) self.old.edges t.0 }
-        ensures same { self.new ≡ self.old }
-    {
-        self.asked(t, Status::InProgress)
-    }
-
-    /// The lowest rule that the commit of `t` would break, with the smallest number of an edge that breaks it, and for
-    /// `Clash` the smallest transaction. `None` where it breaks none.
-    pub fn may_commit(&mut self, t: TxnId) -> Option<Refusal>
-        ensures refusal { result ≡ commit_refusal (status_of self.old) self.old.edges t.0 }
-        ensures same { self.new ≡ self.old }
-    {
-        self.asked(t, Status::Committed)
-    }
-
-    /// The lowest rule that the abort of `t` would break, with the smallest number of an edge that breaks it, and for
-    /// `Clash` the smallest transaction. `None` where it breaks none.
-    pub fn may_abort(&mut self, t: TxnId) -> Option<Refusal>
-        ensures refusal { result ≡ abort_refusal (status_of self.old) self.old.edges t.0 }
-        ensures same { self.new ≡ self.old }
-    {
-        self.asked(t, Status::Aborted)
-    }
-
-    /// The lowest rule that `t` would break by joining another, with the smallest number of an edge that breaks it.
-    /// `None` where it breaks none.
-    pub fn may_join(&mut self, t: TxnId) -> Option<Refusal>
-        ensures refusal { result ≡ join_refusal (status_of self.old) self.old.edges t.0 }
-        ensures same { self.new ≡ self.old }
-    {
-        self.asked(t, Status::Joined)
     }
 }

@@ -20,7 +20,7 @@ use Rattle.acta_machine.specs.Summary.{Summary}
 use Rattle.acta_machine.specs.Changes.{edges_due}
 use Rattle.acta_machine.specs.Conflicts.{stands_against, conflicting_holders}
 use Rattle.acta_machine.specs.Families.{exempt}
-use Rattle.acta_machine.specs.inside.Spared.{is_exempt, AreExempt, exempt_numbers}
+use Rattle.acta_machine.specs.inside.Exempt.{is_exempt, AreExempt, exempt_numbers}
 
 by-number : (ts : List TxnId) (u : TxnId) → list_any (λ n. n == u.0) (map (λ t. t.0) ts) ≡ is_among ts u
 by-number [] u = refl

@@ -2,4 +2,4 @@
 pub mod FreshEdges
 pub mod Refused
 pub mod Abstraction
-pub mod Spared
+pub mod Exempt

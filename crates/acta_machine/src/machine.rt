@@ -20,7 +20,7 @@ ghost use Rattle.acta_deps.specs.Waiting.{IsChain, IsClosed, StartsWith};
 
 use crate::machine_state::MachineState;
 use crate::reason::Reason;
-use crate::refused::{Refused, keep_refused, refusal_among};
+use crate::refused::{Refused, keep_refused, reason_among};
 use crate::serial::SerialError;
 use acta_axioms::{SerialItem, is_strict, serial_items};
 use acta_deps::Deps;
@@ -99,19 +99,44 @@ impl<A: Handle> Machine<A> {
         // events that may come next the rules on dependencies refuse exactly those that would be illegal.
         ensures follows { FollowsPlaces self.new }
     {
-        if let Some(Refusal { rule, by }) = self.known_refusal(event) {
-            return Ok(Answer::Refused { rule, by });
+        Ok(self.take_with_reason(event)?.answer)
+    }
+
+    // Takes one event as `take` does, and says why it is refused, if it is.
+    #[tactic(auto, unfolding(crate::specs::Table::answer_to, crate::specs::Table::after))]
+    fn take_with_reason(&mut self, event: &Event<A>) -> Result<Taken, AllocError>
+        ensures answer { IfOk result (λ taken. taken.answer ≡ answer_to self.old event.now) }
+        ensures reason { IfOk result (λ taken. option_map refusal_of taken.reason ≡ refusal_in self.old event.now) }
+        ensures so { IfOk result (λ taken. IfSome taken.reason (IsSo self.old.model (summary_of self.old.model self.old.kept) event.now)) }
+        ensures ok { OnOk result (self.new ≡ after self.old event.now) }
+        ensures err { OnErr result (self.new ≡ self.old) }
+        ensures follows { FollowsPlaces self.new }
+    {
+        if let Some(reason) = self.known_reason(event) {
+            return Ok(Taken::refused(reason));
         }
         match self.machine_state.admission(event)? {
-            Ok(due) => self.keep(event, &due),
-            Err(refusal) => Ok(self.refuse(event, refusal)),
+            Ok(due) => {
+                let answer = self.keep(event, &due)?;
+                Ok(Taken {
+                    answer,
+                    reason: None,
+                })
+            }
+            Err(reason) => {
+                self.note_refusal(event, reason);
+                Ok(Taken::refused(reason))
+            }
         }
     }
 
-    /// Takes one event as `take` does, and says what it formed beside its answer: an operation has a number, and the
-    /// edges that are new stand behind those that were in force. `Err` as for `take`.
+    /// Takes one event as `take` does, and says more than the answer: why a refused event is refused, with the lowest rule
+    /// that it breaks; the number of the operation that the event adds; and how many edges were in force before it, which
+    /// the edges that it forms follow.
     pub fn take_forming(&mut self, event: &Event<A>) -> Result<Formed, AllocError>
         ensures answer { IfOk result (λ formed. formed.answer ≡ answer_to self.old event.now) }
+        ensures reason { IfOk result (λ formed. option_map refusal_of formed.reason ≡ refusal_in self.old event.now) }
+        ensures so { IfOk result (λ formed. IfSome formed.reason (IsSo self.old.model (summary_of self.old.model self.old.kept) event.now)) }
         ensures op { IfOk result (λ formed. formed.op ≡ op_added self.old event.now) }
         ensures edges { IfOk result (λ formed. formed.edges_before ≡ length (edges_in self.old)) }
         ensures ok { OnOk result (self.new ≡ after self.old event.now) }
@@ -120,7 +145,7 @@ impl<A: Handle> Machine<A> {
     {
         let edges_before = self.edges().len();
         let operations_before = self.operations().len();
-        let answer = self.take(event)?;
+        let Taken { answer, reason } = self.take_with_reason(event)?;
         let operations = self.operations().len();
         let op = if operations_before < operations {
             Some(OpNo(operations as u32))
@@ -129,6 +154,7 @@ impl<A: Handle> Machine<A> {
         };
         Ok(Formed {
             answer,
+            reason,
             op,
             edges_before,
         })
@@ -140,7 +166,10 @@ impl<A: Handle> Machine<A> {
         ensures refusal { IfOk result (λ reason. option_map refusal_of reason ≡ refusal_in self.now event.now) }
         ensures so { IfOk result (λ reason. IfSome reason (IsSo self.now.model (summary_of self.now.model self.now.kept) event.now)) }
     {
-        self.machine_state.why(event)
+        match self.known_reason(event) {
+            Some(reason) => Ok(Some(reason)),
+            None => self.machine_state.why(event),
+        }
     }
 
     /// A chain of transactions from `t` on, each of which waits for the next to commit or abort, by a termination
@@ -154,23 +183,23 @@ impl<A: Handle> Machine<A> {
         self.machine_state.deps.waits_for_cycle(t)
     }
 
-    // The lowest rule that the event breaks, where it is known.
-    fn known_refusal(&self, event: &Event<A>) -> Option<Refusal>
-        ensures { IfSome result (λ refusal. lowest_broken self.now.model (summary_of self.now.model self.now.kept) event.now ≡ Some refusal) }
+    // Why the event is refused, if that is known.
+    fn known_reason(&self, event: &Event<A>) -> Option<Reason>
+        ensures refusal { IfSome result (λ reason. lowest_broken self.now.model (summary_of self.now.model self.now.kept) event.now ≡ Some (refusal_of reason)) }
+        ensures so { IfSome result (IsSo self.now.model (summary_of self.now.model self.now.kept) event.now) }
+        ensures follows { FollowsPlaces self.now }
     {
-        refusal_among(&self.refused, event)
+        reason_among(&self.refused, event)
     }
 
-    // Refuses an event by the lowest rule that it breaks.
-    #[tactic(auto, unfolding(crate::specs::Table::answer_to))]
-    fn refuse(&mut self, event: &Event<A>, refusal: Refusal) -> Answer
-        requires { lowest_broken self.old.model (summary_of self.old.model self.old.kept) event.now ≡ Some refusal }
-        ensures answer { result ≡ answer_to self.old event.now }
+    // Notes why the event is refused.
+    fn note_refusal(&mut self, event: &Event<A>, reason: Reason)
+        requires refusal { lowest_broken self.old.model (summary_of self.old.model self.old.kept) event.now ≡ Some (refusal_of reason) }
+        requires so { IsSo self.old.model (summary_of self.old.model self.old.kept) event.now reason }
         ensures same { self.new ≡ self.old }
+        ensures follows { FollowsPlaces self.new }
     {
-        keep_refused(&mut self.refused, event, refusal);
-        let Refusal { rule, by } = refusal;
-        Answer::Refused { rule, by }
+        keep_refused(&mut self.refused, event, reason);
     }
 
     // Keeps an event that breaks no rule, and forms these edges. On `Err` nothing is kept.
@@ -382,11 +411,33 @@ impl<A: Handle> Machine<A> {
     }
 }
 
+// The answer to an event, and why it was refused, if it was.
+struct Taken {
+    answer: Answer,
+    reason: Option<Reason>,
+}
+
+impl Taken {
+    // An event that was refused.
+    fn refused(reason: Reason) -> Taken
+        ensures answer { result.answer ≡ Answer.Refused (refusal_of reason).rule (refusal_of reason).by }
+        ensures reason { result.reason ≡ Some reason }
+    {
+        let Refusal { rule, by } = reason.refusal();
+        Taken {
+            answer: Answer::Refused { rule, by },
+            reason: Some(reason),
+        }
+    }
+}
+
 /// What became of an event.
 #[derive(Clone, Copy, PartialEq, Eq, Debug)]
 pub struct Formed {
     /// The answer to it.
     pub answer: Answer,
+    /// Why it was refused, if it was.
+    pub reason: Option<Reason>,
     /// The number of the operation that it added, if it is one that was admitted.
     pub op: Option<OpNo>,
     /// How many edges were in force before it: those that it formed stand behind them.

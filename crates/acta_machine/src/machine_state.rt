@@ -14,7 +14,7 @@ ghost use Rattle.acta_table.specs.Classes.{exempts};
 ghost use Rattle.acta_machine.specs.Families.{class_of, has_class, exempt, conflict_set_of, heir_of};
 ghost use Rattle.acta_machine.specs.Values.{value_of, return_due};
 ghost use Rattle.acta_machine.specs.inside.Abstraction.{abstraction, record_in};
-ghost use Rattle.acta_machine.specs.inside.Spared.{AreExempt, exempt_numbers};
+ghost use Rattle.acta_machine.specs.inside.Exempt.{AreExempt, exempt_numbers};
 ghost use Rattle.acta_machine.specs.Rules.{lowest_broken};
 
 use acta_axioms::with_txns;

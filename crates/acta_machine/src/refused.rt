@@ -1,40 +1,55 @@
-//! Operations that were refused since the last event that was admitted: a refusal changes nothing, so one that is handed
-//! in again, as one that waits is, is answered at once.
+//! Events that were refused since the last event that was admitted, with the reasons: a refusal changes nothing, so an
+//! event that is submitted again, as one that waits is, is answered at once.
 
-ghost use Rattle.std.specs.Prelude.{◌≡◌, Some, IfSome};
+ghost use Rattle.std.specs.Prelude.{◌≡◌, IfSome};
 ghost use Rattle.acta_table.specs.declared.model.Parts.{Parts};
 ghost use Rattle.acta_machine.specs.Summary.{Summary};
-ghost use Rattle.acta_machine.specs.inside.Refused.{AreRefused, refusal_of};
+ghost use Rattle.acta_machine.specs.inside.Refused.{AreRefused, IsRefusedBy};
 
-use acta_table::{Event, Refusal};
+use crate::reason::Reason;
+use acta_table::Event;
 use std::alloc::Allocator;
 
 // For how many refusals there is room, from the first one on.
 const ROOM: usize = 64;
 
-/// An event that was refused.
+/// An event that was refused, and why.
 #[derive(Drop)]
 pub(crate) struct Refused<A: Allocator> {
     pub(crate) event: Event<A>,
-    pub(crate) refusal: Refusal,
+    pub(crate) reason: Reason,
 }
 
-/// The refusal of the event, where it is among these.
-pub(crate) fn refusal_among<A: Allocator>(
-    refused: &[Refused<A>],
-    event: &Event<A>,
-) -> Option<Refusal>
-    ensures { (m : Parts A) → (s : Summary) → AreRefused m s refused.now → IfSome result (λ refusal. refusal_of m s event.now ≡ Some refusal) }
+/// Why the event is refused, if it is among these.
+pub(crate) fn reason_among<A: Allocator>(refused: &[Refused<A>], event: &Event<A>) -> Option<Reason>
+    ensures { (m : Parts A) → (s : Summary) → AreRefused m s refused.now → IfSome result (IsRefusedBy m s event.now) }
 {
     for one in refused {
         if one.event.is_same(event) {
-            return Some(one.refusal);
+            return Some(one.reason);
         }
     }
     None
 }
 
-// Gets the room for refusals, where there is none yet. A want of memory changes nothing.
+// The same event, unless it names a list of operations, which would take memory.
+fn without_memory<A: Allocator>(event: &Event<A>) -> Option<Event<A>>
+    ensures { IfSome result (λ copy. copy ≡ event.now) }
+{
+    match event {
+        Event::Begin(t, class) => Some(Event::Begin(*t, *class)),
+        Event::Spawn(t, c, class) => Some(Event::Spawn(*t, *c, *class)),
+        Event::Join(t, u) => Some(Event::Join(*t, *u)),
+        Event::Form(kind, j, i) => Some(Event::Form(*kind, *j, *i)),
+        Event::Operate(t, ob, op) => Some(Event::Operate(*t, *ob, *op)),
+        Event::Commit(t) => Some(Event::Commit(*t)),
+        Event::Abort(t) => Some(Event::Abort(*t)),
+        Event::Permit(t, u, ob) => Some(Event::Permit(*t, *u, *ob)),
+        Event::Split(_, _, _, _) | Event::Delegate(_, _, _) => None,
+    }
+}
+
+// Gets the room for refusals, if there is none yet. If memory runs out, nothing changes.
 fn get_room<A: Allocator>(refused: &mut Vec<Refused<A>, A>)
     ensures { refused.new.items ≡ refused.old.items }
 {
@@ -43,23 +58,29 @@ fn get_room<A: Allocator>(refused: &mut Vec<Refused<A>, A>)
     }
 }
 
-/// Puts the event among those that were refused, where it is an operation and there is room, or else begins anew. Where
-/// there is no memory for the room, the event isn't kept: it is judged again when it comes again.
+// Puts a refusal behind the others, or begins anew if there is no room.
+fn put_refused<A: Allocator>(refused: &mut Vec<Refused<A>, A>, one: Refused<A>)
+    ensures { (m : Parts A) → (s : Summary) → AreRefused m s refused.old.items → IsRefusedBy m s one.event one.reason → AreRefused m s refused.new.items }
+{
+    get_room(refused);
+    if refused.len() < refused.capacity() {
+        refused.push_reserved(one);
+    } else {
+        refused.clear();
+        drop(one);
+    }
+}
+
+/// Notes why the event is refused, unless it names a list of operations or there is no memory: such an event is checked
+/// again if it comes again.
 pub(crate) fn keep_refused<A: Allocator>(
     refused: &mut Vec<Refused<A>, A>,
     event: &Event<A>,
-    refusal: Refusal,
+    reason: Reason,
 )
-    ensures { (m : Parts A) → (s : Summary) → AreRefused m s refused.old.items → refusal_of m s event.now ≡ Some refusal → AreRefused m s refused.new.items }
+    ensures { (m : Parts A) → (s : Summary) → AreRefused m s refused.old.items → IsRefusedBy m s event.now reason → AreRefused m s refused.new.items }
 {
-    let Event::Operate(t, ob, op) = event else {
-        return;
-    };
-    get_room(refused);
-    if refused.len() < refused.capacity() {
-        let event = Event::Operate(*t, *ob, *op);
-        refused.push_reserved(Refused { event, refusal });
-    } else {
-        refused.clear();
+    if let Some(event) = without_memory(event) {
+        put_refused(refused, Refused { event, reason });
     }
 }

@@ -23,8 +23,8 @@ use acta_deps::Block;
 use acta_objects::form_fault;
 use acta_sets::Handle;
 use acta_table::{
-    ClassId, Dep, Edge, Event, EventKind, Extent, MOST_EDGES, MOST_EVENTS, OpNo, OpSet, Refusal,
-    Status, TxnId, lesser,
+    ClassId, Dep, Edge, Event, EventKind, Extent, MOST_EDGES, MOST_EVENTS, OpNo, OpSet, Status,
+    TxnId, lesser,
 };
 use std::alloc::{AllocError, Allocator};
 
@@ -476,25 +476,6 @@ impl<A: Handle> MachineState<A> {
         Ok(self.form_too_late(event))
     }
 
-    // The lowest rule on dependencies that the event breaks.
-    fn dependency(&mut self, event: &Event<A>) -> Option<Refusal>
-        ensures refusal { result ≡ dependency (abstraction self.old) event.now }
-        ensures same { self.new ≡ self.old }
-    {
-        match event {
-            Event::Begin(t, _) => self.deps.may_start(*t),
-            Event::Spawn(_, c, _) => self.deps.may_start(*c),
-            Event::Split(_, u, _, _) => self.deps.may_start(*u),
-            Event::Join(t, _) => self.deps.may_join(*t),
-            Event::Commit(t) => self.deps.may_commit(*t),
-            Event::Abort(t) => self.deps.may_abort(*t),
-            Event::Delegate(_, _, _)
-            | Event::Form(_, _, _)
-            | Event::Operate(_, _, _)
-            | Event::Permit(_, _, _) => None,
-        }
-    }
-
     #[tactic(auto, unfolding(crate::specs::Rules::no_heir))]
     fn no_heir(&self, event: &Event<A>) -> Option<Reason>
         ensures refusal { option_map refusal_of result ≡ no_heir self.now.model (abstraction self.now) event.now }
@@ -510,48 +491,7 @@ impl<A: Handle> MachineState<A> {
         }
     }
 
-    /// The lowest rule that the event breaks, where it breaks none before that on too many edges, and forms these
-    /// edges.
-    pub(crate) fn broken_from_edges(&mut self, event: &Event<A>, due: &[Edge]) -> Option<Refusal>
-        requires due { due.now ≡ edges_due self.old.model (abstraction self.old) event.now }
-        requires none_before { broken_before_edges self.old.model (abstraction self.old) event.now ≡ None }
-        ensures refusal { result ≡ lowest_broken self.old.model (abstraction self.old) event.now }
-        ensures same { self.new ≡ self.old }
-    {
-        if let Some(reason) = self.edges_full(event, due) {
-            return Some(reason.refusal());
-        }
-        if let Some(refusal) = self.dependency(event) {
-            return Some(refusal);
-        }
-        match self.no_heir(event) {
-            Some(reason) => Some(reason.refusal()),
-            None => None,
-        }
-    }
-
-    /// The edges that the event forms, where it breaks no rule, or else the lowest that it breaks.
-    pub(crate) fn admission(
-        &mut self,
-        event: &Event<A>,
-    ) -> Result<Result<Vec<Edge, A>, Refusal>, AllocError>
-        ensures broken { IfOk result (λ parsed. IfErr parsed (λ refusal. lowest_broken self.old.model (abstraction self.old) event.now ≡ Some refusal)) }
-        ensures none { IfOk result (λ parsed. IfOk parsed (λ _. lowest_broken self.old.model (abstraction self.old) event.now ≡ None)) }
-        ensures due { IfOk result (λ parsed. IfOk parsed (λ due. due.items ≡ edges_due self.old.model (abstraction self.old) event.now)) }
-        ensures faultless { IfOk result (λ parsed. IfOk parsed (λ _. lowest_fault self.old.model ≡ None)) }
-        ensures same { self.new ≡ self.old }
-    {
-        if let Some(reason) = self.broken_before_edges(event)? {
-            return Ok(Err(reason.refusal()));
-        }
-        let due = self.edges_due(event)?;
-        match self.broken_from_edges(event, &due) {
-            Some(refusal) => Ok(Err(refusal)),
-            None => Ok(Ok(due)),
-        }
-    }
-
-    // What stands in the way of the event by the edges in force.
+    // What blocks the event by the edges in force.
     fn block(&self, event: &Event<A>) -> Option<Block>
         ensures refusal { option_map refusal_by result ≡ dependency (abstraction self.now) event.now }
         ensures so { IfSome result (IsBlock (abstraction self.now).status (statuses_after (abstraction self.now).status event.now) (abstraction self.now).edges) }
@@ -581,18 +521,48 @@ impl<A: Handle> MachineState<A> {
         }
     }
 
-    /// Why the event is refused; `None` where it breaks no rule.
+    /// Why the event, which would form these edges and breaks none of the rules before that on too many edges, is refused.
+    pub(crate) fn broken_from_edges(&self, event: &Event<A>, due: &[Edge]) -> Option<Reason>
+        requires due { due.now ≡ edges_due self.now.model (abstraction self.now) event.now }
+        requires none_before { broken_before_edges self.now.model (abstraction self.now) event.now ≡ None }
+        ensures refusal { option_map refusal_of result ≡ lowest_broken self.now.model (abstraction self.now) event.now }
+        ensures so { IfSome result (IsSo self.now.model (abstraction self.now) event.now) }
+    {
+        if let Some(reason) = self.edges_full(event, due) {
+            return Some(reason);
+        }
+        self.why_by_edges(event).or_else(|| self.no_heir(event))
+    }
+
+    /// The edges that the event forms, if it breaks no rule, or else why it is refused.
+    pub(crate) fn admission(
+        &self,
+        event: &Event<A>,
+    ) -> Result<Result<Vec<Edge, A>, Reason>, AllocError>
+        ensures refusal { IfOk result (λ outcome. IfErr outcome (λ reason. lowest_broken self.now.model (abstraction self.now) event.now ≡ Some (refusal_of reason))) }
+        ensures so { IfOk result (λ outcome. IfErr outcome (IsSo self.now.model (abstraction self.now) event.now)) }
+        ensures none { IfOk result (λ outcome. IfOk outcome (λ _. lowest_broken self.now.model (abstraction self.now) event.now ≡ None)) }
+        ensures due { IfOk result (λ outcome. IfOk outcome (λ due. due.items ≡ edges_due self.now.model (abstraction self.now) event.now)) }
+        ensures faultless { IfOk result (λ outcome. IfOk outcome (λ _. lowest_fault self.now.model ≡ None)) }
+    {
+        if let Some(reason) = self.broken_before_edges(event)? {
+            return Ok(Err(reason));
+        }
+        let due = self.edges_due(event)?;
+        match self.broken_from_edges(event, &due) {
+            Some(reason) => Ok(Err(reason)),
+            None => Ok(Ok(due)),
+        }
+    }
+
+    /// Why the event is refused; `None` if it breaks no rule.
     pub(crate) fn why(&self, event: &Event<A>) -> Result<Option<Reason>, AllocError>
         ensures refusal { IfOk result (λ reason. option_map refusal_of reason ≡ lowest_broken self.now.model (abstraction self.now) event.now) }
         ensures so { IfOk result (λ reason. IfSome reason (IsSo self.now.model (abstraction self.now) event.now)) }
     {
-        if let Some(reason) = self.broken_before_edges(event)? {
-            return Ok(Some(reason));
+        match self.admission(event)? {
+            Ok(_due) => Ok(None),
+            Err(reason) => Ok(Some(reason)),
         }
-        let due = self.edges_due(event)?;
-        if let Some(reason) = self.edges_full(event, &due) {
-            return Ok(Some(reason));
-        }
-        Ok(self.why_by_edges(event).or_else(|| self.no_heir(event)))
     }
 }

@@ -4,14 +4,16 @@ use Rattle.std.specs.List.{All}
 use Rattle.acta_table.specs.declared.answer.Refusal.{Refusal}
 use Rattle.acta_table.specs.declared.event.Event.{Event}
 use Rattle.acta_table.specs.declared.model.Parts.{Parts}
+use Rattle.acta_machine.specs.declared.reason.Reason.{Reason}
 use Rattle.acta_machine.specs.declared.refused.Refused.{Refused}
+use Rattle.acta_machine.specs.Reasons.{refusal_of, IsSo}
 use Rattle.acta_machine.specs.Rules.{lowest_broken}
 use Rattle.acta_machine.specs.Summary.{Summary}
 
--- the lowest rule that the event breaks, as one word
-unfoldable pub refusal_of : {A : Type 0} → Parts A → Summary → Event A → Option Refusal
-refusal_of m s event = lowest_broken m s event
+-- the event breaks the rule of the reason, which is the lowest, and what the reason says is so; as one word
+unfoldable pub IsRefusedBy : {A : Type 0} → Parts A → Summary → Event A → Reason → Type 0
+IsRefusedBy m s event reason = (lowest_broken m s event ≡ Some (refusal_of reason)) × IsSo m s event reason
 
--- each of these is refused so
+-- each of these is refused for its reason
 abbrev pub AreRefused : {A : Type 0} → Parts A → Summary → List (Refused A) → Type 0
-AreRefused m s refused = All (λ one. refusal_of m s one.event ≡ Some one.refusal) refused
+AreRefused m s refused = All (λ one. IsRefusedBy m s one.event one.reason) refused

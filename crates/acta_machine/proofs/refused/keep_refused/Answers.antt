@@ -1,15 +1,9 @@
-use Rattle.std.proofs.Common.{◌≡◌, Some, List, sym, ap, subst, ◌∙◌}
-use Rattle.std.proofs.lemmas.List.Elements.{All-push}
-use Rattle.acta_machine.specs.declared.refused.Refused.{Refused}
-use Rattle.acta_machine.specs.inside.Refused.{AreRefused, refusal_of}
-use Rattle.acta_machine.proofs.Refusals.{none_refused}
+use Rattle.std.proofs.Common.{sym, subst}
+use Rattle.acta_table.specs.declared.event.Event.{Event}
+use Rattle.acta_machine.specs.inside.Refused.{IsRefusedBy}
 use Rattle.acta_machine.proofs.refused.keep_refused.Goals as goal
 
-pub returns-then-len-capacity : goal.returns-then-len-capacity
-returns-then-len-capacity g c =
+pub returns-in-Some : goal.returns-in-Some
+returns-in-Some g c =
     λ m s all so.
-    subst (λ (xs : List (Refused g.row.A.Denot)). AreRefused m s xs) (sym c.push_reserved.ensures.items)
-    (All-push (λ (one : Refused g.row.A.Denot). refusal_of m s one.event ≡ Some one.refusal) c.get_room.new.refused.items _ (subst (λ (xs : List (Refused g.row.A.Denot)). AreRefused m s xs) (sym c.get_room.ensures) all) (ap (refusal_of m s) (sym c.in-Operate.is) ∙ so))
-
-pub returns-else-len-capacity : goal.returns-else-len-capacity
-returns-else-len-capacity g c = λ m s all so. none_refused m s _ c.clear.ensures.items
+    c.put_refused.ensures m s all (subst (λ (e : Event g.row.A.Denot). IsRefusedBy m s e c.args.reason) (sym c.in-Some.ensures) so)

@@ -2,7 +2,7 @@ use Rattle.std.proofs.Common.{sym, ◌∙◌}
 use Rattle.acta_table.specs.declared.dep.Missing.TheVariants.{Commit, Abort}
 use Rattle.acta_table.specs.Numbered.{first_number}
 use Rattle.acta_deps.specs.inside.BlockKinds.{owes}
-use Rattle.acta_deps.specs.inside.Refused.{status_after}
+use Rattle.acta_deps.specs.inside.Changes.{status_after}
 use Rattle.acta_deps.proofs.Blocks.{owing-first}
 use Rattle.acta_deps.proofs.deps.Deps.clash_edges.Goals as goal
 

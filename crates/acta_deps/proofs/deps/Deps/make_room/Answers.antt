@@ -1,8 +1,7 @@
-use Rattle.std.proofs.Common.{◌≡◌, ◌≤◌, ℕ, List, length, arith, ap, sym, subst, ◌∙◌}
+use Rattle.std.proofs.Common.{◌≡◌, ◌≤◌, ℕ, List, length, arith, ap, ◌∙◌}
 use Rattle.acta_table.specs.declared.answer.Status.{Status}
 use Rattle.acta_deps.specs.Deps.{DepState, status_of, status_listed}
 use Rattle.acta_deps.specs.Debts.{owes_both}
-use Rattle.acta_deps.specs.inside.Refused.{AreRefused}
 use Rattle.acta_deps.proofs.StatusTables.{same_listed}
 use Rattle.acta_deps.proofs.deps.Deps.make_room.Goals as goal
 
@@ -16,7 +15,6 @@ invariant_of-self g c =
       few = let grown = c.lengthen.ensures.few in let small = c.requires in omega arith;
       nobody = ap (λ (f : ℕ → Status). f 0) same ∙ c.self.invariant.nobody;
       clear = λ u. ap (λ (f : ℕ → Status). owes_both f c.self.inside.edges u) same ∙ c.self.invariant.clear u;
-      refused = subst (λ (f : ℕ → Status). AreRefused f c.self.inside.edges c.self.inside.refused.items) (sym same) c.self.invariant.refused;
     }
 
 pub returns-clause-status : goal.returns-clause-status

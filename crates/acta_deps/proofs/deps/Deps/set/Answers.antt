@@ -4,7 +4,6 @@ use Rattle.acta_deps.specs.Deps.{DepState, status_of}
 use Rattle.acta_deps.specs.Debts.{owes_both}
 use Rattle.acta_deps.specs.Statuses.{with_status}
 use Rattle.acta_deps.proofs.StatusTables.{status_set, front_kept}
-use Rattle.acta_deps.proofs.Refusals.{none_refused}
 use Rattle.acta_deps.proofs.deps.Deps.set.Goals as goal
 
 pub returns-clause-status : goal.returns-clause-status
@@ -22,5 +21,4 @@ invariant_of-self g c =
           ap (λ (f : ℕ → Status). owes_both f c.self.inside.edges u) (status_set c.self.inside.statuses.items c.args.t.0 c.args.status within)
           ∙ ap (λ (d : DepState). owes_both (with_status (status_of d) c.args.t.0 c.args.status) d.edges u) c.self.view_is
           ∙ c.requires.clear u;
-      refused = none_refused _ _ _ c.clear.ensures.items;
     }

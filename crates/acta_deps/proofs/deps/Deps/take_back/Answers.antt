@@ -3,7 +3,6 @@ use Rattle.acta_table.specs.declared.dep.Edge.{Edge}
 use Rattle.acta_deps.specs.Deps.{status_listed}
 use Rattle.acta_deps.specs.Debts.{owes_both}
 use Rattle.acta_deps.proofs.Clear.{take_clear}
-use Rattle.acta_deps.proofs.Refusals.{none_refused}
 use Rattle.acta_deps.proofs.deps.Deps.take_back.Goals as goal
 
 pub invariant_of-self : goal.invariant_of-self
@@ -14,5 +13,4 @@ invariant_of-self g c =
       clear = λ u.
           ap (λ (es : List Edge). owes_both (status_listed c.self.inside.statuses.items) es u) c.truncate.ensures
           ∙ take_clear (status_listed c.self.inside.statuses.items) c.self.inside.edges _ c.self.invariant.clear u;
-      refused = none_refused _ _ _ c.clear.ensures.items;
     }

@@ -6,7 +6,7 @@ use Rattle.acta_sets.specs.Operations.{is_against}
 use Rattle.acta_axioms.specs.Values.{is_well_formed}
 use Rattle.acta_axioms.proofs.Unconflicted.{first-unconflicted}
 use Rattle.acta_axioms.specs.inside.Against.{is_against_but}
-use Rattle.acta_machine.specs.inside.Spared.{is_exempt}
+use Rattle.acta_machine.specs.inside.Exempt.{is_exempt}
 use Rattle.acta_machine.specs.inside.Abstraction.{abstraction}
 use Rattle.acta_machine.proofs.ConflictingHolders.{first-but, first-tells}
 use Rattle.acta_machine.proofs.machine_state.MachineState.first_conflict.Goals as goal

@@ -1,11 +1,9 @@
--- Changes of one status, and which of them are refused.
-use Rattle.std.specs.Prelude.{◌≡◌, ℕ, List, Option, Some}
-use Rattle.std.specs.List.{All}
+-- Changes of one status.
+use Rattle.std.specs.Prelude.{ℕ, List, Option}
 use Rattle.acta_table.specs.declared.dep.Edge.{Edge}
 use Rattle.acta_table.specs.declared.answer.Refusal.{Refusal}
 use Rattle.acta_table.specs.declared.answer.Status.{Status}
 use Rattle.acta_deps.specs.declared.clash.Change.{Change}
-use Rattle.acta_deps.specs.declared.refused.Refused.{Refused}
 use Rattle.acta_deps.specs.Deps.{DepState, status_of}
 use Rattle.acta_deps.specs.Statuses.{with_status}
 use Rattle.acta_deps.specs.Dependencies.{refusal_to}
@@ -17,8 +15,3 @@ status_after d change = with_status (status_of d) change.txn.0 change.status
 -- the lowest rule that the change breaks
 abbrev pub refusal_upon : (ℕ → Status) → List Edge → Change → Option Refusal
 refusal_upon status edges change = refusal_to status edges change.txn.0 change.status
-
--- each of these is refused so
-abbrev pub AreRefused : (ℕ → Status) → List Edge → List Refused → Type 0
-AreRefused status edges refused =
-    All (λ one. refusal_upon status edges one.change ≡ Some one.refusal) refused

@@ -1,0 +1,18 @@
+use Rattle.std.proofs.Common.{◌≡◌, ◌<◌, ◌≤◌, ◌-◌, length, take, get_or}
+use Rattle.std.specs.Option.{option_or}
+use Rattle.acta_table.specs.Numbered.{first_number}
+use Rattle.acta_deps.specs.inside.BlockKinds.{owes}
+use Rattle.acta_deps.specs.inside.Changes.{status_after}
+use Rattle.acta_deps.proofs.deps.Deps.first_owed.Given as goal
+
+-- the first up to here, or else the one that was found behind, is the first of all
+abbrev pub invariant-loop-place : goal.invariant-loop-place
+invariant-loop-place g l =
+    record {
+      within : l.place ≤ length l.edges;
+      on : 0 < l.place → get_or l.parties (l.place - 1) 0 ≡ l.number;
+      rest : option_or (first_number (owes l.missing (status_after l.self l.change) l.number) (take l.place l.edges)) l.first ≡ first_number (owes l.missing (status_after l.self l.change) l.number) l.edges;
+    }
+
+abbrev pub decreases-loop-place : goal.decreases-loop-place
+decreases-loop-place g l = l.place
