@@ -412,6 +412,7 @@ impl<A: Handle> Machine<A> {
 }
 
 // The answer to an event, and why it was refused, if it was.
+#[derive(Drop)]
 struct Taken {
     answer: Answer,
     reason: Option<Reason>,
