@@ -28,7 +28,7 @@ use Rattle.acta_axioms.specs.History.{end}
 use Rattle.acta_axioms.specs.Operations.{Operation, operations, standing}
 use Rattle.acta_axioms.specs.Values.{do_conflict}
 use Rattle.acta_axioms.specs.Edges.{holders_against, formed_by}
-use Rattle.acta_axioms.proofs.ByOperations.{holders-abstraction}
+use Rattle.acta_axioms.proofs.ByOperations.{holders-shown}
 use Rattle.acta_axioms.proofs.Conflicts.{do_conflict-on}
 use Rattle.acta_axioms.proofs.Holders.{all-ascending, all-upon}
 use Rattle.acta_deps.specs.Statuses.{is_in_progress}
@@ -60,7 +60,7 @@ against-places m h shows t ob op o =
 pub conflicting_holders-places : {A : Type 0} (m : Parts A) (h : List (Kept A)) → ShowsPlaces m h (summary_of m h) → (t : ℕ) (ob : ObjId) (op : Op) → conflicting_holders m (summary_of m h) t ob op ≡ holders_against m h t ob.0 op
 conflicting_holders-places m h shows t ob op =
     ap (λ items. ascending (map (λ (i : HeldOp). i.holder.0) (filter (stands_against m (summary_of m h) t ob op) items))) shows.operations
-    ∙ sym (ap ascending (holders-abstraction m h t ob.0 op (λ o. held_op o (standing m h o)) (stands_against m (summary_of m h) t ob op) (λ i. i.holder.0) (against-places m h shows t ob op) (λ o. refl)))
+    ∙ sym (ap ascending (holders-shown m h t ob.0 op (λ o. held_op o (standing m h o)) (stands_against m (summary_of m h) t ob op) (λ i. i.holder.0) (against-places m h shows t ob op) (λ o. refl)))
 
 -- and so are the edges
 pub conflict_edges-places : {A : Type 0} (m : Parts A) (h : List (Kept A)) → ShowsPlaces m h (summary_of m h) → (t : TxnId) (ob : ObjId) (op : Op) → conflict_edges m (summary_of m h) t ob op ≡ formed_by m h (Operate t ob op)

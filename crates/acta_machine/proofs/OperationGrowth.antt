@@ -23,7 +23,7 @@ use Rattle.acta_table.specs.Sets.{is_named}
 use Rattle.acta_table.specs.Fates.{is_open}
 use Rattle.acta_axioms.specs.History.{places_behind}
 use Rattle.acta_axioms.specs.Operations.{Operation, Standing, held_by, ended_by, heir, carried, standing, operations, is_operate, number_after, operation_in, operation_at}
-use Rattle.acta_axioms.proofs.Growth.{at_end, abstraction-push, number_after-push}
+use Rattle.acta_axioms.proofs.Growth.{at_end, shown-push, number_after-push}
 use Rattle.acta_sets.specs.declared.held_op.HeldOp.{HeldOp}
 use Rattle.acta_sets.specs.Operations.{is_held, transferred_op, transferred, ended_op, ended, moved_from, moved, added}
 use Rattle.acta_machine.specs.Places.{held_op, held_ops}
@@ -43,14 +43,14 @@ idle Aborted t = refl
 pub operations-begin : {A : Type 0} (m : Parts A) (h : List (Kept A)) (ret : Option Ret) (t : TxnId) (class : ClassId) → held_ops m (h ++ (record { event = Begin t class; ret = ret }) ∷ []) ≡ held_ops m h
 operations-begin {A} m h ret t class =
     let k : Kept A = record { event = Begin t class; ret = ret } in
-    abstraction-push held_op m h k
+    shown-push held_op m h k
     ∙ append-nil (map (λ o. held_op o (carried m o.number (standing m h o) (at_end h k))) (operations h))
     ∙ map-same _ _ (λ o. ap (held_op o) (idle (standing m h o).fate (standing m h o).holder)) (operations h)
 
 pub operations-spawn : {A : Type 0} (m : Parts A) (h : List (Kept A)) (ret : Option Ret) (t c : TxnId) (class : ClassId) → held_ops m (h ++ (record { event = Spawn t c class; ret = ret }) ∷ []) ≡ held_ops m h
 operations-spawn {A} m h ret t c class =
     let k : Kept A = record { event = Spawn t c class; ret = ret } in
-    abstraction-push held_op m h k
+    shown-push held_op m h k
     ∙ append-nil (map (λ o. held_op o (carried m o.number (standing m h o) (at_end h k))) (operations h))
     ∙ map-same _ _ (λ o. ap (held_op o) (idle (standing m h o).fate (standing m h o).holder)) (operations h)
 
@@ -58,14 +58,14 @@ operations-spawn {A} m h ret t c class =
 pub operations-form : {A : Type 0} (m : Parts A) (h : List (Kept A)) (ret : Option Ret) (kind : Dep) (j i : TxnId) → held_ops m (h ++ (record { event = Form kind j i; ret = ret }) ∷ []) ≡ held_ops m h
 operations-form {A} m h ret kind j i =
     let k : Kept A = record { event = Form kind j i; ret = ret } in
-    abstraction-push held_op m h k
+    shown-push held_op m h k
     ∙ append-nil (map (λ o. held_op o (carried m o.number (standing m h o) (at_end h k))) (operations h))
     ∙ map-same _ _ (λ o. ap (held_op o) (idle (standing m h o).fate (standing m h o).holder)) (operations h)
 
 pub operations-permit : {A : Type 0} (m : Parts A) (h : List (Kept A)) (ret : Option Ret) (t u : TxnId) (ob : ObjId) → held_ops m (h ++ (record { event = Permit t u ob; ret = ret }) ∷ []) ≡ held_ops m h
 operations-permit {A} m h ret t u ob =
     let k : Kept A = record { event = Permit t u ob; ret = ret } in
-    abstraction-push held_op m h k
+    shown-push held_op m h k
     ∙ append-nil (map (λ o. held_op o (carried m o.number (standing m h o) (at_end h k))) (operations h))
     ∙ map-same _ _ (λ o. ap (held_op o) (idle (standing m h o).fate (standing m h o).holder)) (operations h)
 
@@ -73,7 +73,7 @@ operations-permit {A} m h ret t u ob =
 pub operations-operate : {A : Type 0} (m : Parts A) (h : List (Kept A)) (ret : Option Ret) (t : TxnId) (ob : ObjId) (op : Op) → held_ops m (h ++ (record { event = Operate t ob op; ret = ret }) ∷ []) ≡ added (held_ops m h) t ob op
 operations-operate {A} m h ret t ob op =
     let k : Kept A = record { event = Operate t ob op; ret = ret } in
-    abstraction-push held_op m h k
+    shown-push held_op m h k
     ∙ ap (λ items. items ++ (record { ob = ob; op = op; holder = t; fate = InProgress }) ∷ []) (map-same _ _ (λ o. ap (held_op o) (idle (standing m h o).fate (standing m h o).holder)) (operations h))
 
 and_true : (b : Bool) → (b && true) ≡ b
@@ -129,7 +129,7 @@ pub operations-delegate : {A : Type 0} (m : Parts A) (h : List (Kept A)) (ret : 
     ((n : ℕ) → is_named ops n ≡ true → holds (held_ops m h) t.0 n ≡ true) → held_ops m (h ++ (record { event = Delegate t u ops; ret = ret }) ∷ []) ≡ moved ops u (held_ops m h)
 operations-delegate {A} m h ret t u ops held =
     let k : Kept A = record { event = Delegate t u ops; ret = ret } in
-    abstraction-push held_op m h k
+    shown-push held_op m h k
     ∙ append-nil (map (λ o. held_op o (carried m o.number (standing m h o) (at_end h k))) (operations h))
     ∙ named-transferred (λ o. held_op o (standing m h o)) (λ o. held_op o (carried m o.number (standing m h o) (at_end h k))) (is_held t.0) ops u
     (λ o named. gives t.0 u (is_named ops o.number) o (standing m h o).holder (standing m h o).fate named)
@@ -140,7 +140,7 @@ pub operations-split : {A : Type 0} (m : Parts A) (h : List (Kept A)) (ret : Opt
     ((n : ℕ) → is_named ops n ≡ true → holds (held_ops m h) t.0 n ≡ true) → held_ops m (h ++ (record { event = Split t u class ops; ret = ret }) ∷ []) ≡ moved ops u (held_ops m h)
 operations-split {A} m h ret t u class ops held =
     let k : Kept A = record { event = Split t u class ops; ret = ret } in
-    abstraction-push held_op m h k
+    shown-push held_op m h k
     ∙ append-nil (map (λ o. held_op o (carried m o.number (standing m h o) (at_end h k))) (operations h))
     ∙ named-transferred (λ o. held_op o (standing m h o)) (λ o. held_op o (carried m o.number (standing m h o) (at_end h k))) (is_held t.0) ops u
     (λ o named. gives t.0 u (is_named ops o.number) o (standing m h o).holder (standing m h o).fate named)
@@ -161,7 +161,7 @@ transfers t v u o InProgress =
 pub operations-join : {A : Type 0} (m : Parts A) (h : List (Kept A)) (ret : Option Ret) (t u : TxnId) → held_ops m (h ++ (record { event = Join t u; ret = ret }) ∷ []) ≡ transferred t.0 u (held_ops m h)
 operations-join {A} m h ret t u =
     let k : Kept A = record { event = Join t u; ret = ret } in
-    abstraction-push held_op m h k
+    shown-push held_op m h k
     ∙ append-nil (map (λ o. held_op o (carried m o.number (standing m h o) (at_end h k))) (operations h))
     ∙ map-same _ _ (λ o. transfers t.0 (standing m h o).holder u o (standing m h o).fate) (operations h)
     ∙ sym (map-map (transferred_op t.0 u) (λ o. held_op o (standing m h o)) (operations h))
@@ -198,7 +198,7 @@ settles heirs t v o InProgress none =
 pub operations-commit : {A : Type 0} (m : Parts A) (h : List (Kept A)) (ret : Option Ret) (t : TxnId) → heir m h t.0 ≡ None → held_ops m (h ++ (record { event = Commit t; ret = ret }) ∷ []) ≡ ended t.0 Committed (held_ops m h)
 operations-commit {A} m h ret t none =
     let k : Kept A = record { event = Commit t; ret = ret } in
-    abstraction-push held_op m h k
+    shown-push held_op m h k
     ∙ append-nil (map (λ o. held_op o (carried m o.number (standing m h o) (at_end h k))) (operations h))
     ∙ map-same _ _ (λ o. settles (heir m h) t.0 (standing m h o).holder o (standing m h o).fate none) (operations h)
     ∙ sym (map-map (ended_op t.0 Committed) (λ o. held_op o (standing m h o)) (operations h))
@@ -216,7 +216,7 @@ leaves heirs t v u o InProgress is =
 pub operations-inherited : {A : Type 0} (m : Parts A) (h : List (Kept A)) (ret : Option Ret) (t u : TxnId) → heir m h t.0 ≡ Some u → held_ops m (h ++ (record { event = Commit t; ret = ret }) ∷ []) ≡ transferred t.0 u (held_ops m h)
 operations-inherited {A} m h ret t u is =
     let k : Kept A = record { event = Commit t; ret = ret } in
-    abstraction-push held_op m h k
+    shown-push held_op m h k
     ∙ append-nil (map (λ o. held_op o (carried m o.number (standing m h o) (at_end h k))) (operations h))
     ∙ map-same _ _ (λ o. leaves (heir m h) t.0 (standing m h o).holder u o (standing m h o).fate is) (operations h)
     ∙ sym (map-map (transferred_op t.0 u) (λ o. held_op o (standing m h o)) (operations h))
@@ -224,7 +224,7 @@ operations-inherited {A} m h ret t u is =
 pub operations-abort : {A : Type 0} (m : Parts A) (h : List (Kept A)) (ret : Option Ret) (t : TxnId) → held_ops m (h ++ (record { event = Abort t; ret = ret }) ∷ []) ≡ ended t.0 Aborted (held_ops m h)
 operations-abort {A} m h ret t =
     let k : Kept A = record { event = Abort t; ret = ret } in
-    abstraction-push held_op m h k
+    shown-push held_op m h k
     ∙ append-nil (map (λ o. held_op o (carried m o.number (standing m h o) (at_end h k))) (operations h))
     ∙ map-same _ _ (λ o. ends t.0 (standing m h o).holder o Aborted (standing m h o).fate) (operations h)
     ∙ sym (map-map (ended_op t.0 Aborted) (λ o. held_op o (standing m h o)) (operations h))

@@ -10,7 +10,7 @@ use Rattle.acta_table.specs.Numbered.{numbers_where}
 use Rattle.acta_objects.specs.Objects.{first_state, state_after}
 use Rattle.acta_axioms.specs.Operations.{Operation, standing, operations}
 use Rattle.acta_axioms.specs.Operations as by_places
-use Rattle.acta_axioms.proofs.Numbers.{numbers-abstraction}
+use Rattle.acta_axioms.proofs.Numbers.{numbers-shown}
 use Rattle.acta_sets.specs.declared.held_op.HeldOp.{HeldOp}
 use Rattle.acta_sets.specs.Operations.{is_held, is_of_others, is_live, operations_where}
 use Rattle.acta_machine.specs.Values.{live_ops}
@@ -30,14 +30,14 @@ where-places : {A : Type 0} (m : Parts A) (h : List (Kept A)) (items : List Held
     → operations_where test items ≡ op_numbers (filter by (operations h))
 where-places m h items test by same equivalent =
     ap (operations_where test) same
-    ∙ ap (map (λ n. record { 0 = n })) (sym (numbers-abstraction (λ o. held_op o (standing m h o)) test h))
+    ∙ ap (map (λ n. record { 0 = n })) (sym (numbers-shown (λ o. held_op o (standing m h o)) test h))
     ∙ map-map (λ n. record { 0 = n }) (λ (o : Operation). o.number) (filter (λ o. test (held_op o (standing m h o))) (operations h))
     ∙ ap op_numbers (filter-same (λ o. test (held_op o (standing m h o))) by equivalent (operations h))
 
 -- the numbers of t's access set by places, by the table
 pub held-places : {A : Type 0} (m : Parts A) (h : List (Kept A)) (items : List HeldOp) (t : ℕ) → items ≡ held_ops m h → map (λ o. o.number) (by_places.access_set m h t) ≡ numbers_where (is_held t) items
 held-places m h items t same =
-    numbers-abstraction (λ o. held_op o (standing m h o)) (is_held t) h
+    numbers-shown (λ o. held_op o (standing m h o)) (is_held t) h
     ∙ ap (numbers_where (is_held t)) (sym same)
 
 pub access-places : {A : Type 0} (state : State A) (t : ℕ) → FollowsPlaces state → access_set_in state t ≡ op_numbers (by_places.access_set state.model state.kept t)

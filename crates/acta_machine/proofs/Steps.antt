@@ -47,7 +47,7 @@ use Rattle.acta_axioms.proofs.EdgeGrowth.{EndsInProgress, edges-push, apart-push
 use Rattle.acta_axioms.proofs.Growth.{class_in, class_of-push, parent_of-push, started_within, parent_earlier}
 use Rattle.acta_axioms.proofs.Permitting.{permitted-push, permits_begun-push, none-permitted}
 use Rattle.acta_axioms.specs.Permits.{is_permitted}
-use Rattle.acta_axioms.specs.inside.Lineages.{is_late}
+use Rattle.acta_axioms.specs.inside.TxnRecords.{is_late}
 use Rattle.acta_axioms.specs.inside.Walking.{permits_behind}
 use Rattle.acta_table.specs.Events.{permits}
 use Rattle.acta_axioms.proofs.Statuses.{is_under_way, is_ended_status, in_progress-status, has_begun-status, status_at-push}
