@@ -149,7 +149,7 @@ pub fn refuse_words(alloc: Global, words: &[String]) -> UsageFault {
 
 // The fault of words that name no command.
 fn no_command(surface: &mut Command<'_>) -> UsageFault {
-    match surface.error(ErrorKind::MissingSubcommand, "a command is wanted") {
+    match surface.error(ErrorKind::MissingSubcommand, "a command is missing") {
         Ok(error) => UsageFault::Usage(error),
         Err(e) => UsageFault::Memory(e),
     }

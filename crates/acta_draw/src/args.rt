@@ -45,7 +45,7 @@ const LEGEND: &str = "The marks of a text, on the lane of a transaction:
 Between two lanes:
   *-->o   it spawns the other, or splits it off
   *-->|   it hands operations to the other: delegates, joins, or commits to it as its parent
-  *..>|   it permits the other to work on an object beside it
+  *..>|   it permits the other to conflict with it on an object
   |<~~*   it comes to depend on the other; the edges follow the event
 Where lanes are used again, the number of a transaction follows the mark of its start, as in o21.";
 

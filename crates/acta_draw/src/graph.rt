@@ -107,8 +107,8 @@ impl<A: Handle> Graph<A> {
         match lanes.run.skipped() {
             0 => prose.put("."),
             skipped =>
-                put!(prose; ". ", skipped, " refused events are left out: the first ", MOST_RENDERED,
-                " are looked at."),
+                put!(prose; ". ", skipped, " refused events are left out: only the first ", MOST_RENDERED,
+                " are examined."),
         }
     }
 

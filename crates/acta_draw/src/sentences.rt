@@ -152,8 +152,8 @@ pub fn put_left_out<A: Handle>(
     if skipped == 0 {
         return prose;
     }
-    put!(put_gap(prose, " "); skipped, " refused events more are not drawn: the first ", MOST_RENDERED,
-        " are.")
+    put!(put_gap(prose, " "); skipped, " more refused events are not drawn: only the first ", MOST_RENDERED,
+        " are drawn.")
 }
 
 // Adds how many transactions don't fit.
@@ -164,7 +164,7 @@ fn put_unfit<A: Handle>(prose: Prose<A>, selection: &Selection<A>) -> Prose<A> {
     }
     let other = if selection.is_reused { "" } else { "--reuse, " };
     put!(put_gap(prose, " "); fit, " of ", wanted, " transactions fit, and ", selection.rows.len(),
-        " events are of them; ", other, "--txns 1,2,7 or --from N --to M (places) choose others.")
+        " events belong to them; ", other, "--txns 1,2,7 or --from N --to M (places) choose others.")
 }
 
 /// Adds what follows the event of a row: the edges that it formed, or why it was refused.
@@ -236,14 +236,14 @@ fn put_doing<A: Handle>(prose: Prose<A>, lanes: &Lanes<A>, row: &Row<'_, A>) -> 
             put_operations(prose, " and the operations ", words_after(event, 4))
         }
         Event::Join(_, u) => {
-            put!(prose; t, " joins ", u.0, ", has ended by it, and leaves it all that it held in progress")
+            put!(prose; t, " joins ", u.0, ", which gets all operations that ", t, " held in progress")
         }
         Event::Delegate(_, u, _) => {
             let prose = put!(prose; t, " delegates to ", u.0);
             put_operations(prose, " the operations ", words_after(event, 3))
         }
         Event::Permit(_, u, _) => {
-            put!(prose; t, " permits ", u.0, " to work on ", words_after(event, 3), " beside it")
+            put!(prose; t, " permits ", u.0, " to conflict with it on ", words_after(event, 3))
         }
         Event::Form(_, _, i) => put!(prose; t, " comes to depend on ", i.0),
         Event::Operate(_, _, _) => {
@@ -257,8 +257,8 @@ fn put_doing<A: Handle>(prose: Prose<A>, lanes: &Lanes<A>, row: &Row<'_, A>) -> 
         }
         Event::Commit(_) => match row.figure.partner {
             Some((parent, _)) => {
-                put!(prose; t, " commits, and leaves its parent ", parent.txn.0,
-                    " all that it held in progress")
+                put!(prose; t, " commits, and its parent ", parent.txn.0,
+                    " gets all operations that it held in progress")
             }
             None => put!(prose; t, " commits"),
         },

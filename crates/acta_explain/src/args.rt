@@ -95,7 +95,7 @@ fn asked_by<'a>(
     let kind = kind_named(matches);
     let words = u8::from(rule.is_some()) + u8::from(axiom.is_some()) + u8::from(codes.is_some());
     if words + u8::from(model.is_some()) != 1 || words > 0 && kind != Some(LineKind::Events) {
-        let fault = "a model is wanted, or one of --rule, --axiom and --code without a model";
+        let fault = "give a model, or one of --rule, --axiom and --code without a model";
         return Err(usage(surface, ErrorKind::MissingRequiredArgument, fault));
     }
     if let Some(word) = rule {
@@ -108,7 +108,7 @@ fn asked_by<'a>(
         return words_asked(alloc, surface, &CODES, words);
     }
     let Some(kind) = kind else {
-        let fault = "at most one of --judge, --drive and --debug is wanted";
+        let fault = "give at most one of --judge, --drive and --debug";
         return Err(usage(surface, ErrorKind::ArgumentConflict, fault));
     };
     match model_named(model.unwrap_or("")) {

@@ -95,7 +95,10 @@ fn event_entry(kind: EventKind) -> Entry {
         EventKind::Operate => ("T does an operation on an object", "do 1 x write 5"),
         EventKind::Commit => ("T commits", "commit 1"),
         EventKind::Abort => ("T aborts", "abort 1"),
-        EventKind::Permit => ("T permits U to work on an object beside it", "permit 1 2 x"),
+        EventKind::Permit => (
+            "T permits U to conflict with T on an object",
+            "permit 1 2 x",
+        ),
     }
 }
 

@@ -337,7 +337,7 @@ fn spelled_by<'a>(
 fn no_command(surface: &mut clap::Command<'_>) -> UsageFault
     ensures { IsMissing result }
 {
-    match surface.error(ErrorKind::MissingSubcommand, "a command is wanted") {
+    match surface.error(ErrorKind::MissingSubcommand, "a command is missing") {
         Ok(error) => UsageFault::Usage(error),
         Err(e) => UsageFault::Memory(e),
     }
