@@ -29,7 +29,7 @@ impl Axiom {
     pub fn sentence(self) -> &'static str {
         match self {
             Axiom::BegunOnce => {
-                "A transaction begins at most once, a spawn or a split counted too."
+                "A transaction begins at most once. A spawn and a split count too."
             }
             Axiom::EndedAfterBegun => {
                 "A transaction commits, aborts or joins another only after it has begun."
@@ -40,7 +40,7 @@ impl Axiom {
                 "Numbers, classes, objects and operations are those of the model, and no event names one transaction twice."
             }
             Axiom::Allowed => {
-                "A transaction starts, and does an event, only as its class allows it, and an edge is formed only where a class may form any."
+                "A transaction starts, and does an event, only as its class allows it, and an edge is formed only where a class may form edges."
             }
             Axiom::PartiesInProgress => {
                 "Only a transaction in progress spawns, splits, delegates or permits, and only a transaction in progress is joined, delegated to or permitted."

@@ -130,7 +130,8 @@ fn known_words<'a, A: Handle>(
     Ok(words)
 }
 
-// A word of the line that is wrong, or the column in which one is missing, and what the line should have been.
+// A word of the line that is wrong, or the column in which one is missing, and what the line should have been. `is_first`: the
+// wrong word is the line's first.
 #[derive(Clone, Copy)]
 struct WrongWord<'a> {
     form: LineForm,
@@ -162,7 +163,7 @@ fn wrong_word_at<'a>(stop: &Stop<'a>, place: WordPlace) -> WrongWord<'a> {
 const CARRIAGE_RETURN: &str =
     "\nthe line ends in CR LF; here a line ends in LF alone, and the CR belongs to the last word";
 
-// What is written where a word begins with `//`.
+/// What is written where a word begins with `//`.
 pub(crate) const COMMENT: &str = "\na comment begins with `#`";
 
 // What is written where a line of programs or of seated events comes among events.

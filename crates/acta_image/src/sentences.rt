@@ -22,7 +22,7 @@ impl ImageFault {
         match self {
             ImageFault::Magic => "One of the first four bytes differs from `ACTA`.",
             ImageFault::Version => "The version is neither 1 nor 2.",
-            ImageFault::Truncated => "The bytes end inside a field, or before one.",
+            ImageFault::Truncated => "The bytes end inside or before a field.",
             ImageFault::BadField(_) => "The field at this offset has a value that isn't allowed.",
             ImageFault::Trailing(_) => "Bytes follow the last field, from this offset on.",
             ImageFault::Model(_) => { "All fields are valid, but the model has this fault." }

@@ -46,7 +46,7 @@ impl<'a> CommandLine<'a> for SerializeLine {
 
     fn surface(alloc: Global) -> Result<Command<'a>, AllocError> {
         let command = Command::new(alloc, "acta serialize").about(
-            "Finds a serial order of the committed transactions that gives each return in the kept lines of the standard input, or proves that there is none, and explains why. The lines need not be a history that MODEL admits",
+            "Finds a serial order of the committed transactions in the kept lines of the standard input: a replay in this order gives each of their returns. If there is no such order, proves and explains it. The lines need not be a history that MODEL admits",
         );
         let command = command.arg(model_arg(alloc).required(true));
         let help =

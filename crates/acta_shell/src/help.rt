@@ -33,7 +33,7 @@ fn command_words(kind: ShellKind) -> &'static str {
         ShellKind::Edges => "lists the dependencies in force, or those of transaction T",
         ShellKind::Permits => "lists the permits in force",
         ShellKind::Owed => "lists the events that are owed, and whether each can be paid",
-        ShellKind::History => "lists the events with what they returned, as `judge` reads them",
+        ShellKind::History => "lists the events with their returns, as `judge` reads them",
         ShellKind::Events => "lists the events, as `run` reads them",
         ShellKind::Draw => "draws the history",
         ShellKind::Why => "explains why the last refused event was refused, or the Nth",

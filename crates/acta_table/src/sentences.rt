@@ -57,13 +57,13 @@ impl Rule {
                 "The operation isn't one of the object's kind: a register has read and write, a counter get and add, a set insert, remove, has and size."
             }
             Rule::SameTransaction => {
-                "One transaction is named twice: none depends on itself, and none spawns, splits off, joins, delegates to or permits itself."
+                "One transaction is named twice: no transaction depends on itself, or spawns, splits off, joins, delegates to or permits itself."
             }
             Rule::NotInProgress => {
                 "The transaction that does the event isn't in progress: it has not begun, or it has ended."
             }
             Rule::AlreadyBegun => {
-                "The transaction that the event starts has begun before. Each starts once."
+                "The transaction that the event starts has begun before. Each transaction starts once."
             }
             Rule::NotInModel => {
                 "A class doesn't allow it: the class named can't start by such an event, or the transaction's class may not do such an event; or an edge is to be formed, and no class of the model may form edges, or one of the two transactions has begun with a class that may not."
@@ -177,7 +177,7 @@ impl ModelFault {
             ModelFault::NoClass => "There is no class.",
             ModelFault::TooManyClasses => "There are more than 16 classes.",
             ModelFault::TooManyObjects => "There are more than 256 objects.",
-            ModelFault::DuplicateName => "Two objects have one name, or two classes have.",
+            ModelFault::DuplicateName => "Two objects, or two classes, have the same name.",
             ModelFault::BadName => {
                 "A name isn't 1 to 32 bytes, a letter first, then letters, digits or underscores."
             }
@@ -185,10 +185,10 @@ impl ModelFault {
                 "A class lists a begin kind, BD, SD, BCD, BAD or WCD, among the edges of a spawn or a split."
             }
             ModelFault::HeirWithoutSpawn => {
-                "A class commits to parents, and its transactions may start by a begin or a split, so without a parent."
+                "A class has `commit toparent`, and its transactions may start by a begin or a split, so without a parent."
             }
             ModelFault::BadPolicyKind => {
-                "A class depends by no kind, or by one other than CD, AD, WD and TD."
+                "A class has `policy depend` with no kind, or with a kind other than CD, AD, WD and TD."
             }
         }
     }
