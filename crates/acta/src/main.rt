@@ -483,7 +483,7 @@ fn list_standards(rt: &HostRuntime) {
     }
 }
 
-// Says why the words ask for nothing, or what they ask to be told. If memory ran out, nothing is said.
+// Writes why the words ask for nothing, or the text that they ask for. If memory ran out, nothing is written.
 fn report_usage(rt: &HostRuntime, words: &[String], fault: &UsageFault) {
     match fault {
         UsageFault::Memory(_) => {}

@@ -1,4 +1,4 @@
-//! A run of one of the models, told line by line.
+//! A run of one of the models, in words, line by line.
 
 use crate::side::Side;
 use acta_explain::{

@@ -10,7 +10,7 @@ use acta_table::{Event, EventKind, ObjId, TxnId};
 use std::alloc::{AllocError, Allocator};
 
 /// Where a run is to stop: at a place, the next one at which this holds of the event that stands there, or of the
-/// machine behind it.
+/// machine after it.
 #[derive(Clone, Copy, PartialEq, Eq, Debug)]
 pub enum Break {
     /// The event is of this kind.
@@ -78,7 +78,7 @@ fn is_end_of<A: Allocator>(event: &Event<A>, t: TxnId) -> bool
 }
 
 impl Break {
-    // Whether it holds of an event and of the machine behind it.
+    // Whether it holds of an event and of the machine after it.
     fn holds<A: Handle>(self, event: &Event<A>, machine: &Machine<A>) -> Result<bool, AllocError>
         ensures { IfOk result (λ holds. holds ≡ holds_of machine.now event.now self) }
     {
@@ -92,7 +92,7 @@ impl Break {
     }
 }
 
-/// The lowest number of a break that holds of an event and of the machine behind it.
+/// The lowest number of a break that holds of an event and of the machine after it.
 pub fn lowest_that_holds<A: Handle>(
     breaks: &[Break],
     event: &Event<A>,

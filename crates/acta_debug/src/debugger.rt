@@ -28,14 +28,14 @@ use std::mem::replace;
 const NEAR: usize = MOST_EVENTS / 64;
 
 /// A history, a place in it, the machine as it was there, and breaks. Contracts see the model, the history, how many of
-/// its events are behind the debugger, and the breaks: the machine is what these events leave.
+/// its events are before the place of the debugger, and the breaks: the machine is what these events leave.
 #[derive(Drop)]
 pub struct Debugger<A: Handle> {
     machine: Machine<A>,
     history: Vec<Kept<A>, A>,
     at: usize,
     breaks: Vec<Break, A>,
-    // Machines that stand behind fronts of the history, from which a move goes on.
+    // Machines that are after fronts of the history, from which a move goes on.
     checkpoints: Vec<Machine<A>, A>,
 }
 
@@ -116,7 +116,7 @@ fn keep_within<A: Handle>(machines: &mut Vec<Machine<A>, A>, events: usize)
 
 impl<A: Handle> Debugger<A> {
     /// A debugger on a history, at its start, with no break. It accepts exactly the lists that a machine on the model
-    /// keeps as its history when it takes their events. Of any other list `NotAHistory` tells the first place, from 1,
+    /// keeps as its history when it takes their events. Of any other list `NotAHistory` has the first place, from 1,
     /// at which the machine doesn't admit the event with the return that the list has there; so a list of more than
     /// 65,536 events is no history. `Memory` if memory runs out. An error drops the model and the list.
     pub fn new(alloc: A, model: Model<A>, history: Vec<Kept<A>, A>) -> Result<Debugger<A>, NewError>
@@ -179,8 +179,8 @@ impl<A: Handle> Debugger<A> {
         }
     }
 
-    /// Moves one event further. `AtEnd` comes exactly where it stands behind the last event, and `Memory` if memory
-    /// runs out. An error leaves it where it stood.
+    /// Moves one event further. `AtEnd` comes exactly where it is after the last event, and `Memory` if memory
+    /// runs out. An error leaves it where it was.
     pub fn step(&mut self) -> Result<(), MoveError>
         ensures ok { OnOk result (stepped self.old ≡ Ok self.new) }
         ensures err { OnErr result (self.new ≡ self.old) }
@@ -197,8 +197,8 @@ impl<A: Handle> Debugger<A> {
         Ok(())
     }
 
-    /// Moves one event back. `AtStart` comes exactly where it stands before the first event, and `Memory` if memory
-    /// runs out. An error leaves it where it stood.
+    /// Moves one event back. `AtStart` comes exactly where it is before the first event, and `Memory` if memory
+    /// runs out. An error leaves it where it was.
     pub fn back(&mut self) -> Result<(), MoveError>
         ensures ok { OnOk result (stepped_back self.old ≡ Ok self.new) }
         ensures err { OnErr result (self.new ≡ self.old) }
@@ -214,8 +214,8 @@ impl<A: Handle> Debugger<A> {
         Ok(())
     }
 
-    /// Moves to behind the first n events, of which 0 is the start. `OutOfRange` comes exactly where the history has
-    /// fewer events, and `Memory` if memory runs out. An error leaves it where it stood.
+    /// Moves to the place after the first n events, of which 0 is the start. `OutOfRange` comes exactly where the history has
+    /// fewer events, and `Memory` if memory runs out. An error leaves it where it was.
     pub fn goto(&mut self, n: u32) -> Result<(), MoveError>
         ensures ok { OnOk result (gone_to self.old n ≡ Ok self.new) }
         ensures err { OnErr result (self.new ≡ self.old) }
@@ -236,7 +236,7 @@ impl<A: Handle> Debugger<A> {
         }
     }
 
-    // Moves to behind the first n events, as `goto` does.
+    // Moves to the place after the first n events, as `goto` does.
     fn goto_place(&mut self, n: u32) -> Result<(), MoveError>
         ensures ok { OnOk result (gone_to self.old n ≡ Ok self.new) }
         ensures err { OnErr result (self.new ≡ self.old) }
@@ -264,7 +264,7 @@ impl<A: Handle> Debugger<A> {
         Ok(answer)
     }
 
-    // Leaves a checkpoint if the last one is not near. It takes the place of the last one where that stands close behind
+    // Leaves a checkpoint if the last one is not near. It takes the place of the last one where that is close after
     // the one before it: so all together keep some seventeen times the items of the history.
     fn mark(&mut self) -> Result<(), AllocError>
         ensures { self.new ≡ self.old }
@@ -319,7 +319,7 @@ impl<A: Handle> Debugger<A> {
         Ok(answer)
     }
 
-    // A copy of the last of the checkpoints that stand behind no more than n events, or a new machine.
+    // A copy of the last of the checkpoints that are after no more than n events, or a new machine.
     fn checkpoint_before(&self, n: usize) -> Result<Machine<A>, AllocError>
         ensures front { IfOk result (IsFront self.now.model self.now.history) }
         ensures before { IfOk result (λ machine. length machine.kept ≤ n) }
@@ -333,7 +333,7 @@ impl<A: Handle> Debugger<A> {
         }
     }
 
-    // A machine that stands behind no more than n events: a copy of its own where no checkpoint is nearer.
+    // A machine that is after no more than n events: a copy of its own where no checkpoint is nearer.
     fn machine_before(&self, n: usize) -> Result<Machine<A>, AllocError>
         ensures front { IfOk result (IsFront self.now.model self.now.history) }
         ensures before { IfOk result (λ machine. length machine.kept ≤ n) }
@@ -344,7 +344,7 @@ impl<A: Handle> Debugger<A> {
         Ok(self.machine.copy()?)
     }
 
-    // The machine behind the first n events.
+    // The machine after the first n events.
     fn machine_behind(&self, n: usize) -> Result<Machine<A>, AllocError>
         requires { n ≤ length self.now.history }
         ensures kept { IfOk result (λ machine. machine ≡ record { model = self.now.model; kept = take n self.now.history }) }
@@ -361,7 +361,7 @@ impl<A: Handle> Debugger<A> {
         }
     }
 
-    // Sees to it that a checkpoint stands behind no more than n events, and not many fewer: where none does, the last
+    // Sees to it that a checkpoint is after no more than n events, and not many fewer: where none does, the last
     // of them is brought there. So one move back after another takes few events. `Err` leaves all as it was.
     fn draw_near(&mut self, n: usize) -> Result<(), AllocError>
         requires { n ≤ length self.old.history }
@@ -381,7 +381,7 @@ impl<A: Handle> Debugger<A> {
         Ok(())
     }
 
-    // Moves to behind the first n events. `Err` leaves it where it stood.
+    // Moves to the place after the first n events. `Err` leaves it where it was.
     fn stand_behind(&mut self, n: usize) -> Result<(), AllocError>
         requires { n ≤ length self.old.history }
         ensures ok { OnOk result (self.new ≡ moved_to self.old n) }
@@ -394,8 +394,8 @@ impl<A: Handle> Debugger<A> {
     }
 
     /// Runs on: it steps until a break holds of the place just reached, and answers the place and the lowest number of
-    /// a break that holds there; or to the end, where none does. Where it stands at first, none is looked at. `Err`
-    /// leaves it where it stood.
+    /// a break that holds there; or to the end, where none does. Where it is at first, none is looked at. `Err`
+    /// leaves it where it was.
     pub fn run(&mut self) -> Result<Stop, AllocError>
         ensures stop { IfOk result (λ stop. stop ≡ stop_of self.old) }
         ensures first { IfOk result (IsStop self.old) }
@@ -419,7 +419,7 @@ impl<A: Handle> Debugger<A> {
 }
 
 impl<A: Handle> Debugger<A> {
-    /// How many events are behind it: 0 at the start.
+    /// How many events are before it: 0 at the start.
     pub fn at(&self) -> u32
         ensures at { result ≡ self.now.at }
         ensures within { self.now.at ≤ length self.now.history }
@@ -436,7 +436,7 @@ impl<A: Handle> Debugger<A> {
         self.history.len() as u32
     }
 
-    /// The machine behind the first `at()` events.
+    /// The machine after the first `at()` events.
     pub fn machine(&self) -> &Machine<A>
         ensures machine { result.now ≡ state_at self.now.model self.now.history self.now.at }
         ensures kept { result.now ≡ record { model = self.now.model; kept = take self.now.at self.now.history } }

@@ -19,9 +19,9 @@ pub enum NewError {
 /// Why a debugger did not move.
 #[derive(Clone, Copy, PartialEq, Eq, Debug)]
 pub enum MoveError {
-    /// It stands behind the last event.
+    /// It is after the last event.
     AtEnd,
-    /// It stands before the first event.
+    /// It is before the first event.
     AtStart,
     /// The history has fewer events.
     OutOfRange,

@@ -1,4 +1,4 @@
-//! Recordings: a machine that takes events, and leaves copies of itself behind along the way.
+//! Recordings: a machine that takes events, and leaves copies of itself along the way.
 
 ghost use Rattle.std.specs.Prelude.{◌≡◌, IfOk, OnErr, OnOk};
 ghost use Rattle.acta_machine.specs.Table.{after, after_all, answer_to, fresh};
@@ -8,7 +8,7 @@ use acta_machine::{Handle, Machine};
 use acta_table::{Answer, Event, Model};
 use std::alloc::AllocError;
 
-// How many checkpoints a recording makes at most, and behind how many events at least the next one stands. Each keeps
+// How many checkpoints a recording makes at most, and after how many events at least the next one stands. Each keeps
 // all items in front of it: so together the checkpoints of the longest history keep some sixteen times its items.
 const MOST_CHECKPOINTS: usize = 32;
 
@@ -24,7 +24,7 @@ fn distance_for(events: usize) -> usize {
 pub struct Recording<A: Handle> {
     machine: Machine<A>,
     checkpoints: Vec<Machine<A>, A>,
-    // How many events stand between two checkpoints, and behind how many the next one is due.
+    // How many events stand between two checkpoints, and after how many the next one is due.
     distance: usize,
     due: usize,
 }

@@ -59,7 +59,7 @@ fn first_other_on<A: Handle>(
     Ok(None)
 }
 
-/// The checkpoints along the items, where they are a history. Of any other list `NotAHistory` tells the first place,
+/// The checkpoints along the items, where they are a history. Of any other list `NotAHistory` has the first place,
 /// from 1, at which it is none. `Memory` if memory runs out.
 pub fn accepted<A: Handle>(
     alloc: A,

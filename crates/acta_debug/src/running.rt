@@ -19,7 +19,7 @@ pub fn place_of(stop: Stop, last: usize) -> usize
     }
 }
 
-/// Has the machine, which has taken the events up to the place, take those ahead, in order, up to the first behind
+/// Has the machine, which has taken the events up to the place, take those ahead, in order, up to the first after
 /// which a break holds, and says where it stopped. On `Err` it may have taken some.
 pub fn run_on<A: Handle>(
     machine: &mut Machine<A>,

@@ -61,7 +61,7 @@ impl<'a, A: Handle> Joined<'a, A> {
         } else {
             from.saturating_sub(FOOT)
         };
-        Some((x, row_box.y_of(place).saturating_add(3)))
+        Some((x, row_box.y_of(place).saturating_add(8)))
     }
 
     // The line from the refused event of a row to the blocker, where both are drawn.
@@ -131,7 +131,7 @@ fn put_name<A: Allocator>(prose: Prose<A>, blocker: Blocker) -> Prose<A> {
     }
 }
 
-/// Adds a line. On one lane it goes round the marks between its ends.
+/// Adds a line. On one lane, or to the foot of an arrow beside it, it goes round the marks between its ends.
 pub fn put_block<A: Handle>(
     out: Prose<A>,
     lanes: &Lanes<A>,
@@ -149,8 +149,12 @@ pub fn put_block<A: Handle>(
     let ((x, y), (to_x, to_y)) = (block.from, block.to);
     let out = put_titled(out, title.as_str());
     let out = put!(out; "<path class=\"block\" d=\"M", x, " ", y);
-    let out = if x == to_x {
-        let side = x.saturating_add(gap.saturating_mul(2) / 5);
+    let out = if x.abs_diff(to_x) <= FOOT {
+        let side = if to_x < x {
+            x.saturating_sub(gap.saturating_mul(2) / 5)
+        } else {
+            x.saturating_add(gap.saturating_mul(2) / 5)
+        };
         put!(out; "C", side, " ", y, " ", side, " ", to_y, " ", to_x, " ", to_y)
     } else {
         put!(out; "L", to_x, " ", to_y)

@@ -26,6 +26,11 @@ const NEXT: usize = 48;
 
 const LEFT: usize = 24;
 
+// How much higher the highest arc may be than the lowest, and the height of a label.
+const MOST_HEIGHT: usize = 960;
+
+const LABEL: usize = 16;
+
 // The height of a transaction, and of a line of words.
 const NODE: usize = 24;
 
@@ -83,11 +88,16 @@ impl<A: Handle> Arcs<A> {
         if self.is_above { "block" } else { "edge" }
     }
 
+    // How much higher an arc is than one of the next shorter span.
+    fn next(&self) -> usize {
+        NEXT.min(MOST_HEIGHT / self.spans.len().max(1))
+    }
+
     // How far the arc goes from the transactions. Of two that go equally far no label covers the other's.
     fn height(&self, arc: &Arc<A>) -> usize {
         let span = arc.span();
         let level = self.spans.as_slice().partition_point(|one| *one < span);
-        let height = LOWEST.saturating_add(level.saturating_mul(NEXT));
+        let height = LOWEST.saturating_add(level.saturating_mul(self.next()));
         if arc.to < arc.from {
             height.saturating_add(LEFT)
         } else {
@@ -101,15 +111,22 @@ impl<A: Handle> Arcs<A> {
             return 0;
         }
         LOWEST
-            .saturating_add(self.spans.len().saturating_mul(NEXT))
-            .saturating_add(LEFT)
+            .saturating_add(
+                self.spans
+                    .len()
+                    .saturating_sub(1)
+                    .saturating_mul(self.next()),
+            )
+            .saturating_add(LEFT + LABEL)
     }
 
     // The least distance of two transactions with room for the labels.
     fn least_gap(&self) -> usize {
         let mut gap = LEAST_GAP;
         for arc in self.arcs.iter() {
-            gap = gap.max(label_width(arc.label.as_str()).saturating_add(16));
+            // (between the two sides of the arc round it, which is narrower at the height of the label)
+            let label = label_width(arc.label.as_str()).saturating_mul(3) / 2;
+            gap = gap.max(label.saturating_add(16));
         }
         gap
     }
@@ -206,13 +223,14 @@ impl<'a, A: Handle> Sheet<'a, A> {
         (MARGIN * 3).saturating_add(place.saturating_mul(self.gap))
     }
 
-    // The left and the right end of the arc. The ends of one to the left are beside those of one to the right.
+    // The left and the right end of the arc. An arc to the left is higher than the one to the right between the same two
+    // transactions, so its ends are outside the other's, and the two don't cross.
     fn ends(&self, arc: &Arc<A>) -> (usize, usize) {
         let (from, to) = (self.x(arc.from), self.x(arc.to));
         if from < to {
-            (from.saturating_add(4), to.saturating_sub(4))
+            (from.saturating_add(9), to.saturating_sub(9))
         } else {
-            (to.saturating_add(9), from.saturating_sub(9))
+            (to.saturating_add(4), from.saturating_sub(4))
         }
     }
 
@@ -245,10 +263,10 @@ impl<'a, A: Handle> Sheet<'a, A> {
         let middle = left.saturating_add(right) / 2;
         let (class, y) = if arcs.is_above {
             let top = self.base.saturating_sub(NODE / 2).saturating_sub(height);
-            ("label why", top.saturating_sub(4))
+            ("label why arc", top.saturating_sub(7))
         } else {
             let bottom = self.base.saturating_add(NODE / 2).saturating_add(height);
-            ("label", bottom.saturating_add(12))
+            ("label arc", bottom.saturating_add(13))
         };
         let out = put_titled(out, arc.title.as_str());
         put_text(out, class, middle, y, arc.label.as_str()).put(END_OF_GROUP)

@@ -20,7 +20,7 @@ impl Screen {
         is_colored: false,
     };
 
-    /// The screen that the environment tells of: its width by `COLUMNS`, and colours where it is a terminal and
+    /// The screen of the environment: its width by `COLUMNS`, and colours where it is a terminal and
     /// `NO_COLOR` is not set.
     pub fn of<R: Env + AllocGlobal>(rt: &R, is_terminal: bool) -> Screen {
         Screen {
@@ -30,7 +30,7 @@ impl Screen {
     }
 }
 
-// The number of columns that the environment tells.
+// The number of columns by the environment.
 fn columns<R: Env + AllocGlobal>(rt: &R) -> Option<usize> {
     let columns = env::var(rt, "COLUMNS").ok()?;
     let columns = columns.parse::<usize>().ok()?;

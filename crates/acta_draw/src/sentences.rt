@@ -152,8 +152,7 @@ pub fn put_left_out<A: Handle>(
     if skipped == 0 {
         return prose;
     }
-    put!(put_gap(prose, " "); skipped, " more refused events are not drawn: only the first ", MOST_RENDERED,
-        " are drawn.")
+    put!(put_gap(prose, " "); "Only the first ", MOST_RENDERED, " refused events are drawn, and not ", skipped, " later ones.")
 }
 
 // Adds how many transactions don't fit.
@@ -163,8 +162,8 @@ fn put_unfit<A: Handle>(prose: Prose<A>, selection: &Selection<A>) -> Prose<A> {
         return prose;
     }
     let other = if selection.is_reused { "" } else { "--reuse, " };
-    put!(put_gap(prose, " "); fit, " of ", wanted, " transactions fit, and ", selection.rows.len(),
-        " events belong to them; ", other, "--txns 1,2,7 or --from N --to M (places) choose others.")
+    put!(put_gap(prose, " "); "The width has room for ", fit, " of ", wanted, " transactions, with ", selection.rows.len(),
+        " events. To choose others, use ", other, "--txns 1,2,7 or --from N --to M (places).")
 }
 
 /// Adds what follows the event of a row: the edges that it formed, or why it was refused.

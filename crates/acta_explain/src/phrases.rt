@@ -116,7 +116,7 @@ pub fn put_edge<A: Allocator>(prose: Prose<A>, edge: &Edge) -> Prose<A> {
     put!(prose; edge.kind.word(), " ", edge.j.0, " on ", edge.i.0)
 }
 
-/// Adds a line, as a sentence refers to it: its number, and as much of its event as a sentence tells.
+/// Adds a line, as a sentence refers to it: its number, and its event, cut off if it is long.
 pub fn put_line_text<A: Allocator>(prose: Prose<A>, line: LineText<'_>) -> Prose<A> {
     let prose = put!(prose; line.noun, " ", line.line, ": ");
     match line.event.char_indices().nth(MOST_OF_EVENT) {

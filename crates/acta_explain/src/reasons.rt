@@ -350,7 +350,7 @@ impl<'a, A: Handle> Refused<'a, A> {
         }
     }
 
-    // Adds what the holder of an operation can do, so that right after it the operation no longer stands in the way.
+    // Adds what the holder of an operation can do so that the operation no longer blocks the event.
     fn put_releases(&self, prose: Prose<A>, number: OpNo) -> Prose<A> {
         let Some(op) = operation_at(self.machine, number) else {
             return prose;

@@ -123,7 +123,7 @@ fn owes_both(clash: &Clash, i: Status) -> Hope
     }
 }
 
-// Whether the transaction has begun, and its class lets it do nothing by which it lets go of what it holds.
+// Whether the transaction has begun, and its class allows no event by which it gives up operations.
 fn holds_on<A: Handle>(machine: &Machine<A>, holder: TxnId) -> bool
     ensures { result ≡ holds_on machine.now.model (summary_of machine.now.model machine.now.kept) holder.0 }
 {
@@ -146,7 +146,7 @@ fn exempts_none<A: Handle>(machine: &Machine<A>, txn: TxnId) -> bool
     }
 }
 
-// Where an operation stands in the way.
+// The hope if an operation blocks the event.
 fn in_conflict<A: Handle>(machine: &Machine<A>, event: &Event<A>, op: &NumberedOp) -> Hope
     ensures { IsOfConflict machine.now.model (summary_of machine.now.model machine.now.kept) event.now op.now result }
 {

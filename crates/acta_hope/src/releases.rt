@@ -1,4 +1,4 @@
-//! How the holder of an operation can let it go, so that it no longer stands in the way of an event.
+//! How the holder of an operation can give it up, so that it no longer blocks an event.
 
 ghost use Rattle.std.specs.Prelude.{◌≡◌, true, option_map};
 ghost use Rattle.acta_machine.specs.Changes.{summary_of};
@@ -76,7 +76,7 @@ pub fn is_ancestor<A: Handle>(machine: &Machine<A>, t: TxnId, u: TxnId) -> bool
     false
 }
 
-// Whether what `u` holds never stands in the way of `t`: it is `t`, or an ancestor that the class of `t` exempts.
+// Whether an operation of `u` never blocks `t`: `u` is `t`, or an ancestor that the class of `t` exempts.
 fn is_exempt<A: Handle>(machine: &Machine<A>, t: TxnId, u: TxnId) -> bool
     ensures { result ≡ is_exempt machine.now.model (summary_of machine.now.model machine.now.kept) t.0 u }
 {
@@ -92,7 +92,7 @@ fn is_exempt<A: Handle>(machine: &Machine<A>, t: TxnId, u: TxnId) -> bool
     }
 }
 
-// Whether a commit of the holder lets go of what it holds, as far as `t` goes.
+// Whether after a commit of the holder its operations no longer block `t`.
 fn frees_at_commit<A: Handle>(machine: &Machine<A>, t: TxnId, holder: TxnId) -> bool
     ensures { result ≡ frees_at_commit machine.now.model (summary_of machine.now.model machine.now.kept) t.0 holder.0 }
 {

@@ -84,7 +84,7 @@ fn report_unheld<'a, A: Handle>(
     Ok(())
 }
 
-// What is handed over, and not held in progress by the one that hands it over.
+// The operations that are delegated, and not held in progress by the transaction that delegates them.
 fn report_transferred<'a, A: Handle>(
     walk: &Walk<'a, A>,
     place: u32,

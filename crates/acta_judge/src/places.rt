@@ -186,7 +186,7 @@ pub(crate) fn idle<'a, A: Handle>(walk: &Walk<'a, A>, t: Option<TxnId>) -> Optio
     when(!walk.course(t).is_in_progress(), t)
 }
 
-/// Whether the transaction's class wants all that it holds handed over.
+/// Whether the transaction's class delegates all operations that it holds, or none.
 pub(crate) fn wants_whole<'a, A: Handle>(walk: &Walk<'a, A>, t: TxnId) -> bool
     ensures { result ≡ has_class (λ k. is_whole k.extent) walk.now.model walk.now.front t.0 }
 {

@@ -2,7 +2,7 @@
 //!
 //! A line is an event, the question whether an event would be admitted, or a command, such as `undo`; after `explore` it is
 //! a line of programs. `Shell` answers lines, and `converse` reads them from a console and shows the replies. Whoever makes
-//! a session gives it its `Words`: answers, places and lines that tell of the state are the session's own, and words stand
+//! a session gives it its `Words`: answers, places and lines about the state are the session's own, and words stand
 //! beside them. A call that allocates returns `Err`, or `Unread(Memory)`, if memory runs out.
 #![tactic(auto)]
 

@@ -23,7 +23,7 @@ use Rattle.acta_sets.specs.Operations.{operation_at, is_against, ops_conflict, i
 use Rattle.std.specs.HashMap as hash
 use Rattle.std.specs.HashMap.{HashMap}
 use Rattle.std.specs.Option.{option_map_or}
-use Rattle.acta_sets.specs.contracts.mode.TagPartialEq.TheImpl.{eq-value}
+use Rattle.acta_sets.specs.contracts.mode.ModeKeyPartialEq.TheImpl.{eq-value}
 use Rattle.acta_sets.specs.declared.mode.ModeKey.{ModeKey}
 use Rattle.acta_sets.specs.declared.listing.ModeList.{ModeList}
 use Rattle.acta_sets.specs.inside.Modes.{same_tag}

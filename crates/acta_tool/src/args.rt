@@ -25,22 +25,22 @@ pub enum Command {
     /// Writes the image, in the version of the format that is written, of the model whose image in any version the
     /// bytes are.
     Upgrade,
-    /// Answers the event lines of the standard input; or, where `kept`, tells the events that were kept, with what
+    /// Answers the event lines of the standard input; or, if `kept`, lists the kept events, with what
     /// they returned, and nothing else.
     Run { kept: bool },
     /// Answers the event lines of the standard input, and says with each answer in which line the event stands, and
     /// which operation and edges it formed.
     Trace,
-    /// Judges the kept lines of the standard input: tells each fault, and what is owed.
+    /// Judges the kept lines of the standard input: lists each fault, and what is owed.
     Judge,
-    /// Takes the events that are admitted of the lines before `--` as the history of a debugger, and tells what comes
-    /// of the commands behind it.
+    /// Takes the events that are admitted of the lines before `--` as the history of a debugger, and writes the replies
+    /// to the commands after it.
     Debug,
-    /// Tells the committed operations of a run of the event lines of the standard input, in serial order, where the
+    /// Adds the committed operations of a run of the event lines of the standard input, in serial order, where the
     /// model is strict.
     Serial,
-    /// Hands the event lines of the standard input in by this many threads, and tells the entries of the book; the kept
-    /// history is judged so many times meanwhile, and each front is told behind the entries.
+    /// Hands the event lines of the standard input in by this many threads, and lists the entries of the book; the kept
+    /// history is judged so many times meanwhile, and each front is listed after the entries.
     Drive { workers: u8, turns: u8 },
 }
 
@@ -136,7 +136,7 @@ fn model_argument<'a>(alloc: Global) -> Arg<'a>
         )
 }
 
-// Whether the events that were kept are told alone.
+// Whether only the kept events are written.
 fn kept_flag<'a>(alloc: Global) -> Arg<'a>
     ensures rule { rule_of result ≡ kept_rule }
     ensures local { result.global ≡ false }

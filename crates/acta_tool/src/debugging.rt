@@ -1,4 +1,4 @@
-//! The command `debug`: events before the first line `--`, and behind it commands to a debugger on what is kept of
+//! The command `debug`: events before the first line `--`, and after it commands to a debugger on what is kept of
 //! them.
 
 ghost use Rattle.std.specs.Prelude.{◌≡◌, ◌++◌, ◌∷◌, [], IfOk, OnOk};
@@ -17,7 +17,7 @@ use acta_script::DebugCommand;
 use acta_table::{Event, Model};
 use std::alloc::{AllocError, Allocator};
 
-// Tells the line that stopped the commands, if one did.
+// Adds the line that stopped the commands, if one did.
 fn render_last<A: Allocator>(text: &mut Vec<u8, A>, stop: Option<BadLine>) -> Result<(), AllocError>
     ensures { OnOk result (text.new.items ≡ text.old.items ++ text_of (option_map_or (λ b. stop_line b ∷ []) stop [])) }
 {
@@ -27,7 +27,7 @@ fn render_last<A: Allocator>(text: &mut Vec<u8, A>, stop: Option<BadLine>) -> Re
     }
 }
 
-// What is told of the commands, up to the line that stopped them, if one did.
+// The replies to the commands, up to the line that stopped them, if one did.
 fn report_commands<A: Handle>(
     alloc: A,
     model: Model<A>,
@@ -48,7 +48,7 @@ fn report_commands<A: Handle>(
     })
 }
 
-/// What is told of a debugging run: of the commands, or, where a line of the events is faulty, of this line alone.
+/// The output of a debugging run: the replies to the commands, or only the faulty line if one of the event lines is faulty.
 pub fn debug_model<A: Handle>(
     alloc: A,
     model: Model<A>,

@@ -61,7 +61,7 @@ fn scripts_of<A: Allocator + Copy>(
     Ok(scripts)
 }
 
-// What is told of the book that a driven run leaves, and of the fronts that were judged meanwhile.
+// The output for the book that a driven run leaves, and of the fronts that were judged meanwhile.
 fn report_book<A: Handle>(
     alloc: A,
     book: &Book<A>,
@@ -78,7 +78,7 @@ fn report_book<A: Handle>(
     })
 }
 
-// What is told of a driven run of the scripts.
+// The output for a driven run of the scripts.
 fn drive_scripts<A: Handle + Send + Sync, R: Threads + Wait + Sync>(
     rt: &R,
     alloc: A,
@@ -105,7 +105,7 @@ fn drive_scripts<A: Handle + Send + Sync, R: Threads + Wait + Sync>(
     }
 }
 
-// What is told of a driven run of what the lines say.
+// The output for a driven run of what the lines say.
 fn drive_parsed<A: Handle + Send + Sync, R: Threads + Wait + Sync>(
     rt: &R,
     alloc: A,
@@ -122,7 +122,7 @@ fn drive_parsed<A: Handle + Send + Sync, R: Threads + Wait + Sync>(
     }
 }
 
-// What is told of the lines on a model.
+// The output for the lines on a model.
 fn drive_lines<A: Handle + Send + Sync, R: Threads + Wait + Sync>(
     rt: &R,
     alloc: A,
@@ -145,7 +145,7 @@ fn drive_lines<A: Handle + Send + Sync, R: Threads + Wait + Sync>(
     }
 }
 
-// What is told for the bytes of a model and of an input.
+// The output for the bytes of a model and of an input.
 fn answer<A: Handle + Send + Sync, R: Threads + Wait + Sync>(
     rt: &R,
     alloc: A,

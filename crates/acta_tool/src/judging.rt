@@ -15,7 +15,7 @@ use acta_table::{Kept, Model};
 use std::alloc::{AllocError, Allocator};
 use std::thread::Threads;
 
-// What is told of a verdict.
+// The output for a verdict.
 fn report_verdict<A: Allocator + Copy>(
     alloc: A,
     verdict: &Verdict<A>,
@@ -30,7 +30,7 @@ fn report_verdict<A: Allocator + Copy>(
     })
 }
 
-// What is told of kept items.
+// The output for kept items.
 fn judge_kept<A: Handle + Send + Sync, R: Threads + Sync>(
     rt: &R,
     alloc: A,
@@ -46,7 +46,7 @@ fn judge_kept<A: Handle + Send + Sync, R: Threads + Sync>(
     }
 }
 
-/// What is told of the kept lines of the input.
+/// The output for the kept lines of the input.
 pub fn judge_model<A: Handle + Send + Sync, R: Threads + Sync>(
     rt: &R,
     alloc: A,

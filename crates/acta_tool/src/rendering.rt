@@ -1,4 +1,4 @@
-//! What a run tells, line by line.
+//! The output of a run, line by line.
 
 ghost use Rattle.std.specs.Prelude.{◌≡◌, ◌++◌, ◌∷◌, [], decimal, flat_map, map, OnOk};
 ghost use Rattle.acta_machine.specs.Table.{debts_in};
@@ -21,7 +21,7 @@ use acta_words::{push_line, push_natural, push_word};
 use itoa::Buffer;
 use std::alloc::{AllocError, Allocator};
 
-// Tells the answers, a line each.
+// Adds the answers, a line each.
 fn render_answers<A: Allocator + Copy>(
     alloc: A,
     answers: &[Answer],
@@ -35,7 +35,7 @@ fn render_answers<A: Allocator + Copy>(
     Ok(())
 }
 
-// Tells these faults, a line each.
+// Adds these faults, a line each.
 fn render_faults<A: Allocator + Copy>(
     alloc: A,
     faults: &[Fault],
@@ -50,7 +50,7 @@ fn render_faults<A: Allocator + Copy>(
     Ok(())
 }
 
-/// Tells a verdict: its faults, then what is owed.
+/// Adds a verdict: its faults, then what is owed.
 pub fn render_verdict<A: Allocator + Copy>(
     alloc: A,
     verdict: &Verdict<A>,
@@ -63,7 +63,7 @@ pub fn render_verdict<A: Allocator + Copy>(
     Ok(())
 }
 
-// Tells an entry: its number, its seat, its event and the answer.
+// Adds an entry: its number, its seat, its event and the answer.
 fn render_entry<A: Allocator + Copy>(
     alloc: A,
     model: &Model<A>,
@@ -82,7 +82,7 @@ fn render_entry<A: Allocator + Copy>(
     Ok(())
 }
 
-// Tells the entries, a line each.
+// Adds the entries, a line each.
 fn render_entries<A: Allocator + Copy>(
     alloc: A,
     model: &Model<A>,
@@ -97,7 +97,7 @@ fn render_entries<A: Allocator + Copy>(
     Ok(())
 }
 
-// Tells a front: how many items it has, and how many faults and debts the verdict on them.
+// Adds a front: how many items it has, and how many faults and debts the verdict on them.
 fn render_front<A: Allocator>(front: &Front<A>, text: &mut Vec<u8, A>) -> Result<(), AllocError>
     ensures { OnOk result (text.new.items ≡ text.old.items ++ text_of (front_line front.now ∷ [])) }
 {
@@ -108,7 +108,7 @@ fn render_front<A: Allocator>(front: &Front<A>, text: &mut Vec<u8, A>) -> Result
     push_line(text, b"")
 }
 
-// Tells the fronts, a line each.
+// Adds the fronts, a line each.
 fn render_fronts<A: Allocator>(fronts: &[Front<A>], text: &mut Vec<u8, A>) -> Result<(), AllocError>
     ensures { OnOk result (text.new.items ≡ text.old.items ++ text_of (map front_line fronts.now)) }
 {
@@ -118,7 +118,7 @@ fn render_fronts<A: Allocator>(fronts: &[Front<A>], text: &mut Vec<u8, A>) -> Re
     Ok(())
 }
 
-/// Tells the entries of a book, then the fronts that were judged while it grew, and then what is owed.
+/// Adds the entries of a book, then the fronts that were judged while it grew, and then what is owed.
 pub fn render_book<A: Handle>(
     alloc: A,
     book: &Book<A>,
@@ -134,7 +134,7 @@ pub fn render_book<A: Handle>(
     Ok(())
 }
 
-/// Tells the answers to the events of a run; or, where `is_kept`, the events that were kept, with what they returned.
+/// Adds the answers to the events of a run; or, where `is_kept`, the events that were kept, with what they returned.
 pub fn render_events<A: Handle>(
     alloc: A,
     is_kept: bool,
@@ -150,7 +150,7 @@ pub fn render_events<A: Handle>(
     }
 }
 
-/// Tells the line that stopped a run, or else what is owed; nothing of this where the kept events are told.
+/// Adds the line that stopped a run, or else the debts; nothing after a list of kept events.
 pub fn render_end<A: Handle>(
     alloc: A,
     is_kept: bool,

@@ -28,7 +28,7 @@ use acta_table::Model;
 use std::alloc::{AllocError, Allocator};
 use std::thread::Threads;
 
-// What is told of a run that this line stopped, if one did: the answers and what is owed, or the kept events alone.
+// The output for a run that this line stopped, if one did: the answers and what is owed, or the kept events alone.
 fn render_run<A: Handle>(
     alloc: A,
     is_kept: bool,
@@ -44,7 +44,7 @@ fn render_run<A: Handle>(
     Ok(text)
 }
 
-// What a run of the events of the input tells.
+// The output of a run of the events of the input.
 fn run_model<A: Handle>(
     alloc: A,
     is_kept: bool,
@@ -67,7 +67,7 @@ fn run_model<A: Handle>(
     })
 }
 
-// What a command tells of a model.
+// The output of a command on a model.
 fn report_model<A: Handle + Send + Sync, R: Threads + Sync>(
     rt: &R,
     alloc: A,
@@ -95,7 +95,7 @@ fn report_model<A: Handle + Send + Sync, R: Threads + Sync>(
     })
 }
 
-// What is told for the bytes of a model and of an input.
+// The output for the bytes of a model and of an input.
 fn answer<A: Handle + Send + Sync, R: Threads + Sync>(
     rt: &R,
     alloc: A,

@@ -15,7 +15,7 @@ use acta_table::{Event, Kept, Model};
 use acta_words::push_line;
 use std::alloc::{AllocError, Allocator};
 
-// Tells the operations as they were kept, a line each.
+// Adds the operations as they were kept, a line each.
 fn render_order<A: Allocator + Copy>(
     alloc: A,
     model: &Model<A>,
@@ -35,7 +35,7 @@ fn render_order<A: Allocator + Copy>(
     Ok(())
 }
 
-// What is told of a serial order.
+// The output for a serial order.
 fn report_order<A: Allocator + Copy>(
     alloc: A,
     model: &Model<A>,
@@ -52,7 +52,7 @@ fn report_order<A: Allocator + Copy>(
     })
 }
 
-// What is told of what the machine kept.
+// The output for what the machine kept.
 fn serialize<A: Handle>(alloc: A, machine: &Machine<A>) -> Result<Report<A>, AllocError>
     ensures { IfOk result (λ report. output_of report ≡ serialized_on machine.now.model machine.now.kept None) }
 {
@@ -63,7 +63,7 @@ fn serialize<A: Handle>(alloc: A, machine: &Machine<A>) -> Result<Report<A>, All
     }
 }
 
-/// What is told of the event lines of the input.
+/// The output for the event lines of the input.
 pub fn serial_model<A: Handle>(
     alloc: A,
     model: Model<A>,

@@ -27,7 +27,7 @@ fn break_of(on: BreakOn) -> Break
     }
 }
 
-// Tells where the debugger stands.
+// Adds where the debugger stands.
 fn render_at<A: Allocator>(text: &mut Vec<u8, A>, at: u32) -> Result<(), AllocError>
     ensures { OnOk result (text.new.items ≡ text.old.items ++ text_of (at_line at ∷ [])) }
 {
@@ -36,7 +36,7 @@ fn render_at<A: Allocator>(text: &mut Vec<u8, A>, at: u32) -> Result<(), AllocEr
     push_line(text, b"")
 }
 
-// Why a move can't be made. Want of memory is no reason that is told.
+// Why a move can't be made. Running out of memory is no such reason.
 fn error_word(error: MoveError) -> Result<&'static [u8], AllocError>
     ensures word { IfOk result (λ word. word.now ≡ error_word error) }
     ensures memory { OnOk result (error ≢ blocked.Memory) }
@@ -49,7 +49,7 @@ fn error_word(error: MoveError) -> Result<&'static [u8], AllocError>
     }
 }
 
-// Tells why a move can't be made.
+// Adds why a move can't be made.
 fn render_barred<A: Allocator>(text: &mut Vec<u8, A>, error: MoveError) -> Result<(), AllocError>
     ensures reported { OnOk result (text.new.items ≡ text.old.items ++ text_of (barred_line error ∷ [])) }
     ensures memory { OnOk result (error ≢ blocked.Memory) }
@@ -88,7 +88,7 @@ fn render_back<A: Handle>(
     }
 }
 
-// Moves to behind so many events.
+// Moves to the place after so many events.
 fn render_goto<A: Handle>(
     debugger: &mut Debugger<A>,
     n: u32,
@@ -103,7 +103,7 @@ fn render_goto<A: Handle>(
     }
 }
 
-// Tells where a run over so many events has stopped.
+// Adds where a run over so many events has stopped.
 fn render_stop<A: Allocator>(text: &mut Vec<u8, A>, last: u32, stop: Stop) -> Result<(), AllocError>
     ensures { OnOk result (text.new.items ≡ text.old.items ++ text_of (run_line last stop ∷ [])) }
 {
@@ -164,7 +164,7 @@ fn render_clear<A: Handle>(
     push_line(text, b"cleared")
 }
 
-// Does a command, and tells its text.
+// Does a command, and adds its reply.
 #[tactic(auto, unfolding(crate::specs::Debugging::reported_by, crate::specs::Debugging::behind))]
 fn render_command<A: Handle>(
     alloc: A,
@@ -188,7 +188,7 @@ fn render_command<A: Handle>(
     }
 }
 
-/// Does the commands, one after another, and tells their texts. On `Err` some may have been done.
+/// Does the commands, one after another, and adds their replies. On `Err` some may have been done.
 pub fn render_commands<A: Handle>(
     alloc: A,
     debugger: &mut Debugger<A>,

@@ -10,14 +10,15 @@ ghost use Rattle.acta_io.specs.inside.Reports.{output_of};
 
 use crate::rendering::render_end;
 use acta_io::{EventLines, Report, numbers_of_lines, read_lines};
-use acta_machine::{Formed, Handle, Machine};
+use acta_machine::{Handle, Machine};
 use acta_script::{answer_line, write_event};
 use acta_table::{Edge, Event, MOST_EDGES, Model, OpNo};
+use acta_trace::{Step, take_step};
 use acta_words::{push_line, push_natural, push_word};
 use itoa::Buffer;
 use std::alloc::{AllocError, Allocator};
 
-// Tells the operation that an event added.
+// Adds the operation that an event added.
 fn render_op<A: Allocator>(text: &mut Vec<u8, A>, op: Option<OpNo>) -> Result<(), AllocError>
     ensures { OnOk result (text.new.items ≡ text.old.items ++ flat_map (λ word. 32 ∷ word) (op_words op)) }
 {
@@ -30,8 +31,8 @@ fn render_op<A: Allocator>(text: &mut Vec<u8, A>, op: Option<OpNo>) -> Result<()
     Ok(())
 }
 
-// Tells an edge with its number.
-fn report_edge<A: Allocator>(
+// Adds an edge with its number.
+fn render_edge<A: Allocator>(
     text: &mut Vec<u8, A>,
     number: u64,
     edge: &Edge,
@@ -47,8 +48,8 @@ fn report_edge<A: Allocator>(
     Ok(())
 }
 
-// Tells the edges that are new, of which so many were in force before.
-fn report_edges<A: Allocator>(
+// Adds the edges that are new; so many were in force before.
+fn render_edges<A: Allocator>(
     text: &mut Vec<u8, A>,
     before: usize,
     edges: &[Edge],
@@ -59,7 +60,7 @@ fn report_edges<A: Allocator>(
     let mut number = before as u64;
     for edge in edges {
         number += 1;
-        report_edge(text, number, edge)?;
+        render_edge(text, number, edge)?;
     }
     Ok(())
 }
@@ -75,25 +76,26 @@ fn behind(edges: &[Edge], before: usize) -> &[Edge]
     }
 }
 
-// Tells an event in this line, and what became of it on the machine.
-fn render_formed<A: Handle>(
+// Adds a step of the machine, which it has just taken: its line, the answer, the event, and what it formed.
+fn render_step<A: Handle>(
     alloc: A,
     machine: &Machine<A>,
-    line: usize,
-    event: &Event<A>,
-    formed: &Formed,
+    step: &Step<A>,
     text: &mut Vec<u8, A>,
 ) -> Result<(), AllocError>
-    ensures { OnOk result (text.new.items ≡ text.old.items ++ text_of (formed_line machine.now.model line event.now formed.now.answer formed.now.op formed.now.edges_before (edges_in machine.now) ∷ [])) }
+    ensures { OnOk result (text.new.items ≡ text.old.items ++ text_of (formed_line machine.now.model step.now.line step.now.event step.now.answer step.now.op step.now.edges_before (edges_in machine.now) ∷ [])) }
 {
     let mut digits = Buffer::new();
-    text.extend_from_slice(digits.format(line).as_bytes())?;
-    push_word(text, answer_line(alloc, &formed.answer)?.as_slice())?;
+    text.extend_from_slice(digits.format(step.line).as_bytes())?;
+    push_word(text, answer_line(alloc, &step.answer)?.as_slice())?;
     push_word(text, b":")?;
-    push_word(text, write_event(alloc, machine.model(), event)?.as_slice())?;
-    render_op(text, formed.op)?;
-    let before = formed.edges_before;
-    report_edges(text, before, behind(machine.edges(), before))?;
+    push_word(
+        text,
+        write_event(alloc, machine.model(), &step.event)?.as_slice(),
+    )?;
+    render_op(text, step.op)?;
+    let before = step.edges_before;
+    render_edges(text, before, behind(machine.edges(), before))?;
     push_line(text, b"")?;
     Ok(())
 }
@@ -108,7 +110,7 @@ fn line_at(lines: &[usize], k: usize) -> usize
     }
 }
 
-// Has the machine take the events, which stand in these lines, and tells each.
+// Takes the events of these lines, and adds the step of each.
 fn render_traced<A: Handle>(
     alloc: A,
     machine: &mut Machine<A>,
@@ -123,13 +125,14 @@ fn render_traced<A: Handle>(
     for event in events {
         let line = line_at(lines, k);
         k += 1;
-        let formed = machine.take_forming(event)?;
-        render_formed(alloc, machine, line, event, &formed, text)?;
+        let copied = event.copy()?;
+        let step = take_step(machine, line, copied)?;
+        render_step(alloc, machine, &step, text)?;
     }
     Ok(())
 }
 
-/// What is told of a run of the events of the input, with their lines and what they formed.
+/// The output of a run of the events of the input, with their lines and what they formed.
 pub fn trace_model<A: Handle>(
     alloc: A,
     model: Model<A>,

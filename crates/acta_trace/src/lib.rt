@@ -21,4 +21,4 @@ pub use state::{
 };
 pub use step::Step;
 pub use steps::Steps;
-pub use trace::Trace;
+pub use trace::{Trace, take_step};

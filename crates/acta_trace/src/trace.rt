@@ -27,8 +27,8 @@ impl<A: Handle> std::marker::Model for Trace<A> {
     ghost view = { λ t. record { state = t.machine; steps = t.steps.steps } };
 }
 
-// Has the machine take the event of a line. The event is lost on `Err`.
-fn step_by<A: Handle>(
+/// Takes the event of a line, and returns what became of it. The event is lost on `Err`, and the machine stays as it was.
+pub fn take_step<A: Handle>(
     machine: &mut Machine<A>,
     line: usize,
     event: Event<A>,
@@ -76,7 +76,7 @@ impl<A: Handle> Trace<A> {
     {
         let last_op = self.machine.operations().len() + 1;
         self.steps.reserve(&event, last_op, MOST_EDGES)?;
-        let step = step_by(&mut self.machine, line, event)?;
+        let step = take_step(&mut self.machine, line, event)?;
         let answer = step.answer;
         if keeps_refused || step.is_admitted() {
             self.steps.push_reserved(step);

@@ -1,7 +1,7 @@
 use Rattle.std.specs.Prelude.{◌+◌, Some, Result, IsOk, OnOk}
 use Rattle.std.proofs.Common.{subst, Ok, Err}
 use Rattle.std.specs.HashMap as hash
-use Rattle.acta_sets.specs.contracts.mode.TagPartialEq.TheImpl.{eq-value}
+use Rattle.acta_sets.specs.contracts.mode.ModeKeyPartialEq.TheImpl.{eq-value}
 use Rattle.acta_sets.proofs.Keys.{count-more}
 use Rattle.acta_sets.proofs.counts.add_some.Goals as goal
 

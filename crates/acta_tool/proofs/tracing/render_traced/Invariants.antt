@@ -4,7 +4,7 @@ use Rattle.acta_words.specs.Text.{text_of}
 use Rattle.acta_tool.specs.Output.{trace_lines}
 use Rattle.acta_tool.proofs.tracing.render_traced.Given as goal
 
--- what is told so far, before what will be told of the events that are left, is all
+-- the text so far, before the lines of the events that are left, is all
 abbrev pub invariant-loop-event : goal.invariant-loop-event
 invariant-loop-event g l =
     record {

@@ -1,8 +1,8 @@
 use Rattle.std.proofs.Common.{◌≡◌, ℕ, ◌+◌, ◌∷◌, ◌++◌, List, drop, flat_map}
 use Rattle.acta_tool.specs.Output.{edge_words}
-use Rattle.acta_tool.proofs.tracing.report_edges.Given as goal
+use Rattle.acta_tool.proofs.tracing.render_edges.Given as goal
 
--- what is told so far, before the words of the edges that are left, is all
+-- the text so far, before the words of the edges that are left, is all
 abbrev pub invariant-loop-edge : goal.invariant-loop-edge
 invariant-loop-edge g l =
     record {
