@@ -20,19 +20,19 @@ pub struct Listed {
 pub const COMMANDS: [Listed; 15] = [
     Listed {
         name: "run",
-        about: "Answers the event lines of the standard input, and says what is owed",
+        about: "Answers the event lines of the standard input, and lists the commits and aborts that are owed",
     },
     Listed {
         name: "explain",
-        about: "Answers them in words: which rule refuses an event, why, and what would help; or says what a rule means",
+        about: "Explains the answers: which rule refuses an event, why, and what would help; or explains a rule",
     },
     Listed {
         name: "draw",
-        about: "Draws their history, as a text or an SVG",
+        about: "Draws the history of a run, as a text or an SVG",
     },
     Listed {
         name: "trace",
-        about: "Answers them with their lines, and with the operation and the edges that each event formed",
+        about: "Answers each event with its line, and with the operation and the edges that it formed",
     },
     Listed {
         name: "shell",
@@ -64,7 +64,7 @@ pub const COMMANDS: [Listed; 15] = [
     },
     Listed {
         name: "drive",
-        about: "Hands in events by several threads",
+        about: "Submits events from several threads",
     },
     Listed {
         name: "assemble",
@@ -149,7 +149,7 @@ pub fn refuse_words(alloc: Global, words: &[String]) -> UsageFault {
 
 // The fault of words that name no command.
 fn no_command(surface: &mut Command<'_>) -> UsageFault {
-    match surface.error(ErrorKind::MissingSubcommand, "a command is wanted") {
+    match surface.error(ErrorKind::MissingSubcommand, "a command is missing") {
         Ok(error) => UsageFault::Usage(error),
         Err(e) => UsageFault::Memory(e),
     }

@@ -29,7 +29,7 @@ impl Axiom {
     pub fn sentence(self) -> &'static str {
         match self {
             Axiom::BegunOnce => {
-                "A transaction begins at most once, a spawn or a split counted too."
+                "A transaction begins at most once. A spawn and a split count too."
             }
             Axiom::EndedAfterBegun => {
                 "A transaction commits, aborts or joins another only after it has begun."
@@ -40,28 +40,28 @@ impl Axiom {
                 "Numbers, classes, objects and operations are those of the model, and no event names one transaction twice."
             }
             Axiom::Allowed => {
-                "A transaction starts, and does an event, only as its class allows it, and an edge is formed only where a class may form any."
+                "A transaction starts, and does an event, only as its class allows it, and an edge is formed only where a class may form edges."
             }
             Axiom::PartiesInProgress => {
-                "Only one in progress spawns, splits, delegates or permits, and only one in progress is joined, delegated to or permitted."
+                "Only a transaction in progress spawns, splits, delegates or permits, and only a transaction in progress is joined, delegated to or permitted."
             }
             Axiom::Responsible => {
-                "One that splits or delegates names only operations that it holds in progress."
+                "A transaction that splits or delegates names only operations that it holds in progress."
             }
             Axiom::HandsWhole => {
-                "One whose class has `delegation whole` names all that it holds in progress where it splits or delegates."
+                "A transaction whose class has `delegation whole` names all operations that it holds in progress when it splits or delegates."
             }
             Axiom::Conflict => {
-                "Where the class has `policy refuse`, an operation conflicts with none of its transaction's conflict set."
+                "Where the class has `policy refuse`, an operation conflicts with no operation in its transaction's conflict set."
             }
             Axiom::Return => {
                 "An operation returns what the operations before it that aren't aborted make it return, and no other event returns anything."
             }
             Axiom::Heir => {
-                "One whose class commits to parents commits only while it has a parent in progress."
+                "A transaction whose class has `commit toparent` commits only while it has a parent in progress."
             }
             Axiom::FormedInTime => {
-                "An edge of a begin kind is formed before the one that depends begins, and any other before one of the two ends."
+                "An edge of a begin kind is formed before the transaction that depends begins, and any other edge before one of the two transactions ends."
             }
             Axiom::Dependency(kind) => kind.sentence(),
             Axiom::Clash => "No transaction owes both a commit and an abort.",

@@ -5,18 +5,42 @@ ghost use Rattle.std.specs.Prelude.{◌≡◌, false, IfOk};
 use crate::differences::{Comparison, Difference};
 use crate::owed::owed_only;
 use crate::reported::Reported;
+use crate::seen::Seen;
 use crate::side::Side;
 use acta_explain::{NonBlankLine, Prose, first_listed, non_blank_lines, put, put_more};
 use acta_io::Report;
 use acta_machine::Handle;
+use acta_script::LineFault;
 use std::alloc::AllocError;
 
-// Adds that the answers to so many lines are the same.
-fn put_same<A: Handle>(prose: Prose<A>, lines: usize) -> Prose<A> {
-    match lines {
+// The fault of the first line, if the model can't read any of the lines.
+fn unread_by(seen: &[Seen]) -> Option<LineFault> {
+    for one in seen {
+        if !matches!(one, Seen::Unread(_)) {
+            return None;
+        }
+    }
+    match seen.first() {
+        Some(Seen::Unread(fault)) => Some(*fault),
+        _ => None,
+    }
+}
+
+// Adds that the answers to the lines are the same, or that neither model can read any of them.
+fn put_same<A: Handle>(
+    prose: Prose<A>,
+    comparison: &Comparison<A>,
+    lines: &[NonBlankLine<'_>],
+) -> Prose<A> {
+    let unread = unread_by(comparison.one.seen.as_slice());
+    if let (Some(fault), Some(line)) = (unread, lines.first()) {
+        return put!(prose; "neither model can read line ", line.line, ": ", fault.name(),
+            "; programs need --explore\n");
+    }
+    match comparison.lines {
         0 => prose.put("the input has no lines\n"),
         1 => prose.put("the answers to the line are the same\n"),
-        _ => put!(prose; "the answers to all ", lines, " lines are the same\n"),
+        count => put!(prose; "the answers to all ", count, " lines are the same\n"),
     }
 }
 
@@ -79,7 +103,7 @@ fn differences_text<A: Handle>(
             let prose = put_first(prose, alloc, one, other, *line);
             Ok(put_later(prose, comparison.differences.get(1..).unwrap_or(&[])))
         }
-        None => Ok(put_same(prose, comparison.lines)),
+        None => Ok(put_same(prose, comparison, lines)),
     }
 }
 

@@ -54,11 +54,12 @@ impl<'a> CommandLine<'a> for CompareLine {
     fn surface(alloc: Global) -> Result<Command<'a>, AllocError> {
         let most = most_option(alloc).requires_arg("explore")?;
         let command = Command::new(alloc, "acta compare").about(
-            "Finds where two models differ: the first event line of the standard input that they answer differently, with both reasons, and which other lines; or the ways in which programs can end on only one of them",
+            "Finds where two models differ: the first event line of the standard input with different answers, both reasons, and the other lines that differ. With --explore, finds the ways in which programs can end on only one of the models",
         );
         let command = command.arg(model_arg(alloc).required(true));
         let command = with_arg(command, model_arg(alloc).id("MODEL2").required(true));
-        let help = "Compares how the programs of the standard input can end, as `explore` finds it";
+        let help =
+            "Compares the ways in which the programs of the standard input can end, as `explore` finds them";
         let command = with_arg(command, flag(alloc, "explore", help));
         with_arg(command, most)
     }

@@ -45,8 +45,8 @@ const LEGEND: &str = "The marks of a text, on the lane of a transaction:
 Between two lanes:
   *-->o   it spawns the other, or splits it off
   *-->|   it hands operations to the other: delegates, joins, or commits to it as its parent
-  *..>|   it permits the other to work on an object beside it
-  |<~~*   it comes to depend on the other; the edges stand behind the event
+  *..>|   it permits the other to conflict with it on an object
+  |<~~*   it comes to depend on the other; the edges follow the event
 Where lanes are used again, the number of a transaction follows the mark of its start, as in o21.";
 
 // The rows around a place: so many places before it and after it.
@@ -93,7 +93,7 @@ fn txns_asked(
     let txns = txns_listed(alloc, list)?;
     if txns.is_none() {
         let fault =
-            "--txns takes numbers of transactions, from 1 to 16383, with commas between them";
+            "--txns takes numbers of transactions, from 1 to 16,383, with commas between them";
         return Err(usage(surface, ErrorKind::InvalidValue, fault));
     }
     Ok(txns)
@@ -262,7 +262,7 @@ impl<'a> CommandLine<'a> for DrawLine {
         let help =
             "Uses the lane of an ended transaction again; always with more than 20 transactions, unless --txns names them";
         let command = with_arg(command, flag(alloc, "reuse", help));
-        let help = "How wide a text may be: else COLUMNS of the environment tells, or it is 100";
+        let help = "Sets the width of a text; the default is COLUMNS of the environment, or 100";
         let width = number(alloc, "width", "COLUMNS", LEAST_WIDTH, MOST_WIDTH, help);
         with_arg(command, width)
     }

@@ -107,8 +107,8 @@ impl<A: Handle> Graph<A> {
         match lanes.run.skipped() {
             0 => prose.put("."),
             skipped =>
-                put!(prose; ". ", skipped, " refused events are left out: the first ", MOST_RENDERED,
-                " are looked at."),
+                put!(prose; ". ", skipped, " refused events are left out: only the first ", MOST_RENDERED,
+                " are examined."),
         }
     }
 
@@ -176,7 +176,7 @@ fn put_until<A: Handle>(prose: Prose<A>, lanes: &Lanes<A>, wait: &Wait) -> Prose
     match wait.until {
         Hope::OnceFree(op) => {
             let prose = put_operation(prose, lanes.run.lines(), op);
-            put!(prose; ", held by ", next, ", stands in its way")
+            put!(prose; ", held by ", next, ", blocks it")
         }
         Hope::OnceBegun(_) => put!(prose; next, " has not begun"),
         Hope::OnceCommitted(_) => put!(prose; next, " has not committed"),

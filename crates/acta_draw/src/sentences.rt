@@ -235,14 +235,14 @@ fn put_doing<A: Handle>(prose: Prose<A>, lanes: &Lanes<A>, row: &Row<'_, A>) -> 
             put_operations(prose, " and the operations ", words_after(event, 4))
         }
         Event::Join(_, u) => {
-            put!(prose; t, " joins ", u.0, ", has ended by it, and leaves it all that it held in progress")
+            put!(prose; t, " joins ", u.0, ", which gets all operations that ", t, " held in progress")
         }
         Event::Delegate(_, u, _) => {
             let prose = put!(prose; t, " delegates to ", u.0);
             put_operations(prose, " the operations ", words_after(event, 3))
         }
         Event::Permit(_, u, _) => {
-            put!(prose; t, " permits ", u.0, " to work on ", words_after(event, 3), " beside it")
+            put!(prose; t, " permits ", u.0, " to conflict with it on ", words_after(event, 3))
         }
         Event::Form(_, _, i) => put!(prose; t, " comes to depend on ", i.0),
         Event::Operate(_, _, _) => {
@@ -256,8 +256,8 @@ fn put_doing<A: Handle>(prose: Prose<A>, lanes: &Lanes<A>, row: &Row<'_, A>) -> 
         }
         Event::Commit(_) => match row.figure.partner {
             Some((parent, _)) => {
-                put!(prose; t, " commits, and leaves its parent ", parent.txn.0,
-                    " all that it held in progress")
+                put!(prose; t, " commits, and its parent ", parent.txn.0,
+                    " gets all operations that it held in progress")
             }
             None => put!(prose; t, " commits"),
         },

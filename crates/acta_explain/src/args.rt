@@ -95,7 +95,7 @@ fn asked_by<'a>(
     let kind = kind_named(matches);
     let words = u8::from(rule.is_some()) + u8::from(axiom.is_some()) + u8::from(codes.is_some());
     if words + u8::from(model.is_some()) != 1 || words > 0 && kind != Some(LineKind::Events) {
-        let fault = "a model is wanted, or one of --rule, --axiom and --code without a model";
+        let fault = "give a model, or one of --rule, --axiom and --code without a model";
         return Err(usage(surface, ErrorKind::MissingRequiredArgument, fault));
     }
     if let Some(word) = rule {
@@ -108,7 +108,7 @@ fn asked_by<'a>(
         return words_asked(alloc, surface, &CODES, words);
     }
     let Some(kind) = kind else {
-        let fault = "at most one of --judge, --drive and --debug is wanted";
+        let fault = "give at most one of --judge, --drive and --debug";
         return Err(usage(surface, ErrorKind::ArgumentConflict, fault));
     };
     match model_named(model.unwrap_or("")) {
@@ -125,22 +125,21 @@ impl<'a> CommandLine<'a> for ExplainLine {
 
     fn surface(alloc: Global) -> Result<Command<'a>, AllocError> {
         let command = Command::new(alloc, "acta explain").about(
-            "Tells in words what a run answers, and why: the event lines of the standard input on MODEL, which rule refuses an event, what breaks it, and what has to be so before it can be admitted; or what a rule, an axiom or a code means",
+            "Explains the answers to the event lines of the standard input on MODEL: which rule refuses an event, why, and what must happen before the event can be admitted. With --rule, --axiom or --code, explains a rule, an axiom or codes",
         );
         let command = command.arg(model_arg(alloc));
-        let help = "Judges kept lines, as `judge` reads them, and tells each fault of the verdict";
+        let help = "Judges kept lines, as `judge` does, and explains each fault";
         let command = with_arg(command, flag(alloc, "judge", help));
-        let help =
-            "Explains the events of seated lines, as `drive` reads them, in the order of the lines";
+        let help = "Explains seated lines, as `drive` reads them, in the order of the lines";
         let command = with_arg(command, flag(alloc, "drive", help));
-        let help = "Explains the events of a debug script, and a faulty line of it";
+        let help = "Explains the events of a debug script, and its first faulty line";
         let command = with_arg(command, flag(alloc, "debug", help));
-        let help = "Tells what a rule means, by its number or its name";
+        let help = "Explains a rule, by its number or its name";
         let command = with_arg(command, option(alloc, "rule", "RULE", help));
-        let help = "Tells what an axiom means, by its number or its name";
+        let help = "Explains an axiom, by its number or its name";
         let command = with_arg(command, option(alloc, "axiom", "AXIOM", help));
         let help =
-            "Tells what codes of lines, texts of models, images and models mean, by numbers or names";
+            "Explains codes of lines, texts of models, images and models, by numbers or names";
         let codes = option(alloc, "code", "CODE", help)
             .num_args(1..)
             .action(ArgAction::Append);

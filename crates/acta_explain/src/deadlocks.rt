@@ -42,7 +42,7 @@ fn put_until<A: Handle>(prose: Prose<A>, lines: LineIndex<'_, A>, wait: &Wait) -
     match wait.until {
         Hope::OnceFree(op) => {
             let prose = put_operation(prose, lines, op);
-            put!(prose; ", held by ", next, ", stands in its way")
+            put!(prose; ", held by ", next, ", blocks it")
         }
         Hope::OnceBegun(_) => put!(prose; next, " has not begun"),
         Hope::OnceCommitted(_) => put!(prose; next, " has not committed"),

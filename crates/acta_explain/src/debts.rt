@@ -19,11 +19,11 @@ fn put_lost<A: Handle>(
     number: u32,
 ) -> Prose<A> {
     let number = u64::from(number);
-    let prose = put!(prose; "It can't be paid any more: ", debtor.0, " never begins");
+    let prose = put!(prose; "It can no longer be paid: ", debtor.0, " can never begin");
     let Some(edge) = lines.edge(number) else {
         return prose.put(".");
     };
-    let prose = put_formed_edge(prose.put(", by "), lines, number);
+    let prose = put_formed_edge(prose.put(", because of "), lines, number);
     let prose = put!(prose; "\n", edge.i.0, " ");
     put_standing(prose, lines, edge.i, machine.status(edge.i)).put(".")
 }
@@ -44,8 +44,8 @@ fn put_payment<A: Handle>(
     match why_and_hope(machine, payment) {
         Ok(None) => put!(prose; "It can be paid now: `", word, " ", debtor, "` would be admitted."),
         Ok(Some((reason, Hope::Never))) => {
-            let prose = put!(prose; "It can't be paid any more: no later event can admit `", word,
-                " ", debtor, "`.\n");
+            let prose = put!(prose; "It can no longer be paid: `", word, " ", debtor,
+                "` can never be admitted.\n");
             refused.put_facts(prose, &reason)
         }
         Ok(Some((reason, hope))) => {

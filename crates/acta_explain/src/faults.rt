@@ -9,6 +9,7 @@ use crate::put;
 use crate::shown::{column_of_missing, put_shown};
 use acta_args::nearest;
 use acta_io::{BadLine, MOST_SEATS, refuse_line};
+use acta_lang::Expected as TextExpected;
 use acta_machine::Handle;
 use acta_script::{
     BreakKind, CAN_WORD, CommandKind, Diagnostic, EVENT_KINDS, Expected, LineFault, LinePart,
@@ -16,7 +17,7 @@ use acta_script::{
     diagnose_kept, diagnose_seated, event_form, event_word, read_shell_line,
 };
 use acta_table::{Dep, Model};
-use acta_words::{Lines, word_span};
+use acta_words::{Lines, read_u16, word_span};
 use std::alloc::AllocError;
 
 /// What a line should have been.
@@ -129,10 +130,12 @@ fn known_words<'a, A: Handle>(
     Ok(words)
 }
 
-// A word of the line that is wrong, or the column in which one is missing, and what the line should have been.
+// A word of the line that is wrong, or the column in which one is missing, and what the line should have been. `is_first`: the
+// wrong word is the line's first.
 #[derive(Clone, Copy)]
 struct WrongWord<'a> {
     form: LineForm,
+    is_first: bool,
     column: usize,
     word: Option<&'a [u8]>,
 }
@@ -150,6 +153,7 @@ fn wrong_word_at<'a>(stop: &Stop<'a>, place: WordPlace) -> WrongWord<'a> {
     };
     WrongWord {
         form: stop.form,
+        is_first: matches!(place, WordPlace::Wrong(0)),
         column,
         word,
     }
@@ -158,6 +162,15 @@ fn wrong_word_at<'a>(stop: &Stop<'a>, place: WordPlace) -> WrongWord<'a> {
 // What is written where a line ends in a carriage return.
 const CARRIAGE_RETURN: &str =
     "\nthe line ends in CR LF; here a line ends in LF alone, and the CR belongs to the last word";
+
+/// What is written where a word begins with `//`.
+pub(crate) const COMMENT: &str = "\na comment begins with `#`";
+
+// What is written where a line of programs or of seated events comes among events.
+const SEAT: &str = "\na line that begins with a seat belongs to `explore` or `drive`";
+
+// What is written where a line of a model comes among events.
+const MODEL_LINE: &str = "\nthis is a line of a model; the input has events";
 
 // What is written where a word begins with a byte order mark.
 const BYTE_ORDER_MARK: &str =
@@ -190,7 +203,7 @@ fn put_part<A: Handle>(
 ) -> Prose<A> {
     match part {
         LinePart::Event => put_event(prose, wrong, known),
-        LinePart::Transaction => prose.put("the number of a transaction, from 1 to 16383"),
+        LinePart::Transaction => prose.put("the number of a transaction, from 1 to 16,383"),
         LinePart::Integer => prose.put("a whole number from -2147483648 to 2147483647"),
         LinePart::Operations => prose.put(
             "`-` for no operation, or numbers of operations with commas between them, and no space",
@@ -200,11 +213,11 @@ fn put_part<A: Handle>(
         LinePart::Class => put_names(prose.put("a class of the model"), known),
         LinePart::Object => put_names(prose.put("an object of the model"), known),
         LinePart::Return => {
-            let prose = put_joined(prose.put("one word behind the `=`: "), known, ", ");
+            let prose = put_joined(prose.put("one word after the `=`: "), known, ", ");
             prose.put(" or a whole number")
         }
-        LinePart::Seat(seats) => put!(prose; "the number of a seat, digits from 1 to ", seats),
-        LinePart::Count => prose.put("a count, digits up to 4294967295"),
+        LinePart::Seat(seats) => put!(prose; "the number of a seat, from 1 to ", seats),
+        LinePart::Count => prose.put("a count, a number up to 4,294,967,295"),
         LinePart::Command => put_either(prose.put("a command: "), known),
         LinePart::Break => put_either(prose.put("a kind of break: "), known),
     }
@@ -215,8 +228,8 @@ fn put_part<A: Handle>(
 fn put_event<A: Handle>(prose: Prose<A>, wrong: WrongWord<'_>, known: &[&str]) -> Prose<A> {
     let Some(word) = wrong.word else {
         return prose.put(match wrong.form {
-            LineForm::Seated => "an event behind the seat",
-            LineForm::Shell => "an event behind `can`",
+            LineForm::Seated => "an event after the seat",
+            LineForm::Shell => "an event after `can`",
             _ => "an event before the `=`",
         });
     };
@@ -252,7 +265,7 @@ fn put_wrong_word<A: Handle>(
 ) -> Prose<A> {
     let prose = put!(prose; ", at column ", wrong.column);
     let Some(word) = wrong.word else {
-        let prose = prose.put(", where the line lacks a word");
+        let prose = prose.put(", where a word is missing");
         return put_expected(prose, wrong, expected, known);
     };
     let prose = put_shown(prose.put(": `"), word).put("`");
@@ -262,7 +275,73 @@ fn put_wrong_word<A: Handle>(
     } else if word.starts_with(b"\xef\xbb\xbf") {
         prose.put(BYTE_ORDER_MARK)
     } else {
-        put_hint(prose, alloc, word, known)
+        put_advice(prose, alloc, wrong, word, known)
+    }
+}
+
+// Whether the word is the number of a seat.
+fn is_seat(word: &[u8]) -> bool {
+    match read_u16(word) {
+        Some(seat) => seat > 0 && seat <= u16::from(MOST_SEATS),
+        None => false,
+    }
+}
+
+// Whether a line of a model begins with the word.
+fn is_model_word(word: &[u8]) -> bool {
+    for known in TextExpected::FirstWord.words() {
+        if known.as_bytes() == word {
+            return true;
+        }
+    }
+    false
+}
+
+// The advice on a first word that is no event, but begins a line of another input.
+fn event_advice(word: &[u8]) -> Option<&'static str> {
+    if is_seat(word) {
+        Some(SEAT)
+    } else if is_model_word(word) {
+        Some(MODEL_LINE)
+    } else {
+        None
+    }
+}
+
+// The advice on a first word by which other programs name a command of a session.
+fn shell_advice(word: &[u8]) -> Option<&'static str> {
+    if word == b"exit".as_slice() {
+        Some("\ndid you mean `quit`?")
+    } else if word == b"?".as_slice() {
+        Some("\ndid you mean `help`?")
+    } else {
+        None
+    }
+}
+
+// The advice on a wrong word that is a known mistake.
+fn advice_on(wrong: WrongWord<'_>, word: &[u8]) -> Option<&'static str> {
+    if word.starts_with(b"//") {
+        return Some(COMMENT);
+    }
+    match wrong.form {
+        LineForm::Event if wrong.is_first => event_advice(word),
+        LineForm::Shell if wrong.is_first => shell_advice(word),
+        _ => None,
+    }
+}
+
+// Adds the advice on a known mistake, or else the hint at the word that was perhaps meant, as a line, if there is one.
+fn put_advice<A: Handle>(
+    prose: Prose<A>,
+    alloc: A,
+    wrong: WrongWord<'_>,
+    word: &[u8],
+    known: &[&str],
+) -> Prose<A> {
+    match advice_on(wrong, word) {
+        Some(advice) => prose.put(advice),
+        None => put_hint(prose, alloc, word, known),
     }
 }
 

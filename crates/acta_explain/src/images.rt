@@ -10,8 +10,8 @@ use acta_machine::Handle;
 const FIELDS: [(Field, &str, &str); 22] = [
     (Field::Magic, "the magic", "the four bytes `ACTA`"),
     (Field::Version, "the version", "1 or 2"),
-    (Field::Classes, "how many classes there are", "1 to 16, in one byte"),
-    (Field::Objects, "how many objects there are", "0 to 256, in two bytes"),
+    (Field::Classes, "the number of classes", "1 to 16, in one byte"),
+    (Field::Objects, "the number of objects", "0 to 256, in two bytes"),
     (Field::ObjectNameLength, "the length of an object's name", NAME_LENGTH),
     (Field::ObjectName, "an object's name", NAME),
     (Field::ObjectKind, "an object's kind", "0 a register, 1 a counter, 2 a set"),
@@ -23,13 +23,13 @@ const FIELDS: [(Field, &str, &str); 22] = [
     (Field::Scope, "a class's scope", "0 others, 1 all but ancestors"),
     (Field::Policy, "a class's policy", "0 refuse, 1 depend"),
     (Field::PolicyKinds, "the kinds by which a class depends", KINDS),
-    (Field::Commit, "what becomes at a commit", "0 keeps, 1 to the parent"),
-    (Field::Delegation, "how much is handed over", "0 the whole, 1 any part"),
-    (Field::SpawnEdges, "how many edges a spawn forms", "0 to 24, in one byte"),
+    (Field::Commit, "what a commit does", "0 keeps, 1 to the parent"),
+    (Field::Delegation, "how much a delegation hands over", "0 the whole, 1 any part"),
+    (Field::SpawnEdges, "the number of edges that a spawn forms", "0 to 24, in one byte"),
     (Field::SpawnEdge, "an edge that a spawn forms", EDGE),
-    (Field::SplitEdges, "how many edges a split forms", "0 to 24, in one byte"),
+    (Field::SplitEdges, "the number of edges that a split forms", "0 to 24, in one byte"),
     (Field::SplitEdge, "an edge that a split forms", EDGE),
-    (Field::End, "behind the last field", "nothing"),
+    (Field::End, "after the last field", "nothing"),
 ];
 
 const NAME_LENGTH: &str = "1 to 32, in one byte";
@@ -42,10 +42,10 @@ const MAY: &str =
     "1 spawn, 2 split, 4 join, 8 delegate, 16 form, 32 operate, 64 commit, 128 abort, and in version 2 256 permit, added up, in two bytes";
 
 const KINDS: &str =
-    "0 where it refuses; else 2 to the power of each kind's code, added up, at most 4,095, in two bytes";
+    "0 for a class that refuses; otherwise 2 to the power of each kind's code, added up, at most 4,095, in two bytes";
 
 const EDGE: &str =
-    "two bytes: the code of a kind, 0 to 11, and 0 where the starter depends or 1 where the started does; each edge behind the one before it, by code, and of one kind the starter's first";
+    "two bytes: the code of a kind, 0 to 11, then 0 if the starter depends or 1 if the started does; edges ascend by code, and of one code the starter's comes first";
 
 // What the field is, and what it may hold.
 fn field_words(field: Field) -> (&'static str, &'static str) {
@@ -61,7 +61,7 @@ fn field_words(field: Field) -> (&'static str, &'static str) {
 // ends too early.
 fn put_diagnostic<A: Handle>(prose: Prose<A>, bytes: &[u8], found: ImageDiagnostic) -> Prose<A> {
     if let ImageFault::Model(fault) = found.fault {
-        return put!(prose; ": all fields are good, and what they say makes no model\n", fault.name(),
+        return put!(prose; ": all fields are valid, but the model has a fault\n", fault.name(),
             ": ", fault.sentence());
     }
     let (what, holds) = field_words(found.field);
@@ -69,10 +69,10 @@ fn put_diagnostic<A: Handle>(prose: Prose<A>, bytes: &[u8], found: ImageDiagnost
     match found.fault {
         ImageFault::Truncated => {
             put!(prose;
-                "\nthe image ends inside it or before it, after ", bytes.len(), " bytes")
+                "\nthe image ends inside or before this field, after ", bytes.len(), " bytes")
         }
         ImageFault::Trailing(_) => {
-            put!(prose; "; bytes that are left: ", bytes.len().saturating_sub(found.offset))
+            put!(prose; "; bytes left over: ", bytes.len().saturating_sub(found.offset))
         }
         _ => prose,
     }

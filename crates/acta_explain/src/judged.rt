@@ -197,7 +197,7 @@ impl<'a, A: Handle> Scene<'a, A> {
                 let op = OpNo(u32::try_from(fault.by).unwrap_or(0));
                 put_operation(prose, self.lines(), op)
             }
-            Axiom::Heir if fault.by == 0 => prose.put("a commit of one without a parent"),
+            Axiom::Heir if fault.by == 0 => prose.put("a commit of a transaction without a parent"),
             _ => self.put_txn(prose, fault.by),
         }
     }
@@ -278,7 +278,7 @@ impl<'a, A: Handle> Scene<'a, A> {
         let skipped = faults.len().saturating_sub(MOST_RENDERED);
         if skipped > 0 {
             prose =
-                put!(prose; "and ", skipped, " faults more: the first ", MOST_RENDERED, " are explained\n");
+                put!(prose; "and ", skipped, " more faults: only the first ", MOST_RENDERED, " are explained\n");
         }
         for owed in verdict.owed.as_slice() {
             prose = self.put_debt(prose, owed);
@@ -297,7 +297,7 @@ fn too_long<A: Handle>(alloc: A) -> Result<Report<A>, AllocError>
 {
     let prose = put_lines(
         Prose::new(alloc).put("judge fault 1\n"),
-        "more than 65,536 lines have a word, and at most so many are judged",
+        "more than 65,536 lines have words, and at most 65,536 can be judged",
     );
     report_of(prose, true)
 }

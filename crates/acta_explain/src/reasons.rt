@@ -96,11 +96,11 @@ fn put_waits_of<A: Handle>(prose: Prose<A>, machine: &Machine<A>, reason: &Reaso
 // Adds that these wait for one another.
 fn put_closed<A: Handle>(prose: Prose<A>, waits: &[TxnId]) -> Prose<A> {
     let (front, these) = if waits.first() == waits.last() {
-        ("\nThey wait for one another: ", "them")
+        ("\nThese transactions wait for one another: ", "them")
     } else {
         (
-            "\nIt waits for some that wait for one another: ",
-            "all these",
+            "\nIt waits for transactions that wait for one another: ",
+            "these",
         )
     };
     let prose = put_chain(prose.put(front), waits);
@@ -139,24 +139,24 @@ impl<'a, A: Handle> Refused<'a, A> {
 
     // Adds what hope there is, as a line of its own; nothing where nothing is known.
     fn put_hope(&self, prose: Prose<A>, hope: Hope) -> Prose<A> {
-        let once = "\nIt can be admitted only once ";
+        let when = "\nIt can be admitted only when ";
         match hope {
             Hope::Unknown => prose,
-            Hope::Never => prose.put("\nNo later event can admit it."),
-            Hope::OnceBegun(t) => put!(prose; once, t.0, " has begun."),
-            Hope::OnceHeld(t, op) => put!(prose; once, t.0, " holds operation ", op.0, "."),
-            Hope::OnceCommitted(t) => put!(prose; once, t.0, " has committed."),
-            Hope::OnceAborted(t) => put!(prose; once, t.0, " has aborted."),
-            Hope::OnceDecided(t) => put!(prose; once, t.0, " has committed or aborted."),
+            Hope::Never => prose.put("\nIt can never be admitted."),
+            Hope::OnceBegun(t) => put!(prose; when, t.0, " has begun."),
+            Hope::OnceHeld(t, op) => put!(prose; when, t.0, " holds operation ", op.0, "."),
+            Hope::OnceCommitted(t) => put!(prose; when, t.0, " has committed."),
+            Hope::OnceAborted(t) => put!(prose; when, t.0, " has aborted."),
+            Hope::OnceDecided(t) => put!(prose; when, t.0, " has committed or aborted."),
             Hope::OnceFree(op) => {
-                let prose = put!(prose; once, "operation ", op.0, " no longer stands in its way");
+                let prose = put!(prose; when, "operation ", op.0, " no longer blocks it");
                 self.put_releases(prose, op).put(".")
             }
             Hope::OnceLetGo(t, op) => {
-                put!(prose; once, t.0, " no longer holds operation ", op.0, ".")
+                put!(prose; when, t.0, " no longer holds operation ", op.0, ".")
             }
             Hope::OnceFewer => {
-                put!(prose; once, "one of those who hold what conflicts with it no longer does.")
+                put!(prose; when, "one of the transactions that conflict with it no longer does.")
             }
         }
     }
@@ -165,10 +165,10 @@ impl<'a, A: Handle> Refused<'a, A> {
     pub fn put_facts(&self, prose: Prose<A>, reason: &Reason) -> Prose<A> {
         match *reason {
             Reason::Full => {
-                prose.put("Full: 65,536 events are kept, as many as a history may have.")
+                prose.put("Full: the history has 65,536 events, the most that it may have.")
             }
             Reason::EdgesFull => put!(prose; "EdgesFull: ", self.machine.edges().len(),
-                " edges are in force, and with those that it forms there would be more than 16,384. None goes away."),
+                " edges are in force, and the edges that it forms would make more than 16,384. Edges are never removed."),
             Reason::Form(fault) => self.put_form(prose, fault),
             Reason::NotInProgress { txn, status } => {
                 let prose = self.put_stands(prose.put("NotInProgress: "), txn, status);
@@ -179,7 +179,7 @@ impl<'a, A: Handle> Refused<'a, A> {
             Reason::PartnerNotInProgress { txn, status } => {
                 let prose = self.put_stands(prose.put("PartnerNotInProgress: "), txn, status);
                 let (_, partner, _) = kind_phrases(self.event.kind());
-                put!(prose; ", and only one in progress is ", partner, ".")
+                put!(prose; ", and only a transaction in progress can be ", partner, ".")
             }
             Reason::NotResponsible(op) => self.put_not_responsible(prose, op),
             Reason::PartialDelegation(op) => {
@@ -203,7 +203,7 @@ impl<'a, A: Handle> Refused<'a, A> {
     fn put_no_heir(&self, prose: Prose<A>, parent: TxnId, status: Status) -> Prose<A> {
         let prose = self.put_class(prose.put("NoHeir: class `"));
         let prose = put!(prose; " has `commit toparent`, so its parent ", parent.0,
-            " would get what ", first_named(self.event).0, " holds, and ");
+            " would get the operations that ", first_named(self.event).0, " holds, but ");
         self.put_stands(prose, parent, status).put(".")
     }
 
@@ -268,7 +268,7 @@ impl<'a, A: Handle> Refused<'a, A> {
                 let (_, _, start) = kind_phrases(kind);
                 let prose = match model.class(class) {
                     Some(class) => {
-                        put_starts(prose, class).put("`, so no transaction of it starts ")
+                        put_starts(prose, class).put("`, so no transaction of this class starts ")
                     }
                     None => prose.put("no transaction of class `?` starts "),
                 };
@@ -282,7 +282,7 @@ impl<'a, A: Handle> Refused<'a, A> {
                 put!(put_may(prose, class, txn); "`, and no `", word, "`.")
             }
             Lack::Forming => prose.put(
-                "no class of the model has `form` in its `may`, so no edge is formed by an event of its own.",
+                "no class of the model has `form` in its `may`, so no `form` event is admitted.",
             ),
         }
     }
@@ -292,19 +292,19 @@ impl<'a, A: Handle> Refused<'a, A> {
         let prose = put_operation(prose.put("NotResponsible: "), self.lines, op.number);
         let ended = match op.held.fate {
             Fate::InProgress => {
-                return put!(prose; " is held by ", op.held.holder.0, ", and not by ", t,
-                    ", who hands over only what it holds in progress.");
+                return put!(prose; " is held by ", op.held.holder.0, ", not by ", t, ", and ", t,
+                    " can hand over only operations that it holds in progress.");
             }
             Fate::Committed => "committed",
             Fate::Aborted => "aborted",
         };
-        put!(prose; " is ", ended, ", and ", t, " hands over only what it holds in progress.")
+        put!(prose; " is ", ended, ", and ", t, " can hand over only operations that it holds in progress.")
     }
 
     // Adds what has to be named.
     fn put_whole(&self, prose: Prose<A>) -> Prose<A> {
         let t = first_named(self.event);
-        let prose = put!(prose; "\nAll that ", t.0, " holds in progress: ");
+        let prose = put!(prose; "\n", t.0, " holds these operations in progress: ");
         match self.machine.access_set(t) {
             Ok(held) => put_operations(prose, held.as_slice()).put("."),
             Err(_) => prose.fail(),
@@ -331,7 +331,7 @@ impl<'a, A: Handle> Refused<'a, A> {
             put!(prose; ".")
         } else {
             let prose = self.put_stands(prose, txn, status).put(", and an edge ");
-            put!(put_edge(prose, &edge); " is formed only before either of the two ends.")
+            put!(put_edge(prose, &edge); " can be formed only before either transaction ends.")
         }
     }
 }
@@ -344,7 +344,7 @@ impl<'a, A: Handle> Refused<'a, A> {
             .put_class(prose.put("\nClass `"))
             .put(" has `policy refuse`");
         if is_ancestor(self.machine, first_named(self.event), holder) {
-            put!(prose; ", and `scope others`, by which what its ancestor ", holder.0, " holds counts too.")
+            put!(prose; ", and `scope others`, so the operations of its ancestor ", holder.0, " count too.")
         } else {
             prose.put(".")
         }
@@ -362,7 +362,7 @@ impl<'a, A: Handle> Refused<'a, A> {
         if left == 0 {
             return prose;
         }
-        let mut prose = put!(prose; ", as right after ", op.holder.0, " ");
+        let mut prose = put!(prose; ", for example after ", op.holder.0, " ");
         for (way, is_open) in RELEASES.iter().zip(ways) {
             if is_open {
                 left = left.saturating_sub(1);
@@ -387,7 +387,7 @@ impl<'a, A: Handle> Refused<'a, A> {
         }
         match heir(self.machine, holder) {
             Some(parent) => {
-                put!(prose; "\nAt a commit of ", holder.0, " its parent ", parent.0, " holds it.")
+                put!(prose; "\nIf ", holder.0, " commits, its parent ", parent.0, " gets the operation.")
             }
             None => prose,
         }
@@ -448,8 +448,9 @@ impl<'a, A: Handle> Refused<'a, A> {
     fn put_unpayable(&self, prose: Prose<A>, blocking_edge: &BlockingEdge) -> Prose<A> {
         let edge = blocking_edge.by.edge;
         let (cause, debt) = debt_phrases(edge.kind);
-        let prose = put!(prose; "By ", cause, " of ", edge.i.0, ", ", edge.j.0, " would owe ", debt,
-            ", which it can't do any more: ");
+        let prose =
+            put!(prose; "After ", cause, " of ", edge.i.0, ", ", edge.j.0, " would owe ", debt,
+            ", which it can no longer do: ");
         put!(self.put_stands(prose, edge.j, blocking_edge.j); ".")
     }
 

@@ -137,7 +137,7 @@ fn put_run<A: Handle>(mut prose: Prose<A>, run: &RunTrace<A>, stop: Option<Stop<
     }
     let skipped = run.skipped();
     if skipped > 0 {
-        prose = put!(prose; "and ", skipped, " refused events more: the first ", MOST_RENDERED,
+        prose = put!(prose; "and ", skipped, " more refused events: only the first ", MOST_RENDERED,
             " are explained\n");
     }
     if stop.is_none_or(|stop| stop.form == LineForm::Command) {

@@ -234,7 +234,7 @@ pub fn put_meant<A: Allocator>(mut prose: Prose<A>, table: Table, word: &str) ->
         prose = put!(prose; table.title(), " ", entry.number, ": ", entry.name, "\n    ",
             entry.sentence, "\n");
         if !entry.by.is_empty() {
-            prose = put!(prose; "    The number reported with it is that of ", entry.by, ".\n");
+            prose = put!(prose; "    The reported number is that of ", entry.by, ".\n");
         }
     }
     prose

@@ -1,7 +1,7 @@
 //! What is wrong with a text of a model: where, with which word, what stands there in a good text, and which word was
 //! perhaps meant.
 
-use crate::faults::put_hint;
+use crate::faults::{COMMENT, put_hint};
 use crate::phrases::name_text;
 use crate::prose::Prose;
 use crate::put;
@@ -38,6 +38,19 @@ fn is_event_word(word: &[u8]) -> bool {
     false
 }
 
+// The advice on a first word that is a known mistake.
+fn first_word_advice(expected: Expected, word: &[u8]) -> Option<&'static str> {
+    if !matches!(expected, Expected::FirstWord) {
+        None
+    } else if word.starts_with(b"//") {
+        Some(COMMENT)
+    } else if is_event_word(word) {
+        Some("\nthis is an event; the command names the file of a model, and the input has events")
+    } else {
+        None
+    }
+}
+
 // What is expected in the place of a word.
 fn expected_text(expected: Expected) -> &'static str {
     match expected {
@@ -50,7 +63,7 @@ fn expected_text(expected: Expected) -> &'static str {
         Expected::Starts => "`starts [begin|spawned|split]...`",
         Expected::May => { "`may [spawn|split|join|delegate|form|operate|commit|abort|permit]...`" }
         Expected::Scope => "`scope others|nonancestors`",
-        Expected::Policy => "`policy refuse`, or `policy depend` with kinds behind it",
+        Expected::Policy => "`policy refuse`, or `policy depend` with kinds after it",
         Expected::Kinds => "kinds of dependency: CD, AD, WD or TD",
         Expected::Commit => "`commit keeps|toparent`",
         Expected::Delegation => "`delegation whole|any`",
@@ -63,9 +76,7 @@ fn expected_text(expected: Expected) -> &'static str {
         Expected::Number => "a first value: a whole number from -2147483648 to 2147483647",
         Expected::Fewer => "at most 256 objects and 16 classes",
         Expected::StartKind => "a kind that limits no begin: CD, SCD, AD, WD, TD, ED or CMD",
-        Expected::PolicyKinds => {
-            "at least one kind behind `depend`, and none but CD, AD, WD and TD"
-        }
+        Expected::PolicyKinds => { "at least one kind after `depend`, and only CD, AD, WD or TD" }
         _ => "",
     }
 }
@@ -99,17 +110,15 @@ impl<'a, A: Handle> BadText<'a, A> {
         let expected = self.found.expected;
         let prose = self.put_column(prose);
         if self.word.is_none() {
-            return put!(prose; ", where the line lacks a word\nexpected ", expected_text(expected));
+            return put!(prose; ", where a word is missing\nexpected ", expected_text(expected));
         }
         let word = self.word_text();
         let prose = put_shown(prose.put(": `"), word);
         let prose = put!(prose; "`\nexpected ", expected_text(expected));
-        if matches!(expected, Expected::FirstWord) && is_event_word(word) {
-            return prose.put(
-                "\nthe line is one of an event: the model is the file that the command names, and events are its input",
-            );
+        match first_word_advice(expected, word) {
+            Some(advice) => prose.put(advice),
+            None => put_hint(prose, self.alloc, word, expected.words()),
         }
-        put_hint(prose, self.alloc, word, expected.words())
     }
 
     // Adds the byte at this offset, which no text has.
@@ -137,7 +146,7 @@ impl<'a, A: Handle> BadText<'a, A> {
     fn put_outside(&self, prose: Prose<A>) -> Prose<A> {
         let prose = self.put_named(prose).put("no class is open here: a `");
         let prose = put_shown(prose, self.word_text());
-        prose.put("` stands between a `class NAME` and its `end`")
+        prose.put("` belongs between a `class NAME` and its `end`")
     }
 
     // Adds a fault that has to do with the class that is open.
@@ -150,13 +159,14 @@ impl<'a, A: Handle> BadText<'a, A> {
                 put!(put_shown(prose, self.word_text()); "` already, at line ", line)
             }
             Expected::Ended => {
-                let prose = put!(self.put_named(prose); "class `", name, "`, which line ",
-                    class.line, " begins, is open: its `end` comes before the next `");
+                let prose = put!(self.put_named(prose); "class `", name, "`, which begins at line ",
+                    class.line, ", is open: its `end` must come before the next `");
                 put_shown(prose, self.word_text()).put("`")
             }
             Expected::AllParts => {
-                let prose = put!(self.put_column(prose); "\nclass `", name, "`, which line ",
-                    class.line, " begins, lacks ");
+                let prose =
+                    put!(self.put_column(prose); "\nclass `", name, "`, which begins at line ",
+                    class.line, ", lacks ");
                 put_lacking(prose, class.parts).put(
                     "\nexpected a line of each of `starts`, `may`, `scope`, `policy`, `commit` and `delegation` before its `end`",
                 )
@@ -167,7 +177,7 @@ impl<'a, A: Handle> BadText<'a, A> {
                 let prose = put_shown(self.put_column(prose).put("\nclass `"), class.name);
                 put!(prose; "` has `commit toparent` (line ", commit, "), and its `starts` (line ",
                     starts,
-                    ") allows a begin or a split, by which one has no parent\nexpected `starts spawned`, or `commit keeps`")
+                    ") allows a begin or a split, by which a transaction has no parent\nexpected `starts spawned`, or `commit keeps`")
             }
             _ => {
                 let prose = self.put_column(prose).put(", the last line\nclass `");

@@ -20,14 +20,12 @@ impl ImageFault {
     /// When bytes have the fault, in a sentence.
     pub fn sentence(self) -> &'static str {
         match self {
-            ImageFault::Magic => "One of the first four bytes is another than in `ACTA`.",
+            ImageFault::Magic => "One of the first four bytes differs from `ACTA`.",
             ImageFault::Version => "The version is neither 1 nor 2.",
-            ImageFault::Truncated => "The bytes end inside a field, or before one.",
+            ImageFault::Truncated => "The bytes end inside or before a field.",
             ImageFault::BadField(_) => "The field at this offset has a value that isn't allowed.",
-            ImageFault::Trailing(_) => "Bytes are left behind the last field, from this offset on.",
-            ImageFault::Model(_) => {
-                "All fields are good, and what they say has this fault of models."
-            }
+            ImageFault::Trailing(_) => "Bytes follow the last field, from this offset on.",
+            ImageFault::Model(_) => { "All fields are valid, but the model has this fault." }
         }
     }
 }

@@ -27,7 +27,7 @@ impl Code {
     pub fn sentence(self) -> &'static str {
         match self {
             Code::NotAscii => {
-                "A byte is neither a tab nor one from the space to the tilde, in a comment too."
+                "A byte, in a comment too, is neither a tab nor a character from the space to the tilde."
             }
             Code::BadWord => "The words fit no form of a line.",
             Code::BadName => {
@@ -37,7 +37,7 @@ impl Code {
                 "An earlier line gives another object, or another class, this name."
             }
             Code::WrongPlace => {
-                "An object or a class stands inside a class, or another line outside one; or the class has said this already."
+                "An object or a class is inside a class, another line is outside a class, or the class has this line already."
             }
             Code::BadNumber => {
                 "The first value is no whole number from -2,147,483,648 to 2,147,483,647."
@@ -51,10 +51,10 @@ impl Code {
                 "An edge at a spawn or a split is of a begin kind: BD, SD, BCD, BAD or WCD."
             }
             Code::HeirWithoutSpawn => {
-                "The class commits to parents, and its transactions may start by a begin or a split, so without a parent."
+                "The class has `commit toparent`, and its transactions may start by a begin or a split, so without a parent."
             }
             Code::BadPolicyKind => {
-                "A `policy depend` has no kind, or one other than CD, AD, WD and TD."
+                "A `policy depend` has no kind, or a kind other than CD, AD, WD and TD."
             }
         }
     }

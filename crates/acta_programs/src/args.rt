@@ -47,7 +47,7 @@ fn number<'a>(alloc: Global, id: &'a str, value: &'a str, help: &'a str) -> Arg<
 
 /// The option that bounds a search.
 pub fn most_option<'a>(alloc: Global) -> Arg<'a> {
-    let help = "Gives up where more than N points would have to be searched";
+    let help = "Gives up if more than N points must be searched";
     number(alloc, "most", "N", help).default_value("1000000")
 }
 

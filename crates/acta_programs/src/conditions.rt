@@ -34,7 +34,7 @@ fn put_value_of<A: Handle>(prose: Prose<A>, model: &Model<A>, object: ObjId) -> 
 fn put_expected<A: Handle>(prose: Prose<A>, model: &Model<A>, expected: Expected) -> Prose<A> {
     match expected {
         Expected::Test => prose.put(
-            "a test: complete, stuck, owing, T STATUS, OBJECT = VALUE or LINE = RETURN, each with `not` before it or without",
+            "a test: complete, stuck, owing, T STATUS, OBJECT = VALUE or LINE = RETURN, each with an optional `not` before it",
         ),
         Expected::Status => prose.put("a status: inprogress, committed, aborted or joined"),
         Expected::Object => put_objects(prose, model),

@@ -234,7 +234,13 @@ pub(crate) fn put_kinds<A: Handle>(
     explored: &Explored<A>,
     places: &[usize],
 ) -> Prose<A> {
-    let prose = put!(prose; ", every order tried (", explored.points(), " points): ");
+    let points = explored.points();
+    let noun = if points == 1 {
+        " point): "
+    } else {
+        " points): "
+    };
+    let prose = put!(prose; ", every order tried (", points, noun);
     Totals::of(explored, places).put(prose)
 }
 

@@ -36,7 +36,7 @@ fn put_undone<A: Handle>(
     if did_operation(lines, line) {
         return prose;
     }
-    let prose = put!(prose; "BadSet: operation ", op.0, " is that of line ", programs.number(line),
+    let prose = put!(prose; "BadSet: operation ", op.0, " belongs to line ", programs.number(line),
         " (");
     programs
         .put_line(prose, line)

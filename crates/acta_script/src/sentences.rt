@@ -26,10 +26,10 @@ impl LineFault {
         match self {
             LineFault::Empty => "There are no words.",
             LineFault::Word => {
-                "The first word is no event, or the one in the place of a kind of dependency or of an operation is none."
+                "The first word is no event, or a word is no kind of dependency or no operation where one is expected."
             }
             LineFault::Arity => {
-                "There are too few or too many words for the event, or not one word behind a `=`."
+                "There are too few or too many words for the event, or not one word after a `=`."
             }
             LineFault::Number => {
                 "A number of a transaction, an INT, a list of operations or a return isn't written as one, or is out of its bounds."

@@ -46,13 +46,14 @@ impl<'a> CommandLine<'a> for SerializeLine {
 
     fn surface(alloc: Global) -> Result<Command<'a>, AllocError> {
         let command = Command::new(alloc, "acta serialize").about(
-            "Finds an order of the committed transactions in which a replay of their operations, one transaction after another, gives each return of the kept lines of the standard input; or says that there is none, and why. The lines need not be a history that MODEL admits",
+            "Finds a serial order of the committed transactions in the kept lines of the standard input: a replay in this order gives each of their returns. If there is no such order, proves and explains it. The lines need not be a history that MODEL admits",
         );
         let command = command.arg(model_arg(alloc).required(true));
         let help =
-            "Takes only orders in which a transaction that commits before another begins stands before it";
+            "Takes only orders in which a transaction precedes each transaction that begins after its commit";
         let command = with_arg(command, flag(alloc, "real-time", help));
-        let help = "Gives up after N states: lists of transactions that an order may begin with";
+        let help =
+            "Gives up after N states; a state is a list of transactions that an order may begin with";
         let numbers = ValueParser::Unsigned(1, u64::from(u32::MAX));
         let most = option(alloc, "most", "N", help)
             .value_parser(numbers)

@@ -15,7 +15,7 @@ type Entry = (&'static str, &'static str);
 
 // The command `can`.
 const CAN: Entry = (
-    "says whether an event would be admitted, and does not do it",
+    "checks whether an event would be admitted, without doing it",
     "can commit 1",
 );
 
@@ -23,22 +23,22 @@ const CAN: Entry = (
 fn command_words(kind: ShellKind) -> &'static str {
     match kind {
         ShellKind::Undo => "takes back the last event, or the last N events",
-        ShellKind::Redo => "does the next event again that was taken back, or the next N",
+        ShellKind::Redo => "redoes the next event that was taken back, or the next N",
         ShellKind::Goto => "goes to the place after the first N events, back or forward",
         ShellKind::State => "shows the transactions, the values and the debts",
         ShellKind::Status => "shows the status of transaction T",
         ShellKind::Value => "shows the value of an object",
         ShellKind::Held => "lists the operations in progress that T holds",
-        ShellKind::Conflicts => "lists the operations of others with which one of T can conflict",
+        ShellKind::Conflicts => "lists the operations of others that can conflict with one of T",
         ShellKind::Edges => "lists the dependencies in force, or those of transaction T",
         ShellKind::Permits => "lists the permits in force",
-        ShellKind::Owed => "lists the events that are owed, and says whether they can be paid",
-        ShellKind::History => "lists the events with what they returned, as `judge` reads them",
+        ShellKind::Owed => "lists the events that are owed, and whether each can be paid",
+        ShellKind::History => "lists the events with their returns, as `judge` reads them",
         ShellKind::Events => "lists the events, as `run` reads them",
         ShellKind::Draw => "draws the history",
-        ShellKind::Why => "says why the last refused event was refused, or the Nth",
+        ShellKind::Why => "explains why the last refused event was refused, or the Nth",
         ShellKind::Next => "lists which events would be admitted now, or those of T",
-        ShellKind::Explore => "reads lines of programs, and lists how these can end from here",
+        ShellKind::Explore => "reads lines of programs, and lists their possible ends from here",
         ShellKind::Help => "lists all lines, or explains one by its first word",
         ShellKind::Quit => "ends the session, as Ctrl-D does",
     }
@@ -83,16 +83,22 @@ fn event_entry(kind: EventKind) -> Entry {
             "T splits off U, of a class, which gets operations by number, or none by `-`",
             "split 1 2 part 3,4",
         ),
-        EventKind::Join => ("T joins U, which gets all that T holds", "join 2 1"),
+        EventKind::Join => (
+            "T joins U, which gets all operations that T holds",
+            "join 2 1",
+        ),
         EventKind::Delegate => ("T hands operations to U, by number", "delegate 1 2 3,4"),
         EventKind::Form => (
-            "a dependency of J on I is formed, of a kind as CD or AD",
+            "a dependency of J on I is formed, of a kind such as CD or AD",
             "form CD 2 1",
         ),
         EventKind::Operate => ("T does an operation on an object", "do 1 x write 5"),
         EventKind::Commit => ("T commits", "commit 1"),
         EventKind::Abort => ("T aborts", "abort 1"),
-        EventKind::Permit => ("T permits U to work on an object beside it", "permit 1 2 x"),
+        EventKind::Permit => (
+            "T permits U to conflict with T on an object",
+            "permit 1 2 x",
+        ),
     }
 }
 

@@ -49,7 +49,7 @@ impl Rule {
     /// What is so of an event that breaks the rule, in a sentence.
     pub fn sentence(self) -> &'static str {
         match self {
-            Rule::Full => "65,536 events are kept, as many as a history may have.",
+            Rule::Full => "The history has 65,536 events, the most that it may have.",
             Rule::BadNumber => "A transaction's number is 0 or above 16,383.",
             Rule::BadClass => "The class isn't in the model.",
             Rule::BadObject => "The object isn't in the model.",
@@ -57,45 +57,45 @@ impl Rule {
                 "The operation isn't one of the object's kind: a register has read and write, a counter get and add, a set insert, remove, has and size."
             }
             Rule::SameTransaction => {
-                "One transaction is named twice: none depends on itself, and none spawns, splits off, joins, delegates to or permits itself."
+                "One transaction is named twice: no transaction depends on itself, or spawns, splits off, joins, delegates to or permits itself."
             }
             Rule::NotInProgress => {
                 "The transaction that does the event isn't in progress: it has not begun, or it has ended."
             }
             Rule::AlreadyBegun => {
-                "The transaction that the event starts has begun before. Each starts once."
+                "The transaction that the event starts has begun before. Each transaction starts once."
             }
             Rule::NotInModel => {
-                "A class doesn't allow it: the class named can't start by such an event, or the transaction's class may not do such an event; or an edge is to be formed, and no class of the model may form any, or one of the two has begun with a class that may not."
+                "A class doesn't allow it: the class named can't start by such an event, or the transaction's class may not do such an event; or an edge is to be formed, and no class of the model may form edges, or one of the two transactions has begun with a class that may not."
             }
             Rule::PartnerNotInProgress => {
                 "The transaction that is joined, delegated to or permitted isn't in progress."
             }
             Rule::NotResponsible => {
-                "An operation that is named isn't held in progress by the one that splits or delegates."
+                "A named operation isn't held in progress by the transaction that splits or delegates."
             }
             Rule::PartialDelegation => {
-                "The class of the one that splits or delegates has `delegation whole`, and an operation that it holds in progress isn't named."
+                "The class of the transaction that splits or delegates has `delegation whole`, and an operation that it holds in progress isn't named."
             }
-            Rule::BadSet => "An operation that is named isn't there.",
+            Rule::BadSet => "A named operation does not exist.",
             Rule::Conflict => {
-                "The transaction's class has `policy refuse`, and an operation in progress that another holds is on the same object, and conflicts. What its ancestors hold is left out under `scope nonancestors`, and so is what one holds who permits it to work on the object."
+                "The transaction's class has `policy refuse`, and another transaction holds a conflicting operation in progress on the same object. Operations of its ancestors are exempt under `scope nonancestors`, and so are operations of a transaction that permits it to work on the object."
             }
             Rule::FormTooLate => {
-                "The edge comes too late: it is of a begin kind, and the one that depends has begun; or it is of another kind, and one of the two has ended."
+                "The edge comes too late: it is of a begin kind, and the transaction that depends has begun; or it is of another kind, and one of the two transactions has ended."
             }
             Rule::EdgesFull => "More than 16,384 edges would be in force.",
             Rule::BeginDep => {
-                "By a BD edge the transaction may begin only after another has begun, which has not."
+                "By a BD edge the transaction may begin only after another, which has not begun."
             }
             Rule::SerialDep => {
                 "By an SD edge the transaction may begin only after another has committed or aborted, which has done neither."
             }
             Rule::BeginOnCommit => {
-                "By a BCD edge the transaction may begin only after another has committed, which has not."
+                "By a BCD edge the transaction may begin only after the commit of another, which has not committed."
             }
             Rule::BeginOnAbort => {
-                "By a BAD edge the transaction may begin only after another has aborted, which has not."
+                "By a BAD edge the transaction may begin only after the abort of another, which has not aborted."
             }
             Rule::TerminationDep => {
                 "By a TD edge the transaction may commit or abort only after another has committed or aborted, which has done neither."
@@ -107,17 +107,17 @@ impl Rule {
                 "By the edge the transaction owes a commit, so it may neither abort nor join another."
             }
             Rule::CommitOrder => {
-                "By a CD edge the transaction commits before another, if both do, and that one has committed already."
+                "By a CD edge the transaction commits before another, if both commit, and the other has committed already."
             }
             Rule::WeakBegin => {
-                "By a WCD edge another begins only after the commit of the transaction, if it commits, and that one has begun already."
+                "By a WCD edge another transaction begins only after the commit of this one, if this one commits, and the other has begun already."
             }
             Rule::Unpayable => {
-                "By the edge another would owe a commit or an abort that it can't do, since it has ended otherwise."
+                "By the edge another transaction would owe a commit or an abort that it can't do, since it has ended otherwise."
             }
             Rule::Clash => "A transaction would owe both a commit and an abort.",
             Rule::NoHeir => {
-                "The transaction's class leaves what it holds to its parent at a commit, and the parent isn't in progress."
+                "The transaction's class has `commit toparent`, and its parent isn't in progress."
             }
         }
     }
@@ -177,7 +177,7 @@ impl ModelFault {
             ModelFault::NoClass => "There is no class.",
             ModelFault::TooManyClasses => "There are more than 16 classes.",
             ModelFault::TooManyObjects => "There are more than 256 objects.",
-            ModelFault::DuplicateName => "Two objects have one name, or two classes have.",
+            ModelFault::DuplicateName => "Two objects, or two classes, have the same name.",
             ModelFault::BadName => {
                 "A name isn't 1 to 32 bytes, a letter first, then letters, digits or underscores."
             }
@@ -185,10 +185,10 @@ impl ModelFault {
                 "A class lists a begin kind, BD, SD, BCD, BAD or WCD, among the edges of a spawn or a split."
             }
             ModelFault::HeirWithoutSpawn => {
-                "A class commits to parents, and its transactions may start by a begin or a split, so without a parent."
+                "A class has `commit toparent`, and its transactions may start by a begin or a split, so without a parent."
             }
             ModelFault::BadPolicyKind => {
-                "A class depends by no kind, or by one other than CD, AD, WD and TD."
+                "A class has `policy depend` with no kind, or with a kind other than CD, AD, WD and TD."
             }
         }
     }

@@ -378,12 +378,12 @@ fn events_that_no_line_can_have(rt: HostRuntime) {
         &rt,
         rt.alloc(),
         Event::Begin(TxnId(1), ClassId(200)),
-        "BadClass: the model has no class at position 200.\nNo later event can admit it.",
+        "BadClass: the model has no class at position 200.\nIt can never be admitted.",
     );
     explain_lacking(
         &rt,
         rt.alloc(),
         Event::Operate(TxnId(1), ObjId(200), Op::Read),
-        "BadObject: the model has no object at position 200.\nNo later event can admit it.",
+        "BadObject: the model has no object at position 200.\nIt can never be admitted.",
     );
 }

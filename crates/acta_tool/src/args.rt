@@ -144,7 +144,7 @@ fn kept_flag<'a>(alloc: Global) -> Arg<'a>
     Arg::new(alloc, "kept")
         .long("kept")
         .action(ArgAction::SetTrue)
-        .help("Tells the events that were kept, with what they returned, and nothing else")
+        .help("Prints only the admitted events, each with its return")
 }
 
 // The program with one command more, which has the model alone.
@@ -190,7 +190,7 @@ fn workers_option<'a>(alloc: Global) -> Arg<'a>
         .required(true)
         .action(ArgAction::Set)
         .value_parser(ValueParser::Signed(1, 16))
-        .help("How many threads hand in the events, from 1 to 16")
+        .help("Sets the number of threads, from 1 to 16")
 }
 
 // How often the history is judged while it grows.
@@ -202,7 +202,7 @@ fn watch_option<'a>(alloc: Global) -> Arg<'a>
         .long("watch")
         .action(ArgAction::Set)
         .value_parser(ValueParser::Signed(0, 255))
-        .help("How often the history is judged while it grows, from 0 to 255")
+        .help("Sets how often the history is judged while it grows, from 0 to 255")
 }
 
 // The command that drives, with what it has beside the model.
@@ -213,7 +213,7 @@ fn drive_command<'a>(
     ensures { IfOk result (λ command. app_of command ≡ with_subcommand (app_of program.entry) drive_app.top) }
 {
     let added = clap::Command::new(alloc, "drive")
-        .about("Hands in the lines SEAT EVENT of the standard input by a thread for each seat")
+        .about("Submits the lines SEAT EVENT of the standard input, from one thread for each seat")
         .arg(model_argument(alloc))?
         .arg(workers_option(alloc))?
         .arg(watch_option(alloc))?;
@@ -228,7 +228,7 @@ fn plain_commands<'a>(alloc: Global) -> Result<clap::Command<'a>, AllocError>
         alloc,
         bare_command(alloc),
         "assemble",
-        "Writes the image of the model's text, its one spelling as bytes",
+        "Writes the image of the model's text",
     )?;
     let program = with_command(
         alloc,
@@ -240,31 +240,31 @@ fn plain_commands<'a>(alloc: Global) -> Result<clap::Command<'a>, AllocError>
         alloc,
         program,
         "upgrade",
-        "Writes the model's image in version 2, of one in version 1 or 2, or what is wrong with it",
+        "Writes the model's image of version 1 or 2 in version 2, or what is wrong with it",
     )?;
     let program = with_command(
         alloc,
         program,
         "trace",
-        "Answers the events of the standard input, each with its line and with what it formed",
+        "Answers the events of the standard input, each with its line, its operation and the edges that it formed",
     )?;
     let program = with_command(
         alloc,
         program,
         "judge",
-        "Judges the kept lines of the standard input: tells each fault, and what is owed",
+        "Judges the kept lines of the standard input: lists each fault, and the commits and aborts that are owed",
     )?;
     let program = with_command(
         alloc,
         program,
         "debug",
-        "Does the commands behind the line -- on the history of the events before it",
+        "Runs the commands after the line -- on the history of the events before it",
     )?;
     with_command(
         alloc,
         program,
         "serial",
-        "Tells the committed operations of the events of the standard input, in the order of the commits",
+        "Lists the committed operations of the events of the standard input, in the order of the commits",
     )
 }
 
@@ -277,7 +277,7 @@ fn surface<'a>(alloc: Global) -> Result<clap::Command<'a>, AllocError>
         alloc,
         program,
         "run",
-        "Answers the events of the standard input, one line for each, and tells what is owed",
+        "Answers the events of the standard input, one line for each, and lists the commits and aborts that are owed",
         kept_flag(alloc),
     )?;
     drive_command(alloc, program)
@@ -337,7 +337,7 @@ fn spelled_by<'a>(
 fn no_command(surface: &mut clap::Command<'_>) -> UsageFault
     ensures { IsMissing result }
 {
-    match surface.error(ErrorKind::MissingSubcommand, "a command is wanted") {
+    match surface.error(ErrorKind::MissingSubcommand, "a command is missing") {
         Ok(error) => UsageFault::Usage(error),
         Err(e) => UsageFault::Memory(e),
     }
