@@ -5,7 +5,7 @@ use Rattle.std.specs.Cmp.Lexicographic.{slice_cmp, lists_total}
 use Rattle.std.specs.declared.cmp.Ordering.{Ordering}
 use Rattle.std.specs.declared.cmp.Ordering.TheVariants.{Less, Equal, Greater}
 use Rattle.std.specs.Ordering.{nat_cmp, ordering_then, is_le, MatchOrdering}
-use Rattle.std.proofs.lemmas.Cmp.{tied_itself, nat_cmp_total, on_total, then_total, ranked, equivalent_right}
+use Rattle.std.proofs.lemmas.Cmp.{tied_itself, nat_cmp_total, on_total, then_total, ranked, alike_right}
 use Rattle.std.proofs.lemmas.List.{length-append}
 use Rattle.acta_explore.specs.declared.point.Turn.{Turn}
 use Rattle.acta_explore.specs.Ends.{turn_cmp, order_cmp}
@@ -88,7 +88,7 @@ le-by xs ys zs Equal p e f l m = ap is_le (order-total.congr xs ys zs e ∙ f) �
 le-by xs ys zs Less Equal e f l m = ap is_le (less-equal e f)
   where
     less-equal : order_cmp xs ys ≡ Less → order_cmp ys zs ≡ Equal → order_cmp xs zs ≡ Less
-    less-equal e f = sym (equivalent_right order-total ys zs xs f) ∙ e
+    less-equal e f = sym (alike_right order-total ys zs xs f) ∙ e
 le-by xs ys zs Less Greater e f l m = absurd cc
 le-by xs ys zs Greater p e f l m = absurd cc
 

@@ -1,6 +1,6 @@
 -- Faults that are put in order one by one: those that are told stay told, and no other is.
 use Rattle.std.proofs.Common.{◌≡◌, Bool, true, false, ◌||◌, List, [], ◌∷◌, fold, refl, sym, ap, ◌∙◌, Ordering, Less, Equal, Greater}
-use Rattle.std.specs.Cmp.{IsTotalOrder, equivalent_right, nat_cmp_total, on_total, then_total}
+use Rattle.std.specs.Cmp.{IsTotalOrder, alike_right, nat_cmp_total, on_total, then_total}
 use Rattle.std.specs.List.{list_any}
 use Rattle.std.specs.Ordering.{match_ordering, is_eq}
 use Rattle.std.specs.BTreeSet.{insert_key}
@@ -15,7 +15,7 @@ faults-total =
 
 -- what is equivalent is equivalent to the same
 equivalent : (f k x : Fault) → fault_cmp k x ≡ Equal → is_eq (fault_cmp f k) ≡ is_eq (fault_cmp f x)
-equivalent f k x same = ap is_eq (equivalent_right faults-total k x f same)
+equivalent f k x same = ap is_eq (alike_right faults-total k x f same)
 
 swapped : (a b c : Bool) → (a || (b || c)) ≡ (b || (a || c))
 swapped true true c = refl
