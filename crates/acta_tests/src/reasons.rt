@@ -61,10 +61,10 @@ do 1 x write 5
 ? wait 1 -- none
 do 2 n add 1
 do 2 x read
-? commit 2 -- Barred(Barring { rule: TerminationDep, by: NumberedEdge { number: 2, edge: Edge { kind: Td, j: TxnId(2), i: TxnId(1) } }, j: InProgress, i: InProgress })
+? commit 2 -- Blocked(BlockingEdge { rule: TerminationDep, by: NumberedEdge { number: 2, edge: Edge { kind: Td, j: TxnId(2), i: TxnId(1) } }, j: InProgress, i: InProgress })
 ? wait 2 -- none
 do 1 n get
-? commit 1 -- Barred(Barring { rule: TerminationDep, by: NumberedEdge { number: 4, edge: Edge { kind: Td, j: TxnId(1), i: TxnId(2) } }, j: InProgress, i: InProgress })
+? commit 1 -- Blocked(BlockingEdge { rule: TerminationDep, by: NumberedEdge { number: 4, edge: Edge { kind: Td, j: TxnId(1), i: TxnId(2) } }, j: InProgress, i: InProgress })
 ? wait 1 -- 1 2 1
 ? wait 2 -- 2 1 2
 begin 3 loose
@@ -81,13 +81,13 @@ begin 1 try
 begin 2 try
 begin 3 try
 begin 5 try
-? begin 4 try -- Barred(Barring { rule: BeginOnCommit, by: NumberedEdge { number: 3, edge: Edge { kind: Bcd, j: TxnId(4), i: TxnId(3) } }, j: NotBegun, i: InProgress })
+? begin 4 try -- Blocked(BlockingEdge { rule: BeginOnCommit, by: NumberedEdge { number: 3, edge: Edge { kind: Bcd, j: TxnId(4), i: TxnId(3) } }, j: NotBegun, i: InProgress })
 commit 1
-? abort 5 -- Barred(Barring { rule: OwesCommit, by: NumberedEdge { number: 4, edge: Edge { kind: Scd, j: TxnId(5), i: TxnId(1) } }, j: InProgress, i: Committed })
+? abort 5 -- Blocked(BlockingEdge { rule: OwesCommit, by: NumberedEdge { number: 4, edge: Edge { kind: Scd, j: TxnId(5), i: TxnId(1) } }, j: InProgress, i: Committed })
 ? abort 2 -- Clash(Clash { commit: NumberedEdge { number: 1, edge: Edge { kind: Scd, j: TxnId(3), i: TxnId(1) } }, abort: NumberedEdge { number: 2, edge: Edge { kind: Ad, j: TxnId(3), i: TxnId(2) } } })
 commit 5
 commit 3
-? abort 2 -- Barred(Barring { rule: Unpayable, by: NumberedEdge { number: 2, edge: Edge { kind: Ad, j: TxnId(3), i: TxnId(2) } }, j: Committed, i: InProgress })";
+? abort 2 -- Blocked(BlockingEdge { rule: Unpayable, by: NumberedEdge { number: 2, edge: Edge { kind: Ad, j: TxnId(3), i: TxnId(2) } }, j: Committed, i: InProgress })";
 
 // The machine takes the event of the line.
 fn admits<A: Handle>(
